@@ -1,0 +1,151 @@
+-- The laws on places and names.
+use Rattle.std.proofs.Common.{◌≡◌, ◌+◌, ◌++◌, ◌||◌, ℕ, Bool, true, false, cond, List, [], ◌∷◌, Option, None, Some, refl, sym, ap, ◌∙◌, arith, ⊎_elim, is_some, unwrap_or, option_to_list}
+use Rattle.std.specs.Option.{option_or}
+use Rattle.std.specs.Str.{bytes_eq}
+use Rattle.std.specs.Map.{lookup}
+use Rattle.std.proofs.lemmas.Bool.{cond-true, cond-false, false_from_ne_true}
+use Rattle.std.proofs.lemmas.List.{append-nil}
+use Rattle.std.proofs.lemmas.List.Sums.{fold-append}
+use Rattle.std.proofs.lemmas.Option.{none-some}
+use Rattle.std.proofs.lemmas.Slice.Eq.{bytes_eq-Decides}
+use Rattle.lgp_assembler.specs.declared.operations.Operation.{Operation}
+use Rattle.lgp_assembler.specs.declared.operations.Operation.TheVariants.{Order, MinusT, Org, Word, Frac, Int, End}
+use Rattle.lgp_assembler.specs.Fields.{LineFields}
+use Rattle.lgp_assembler.specs.Places.{option_makes_word, org_address, word_count, next_place, place_of, is_end, has_ended, new_label, names_of}
+use Rattle.lgp_assembler.specs.Image.{passed}
+use Rattle.lgp_assembler.specs.Laws.{org_of, HasNoOrg, words_of, PlacesCountFromOrgs, HasNotLabel, NamesAreFirstPlaces}
+
+-- ---- lines in order, and the nearest first
+
+passed-append : (earlier one other : List LineFields) → passed earlier (one ++ other) ≡ passed (passed earlier one) other
+passed-append earlier one other = fold-append (λ before line. line ∷ before) earlier one other
+
+-- ---- places
+
+run : (earlier between : List LineFields) → HasNoOrg between → next_place (passed earlier between) ≡ next_place earlier + words_of between
+unfolding next_place
+run earlier [] none = omega arith
+run earlier (line ∷ lines) none =
+    let here : next_place (line ∷ earlier) ≡ next_place earlier + word_count line = ap (λ a. unwrap_or a (next_place earlier) + word_count line) none.0 in
+    run (line ∷ earlier) lines none.1 ∙ omega arith
+
+no_word : (operation : Option Operation) (first : Option (List ℕ)) (address : ℕ) → org_address operation first ≡ Some address → option_makes_word operation ≡ false
+no_word (Some Org) first address e = refl
+no_word (Some (Order op)) first address e = absurd (none-some address e)
+no_word (Some MinusT) first address e = absurd (none-some address e)
+no_word (Some Word) first address e = absurd (none-some address e)
+no_word (Some Frac) first address e = absurd (none-some address e)
+no_word (Some Int) first address e = absurd (none-some address e)
+no_word (Some End) first address e = absurd (none-some address e)
+no_word None first address e = absurd (none-some address e)
+
+after_org : (earlier : List LineFields) (org : LineFields) (address : ℕ) → org_of org ≡ Some address → next_place (org ∷ earlier) ≡ address
+unfolding next_place
+after_org earlier org address e =
+    let none : word_count org ≡ 0 = cond-false (option_makes_word org.operation) 1 0 (no_word org.operation org.first address e) in
+    ap (λ a. unwrap_or a (next_place earlier) + word_count org) e ∙ omega arith
+
+pub places_law : PlacesCountFromOrgs
+unfolding next_place
+places_law = record {
+  own = λ before line address e. ap (λ a. unwrap_or a (next_place (passed [] before))) e;
+  nearest = λ before between org line address e none other.
+      ap (λ a. unwrap_or a (next_place (passed [] (before ++ org ∷ between)))) other
+      ∙ ap next_place (passed-append [] before (org ∷ between))
+      ∙ run (org ∷ passed [] before) between none
+      ∙ ap (λ p. p + words_of between) (after_org (passed [] before) org address e);
+  none = λ before line none other.
+      ap (λ a. unwrap_or a (next_place (passed [] before))) other ∙ run [] before none ∙ omega arith;
+}
+
+-- ---- names
+
+pick : (b : Bool) (value : ℕ) (both one other : Option ℕ) → both ≡ option_or one other → cond b (Some value) both ≡ option_or (cond b (Some value) one) other
+pick true value both one other e = refl
+pick false value both one other e = e
+
+lookup-append : (name : List ℕ) (one other : List (List ℕ × ℕ)) → lookup (bytes_eq name) (one ++ other) ≡ option_or (lookup (bytes_eq name) one) (lookup (bytes_eq name) other)
+lookup-append name [] other = refl
+lookup-append name (e ∷ one) other =
+    pick (bytes_eq name e.0) e.1 (lookup (bytes_eq name) (one ++ other)) (lookup (bytes_eq name) one) (lookup (bytes_eq name) other) (lookup-append name one other)
+
+or_stays : (o : Option ℕ) (value : ℕ) (p : Option ℕ) → o ≡ Some value → option_or o p ≡ Some value
+or_stays None value p e = absurd (none-some value e)
+or_stays (Some x) value p e = e
+
+-- the name that a line adds is not another
+other_name : (name label : List ℕ) (value : ℕ) → (Some label ≡ Some name → ⊥) → lookup (bytes_eq name) ((label, value) ∷ []) ≡ None
+other_name name label value apart =
+    cond-false (bytes_eq name label) (Some value) None (false_from_ne_true (bytes_eq name label) (λ e. apart (ap Some (sym ((bytes_eq-Decides name label).0 e)))))
+
+adds_no : (name : List ℕ) (label : Option (List ℕ)) (place : ℕ) (ended : Bool) (names : List (List ℕ × ℕ)) → (label ≡ Some name → ⊥) → lookup (bytes_eq name) (option_to_list (new_label label place ended names)) ≡ None
+adds_no name None place ended names apart = refl
+adds_no name (Some label) place ended names apart = pick (ended || is_some (lookup (bytes_eq label) names))
+  where
+    pick : (b : Bool) → lookup (bytes_eq name) (option_to_list (cond b None (Some (label, place)))) ≡ None
+    pick true = refl
+    pick false = other_name name label place apart
+
+not_there : (name : List ℕ) (earlier lines : List LineFields) → HasNotLabel name lines → lookup (bytes_eq name) (names_of earlier) ≡ None → lookup (bytes_eq name) (names_of (passed earlier lines)) ≡ None
+unfolding names_of
+not_there name earlier [] apart none = none
+not_there name earlier (line ∷ lines) apart none =
+    let added = option_to_list (new_label line.label (place_of line earlier) (has_ended earlier) (names_of earlier)) in
+    let step : lookup (bytes_eq name) (names_of (line ∷ earlier)) ≡ None =
+    lookup-append name (names_of earlier) added ∙ ap (λ o. option_or o (lookup (bytes_eq name) added)) none ∙ adds_no name line.label (place_of line earlier) (has_ended earlier) (names_of earlier) apart.0 in
+    not_there name (line ∷ earlier) lines apart.1 step
+
+stays : (name : List ℕ) (value : ℕ) (earlier lines : List LineFields) → lookup (bytes_eq name) (names_of earlier) ≡ Some value → lookup (bytes_eq name) (names_of (passed earlier lines)) ≡ Some value
+unfolding names_of
+stays name value earlier [] there = there
+stays name value earlier (line ∷ lines) there =
+    let added = option_to_list (new_label line.label (place_of line earlier) (has_ended earlier) (names_of earlier)) in
+    stays name value (line ∷ earlier) lines (lookup-append name (names_of earlier) added ∙ or_stays (lookup (bytes_eq name) (names_of earlier)) value (lookup (bytes_eq name) added) there)
+
+or_true : (b : Bool) → (b || true) ≡ true
+or_true true = refl
+or_true false = refl
+
+after_end : (earlier lines : List LineFields) → has_ended earlier ≡ true → names_of (passed earlier lines) ≡ names_of earlier
+unfolding names_of has_ended
+after_end earlier [] ended = refl
+after_end earlier (line ∷ lines) ended =
+    let still : has_ended (line ∷ earlier) ≡ true = ap (λ b. is_end line.operation || b) ended ∙ or_true (is_end line.operation) in
+    let none : names_of (line ∷ earlier) ≡ names_of earlier =
+    ap (λ b. names_of earlier ++ option_to_list (new_label line.label (place_of line earlier) b (names_of earlier))) ended
+    ∙ ap (λ o. names_of earlier ++ option_to_list o) (none_new line.label (place_of line earlier) (names_of earlier)) ∙ append-nil (names_of earlier) in
+    after_end (line ∷ earlier) lines still ∙ none
+  where
+    none_new : (label : Option (List ℕ)) (place : ℕ) (names : List (List ℕ × ℕ)) → new_label label place true names ≡ None
+    none_new None place names = refl
+    none_new (Some label) place names = refl
+
+itself : (name : List ℕ) (place : ℕ) (names : List (List ℕ × ℕ)) (label : Option (List ℕ)) (ended : Bool) → label ≡ Some name → ended ≡ false → lookup (bytes_eq name) names ≡ None
+    → lookup (bytes_eq name) (names ++ option_to_list (new_label label place ended names)) ≡ Some place
+itself name place names label ended is live none =
+    let new : new_label label place ended names ≡ Some (name, place) =
+    ap (λ l. new_label l place ended names) is ∙ ap (λ b. new_label (Some name) place b names) live ∙ cond-false (is_some (lookup (bytes_eq name) names)) None (Some (name, place)) (ap is_some none) in
+    let one : lookup (bytes_eq name) ((name, place) ∷ []) ≡ Some place = cond-true (bytes_eq name name) (Some place) None ((bytes_eq-Decides name name).1 refl) in
+    ap (λ o. lookup (bytes_eq name) (names ++ option_to_list o)) new ∙ lookup-append name names ((name, place) ∷ []) ∙ ap (λ o. option_or o (lookup (bytes_eq name) ((name, place) ∷ []))) none ∙ one
+
+none_at_all : (name : List ℕ) → lookup (bytes_eq name) (names_of []) ≡ None
+unfolding names_of
+none_at_all name = refl
+
+pub names_law : NamesAreFirstPlaces
+unfolding names_of
+names_law = record {
+  first = λ name before after line live apart is.
+      let earlier = passed [] before in
+      let absent = not_there name [] before apart (none_at_all name) in
+      ap (λ ls. lookup (bytes_eq name) (names_of ls)) (passed-append [] before (line ∷ after))
+      ∙ stays name (place_of line earlier) (line ∷ earlier) after (itself name (place_of line earlier) (names_of earlier) line.label (has_ended earlier) is live absent);
+  none = λ name before after apart over.
+      let earlier = passed [] before in
+      let absent = not_there name [] before apart (none_at_all name) in
+      ap (λ ls. lookup (bytes_eq name) (names_of ls)) (passed-append [] before after)
+      ∙ ⊎_elim
+      (λ ended. ap (lookup (bytes_eq name)) (after_end earlier after ended) ∙ absent)
+      (λ empty. ap (λ ls. lookup (bytes_eq name) (names_of (passed earlier ls))) empty ∙ absent)
+      over;
+}

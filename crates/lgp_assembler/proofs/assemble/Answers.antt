@@ -1,0 +1,29 @@
+use Rattle.std.proofs.Common.{sym, ◌∙◌}
+use Rattle.lgp_assembler.specs.Parts.{ImageParts}
+use Rattle.lgp_assembler.specs.Image.{image_of, faults_of}
+use Rattle.lgp_assembler.proofs.Assembled.{faults_told, image_made, ok_image, ok_faultless, err_faults, cells_clear}
+use Rattle.lgp_assembler.proofs.assemble.Goals as goal
+
+pub returns : goal.returns
+returns g c =
+    let source = c.args.source.now in
+    let scan = c.in_ok-scan.scan in
+    let draft = c.in_ok-draft.draft in
+    let last = c.in_ok-add_missing_end.ensures in
+    let told = faults_told source scan.place scan.ended scan.names scan.taken.items draft.faults.items draft.cells.items draft.start draft.symbols.items c.in_ok-scan.ensures c.in_ok-draft.ensures in
+    let made = image_made source scan.place scan.ended scan.names scan.taken.items draft.faults.items draft.cells.items draft.start draft.symbols.items c.in_ok-scan.ensures c.in_ok-draft.ensures in
+    let r = c.image_or_faults.result in
+    let answer = c.image_or_faults.ensures in
+    let parts : ImageParts = record { cells = draft.cells.items; start = draft.start; symbols = draft.symbols.items } in
+    record {
+      image = ok_image r parts (image_of source) _ answer.image answer.faultless (λ none. made (sym last ∙ none));
+      faultless = ok_faultless r _ (faults_of source) answer.faultless (last ∙ told);
+      faults = err_faults r _ (faults_of source) answer.faults (last ∙ told);
+      faulty = answer.faulty;
+    }
+
+pub image_or_faults-requires : goal.image_or_faults-requires
+image_or_faults-requires g c =
+    let scan = c.in_ok-scan.scan in
+    let draft = c.in_ok-draft.draft in
+    λ none. cells_clear c.args.source.now scan.names draft.faults.items _ _ draft.cells.items draft.start draft.symbols.items c.in_ok-draft.ensures c.in_ok-add_missing_end.ensures none

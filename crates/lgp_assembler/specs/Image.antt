@@ -1,0 +1,54 @@
+-- What a source assembles to, and its faults: this project's own choice.
+use Rattle.std.specs.Prelude.{ℕ, List, [], ◌∷◌, ◌++◌, map, fold, Option, None, Some, Result, Ok, option_to_list}
+use Rattle.std.specs.Option.{option_or}
+use Rattle.lgp_source.specs.Source.{lines_of}
+use Rattle.lgp_assembler.specs.declared.operations.Operation.{Operation}
+use Rattle.lgp_assembler.specs.declared.operations.Operation.TheVariants.{End}
+use Rattle.lgp_assembler.specs.declared.operands.Meaning.{Meaning}
+use Rattle.lgp_assembler.specs.declared.operands.Meaning.TheVariants.{Cell, Place}
+use Rattle.lgp_assembler.specs.declared.operands.OperandFault.{OperandFault}
+use Rattle.lgp_assembler.specs.declared.refusal.Fault.{Fault}
+use Rattle.lgp_assembler.specs.Fields.{LineFields, fields_of}
+use Rattle.lgp_assembler.specs.Places.{place_of, names_of}
+use Rattle.lgp_assembler.specs.Parts.{ImageParts}
+use Rattle.lgp_assembler.specs.Faults.{line_meaning, faults_in, missing_end}
+
+abbrev pub cell_at : ℕ → Result Meaning OperandFault → Option (ℕ × ℕ)
+cell_at place (Ok (Cell word)) = Some (place, word)
+cell_at place _ = None
+
+-- the words of some lines, the nearest first, each with its place, in order of the lines
+unfoldable pub cells_in : List (List ℕ × ℕ) → List LineFields → List (ℕ × ℕ)
+cells_in names [] = []
+cells_in names (line ∷ earlier) =
+    cells_in names earlier ++ option_to_list (cell_at (place_of line earlier) (line_meaning names (place_of line earlier) line))
+
+abbrev pub start_at : Option Operation → Result Meaning OperandFault → Option ℕ
+start_at (Some End) (Ok (Place address)) = Some address
+start_at _ _ = None
+
+-- the operand of their end line
+unfoldable pub start_in : List (List ℕ × ℕ) → List LineFields → Option ℕ
+start_in names [] = None
+start_in names (line ∷ earlier) =
+    option_or (start_in names earlier) (start_at line.operation (line_meaning names (place_of line earlier) line))
+
+-- lines put in front of those that come before them
+abbrev pub passed : List LineFields → List LineFields → List LineFields
+passed earlier lines = fold (λ before line. line ∷ before) earlier lines
+
+-- all lines of a source, the last first
+unfoldable pub all_lines : List ℕ → List LineFields
+all_lines source = passed [] (map fields_of (lines_of source))
+
+-- the faults of a source in order of its lines
+abbrev pub faults_of : List ℕ → List Fault
+faults_of source = faults_in (names_of (all_lines source)) (all_lines source) ++ missing_end (all_lines source)
+
+-- what a source without faults assembles to
+abbrev pub image_of : List ℕ → ImageParts
+image_of source = record {
+  cells = cells_in (names_of (all_lines source)) (all_lines source);
+  start = start_in (names_of (all_lines source)) (all_lines source);
+  symbols = names_of (all_lines source);
+}

@@ -1,0 +1,21 @@
+-- What a source assembles to: this project's own choice. That the loader has ten places is too.
+use Rattle.std.specs.Prelude.{◌≡◌, ℕ, ◌<◌, ◌&&◌, nat_le, Bool, false, List, [], ◌∷◌, Option}
+use Rattle.lgp_word.specs.Word.{IsWord}
+
+-- the words with their places in order of the lines, the start, and the names with their values in order of the lines
+pub record ImageParts : Type 0 where
+  pub cells : List (ℕ × ℕ)
+  pub start : Option ℕ
+  pub symbols : List (List ℕ × ℕ)
+
+-- the ten places of the loader, 6300 to 6309
+abbrev pub is_loaders : ℕ → Bool
+is_loaders place = nat_le 4032 place && nat_le place 4041
+
+-- a cell of a program: a word on the drum, at no place of the loader
+abbrev pub IsProgramCell : ℕ × ℕ → Type 0
+IsProgramCell cell = (cell.0 < 4096) × (is_loaders cell.0 ≡ false) × IsWord cell.1
+
+abbrev pub AreProgramCells : List (ℕ × ℕ) → Type 0
+AreProgramCells [] = Unit {0}
+AreProgramCells (cell ∷ cells) = IsProgramCell cell × AreProgramCells cells

@@ -1,0 +1,155 @@
+ghost use Rattle.std.specs.Prelude.{◌≡◌};
+ghost use Rattle.std.specs.Option.{option_copied};
+ghost use Rattle.lgp_assembler.specs.Faults as spec;
+ghost use Rattle.lgp_assembler.specs.Parts.{is_loaders};
+ghost use Rattle.lgp_assembler.specs.Scan.{scan_fault};
+ghost use Rattle.lgp_assembler.specs.FieldsSeen.{fields_seen};
+
+use crate::line_fields::Fields;
+use crate::name_table::Names;
+use crate::operands::{Meaning, OperandFault, is_name, meaning_of};
+use crate::operations::Operation;
+use crate::passes::{Scan, makes_word};
+use crate::refusal::FaultKind;
+use std::alloc::Allocator;
+
+/// Whether a line has a label or an operation.
+fn says_something(fields: &Fields) -> bool
+    ensures { result ≡ spec.says_something (fields_seen fields.now) }
+{
+    fields.label.is_some() || fields.has_operation
+}
+
+/// How many operands a line may have.
+fn takes_at_most(operation: Option<Operation>) -> usize
+    ensures { result ≡ spec.takes_at_most operation }
+{
+    match operation {
+        Some(operation) => operation.most_operands(),
+        None => 2,
+    }
+}
+
+/// How many operands a line has to have.
+fn needs_at_least(operation: Option<Operation>) -> usize
+    ensures { result ≡ spec.needs_at_least operation }
+{
+    match operation {
+        Some(operation) => operation.least_operands(),
+        None => 0,
+    }
+}
+
+/// Whether a label is not in its form.
+fn is_bad_label(label: Option<&[u8]>) -> bool
+    ensures { result ≡ spec.is_bad_label (option_copied label.entry) }
+{
+    match label {
+        Some(label) => !is_name(label),
+        None => false,
+    }
+}
+
+/// Whether a label is among the names of the lines before.
+fn is_label_again<A: Allocator>(label: Option<&[u8]>, names: &Names<A>) -> bool
+    ensures { result ≡ spec.is_label_again (option_copied label.entry) names.now }
+{
+    match label {
+        Some(label) => names.value(label).is_some(),
+        None => false,
+    }
+}
+
+/// Whether operands are not in their form.
+fn is_misformed(meaning: &Result<Meaning, OperandFault>) -> bool
+    ensures { result ≡ spec.is_misformed meaning.now }
+{
+    matches!(meaning, Err(OperandFault::Misformed))
+}
+
+/// Whether operands name what no line has as its label.
+fn is_unknown(meaning: &Result<Meaning, OperandFault>) -> bool
+    ensures { result ≡ spec.is_unknown meaning.now }
+{
+    matches!(meaning, Err(OperandFault::Unknown))
+}
+
+/// Whether operands stand for a value that does not fit.
+fn is_outside(meaning: &Result<Meaning, OperandFault>) -> bool
+    ensures { result ≡ spec.is_outside meaning.now }
+{
+    matches!(meaning, Err(OperandFault::Outside))
+}
+
+/// Whether a place is one of the ten of the loader.
+fn is_loaders(place: u64) -> bool
+    ensures { result ≡ is_loaders place }
+{
+    (4032..=4041).contains(&place)
+}
+
+/// What the operands of a line stand for.
+pub fn line_meaning<A: Allocator>(
+    names: &Names<A>,
+    place: u64,
+    fields: &Fields,
+) -> Result<Meaning, OperandFault>
+    ensures { result ≡ spec.line_meaning names.now place (fields_seen fields.now) }
+{
+    match fields.operation {
+        Some(operation) => meaning_of(names, place, operation, fields.first, fields.second),
+        None => Ok(Meaning::Nothing),
+    }
+}
+
+/// The kind of the first row whose condition holds.
+fn first_kind(rows: &[(bool, FaultKind)]) -> Option<FaultKind>
+    ensures { result ≡ spec.first_kind rows.now }
+{
+    for (holds, kind) in rows {
+        if *holds {
+            return Some(*kind);
+        }
+    }
+    None
+}
+
+/// The fault of the line that comes, with the names of the whole source.
+pub fn fault_of<'a, A: Allocator>(
+    names: &Names<'a, A>,
+    scan: &Scan<'a, A>,
+    fields: &Fields<'a>,
+) -> Option<FaultKind>
+    ensures { result ≡ scan_fault names.now (fields_seen fields.now) scan.now.place scan.now.ended scan.now.names scan.now.taken.items }
+{
+    let place = scan.place_of(fields);
+    let meaning = line_meaning(names, place, fields);
+    let has_word = makes_word(fields.operation);
+    first_kind(&[
+        (fields.is_bad, FaultKind::BadByte),
+        (scan.ended && says_something(fields), FaultKind::AfterEnd),
+        (
+            takes_at_most(fields.operation) < fields.count,
+            FaultKind::Extra,
+        ),
+        (is_bad_label(fields.label), FaultKind::BadLabel),
+        (
+            is_label_again(fields.label, &scan.names),
+            FaultKind::LabelTwice,
+        ),
+        (
+            fields.has_operation && fields.operation.is_none(),
+            FaultKind::UnknownOrder,
+        ),
+        (
+            fields.count < needs_at_least(fields.operation),
+            FaultKind::MissingOperand,
+        ),
+        (is_misformed(&meaning), FaultKind::BadOperand),
+        (is_unknown(&meaning), FaultKind::UnknownName),
+        (is_outside(&meaning), FaultKind::OutOfRange),
+        (has_word && place > 4095, FaultKind::PastEnd),
+        (has_word && is_loaders(place), FaultKind::InLoader),
+        (has_word && scan.is_taken(place), FaultKind::PlaceTaken),
+    ])
+}

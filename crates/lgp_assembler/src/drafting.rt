@@ -1,0 +1,165 @@
+ghost use Rattle.std.specs.Prelude.{◌≡◌, ◌++◌, [], None, IfOk, OnOk, option_to_list, option_map};
+ghost use Rattle.std.specs.Option.{option_copied, option_or};
+ghost use Rattle.lgp_word.specs.Word.{IsWord};
+ghost use Rattle.lgp_assembler.specs.Faults.{numbered_fault, line_meaning};
+ghost use Rattle.lgp_assembler.specs.FieldsSeen.{fields_seen};
+ghost use Rattle.lgp_assembler.specs.Image as spec;
+ghost use Rattle.lgp_assembler.specs.Image.{all_lines};
+ghost use Rattle.lgp_assembler.specs.Places.{place_by};
+ghost use Rattle.lgp_assembler.specs.Scan.{scan_fault, CellFits, IfCell, SymbolFits, symbol_at, IsDraftOf};
+
+use crate::conditions::{fault_of, line_meaning};
+use crate::line_fields::{Fields, fields_of};
+use crate::name_table::Names;
+use crate::operands::{Meaning, OperandFault, in_range};
+use crate::operations::Operation;
+use crate::output::Name;
+use crate::passes::Scan;
+use crate::refusal::Fault;
+use lgp_source::Lines;
+use lgp_word::{Address, Word};
+use std::alloc::{AllocError, Allocator};
+
+/// What the lines so far have given: their faults, and while there are none their words, their start and their names.
+#[derive(Drop)]
+pub struct Draft<A: Allocator> {
+    pub faults: Vec<Fault, A>,
+    pub cells: Vec<(Address, Word), A>,
+    pub start: Option<Address>,
+    pub symbols: Vec<(Name, u16), A>,
+}
+
+/// Adds the word of a line, if it has one.
+fn add_cell<A: Allocator>(
+    cells: &mut Vec<(Address, Word), A>,
+    place: u64,
+    meaning: &Result<Meaning, OperandFault>,
+) -> Result<(), AllocError>
+    ensures cells { OnOk result (CellFits place meaning.now → cells.new.items ≡ cells.old.items ++ option_to_list (spec.cell_at place meaning.now)) }
+    ensures word { IfCell meaning.now IsWord }
+{
+    let Ok(Meaning::Cell(word)) = meaning else {
+        return Ok(());
+    };
+    let word = *word;
+    // That its number is a word is what the image says of it.
+    let _ = word.get();
+    let Ok(address) = in_range(place) else {
+        return Ok(());
+    };
+    cells.push((address, word))?;
+    Ok(())
+}
+
+/// Adds the label of a line, if it has one.
+fn add_symbol<A: Allocator>(
+    symbols: &mut Vec<(Name, u16), A>,
+    label: Option<&[u8]>,
+    place: u64,
+) -> Result<(), AllocError>
+    ensures { OnOk result (SymbolFits (option_copied label.entry) place
+        → symbols.new.items ≡ symbols.old.items ++ option_to_list (symbol_at (option_copied label.entry) place)) }
+{
+    let Some(label) = label else {
+        return Ok(());
+    };
+    if place > 4096 {
+        return Ok(());
+    }
+    let Some(name) = Name::new(label) else {
+        return Ok(());
+    };
+    symbols.push((name, place as u16))?;
+    Ok(())
+}
+
+/// The operand of an end line.
+fn start_at(
+    operation: Option<Operation>,
+    meaning: &Result<Meaning, OperandFault>,
+) -> Option<Address>
+    ensures { result ≡ spec.start_at operation meaning.now }
+{
+    match (operation, meaning) {
+        (Some(Operation::End), Ok(Meaning::Place(address))) => Some(*address),
+        _ => None,
+    }
+}
+
+impl<A: Allocator> Draft<A> {
+    /// Adds what the line that comes gives, with the names of the whole source.
+    pub fn add<'a>(
+        &mut self,
+        names: &Names<'a, A>,
+        scan: &Scan<'a, A>,
+        fields: &Fields<'a>,
+    ) -> Result<(), AllocError>
+        ensures faults { OnOk result (self.new.faults.items ≡ self.old.faults.items ++ option_to_list (option_map (numbered_fault fields.now.number)
+            (scan_fault names.now (fields_seen fields.now) scan.now.place scan.now.ended scan.now.names scan.now.taken.items))) }
+        ensures cells { let place = place_by (fields_seen fields.now) scan.now.place in
+            OnOk result (self.new.faults.items ≡ [] → CellFits place (line_meaning names.now place (fields_seen fields.now))
+            → self.new.cells.items ≡ self.old.cells.items ++ option_to_list (spec.cell_at place (line_meaning names.now place (fields_seen fields.now)))) }
+        ensures words { let place = place_by (fields_seen fields.now) scan.now.place in
+            OnOk result (self.new.faults.items ≡ [] → IfCell (line_meaning names.now place (fields_seen fields.now)) IsWord) }
+        ensures start { let place = place_by (fields_seen fields.now) scan.now.place in
+            OnOk result (self.new.faults.items ≡ []
+            → self.new.start ≡ option_or self.old.start (spec.start_at fields.now.operation (line_meaning names.now place (fields_seen fields.now)))) }
+        ensures symbols { let place = place_by (fields_seen fields.now) scan.now.place in
+            OnOk result (self.new.faults.items ≡ [] → SymbolFits (option_copied fields.now.label) place
+            → self.new.symbols.items ≡ self.old.symbols.items ++ option_to_list (symbol_at (option_copied fields.now.label) place)) }
+    {
+        if let Some(kind) = fault_of(names, scan, fields) {
+            self.faults.push(Fault {
+                line: fields.number,
+                kind,
+            })?;
+            return Ok(());
+        }
+        if !self.faults.is_empty() {
+            return Ok(());
+        }
+        let place = scan.place_of(fields);
+        let meaning = line_meaning(names, place, fields);
+        add_cell(&mut self.cells, place, &meaning)?;
+        add_symbol(&mut self.symbols, fields.label, place)?;
+        if self.start.is_none() {
+            self.start = start_at(fields.operation, &meaning);
+        }
+        Ok(())
+    }
+}
+
+impl<A: Allocator + Copy> Draft<A> {
+    /// Nothing yet.
+    pub fn new(alloc: A) -> Draft<A>
+        ensures faults { result.faults.items ≡ [] }
+        ensures cells { result.cells.items ≡ [] }
+        ensures start { result.start ≡ None }
+        ensures symbols { result.symbols.items ≡ [] }
+    {
+        Draft {
+            faults: Vec::new(alloc),
+            cells: Vec::new(alloc),
+            start: None,
+            symbols: Vec::new(alloc),
+        }
+    }
+}
+
+/// The draft of all lines of a source, with its names.
+pub fn draft_source<'a, A: Allocator + Copy>(
+    alloc: A,
+    source: &'a [u8],
+    names: &Names<'a, A>,
+) -> Result<Draft<A>, AllocError>
+    ensures { IfOk result (λ draft. IsDraftOf names.now draft.faults.items draft.cells.items draft.start draft.symbols.items (all_lines source.now)) }
+{
+    let mut scan = Scan::new(alloc)?;
+    let mut draft = Draft::new(alloc);
+    for line in Lines::new(source) {
+        let fields = fields_of(&line);
+        draft.add(names, &scan, &fields)?;
+        scan.pass(&fields)?;
+    }
+    Ok(draft)
+}

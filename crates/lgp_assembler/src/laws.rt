@@ -1,0 +1,16 @@
+ghost use Rattle.lgp_assembler.specs.Laws.{PlacesCountFromOrgs, NamesAreFirstPlaces};
+
+/// A law, for readers and proofs: the place of an `org` line with an address is that address. The
+/// place of any other line is the address of the nearest such line before it plus the words of the
+/// lines between, or, with none, the words of the lines before it.
+#[tactic(auto, using(crate::proofs::PlaceLaws::places_law))]
+pub fn places_count_from_orgs()
+    ensures { PlacesCountFromOrgs }
+{}
+
+/// A law, for readers and proofs: a name's value is the place of the first line with that label that
+/// is not after the end line, and a name that no such line has as its label has no value.
+#[tactic(auto, using(crate::proofs::PlaceLaws::names_law))]
+pub fn names_are_first_places()
+    ensures { NamesAreFirstPlaces }
+{}

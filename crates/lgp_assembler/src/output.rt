@@ -1,0 +1,100 @@
+ghost use Rattle.std.specs.Prelude.{◌≡◌, ◌≤◌, ◌↔◌, ◌++◌, length, IsSome, IfSome};
+ghost use Rattle.lgp_assembler.specs.Parts.{AreProgramCells};
+
+use arrayvec::ArrayVec;
+use lgp_word::{Address, Word};
+use std::alloc::{Allocator, Global};
+use std::marker::Model;
+
+/// A name: one to eight bytes of a source. Clauses see their list.
+#[derive(Drop)]
+pub struct Name {
+    bytes: ArrayVec<u8, 8>,
+}
+
+impl Model for Name {
+    ghost use Rattle.std.specs.Prelude.{List, ℕ};
+
+    ghost Value = { List ℕ };
+
+    ghost view = { λ name. name.bytes.items };
+}
+
+impl Name {
+    /// The name of a text; `None` where the text has more than eight bytes.
+    pub(crate) fn new(text: &[u8]) -> Option<Name>
+        ensures fits { IsSome result ↔ (length text.now ≤ 8) }
+        ensures value { IfSome result (λ name. name ≡ text.now) }
+    {
+        let mut bytes = ArrayVec::new();
+        match bytes.try_extend_from_slice(text) {
+            Ok(()) => Some(Name { bytes }),
+            Err(_) => None,
+        }
+    }
+
+    /// The bytes of the name.
+    pub fn bytes(&self) -> &[u8]
+        ensures { result.now ≡ self.now }
+    {
+        self.bytes.as_slice()
+    }
+}
+
+/// What a source assembles to. Clauses see its three parts.
+#[derive(Drop)]
+pub struct Image<A: Allocator = Global> {
+    cells: Vec<(Address, Word), A>,
+    start: Option<Address>,
+    symbols: Vec<(Name, u16), A>,
+}
+
+impl<A: Allocator> Model for Image<A> {
+    ghost use Rattle.lgp_assembler.specs.Parts.{ImageParts, AreProgramCells};
+
+    ghost Value = { ImageParts };
+
+    ghost view = { λ image. record { cells = image.cells.items; start = image.start; symbols = image.symbols.items } };
+
+    ghost invariant = { λ image. AreProgramCells image.cells.items };
+}
+
+impl<A: Allocator> Image<A> {
+    pub(crate) fn new(
+        cells: Vec<(Address, Word), A>,
+        start: Option<Address>,
+        symbols: Vec<(Name, u16), A>,
+    ) -> Image<A>
+        requires { AreProgramCells cells.items }
+        ensures { result ≡ record { cells = cells.items; start = start; symbols = symbols.items } }
+    {
+        Image {
+            cells,
+            start,
+            symbols,
+        }
+    }
+
+    /// The words of the program with their addresses, in order of the source's lines. None lies at one of
+    /// the ten places of the loader, 6300 to 6309.
+    pub fn cells(&self) -> &[(Address, Word)]
+        ensures value { result.now ≡ self.now.cells }
+        ensures program { AreProgramCells self.now.cells }
+    {
+        self.cells.as_slice()
+    }
+
+    /// The address at which the program starts, where the source gives one.
+    pub fn start(&self) -> Option<Address>
+        ensures { result ≡ self.now.start }
+    {
+        self.start
+    }
+
+    /// The names with their values, 0 to 4096, in order of the source's lines.
+    pub fn symbols(&self) -> &[(Name, u16)]
+        ensures { result.now ≡ self.now.symbols }
+    {
+        self.symbols.as_slice()
+    }
+}

@@ -1,0 +1,113 @@
+-- What is written reads back.
+use Rattle.std.proofs.Common.{◌≡◌, ℕ, zero, suc, ◌+◌, ◌/◌, ◌%◌, ◌<◌, ◌≤◌, Bool, true, false, not, cond, ◌&&◌, ◌||◌, eqb, List, [], ◌∷◌, ◌++◌, length, get_or, take, Option, Some, None, Ok, refl, ap, sym, subst, ◌∙◌, ⊎_elim, arith, append_assoc, length-append}
+use Rattle.std.proofs.lemmas.List.{append-nil, take_more}
+use Rattle.std.proofs.lemmas.Bool.{cases_lt, eqb-true, false≢true, not-true}
+use Rattle.std.proofs.lemmas.Bool.Decides.{nat_tests}
+use Rattle.std.specs.Option.{option_map}
+use Rattle.lgp_flexo.proofs.Reading.{before-before}
+use Rattle.lgp_flexo.specs.Code.{sign_at, code_at}
+use Rattle.lgp_flexo.specs.TapeText.{text_from, piece_at, bytes_behind, before, joined, group_at, codes_of_text, written_code, sign_or_group, code_of_digits}
+
+-- a test of each number below one
+abbrev pub all_below : (ℕ → Bool) → ℕ → Bool
+all_below test zero = true
+all_below test (suc n) = test n && all_below test n
+
+both : (a b : Bool) → (a && b) ≡ true → (a ≡ true) × (b ≡ true)
+both true b h = (refl, h)
+both false b h = absurd (false≢true h)
+
+all_below-at : (test : ℕ → Bool) (n k : ℕ) → all_below test n ≡ true → k < n → test k ≡ true
+all_below-at test zero k h within = absurd (omega arith)
+all_below-at test (suc n) k h within =
+    let parts = both (test n) (all_below test n) h in
+    ⊎_elim (λ below. all_below-at test n k parts.1 below)
+    (λ above. let e : n ≡ k = omega arith in subst (λ (i : ℕ). test i ≡ true) e parts.0)
+    (cases_lt k n)
+
+-- a sign is a piece of a text, and its code is this
+abbrev pub is_piece : ℕ → Option ℕ → Bool
+is_piece code (Some found) = eqb found code
+is_piece code None = false
+
+abbrev pub reads_back : ℕ → Option ℕ → Bool
+reads_back code (Some sign) = not (eqb sign 91) && not ((eqb sign 10) || (eqb sign 13)) && is_piece code (code_at sign)
+reads_back code None = true
+
+-- seen code by code
+pub all_read_back : all_below (λ code. reads_back code (sign_at code)) 64 ≡ true
+unfolding sign_at code_at
+all_read_back = refl
+
+code_of_digits-written : (code : ℕ) → code < 64 → code_of_digits (48 + code / 10) (48 + code % 10) ≡ Some code
+code_of_digits-written code h = grind (arith, nat_tests)
+
+found-code : (code : ℕ) (found : Option ℕ) → is_piece code found ≡ true → found ≡ Some code
+found-code code (Some found) h = ap Some (eqb-true found code h)
+found-code code None h = absurd (false≢true h)
+
+last_choice : (X : Type 0) (first second : Bool) (x y z : X) → first ≡ false → second ≡ false → cond first x (cond second y z) ≡ z
+last_choice X false false x y z f g = refl
+last_choice X false true x y z f g = absurd (false≢true (sym g))
+last_choice X true second x y z f g = absurd (false≢true (sym f))
+
+piece_at-sign : (code sign : ℕ) (following : List ℕ) → reads_back code (Some sign) ≡ true → (piece_at sign following ≡ Some (code ∷ [])) × (bytes_behind sign ≡ 0)
+piece_at-sign code sign following h =
+    let bracket = eqb sign 91 in
+    let line = (eqb sign 10) || (eqb sign 13) in
+    let parts = both (not bracket && not line) (is_piece code (code_at sign)) h in
+    let tests = both (not bracket) (not line) parts.0 in
+    let no_bracket = not-true bracket tests.0 in
+    let no_line = not-true line tests.1 in
+    let group = option_map (λ (c : ℕ). c ∷ []) (group_at following) in
+    let one = option_map (λ (c : ℕ). c ∷ []) (code_at sign) in (
+      last_choice (Option (List ℕ)) bracket line group (Some []) one no_bracket no_line
+          ∙ ap (option_map (λ (c : ℕ). c ∷ [])) (found-code code (code_at sign) parts.1),
+      ap (λ b. cond b 3 0) no_bracket,
+    )
+
+-- a text reads back: with more behind it, it stands for these codes in front of what that stands for
+abbrev pub ReadsBack : List ℕ → List ℕ → Type 0
+ReadsBack text codes = (following : List ℕ) (place : ℕ) → text_from place 0 (text ++ following) ≡ before codes (text_from (place + length text) 0 following)
+
+ReadsBack-piece : (code : ℕ) (sign : Option ℕ) → code < 64 → reads_back code sign ≡ true → ReadsBack (sign_or_group sign code) (code ∷ [])
+ReadsBack-piece code (Some sign) small h = λ following place.
+    let piece = piece_at-sign code sign following h in
+    ap (λ p. joined place p (text_from (place + 1) (bytes_behind sign) following)) piece.0
+    ∙ ap (λ n. before (code ∷ []) (text_from (place + 1) n following)) piece.1
+ReadsBack-piece code None small h = λ following place.
+    let past : ℕ = ((place + 1) + 1) + 1 + 1 in
+    let e : past ≡ place + 4 = omega arith in
+    ap (λ p. joined place (option_map (λ (c : ℕ). c ∷ []) p) (text_from past 0 following)) (code_of_digits-written code small)
+    ∙ ap (λ n. before (code ∷ []) (text_from n 0 following)) e
+
+-- each code reads back as it is written
+pub ReadsBack-code : (code : ℕ) → code ≤ 63 → ReadsBack (written_code code) (code ∷ [])
+ReadsBack-code code small =
+    let below : code < 64 = omega arith in
+    ReadsBack-piece code (sign_at code) below (all_below-at (λ c. reads_back c (sign_at c)) 64 code all_read_back below)
+
+-- two texts that read back, one behind the other
+pub ReadsBack-append : (text more codes behind : List ℕ) → ReadsBack text codes → ReadsBack more behind → ReadsBack (text ++ more) (codes ++ behind)
+ReadsBack-append text more codes behind first second = λ following place.
+    let e : (place + length text) + length more ≡ place + length (text ++ more) = omega (arith, length-append text more) in
+    ap (text_from place 0) (append_assoc text more following)
+    ∙ first (more ++ following) place
+    ∙ ap (before codes) (second following (place + length text))
+    ∙ before-before codes behind (text_from ((place + length text) + length more) 0 following)
+    ∙ ap (λ n. before (codes ++ behind) (text_from n 0 following)) e
+
+-- with nothing behind it
+pub ReadsBack-whole : (text codes : List ℕ) → ReadsBack text codes → codes_of_text text ≡ Ok codes
+ReadsBack-whole text codes h =
+    ap codes_of_text (sym (append-nil text)) ∙ h [] 0 ∙ ap Ok (append-nil codes)
+
+-- one code more is written
+pub ReadsBack-more : (text longer codes : List ℕ) (i code : ℕ) → i < length codes → code ≡ get_or codes i code → code ≤ 63
+    → longer ≡ text ++ written_code code → ReadsBack text (take i codes) → ReadsBack longer (take (i + 1) codes)
+ReadsBack-more text longer codes i code within here small written so_far =
+    let taken : take (i + 1) codes ≡ take i codes ++ code ∷ [] =
+    take_more codes i code within ∙ ap (λ c. take i codes ++ c ∷ []) (sym here) in
+    subst (λ (t : List ℕ). ReadsBack t (take (i + 1) codes)) (sym written)
+    (subst (λ (cs : List ℕ). ReadsBack (text ++ written_code code) cs) (sym taken)
+    (ReadsBack-append text (written_code code) (take i codes) (code ∷ []) so_far (ReadsBack-code code small)))

@@ -1,0 +1,14 @@
+use Rattle.std.proofs.Common.{length, ◌-◌, ◌≡◌, ◌≤◌}
+use Rattle.lgp_flexo.specs.TapeText.{codes_of_text}
+use Rattle.lgp_flexo.specs.Pieces.{rest_from, counted}
+use Rattle.lgp_flexo.proofs.Reading.{added}
+use Rattle.lgp_flexo.proofs.tape_text.count_codes.Given as goal
+
+abbrev pub invariant-loop-place : goal.invariant-loop-place
+invariant-loop-place l = record {
+  few : l.count ≤ l.place;
+  so_far : counted (codes_of_text l.text) ≡ added l.count (counted (rest_from l.text l.place));
+}
+
+abbrev pub decreases-loop-place : goal.decreases-loop-place
+decreases-loop-place l = length l.text - l.place

@@ -1,0 +1,5 @@
+pub mod Code
+pub mod Input
+pub mod TapeText
+pub mod Pieces
+pub mod Tape

@@ -1,0 +1,122 @@
+-- Powers of ten, and that a fraction's text is read back.
+use Rattle.std.proofs.Common.{◌≡◌, ℕ, ◌+◌, ◌-◌, ◌*◌, ◌/◌, ◌%◌, ◌<◌, ◌≤◌, ◌^◌, Bool, true, false, if◌then◌else◌, ◌==◌, ℤ, pos, negsuc, neg_ℤ, int_le, int_lt, unsigned_abs, ◌*ℤ◌, ⊎_elim, append-nil, lit<, List, [], ◌∷◌, ◌++◌, length, slice_index, Ok, arith, refl, sym, ap, ◌∙◌, codes, IsTrue}
+use mathlib.Core.Bool.{xor}
+use Rattle.std.specs.Char.{is_ascii_digit}
+use Rattle.std.specs.Int.{is_negative}
+use Rattle.std.proofs.Math.Nat.{one-le-pow, pow-le-pow_right, div-lt_iff_lt-mul}
+use Rattle.std.proofs.lemmas.Bool.{and_parts, cases_Bool}
+use Rattle.std.proofs.lemmas.Int.{ints, unsigned_abs-mul}
+use Rattle.lgp_fraction.specs.Decimal.{decimal_fraction, decimal_number, decimal_text, decimal_value, digits_number, five_digits, is_decimal, is_fraction, places, places_text, ten_places}
+use Rattle.lgp_fraction.specs.Rounding.{nearest, nearest_size, with_sign}
+use Rattle.lgp_fraction.proofs.RoundingLemmas.{nearest-with_sign, not_negative, size-nearest}
+
+pub power_of_ten-positive : (places : ℕ) → 0 < 10 ^ places
+power_of_ten-positive places = let h = one-le-pow places 10 (omega arith) in omega (arith, h)
+
+pub power_of_ten-size : (places : ℕ) → places ≤ 12 → 10 ^ places ≤ 10 ^ 12
+power_of_ten-size places short = pow-le-pow_right (omega arith) short
+
+-- a number below 2 has less than 2^32 steps
+pub nearest_size-units : (units unit : ℕ) → 0 < unit → units < 2 * unit → nearest_size (units * 2 ^ 30) unit < 2 ^ 32
+nearest_size-units units unit nonzero less = (div-lt_iff_lt-mul {k = 2 * unit} {x = 2 * (units * 2 ^ 30) + unit} {y = 2 ^ 32} (omega arith)).1 (omega arith)
+
+-- ---- what is written is read back
+
+is_digit : (number : ℕ) → is_ascii_digit (48 + number % 10) ≡ true
+is_digit number = grind arith
+
+-- a text by its sign and its ten digits
+abbrev text_of : Bool → ℕ → List ℕ
+text_of negative number = (if negative then 45 else 32) ∷ 46 ∷ (five_digits (number / 100000) ++ five_digits (number % 100000))
+
+is_decimal-text_of : (negative : Bool) (number : ℕ) → is_decimal (text_of negative number) ≡ true
+unfolding five_digits
+is_decimal-text_of true number = simp is_digit
+is_decimal-text_of false number = simp is_digit
+
+length-text_of : (negative : Bool) (number : ℕ) → length (places (text_of negative number)) ≡ 10
+unfolding five_digits
+length-text_of true number = refl
+length-text_of false number = refl
+
+is_minus-text_of : (negative : Bool) (number : ℕ) → (slice_index (text_of negative number) 0 == 45) ≡ negative
+is_minus-text_of true number = refl
+is_minus-text_of false number = refl
+
+-- five digits are read as their number
+number-five_digits : (before number : ℕ) (rest : List ℕ) → number < 100000 → decimal_number before (five_digits number ++ rest) ≡ decimal_number (100000 * before + number) rest
+unfolding five_digits
+number-five_digits before number rest small =
+    let sum : 10 * (10 * (10 * (10 * (10 * before + (48 + number / 10000 % 10 - 48)) + (48 + number / 1000 % 10 - 48)) + (48 + number / 100 % 10 - 48)) + (48 + number / 10 % 10 - 48)) + (48 + number % 10 - 48) ≡ 100000 * before + number = omega arith in
+    ap (λ n. decimal_number n rest) sum
+
+number-last_digits : (before number : ℕ) → number < 100000 → decimal_number before (five_digits number) ≡ 100000 * before + number
+number-last_digits before number small =
+    ap (decimal_number before) (sym (append-nil (five_digits number))) ∙ number-five_digits before number [] small
+
+number-ten_digits : (number : ℕ) → number < 10 ^ 10 → decimal_number 0 (five_digits (number / 100000) ++ five_digits (number % 100000)) ≡ number
+number-ten_digits number small =
+    let sum : 100000 * (100000 * 0 + number / 100000) + number % 100000 ≡ number = omega arith in
+    number-five_digits 0 (number / 100000) (five_digits (number % 100000)) (omega arith)
+    ∙ (number-last_digits (100000 * 0 + number / 100000) (number % 100000) (omega arith) ∙ sum)
+
+digits_number-text_of : (negative : Bool) (number : ℕ) → number < 10 ^ 10 → digits_number (text_of negative number) ≡ number
+digits_number-text_of true number small = number-ten_digits number small
+digits_number-text_of false number small = number-ten_digits number small
+
+-- a fraction above -1, rounded to ten digits and back
+comes_back : (size : ℕ) → size < 2 ^ 30 → nearest_size (nearest_size (size * 10 ^ 10) (2 ^ 30) * 2 ^ 30) (10 ^ 10) ≡ size
+comes_back size small = omega arith
+
+below_ten_digits : (size : ℕ) → size < 2 ^ 30 → nearest_size (size * 10 ^ 10) (2 ^ 30) < 10 ^ 10
+below_ten_digits size small = omega arith
+
+with_own_sign : (steps : ℤ) → with_sign (is_negative steps) (unsigned_abs steps) ≡ steps
+with_own_sign (pos n) = rw (not_negative n) refl
+with_own_sign (negsuc n) = refl
+
+-- what a text with ten digits stands for
+abbrev value_of : Bool → ℕ → ℕ → ℤ
+value_of negative number places = nearest (with_sign negative (number * 2 ^ 30)) (pos (10 ^ places))
+
+value-text_of : (negative : Bool) (number : ℕ) → number < 10 ^ 10 → decimal_value (text_of negative number) ≡ with_sign negative (nearest_size (number * 2 ^ 30) (10 ^ 10))
+unfolding decimal_value
+value-text_of negative number small =
+    let text : List ℕ = text_of negative number in
+    ap (λ (minus : Bool). value_of minus (digits_number text) (length (places text))) (is_minus-text_of negative number)
+    ∙ (ap (λ (digits : ℕ). value_of negative digits (length (places text))) (digits_number-text_of negative number small)
+    ∙ (ap (λ (count : ℕ). value_of negative number count) (length-text_of negative number)
+    ∙ nearest-with_sign negative (number * 2 ^ 30) (10 ^ 10) (lit< tt)))
+
+-- the ten digits of a fraction above -1
+ten_places-size : (steps : ℤ) → ten_places steps ≡ nearest_size (unsigned_abs steps * 10 ^ 10) (2 ^ 30)
+ten_places-size steps =
+    size-nearest (steps *ℤ pos (10 ^ 10)) (pos (2 ^ 30)) ∙ ap (λ size. nearest_size size (2 ^ 30)) (unsigned_abs-mul steps (pos (10 ^ 10)))
+
+value-places_text : (steps : ℤ) → unsigned_abs steps < 2 ^ 30 → decimal_value (text_of (is_negative steps) (ten_places steps)) ≡ steps
+value-places_text steps small =
+    let few : ten_places steps < 10 ^ 10 = rw (ten_places-size steps) (below_ten_digits (unsigned_abs steps) small) in
+    let size : nearest_size (ten_places steps * 2 ^ 30) (10 ^ 10) ≡ unsigned_abs steps = rw (ten_places-size steps) (comes_back (unsigned_abs steps) small) in
+    value-text_of (is_negative steps) (ten_places steps) few ∙ (ap (with_sign (is_negative steps)) size ∙ with_own_sign steps)
+
+above_minus_one : (steps : ℤ) → unsigned_abs steps < 2 ^ 30 → IsTrue (is_fraction steps) → decimal_fraction (places_text steps) ≡ Ok steps
+unfolding decimal_fraction places_text
+above_minus_one steps small fraction =
+    rw (is_decimal-text_of (is_negative steps) (ten_places steps), value-places_text steps small, fraction) refl
+
+minus_one : decimal_fraction (codes "-1.000000000") ≡ Ok (neg_ℤ (pos (2 ^ 30)))
+unfolding decimal_fraction decimal_value nearest xor
+minus_one = refl
+
+pub decimal_fraction-decimal_text : (steps : ℤ) → IsTrue (is_fraction steps) → decimal_fraction (decimal_text steps) ≡ Ok steps
+unfolding decimal_text
+decimal_fraction-decimal_text steps fraction =
+    let parts = and_parts (int_le (neg_ℤ (pos (2 ^ 30))) steps) (int_lt steps (pos (2 ^ 30))) fraction in
+    ⊎_elim
+    (λ (low : int_le steps (neg_ℤ (pos (2 ^ 30))) ≡ true).
+    let same : steps ≡ neg_ℤ (pos (2 ^ 30)) = omega (arith, ints, parts.0) in
+    rw same minus_one)
+    (λ (above : int_le steps (neg_ℤ (pos (2 ^ 30))) ≡ false).
+    let small : unsigned_abs steps < 2 ^ 30 = omega (arith, ints, parts.0, parts.1) in
+    rw above (above_minus_one steps small fraction))
+    (cases_Bool (int_le steps (neg_ℤ (pos (2 ^ 30)))))

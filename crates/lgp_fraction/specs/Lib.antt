@@ -1,0 +1,3 @@
+pub mod Rounding
+pub mod Arithmetic
+pub mod Decimal

@@ -1,0 +1,22 @@
+use Rattle.std.proofs.Common.{◌≡◌, ◌+◌, ◌<◌, ◌++◌, ◌∷◌, [], arith, get_or, length, take}
+use Rattle.std.proofs.lemmas.List.{take_more}
+use Rattle.std.proofs.lemmas.List.Folds.{concat-append}
+use Rattle.lgp_lab.specs.Session.{said, said_all, stood_all}
+use Rattle.lgp_lab.proofs.KnownLemmas.{Appends-trans}
+use Rattle.lgp_lab.proofs.SessionLemmas.{said_all-push, stood_all-push}
+use Rattle.lgp_lab.proofs.script.Session.take_all.Goals as goal
+
+pub loop-byte-preserved : goal.loop-byte-preserved
+loop-byte-preserved g c = record {
+  boundary = c.in_ok-take.ensures.boundary;
+  stands = λ s stands.
+    let bytes = c.args.bytes.now in
+    let i = c.loop-byte.byte-index in
+    let within : i < length bytes = omega arith in
+    let before = c.loop-byte.invariant.stands s stands in
+    let now = c.in_ok-take.ensures.stands (stood_all s (take i bytes)) before.0 in
+    let longer = take_more bytes i 0 within in
+    (rw (longer, stood_all-push s (take i bytes) (get_or bytes i 0)) now.0,
+     rw (longer, said_all-push s (take i bytes) (get_or bytes i 0), concat-append (said_all s (take i bytes)) (said (stood_all s (take i bytes)) (get_or bytes i 0)))
+     (Appends-trans _ _ _ _ _ before.1 now.1));
+}

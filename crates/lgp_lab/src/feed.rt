@@ -1,0 +1,157 @@
+//! Where scripts come from and replies go.
+
+ghost use Rattle.std.specs.Prelude.{◌≡◌, ◌-◌, ◌||◌, ◌<◌, List, Option, ℕ, Bool, IfOk, IsErr, false, is_err, length};
+ghost use Rattle.std.specs.Io.{ReadsAtMost, WritesAtMost};
+ghost use Rattle.std.specs.Io.KnownBytes.{ReadConsumes, WriteAppends};
+
+use std::io::{Read, Write};
+
+/// A read or a write that failed, and gave or took no byte.
+#[derive(Clone, Copy, Debug, PartialEq, Eq)]
+pub struct Failed;
+
+/// A reader of bytes that counts its reads down and remembers whether one has failed.
+pub trait Feed {
+    /// The bytes that are left, where they are known.
+    ghost remaining: { Self → Option (List ℕ) };
+
+    /// Whether a read has failed.
+    ghost failed: { Self → Bool };
+
+    /// How many reads are left.
+    ghost reads: { Self → ℕ };
+
+    /// Reads bytes into the buffer, and answers how many; 0 into a buffer that is not empty only where nothing is left.
+    fn read(&mut self, buffer: &mut [u8]) -> Result<usize, Failed>
+        ensures bound { ReadsAtMost result buffer.new }
+        ensures bytes { ReadConsumes (remaining self.old) (remaining self.new) result buffer.new }
+        ensures failed { failed self.new ≡ (failed self.old || is_err result) }
+        ensures reads { reads self.new ≡ reads self.old - 1 }
+        ensures exhausted { reads self.old ≡ 0 → IsErr result };
+
+    /// Whether a read has failed.
+    fn has_failed(&self) -> bool
+        ensures { result ≡ failed self.now };
+
+    /// How many reads are left.
+    fn reads_left(&self) -> u64
+        ensures { result ≡ reads self.now };
+}
+
+/// A writer of bytes that remembers whether a write has failed.
+pub trait Sink {
+    /// The bytes that it holds, where they are known.
+    ghost contents: { Self → Option (List ℕ) };
+
+    /// Whether a write has failed.
+    ghost failed: { Self → Bool };
+
+    /// Writes bytes of the buffer, and answers how many; a write that takes none of a buffer that is not empty fails.
+    fn write(&mut self, buffer: &[u8]) -> Result<usize, Failed>
+        ensures bound { WritesAtMost result buffer.now }
+        ensures bytes { WriteAppends (contents self.old) (contents self.new) result buffer.now }
+        ensures failed { failed self.new ≡ (failed self.old || is_err result) }
+        ensures some { IfOk result (λ count. 0 < length buffer.now → 0 < count) };
+
+    /// Whether a write has failed.
+    fn has_failed(&self) -> bool
+        ensures { result ≡ failed self.now };
+}
+
+/// A feed of any reader.
+#[derive(Drop)]
+pub struct FeedOf<T> {
+    reader: T,
+    reads: u64,
+    failed: bool,
+}
+
+impl<T> FeedOf<T> {
+    /// A feed that reads at most so many times.
+    pub fn new(reader: T, reads: u64) -> FeedOf<T>
+        ensures reader { result.reader ≡ reader }
+        ensures reads { result.reads ≡ reads }
+        ensures failed { result.failed ≡ false }
+    {
+        FeedOf {
+            reader,
+            reads,
+            failed: false,
+        }
+    }
+}
+
+impl<T: Read> Feed for FeedOf<T> {
+    ghost remaining = { λ feed. T.remaining feed.reader };
+
+    ghost failed = { λ feed. feed.failed };
+
+    ghost reads = { λ feed. feed.reads };
+
+    fn read(&mut self, buffer: &mut [u8]) -> Result<usize, Failed> {
+        if self.reads == 0 {
+            self.failed = true;
+            return Err(Failed);
+        }
+        self.reads -= 1;
+        match self.reader.read(buffer) {
+            Ok(count) => Ok(count),
+            Err(_) => {
+                self.failed = true;
+                Err(Failed)
+            }
+        }
+    }
+
+    fn has_failed(&self) -> bool {
+        self.failed
+    }
+
+    fn reads_left(&self) -> u64 {
+        self.reads
+    }
+}
+
+/// A sink of any writer.
+#[derive(Drop)]
+pub struct SinkOf<T> {
+    writer: T,
+    failed: bool,
+}
+
+impl<T> SinkOf<T> {
+    /// A sink of a writer.
+    pub fn new(writer: T) -> SinkOf<T>
+        ensures writer { result.writer ≡ writer }
+        ensures failed { result.failed ≡ false }
+    {
+        SinkOf {
+            writer,
+            failed: false,
+        }
+    }
+}
+
+impl<T: Write> Sink for SinkOf<T> {
+    ghost contents = { λ sink. T.contents sink.writer };
+
+    ghost failed = { λ sink. sink.failed };
+
+    fn write(&mut self, buffer: &[u8]) -> Result<usize, Failed> {
+        match self.writer.write(buffer) {
+            Ok(0) if !buffer.is_empty() => {
+                self.failed = true;
+                Err(Failed)
+            }
+            Ok(count) => Ok(count),
+            Err(_) => {
+                self.failed = true;
+                Err(Failed)
+            }
+        }
+    }
+
+    fn has_failed(&self) -> bool {
+        self.failed
+    }
+}

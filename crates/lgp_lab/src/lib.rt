@@ -1,0 +1,9 @@
+//! The LGP-30 laboratory: scripts.
+#![tactic(auto)]
+
+pub mod answer;
+pub mod command;
+pub mod feed;
+pub mod line;
+pub mod reply;
+pub mod script;

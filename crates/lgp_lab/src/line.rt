@@ -1,0 +1,137 @@
+//! The line of a script that is open.
+
+ghost use Rattle.std.specs.Prelude.{◌≡◌, ◌≤◌, [], false, length};
+ghost use Rattle.lgp_lab.specs.Session.{Kept, Open, kept_of, kept_push, open_of, open_push, whole};
+
+use arrayvec::ArrayVec;
+use std::marker::Model;
+
+/// What is kept of bytes of a line: their front, whether there are more, and whether all are spaces.
+#[derive(Drop)]
+pub struct Bytes {
+    front: ArrayVec<u8, 4096>,
+    longer: bool,
+    blank: bool,
+}
+
+impl Model for Bytes {
+    ghost use Rattle.lgp_lab.specs.Session.{Kept};
+
+    ghost Value = { Kept };
+
+    ghost view = { λ bytes. record { front = bytes.front.items; longer = bytes.longer; blank = bytes.blank } };
+}
+
+impl Bytes {
+    /// No bytes.
+    #[tactic(auto, unfolding(crate::specs::Session::kept_of))]
+    pub fn new() -> Bytes
+        ensures { result ≡ kept_of [] }
+    {
+        Bytes {
+            front: ArrayVec::new(),
+            longer: false,
+            blank: true,
+        }
+    }
+
+    /// One byte more.
+    pub fn push(&mut self, byte: u8)
+        ensures { self.new ≡ kept_push self.old byte }
+    {
+        self.blank = self.blank && byte == b' ';
+        if self.front.len() < 4096 {
+            self.front.push(byte);
+        } else {
+            self.longer = true;
+        }
+    }
+
+    /// The front, at most 4,096 bytes.
+    pub fn front(&self) -> &[u8]
+        ensures front { result.now ≡ self.now.front }
+        ensures short { length result.now ≤ 4096 }
+    {
+        self.front.as_slice()
+    }
+
+    /// Whether there are more bytes.
+    pub fn is_longer(&self) -> bool
+        ensures { result ≡ self.now.longer }
+    {
+        self.longer
+    }
+
+    /// Whether all bytes are spaces.
+    pub fn is_blank(&self) -> bool
+        ensures { result ≡ self.now.blank }
+    {
+        self.blank
+    }
+}
+
+/// An open line; a carriage return is held back until the next byte shows whether the line ends behind it.
+#[derive(Drop)]
+pub struct Line {
+    bytes: Bytes,
+    held: bool,
+}
+
+impl Model for Line {
+    ghost use Rattle.lgp_lab.specs.Session.{Open};
+
+    ghost Value = { Open };
+
+    ghost view = { λ line. record { kept = line.bytes; held = line.held } };
+}
+
+impl Line {
+    /// A line that has just begun.
+    #[tactic(auto, unfolding(crate::specs::Session::open_of))]
+    pub fn new() -> Line
+        ensures { result ≡ open_of [] }
+    {
+        Line {
+            bytes: Bytes::new(),
+            held: false,
+        }
+    }
+
+    /// Takes the byte that is held back to the others.
+    fn release(&mut self)
+        ensures { self.new ≡ record { kept = whole self.old; held = false } }
+    {
+        if self.held {
+            self.bytes.push(b'\r');
+        }
+        self.held = false;
+    }
+
+    /// One byte more.
+    pub fn push(&mut self, byte: u8)
+        ensures { self.new ≡ open_push self.old byte }
+    {
+        self.release();
+        if byte == b'\r' {
+            self.held = true;
+        } else {
+            self.bytes.push(byte);
+        }
+    }
+
+    /// The bytes of a line that a line feed ends: without the carriage return before it.
+    pub fn ended(self) -> Bytes
+        ensures { result ≡ self.kept }
+    {
+        self.bytes
+    }
+
+    /// The bytes of a line that the script's end ends.
+    pub fn last(self) -> Bytes
+        ensures { result ≡ whole self }
+    {
+        let mut line = self;
+        line.release();
+        line.bytes
+    }
+}

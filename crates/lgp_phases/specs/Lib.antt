@@ -1,0 +1,4 @@
+pub mod Latch
+pub mod Progress
+pub use Rattle.lgp_table.specs.State
+pub use Rattle.lgp_table.specs.Activity

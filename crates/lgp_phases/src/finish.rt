@@ -1,0 +1,86 @@
+//! What an activity leaves, apart from the time that it takes.
+
+ghost use Rattle.std.specs.Prelude.{◌≡◌, if◌then◌else◌, slice_index};
+ghost use Rattle.lgp_flexo.specs.Input.{entered_all};
+ghost use Rattle.lgp_flexo.specs.Tape.{passing, input_done, tape_after_input};
+ghost use Rattle.lgp_table.specs.State.{core_of};
+ghost use Rattle.lgp_table.specs.Rows.{effect_of};
+ghost use Rattle.lgp_table.specs.Activity.{core_after, ended, fetched, print_of, status_at_end, resume};
+
+use crate::perform::{input, perform};
+use lgp_drum::Drum;
+use lgp_flexo::Code;
+use lgp_reader::Reader;
+use lgp_table::{Cause, Ending, Panel, Status};
+use std::alloc::Allocator;
+
+/// Performs the order at the counter.
+fn perform_next<A: Allocator>(
+    panel: &mut Panel,
+    drum: &mut Drum<A>,
+    reader: &mut Reader<A>,
+) -> Option<Code>
+    ensures core { core_of panel.new drum.new reader.new
+        ≡ ended (effect_of (slice_index drum.old panel.old.counter) (fetched (core_of panel.old drum.old reader.old))) (resume panel.old.mode) }
+    ensures prints { result ≡ (effect_of (slice_index drum.old panel.old.counter) (fetched (core_of panel.old drum.old reader.old))).prints }
+{
+    let on = panel.mode.resume();
+    let word = drum.word(panel.counter);
+    panel.register = word;
+    panel.counter = panel.counter.next();
+    let performed = perform(word, panel, drum, reader);
+    panel.status = performed.ending.status_after(on);
+    performed.prints
+}
+
+/// Performs the order in the instruction register.
+fn perform_register<A: Allocator>(
+    panel: &mut Panel,
+    drum: &mut Drum<A>,
+    reader: &mut Reader<A>,
+) -> Option<Code>
+    ensures core { core_of panel.new drum.new reader.new
+        ≡ ended (effect_of panel.old.register (core_of panel.old drum.old reader.old)) (Status.Halted Cause.Step) }
+    ensures prints { result ≡ (effect_of panel.old.register (core_of panel.old drum.old reader.old)).prints }
+{
+    let performed = perform(panel.register, panel, drum, reader);
+    panel.status = performed.ending.status_after(Status::Halted(Cause::Step));
+    performed.prints
+}
+
+/// Passes the tape for the operator.
+fn read_tape<A: Allocator>(panel: &mut Panel, reader: &mut Reader<A>)
+    ensures panel { panel.new ≡ record panel.old {
+      accumulator = entered_all panel.old.switches.six_bit panel.old.accumulator (passing reader.old);
+      status = if input_done reader.old then resume panel.old.mode else status_at_end panel.old.mode;
+    } }
+    ensures tape { reader.new ≡ tape_after_input reader.old }
+{
+    let ending = input(panel, reader);
+    panel.status = if matches!(ending, Ending::Plain) {
+        panel.mode.resume()
+    } else {
+        panel.mode.status_at_end()
+    };
+}
+
+/// Does what the activity does that the panel begins, and answers the code that it prints.
+#[tactic(auto, unfolding(lgp_table::specs::Activity::core_after, lgp_table::specs::Activity::print_of))]
+pub fn finish<A: Allocator>(
+    panel: &mut Panel,
+    drum: &mut Drum<A>,
+    reader: &mut Reader<A>,
+) -> Option<Code>
+    ensures core { core_of panel.new drum.new reader.new ≡ core_after (core_of panel.old drum.old reader.old) }
+    ensures prints { result ≡ print_of (core_of panel.old drum.old reader.old) }
+{
+    match panel.status {
+        Status::Halted(_) | Status::Waiting => None,
+        Status::Going => perform_next(panel, drum, reader),
+        Status::Executing => perform_register(panel, drum, reader),
+        Status::Reading => {
+            read_tape(panel, reader);
+            None
+        }
+    }
+}

@@ -1,0 +1,1 @@
+pub use Rattle.lgp_flexo.specs.Tape

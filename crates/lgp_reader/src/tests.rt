@@ -1,0 +1,110 @@
+use crate::{Input, Reader};
+use lgp_flexo::{Code, TAPE_LIMIT, read_tape_text};
+use linked_list_allocator::LocalHeap;
+use std::test::Fail;
+
+#[test]
+fn codes_pass_in_order(rt: HostRuntime) -> Result<(), Fail> {
+    let mut reader = Reader::new(rt.alloc());
+    assert!(rt; !reader.is_on());
+    assert_eq!(rt; reader.left().len(), 0);
+    reader.start();
+    assert!(rt; reader.is_on());
+    assert!(rt; reader.mount(read_tape_text(rt.alloc(), b"12'")?).is_ok());
+    assert!(rt; !reader.is_on());
+    assert_eq!(rt; reader.left().len(), 3);
+    for number in [6, 10, 32] {
+        assert_eq!(rt; reader.pass(), Code::new(number));
+    }
+    assert_eq!(rt; reader.pass(), None);
+    reader.start();
+    reader.stop();
+    assert!(rt; !reader.is_on());
+    Ok(())
+}
+
+#[test]
+fn an_input_ends_at_the_stop(rt: HostRuntime) -> Result<(), Fail> {
+    let mut reader = Reader::new(rt.alloc());
+    assert!(rt;
+        reader
+            .mount(read_tape_text(rt.alloc(), b"12[16]3'45")?)
+            .is_ok()
+    );
+    assert_eq!(rt; reader.passing(), 0);
+    assert_eq!(rt;
+        reader.pass_input(false, 7),
+        Input {
+            accumulator: 7,
+            done: false
+        }
+    );
+    assert_eq!(rt; reader.left().len(), 7);
+    reader.start();
+    assert_eq!(rt; reader.passing(), 5);
+    assert_eq!(rt;
+        reader.pass_input(false, 0),
+        Input {
+            accumulator: 0x123,
+            done: true
+        }
+    );
+    assert!(rt; !reader.is_on());
+    assert_eq!(rt; reader.left().len(), 2);
+    reader.start();
+    assert_eq!(rt;
+        reader.pass_input(false, 0x12),
+        Input {
+            accumulator: 0x1245,
+            done: false
+        }
+    );
+
+    assert!(rt; reader.mount(read_tape_text(rt.alloc(), b"a'")?).is_ok());
+    reader.start();
+    assert_eq!(rt;
+        reader.pass_input(true, 0),
+        Input {
+            accumulator: 0x39,
+            done: true
+        }
+    );
+    Ok(())
+}
+
+#[test]
+fn a_tape_above_the_limit_is_handed_back(rt: HostRuntime) -> Result<(), Fail> {
+    let mut reader = Reader::new(rt.alloc());
+    assert!(rt;
+        reader
+            .mount(vec![in rt.alloc(); Code::STOP; TAPE_LIMIT]?)
+            .is_ok()
+    );
+    reader.start();
+    match reader.mount(vec![in rt.alloc(); Code::STOP; TAPE_LIMIT + 1]?) {
+        Ok(()) => assert!(rt; false, "a tape above the limit was taken"),
+        Err(codes) => assert_eq!(rt; codes.len(), 1_048_577),
+    }
+    assert!(rt; reader.is_on());
+    assert_eq!(rt; reader.left().len(), 1_048_576);
+    Ok(())
+}
+
+#[test]
+fn a_refused_copy_changes_nothing(rt: HostRuntime) -> Result<(), Fail> {
+    let heap = LocalHeap::new(rt.alloc(), 1024)?;
+    let mut reader = Reader::new(&heap);
+    assert!(rt; reader.mount(read_tape_text(&heap, b"12")?).is_ok());
+    reader.start();
+    assert_eq!(rt; reader.pass(), Code::new(6));
+    let filler: Vec<u8, &LocalHeap> = Vec::with_capacity(&heap, heap.free())?;
+    assert!(rt; reader.copy().is_err());
+    assert!(rt; reader.is_on());
+    assert_eq!(rt; reader.left().len(), 1);
+    drop(filler);
+    let mut copy = reader.copy()?;
+    assert!(rt; copy.is_on());
+    assert_eq!(rt; copy.pass(), Code::new(10));
+    assert_eq!(rt; reader.left().len(), 1);
+    Ok(())
+}

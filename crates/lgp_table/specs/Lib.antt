@@ -1,0 +1,14 @@
+pub mod State
+pub mod Wait
+pub mod Rows
+pub mod Activity
+pub mod Console
+pub mod Interleaving
+pub use Rattle.lgp_flexo.specs.Code
+pub use Rattle.lgp_flexo.specs.Input
+pub use Rattle.lgp_flexo.specs.Tape
+pub use Rattle.lgp_fraction.specs.Arithmetic
+pub use Rattle.lgp_word.specs.Address
+pub use Rattle.lgp_word.specs.Order
+pub use Rattle.lgp_word.specs.Word
+pub use Rattle.lgp_word.specs.Drum

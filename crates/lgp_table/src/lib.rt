@@ -1,0 +1,10 @@
+//! What the Royal McBee LGP-30 does: its plain types, and in `specs/` the definitions that all other crates are proved
+//! against. Words, addresses, orders and codes are those of the crates below.
+#![tactic(auto)]
+
+pub mod action;
+pub mod laws;
+pub mod panel;
+
+pub use action::{Action, Event};
+pub use panel::{Cause, Ending, Mode, Panel, Status, Switches, Which};

@@ -1,0 +1,133 @@
+-- Digits are read as they were written.
+use Rattle.std.proofs.Common.{◌≡◌, ℕ, zero, suc, ◌+◌, ◌*◌, ◌/◌, ◌%◌, ◌<◌, ◌^◌, Option, Some, None, List, [], ◌∷◌, ◌++◌, length, refl, sym, ap, ◌∙◌, arith, option_and_then, Bool, true, false, eqb, cond, IfSome}
+use Rattle.std.proofs.lemmas.List.Quantifiers.{position-Some}
+use Rattle.std.proofs.lemmas.Bool.{eqb-true}
+use Rattle.std.proofs.lemmas.List.{append-nil}
+use Rattle.lgp_word.specs.Digits.{digits, digit_byte, digit_value, four_digits, digits_of, number_of, word_at}
+use Rattle.lgp_word.specs.Word.{IsWord}
+
+-- each of the sixteen values is read from its digit
+pub digit_value-digit_byte : (value : ℕ) → value < 16 → digit_value (digit_byte value) ≡ Some value
+unfolding digit_value digit_byte
+digit_value-digit_byte zero h = refl
+digit_value-digit_byte (suc zero) h = refl
+digit_value-digit_byte (suc (suc zero)) h = refl
+digit_value-digit_byte (suc (suc (suc zero))) h = refl
+digit_value-digit_byte (suc (suc (suc (suc zero)))) h = refl
+digit_value-digit_byte (suc (suc (suc (suc (suc zero))))) h = refl
+digit_value-digit_byte (suc (suc (suc (suc (suc (suc zero)))))) h = refl
+digit_value-digit_byte (suc (suc (suc (suc (suc (suc (suc zero))))))) h = refl
+digit_value-digit_byte (suc (suc (suc (suc (suc (suc (suc (suc zero)))))))) h = refl
+digit_value-digit_byte (suc (suc (suc (suc (suc (suc (suc (suc (suc zero))))))))) h = refl
+digit_value-digit_byte (suc (suc (suc (suc (suc (suc (suc (suc (suc (suc zero)))))))))) h = refl
+digit_value-digit_byte (suc (suc (suc (suc (suc (suc (suc (suc (suc (suc (suc zero))))))))))) h = refl
+digit_value-digit_byte (suc (suc (suc (suc (suc (suc (suc (suc (suc (suc (suc (suc zero)))))))))))) h = refl
+digit_value-digit_byte (suc (suc (suc (suc (suc (suc (suc (suc (suc (suc (suc (suc (suc zero))))))))))))) h = refl
+digit_value-digit_byte (suc (suc (suc (suc (suc (suc (suc (suc (suc (suc (suc (suc (suc (suc zero)))))))))))))) h = refl
+digit_value-digit_byte (suc (suc (suc (suc (suc (suc (suc (suc (suc (suc (suc (suc (suc (suc (suc zero))))))))))))))) h = refl
+digit_value-digit_byte (suc (suc (suc (suc (suc (suc (suc (suc (suc (suc (suc (suc (suc (suc (suc (suc n)))))))))))))))) h = absurd (omega arith)
+
+-- a byte that is read is the digit of its value
+pub digit_byte-digit_value : (byte value : ℕ) → digit_value byte ≡ Some value → (value < 16) × (digit_byte value ≡ byte)
+unfolding digit_value digit_byte
+digit_byte-digit_value byte value e =
+    let found = position-Some (λ digit. eqb digit byte) digits value 0 e in
+    (found.0, eqb-true _ _ found.1)
+
+-- four digits are read as their number
+pub number_of-four_digits : (before number : ℕ) (rest : List ℕ) → number < 65536 → number_of before (four_digits number ++ rest) ≡ number_of (65536 * before + number) rest
+unfolding four_digits
+number_of-four_digits before number rest small =
+    let a : number / 4096 % 16 < 16 = omega arith in
+    let b : number / 256 % 16 < 16 = omega arith in
+    let c : number / 16 % 16 < 16 = omega arith in
+    let d : number % 16 < 16 = omega arith in
+    let sum : 16 * (16 * (16 * (16 * before + number / 4096 % 16) + number / 256 % 16) + number / 16 % 16) + number % 16 ≡ 65536 * before + number = omega arith in
+    rw (digit_value-digit_byte (number / 4096 % 16) a, digit_value-digit_byte (number / 256 % 16) b, digit_value-digit_byte (number / 16 % 16) c, digit_value-digit_byte (number % 16) d, sum) refl
+
+-- what a chain of two options that succeeds has in between
+between : (o : Option ℕ) (f : ℕ → Option ℕ) (n : ℕ) → option_and_then f o ≡ Some n → (v : ℕ) × (o ≡ Some v) × (f v ≡ Some n)
+between None f n e = cc
+between (Some v) f n e = (v, refl, e)
+
+-- what is read as four digits is their number's
+four_digits-number_of : (before a b c d : ℕ) (rest : List ℕ) (n : ℕ) → number_of before (a ∷ b ∷ c ∷ d ∷ rest) ≡ Some n → (h : ℕ) × (h < 65536) × (four_digits h ≡ a ∷ b ∷ c ∷ d ∷ []) × (number_of (65536 * before + h) rest ≡ Some n)
+unfolding four_digits
+four_digits-number_of before a b c d rest n e =
+    let first = between (digit_value a) (λ v. number_of (16 * before + v) (b ∷ c ∷ d ∷ rest)) n e in
+    let second = between (digit_value b) (λ v. number_of (16 * (16 * before + first.0) + v) (c ∷ d ∷ rest)) n first.2 in
+    let third = between (digit_value c) (λ v. number_of (16 * (16 * (16 * before + first.0) + second.0) + v) (d ∷ rest)) n second.2 in
+    let fourth = between (digit_value d) (λ v. number_of (16 * (16 * (16 * (16 * before + first.0) + second.0) + third.0) + v) rest) n third.2 in
+    let at_a = digit_byte-digit_value a first.0 first.1 in
+    let at_b = digit_byte-digit_value b second.0 second.1 in
+    let at_c = digit_byte-digit_value c third.0 third.1 in
+    let at_d = digit_byte-digit_value d fourth.0 fourth.1 in
+    let h : ℕ = 4096 * first.0 + 256 * second.0 + 16 * third.0 + fourth.0 in
+    let is_a : h / 4096 % 16 ≡ first.0 = omega arith in
+    let is_b : h / 256 % 16 ≡ second.0 = omega arith in
+    let is_c : h / 16 % 16 ≡ third.0 = omega arith in
+    let is_d : h % 16 ≡ fourth.0 = omega arith in
+    let sum : 65536 * before + h ≡ 16 * (16 * (16 * (16 * before + first.0) + second.0) + third.0) + fourth.0 = omega arith in
+    (h, omega arith, rw (is_a, is_b, is_c, is_d, at_a.1, at_b.1, at_c.1, at_d.1) refl, rw sum fourth.2)
+
+-- eight digits are read as their number
+number_of-digits_of : (number : ℕ) → number < 2 ^ 32 → number_of 0 (digits_of number) ≡ Some number
+unfolding digits_of
+number_of-digits_of number small =
+    let high : number / 65536 < 65536 = omega arith in
+    let low : number % 65536 < 65536 = omega arith in
+    let sum : 65536 * (65536 * 0 + number / 65536) + number % 65536 ≡ number = omega arith in
+    let first = number_of-four_digits 0 (number / 65536) (four_digits (number % 65536)) high in
+    let second = number_of-four_digits (65536 * 0 + number / 65536) (number % 65536) [] low in
+    first ∙ (ap (number_of (65536 * 0 + number / 65536)) (sym (append-nil (four_digits (number % 65536)))) ∙ (second ∙ ap Some sum))
+
+length-digits_of : (number : ℕ) → length (digits_of number) ≡ 8
+unfolding digits_of four_digits
+length-digits_of number = refl
+
+-- a word is read from its digits
+pub word_at-digits_of : (word : ℕ) → IsWord word → word_at (digits_of word) ≡ Some word
+unfolding word_at
+word_at-digits_of word h =
+    let even : word % 2 ≡ 0 = h.1 in
+    rw (length-digits_of word, number_of-digits_of word h.0, even) refl
+
+-- what is read as eight digits is their number's
+digits_of-number_of : (text : List ℕ) (number : ℕ) → length text ≡ 8 → number_of 0 text ≡ Some number → (number < 2 ^ 32) × (digits_of number ≡ text)
+unfolding digits_of
+digits_of-number_of (a ∷ b ∷ c ∷ d ∷ e ∷ f ∷ g ∷ h ∷ []) number long read =
+    let first = four_digits-number_of 0 a b c d (e ∷ f ∷ g ∷ h ∷ []) number read in
+    let second = four_digits-number_of (65536 * 0 + first.0) e f g h [] number first.3 in
+    let is_number : 65536 * (65536 * 0 + first.0) + second.0 ≡ number = cc in
+    let high : number / 65536 ≡ first.0 = omega arith in
+    let low : number % 65536 ≡ second.0 = omega arith in
+    (omega arith, rw (high, low, first.2, second.2) refl)
+digits_of-number_of [] number long read = absurd (omega arith)
+digits_of-number_of (a ∷ []) number long read = absurd (omega arith)
+digits_of-number_of (a ∷ b ∷ []) number long read = absurd (omega arith)
+digits_of-number_of (a ∷ b ∷ c ∷ []) number long read = absurd (omega arith)
+digits_of-number_of (a ∷ b ∷ c ∷ d ∷ []) number long read = absurd (omega arith)
+digits_of-number_of (a ∷ b ∷ c ∷ d ∷ e ∷ []) number long read = absurd (omega arith)
+digits_of-number_of (a ∷ b ∷ c ∷ d ∷ e ∷ f ∷ []) number long read = absurd (omega arith)
+digits_of-number_of (a ∷ b ∷ c ∷ d ∷ e ∷ f ∷ g ∷ []) number long read = absurd (omega arith)
+digits_of-number_of (a ∷ b ∷ c ∷ d ∷ e ∷ f ∷ g ∷ h ∷ i ∷ rest) number long read = absurd (omega arith)
+
+-- an option that is kept by a test, and passed it
+kept : (b : Bool) (o : Option ℕ) (word : ℕ) → cond b o None ≡ Some word → (b ≡ true) × (o ≡ Some word)
+kept true o word e = (refl, e)
+kept false o word e = cc
+
+-- a text that is read as a word is its digits
+pub digits_of-word_at : (text : List ℕ) (word : ℕ) → word_at text ≡ Some word → digits_of word ≡ text
+unfolding word_at
+digits_of-word_at text word e =
+    let long = kept (eqb (length text) 8) (option_and_then (λ number. cond (eqb (number % 2) 0) (Some number) None) (number_of 0 text)) word e in
+    let read = between (number_of 0 text) (λ number. cond (eqb (number % 2) 0) (Some number) None) word long.1 in
+    let same = kept (eqb (read.0 % 2) 0) (Some read.0) word read.2 in
+    let is_word : read.0 ≡ word = cc (same.1) in
+    rw (← is_word) (digits_of-number_of text read.0 (eqb-true _ _ long.0) read.1).1
+
+-- the same of the answer of a reader
+pub IfSome-word_at : (answer : Option ℕ) (text : List ℕ) → answer ≡ word_at text → IfSome answer (λ word. digits_of word ≡ text)
+IfSome-word_at None text e = tt
+IfSome-word_at (Some word) text e = digits_of-word_at text word (sym e)

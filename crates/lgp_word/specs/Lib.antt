@@ -1,0 +1,5 @@
+pub mod Word
+pub mod Address
+pub mod Order
+pub mod Digits
+pub mod Drum
