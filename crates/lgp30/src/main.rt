@@ -3,9 +3,8 @@
 
 use lgp_lab::feed::{FeedOf, SinkOf};
 use lgp_lab::script::{LabFault, run_script};
-use std::env;
-use std::io;
 use std::process::ExitCode;
+use std::{env, io};
 
 /// How often standard input is read at most.
 const READS: u64 = 1 << 32;

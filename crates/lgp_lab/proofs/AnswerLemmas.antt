@@ -8,7 +8,7 @@ use Rattle.lgp_lab.specs.Reply.{Performed, performed_on}
 
 pub performed_step : (done left : ℕ) (s : State) → 0 < left → performed_on done left s
     ≡ cond (is_at_rest s.core.panel.status) (record { done = done; stopped = false; state = s })
-        (cond (nat_lt clock_end (s.clock + cost s)) (record { done = done; stopped = true; state = s }) (performed_on (done + 1) (left - 1) (next s)))
+    (cond (nat_lt clock_end (s.clock + cost s)) (record { done = done; stopped = true; state = s }) (performed_on (done + 1) (left - 1) (next s)))
 unfolding performed_on
 performed_step done zero s more = absurd (omega arith)
 performed_step done (suc left) s more =

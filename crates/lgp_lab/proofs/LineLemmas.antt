@@ -23,32 +23,32 @@ or-true false = refl
 take-push : (limit : ℕ) (bytes : List ℕ) (byte : ℕ) → take limit (bytes ++ byte ∷ []) ≡ cond (nat_lt (length (take limit bytes)) limit) (take limit bytes ++ byte ∷ []) (take limit bytes)
 take-push limit bytes byte = ⊎_elim
     (λ (room : length bytes < limit).
-        let fits : length bytes ≤ limit = omega arith in
-        let more : length (bytes ++ byte ∷ []) ≤ limit = omega (arith, length-append bytes (byte ∷ [])) in
-        let all = take_all limit bytes fits in
-        let all_more = take_all limit (bytes ++ byte ∷ []) more in
-        let test : nat_lt (length bytes) limit ≡ true = grind (arith, nat_tests) in
-        rw (all, all_more, test) refl)
+    let fits : length bytes ≤ limit = omega arith in
+    let more : length (bytes ++ byte ∷ []) ≤ limit = omega (arith, length-append bytes (byte ∷ [])) in
+    let all = take_all limit bytes fits in
+    let all_more = take_all limit (bytes ++ byte ∷ []) more in
+    let test : nat_lt (length bytes) limit ≡ true = grind (arith, nat_tests) in
+    rw (all, all_more, test) refl)
     (λ (full : limit ≤ length bytes).
-        let long = length-take-le limit bytes full in
-        let test : nat_lt limit limit ≡ false = grind (arith, nat_tests) in
-        rw (take-append-le limit bytes (byte ∷ []) full, long, test) refl)
+    let long = length-take-le limit bytes full in
+    let test : nat_lt limit limit ≡ false = grind (arith, nat_tests) in
+    rw (take-append-le limit bytes (byte ∷ []) full, long, test) refl)
     (cases_lt (length bytes) limit)
 
 longer-push : (limit : ℕ) (bytes : List ℕ) (byte : ℕ) → nat_lt limit (length (bytes ++ byte ∷ [])) ≡ (nat_lt limit (length bytes) || nat_le limit (length (take limit bytes)))
 longer-push limit bytes byte = ⊎_elim
     (λ (room : length bytes < limit).
-        let fits : length bytes ≤ limit = omega arith in
-        let all = take_all limit bytes fits in
-        let now : nat_lt limit (length (bytes ++ byte ∷ [])) ≡ false = simp length-append (grind (arith, nat_tests)) in
-        let before : nat_lt limit (length bytes) ≡ false = grind (arith, nat_tests) in
-        let full : nat_le limit (length bytes) ≡ false = grind (arith, nat_tests) in
-        rw (now, all, before, full) refl)
+    let fits : length bytes ≤ limit = omega arith in
+    let all = take_all limit bytes fits in
+    let now : nat_lt limit (length (bytes ++ byte ∷ [])) ≡ false = simp length-append (grind (arith, nat_tests)) in
+    let before : nat_lt limit (length bytes) ≡ false = grind (arith, nat_tests) in
+    let full : nat_le limit (length bytes) ≡ false = grind (arith, nat_tests) in
+    rw (now, all, before, full) refl)
     (λ (full : limit ≤ length bytes).
-        let long = length-take-le limit bytes full in
-        let now : nat_lt limit (length (bytes ++ byte ∷ [])) ≡ true = simp length-append (grind (arith, nat_tests)) in
-        let reached : nat_le limit limit ≡ true = grind (arith, nat_tests) in
-        rw (now, long, reached) (sym (or-true (nat_lt limit (length bytes)))))
+    let long = length-take-le limit bytes full in
+    let now : nat_lt limit (length (bytes ++ byte ∷ [])) ≡ true = simp length-append (grind (arith, nat_tests)) in
+    let reached : nat_le limit limit ≡ true = grind (arith, nat_tests) in
+    rw (now, long, reached) (sym (or-true (nat_lt limit (length bytes)))))
     (cases_lt (length bytes) limit)
 
 blank-push : (bytes : List ℕ) (byte : ℕ) → list_all is_space (bytes ++ byte ∷ []) ≡ (list_all is_space bytes && is_space byte)

@@ -58,19 +58,31 @@ fn perform<A: Allocator>(machine: &mut Machine<A>, limit: u64) -> Result<Run, Al
     while left > 0 {
         match machine.next_order() {
             Ok(_) => {}
-            Err(OrderFault::AtRest) => return Ok(Run { done, stopped: false }),
-            Err(OrderFault::ClockEnd) => return Ok(Run { done, stopped: true }),
+            Err(OrderFault::AtRest) => return Ok(Run {
+                done,
+                stopped: false,
+            }),
+            Err(OrderFault::ClockEnd) => return Ok(Run {
+                done,
+                stopped: true,
+            }),
             Err(OrderFault::Memory) => return Err(AllocError),
             Err(OrderFault::Moving) => unreachable!(),
         }
         done += 1;
         left -= 1;
     }
-    Ok(Run { done, stopped: false })
+    Ok(Run {
+        done,
+        stopped: false,
+    })
 }
 
 /// Reads a tape's text of at most one line: its codes, or its first bad place.
-fn read_codes<A: Allocator + Copy>(alloc: A, text: &[u8]) -> Result<Result<Vec<Code, A>, u64>, AllocError>
+fn read_codes<A: Allocator + Copy>(
+    alloc: A,
+    text: &[u8],
+) -> Result<Result<Vec<Code, A>, u64>, AllocError>
     requires { length text.now ≤ 4096 }
     ensures codes { IfOk result (λ read. IfOk read (λ codes. codes_of_text text.now ≡ Ok codes.items)) }
     ensures few { IfOk result (λ read. IfOk read (λ codes. vec_len codes ≤ 1048576)) }
@@ -86,7 +98,11 @@ fn read_codes<A: Allocator + Copy>(alloc: A, text: &[u8]) -> Result<Result<Vec<C
 
 /// Mounts a tape given by its text.
 #[tactic(auto, unfolding(crate::specs::Reply::answer_to_mount))]
-fn mount<A: Allocator + Copy>(alloc: A, machine: &mut Machine<A>, text: &[u8]) -> Result<Reply, AllocError>
+fn mount<A: Allocator + Copy>(
+    alloc: A,
+    machine: &mut Machine<A>,
+    text: &[u8],
+) -> Result<Reply, AllocError>
     requires boundary { IsAtBoundary machine.old }
     requires short { length text.now ≤ 4096 }
     ensures reply { IfOk result (λ reply. reply ≡ (answer_to_mount machine.old.state (codes_of_text text.now)).reply) }
@@ -108,7 +124,11 @@ fn mount<A: Allocator + Copy>(alloc: A, machine: &mut Machine<A>, text: &[u8]) -
 
 /// Strikes the keys of a text.
 #[tactic(auto, unfolding(crate::specs::Reply::answer_to_type))]
-fn type_text<A: Allocator + Copy>(alloc: A, machine: &mut Machine<A>, text: &[u8]) -> Result<Reply, AllocError>
+fn type_text<A: Allocator + Copy>(
+    alloc: A,
+    machine: &mut Machine<A>,
+    text: &[u8],
+) -> Result<Reply, AllocError>
     requires boundary { IsAtBoundary machine.old }
     requires short { length text.now ≤ 4096 }
     ensures reply { IfOk result (λ reply. reply ≡ (answer_to_type machine.old.state (codes_of_text text.now)).reply) }

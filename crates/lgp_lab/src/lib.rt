@@ -7,3 +7,6 @@ pub mod feed;
 pub mod line;
 pub mod reply;
 pub mod script;
+
+#[cfg(test)]
+mod tests;

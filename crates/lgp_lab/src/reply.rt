@@ -4,7 +4,7 @@ ghost use Rattle.std.specs.Prelude.{◌≡◌, ◌∷◌, ◌++◌, ◌+◌, ◌
 ghost use Rattle.lgp_table.specs.State.{State};
 ghost use Rattle.lgp_table.specs.Interleaving.{is_boundary};
 ghost use Rattle.lgp_machine.specs.Look.{look_of};
-ghost use Rattle.lgp_lab.specs.Reply.{FitsDrum, bad_sign_text, clock_text, count_text, orders_text, stopped_clock_text, tape_text, typed_text,  word_line, written_address, mode_text, on_text, panel_text, printed_text, refusal_text, console_text, registers_text, reply_text, status_text, switch_text, switches_text, words_text};
+ghost use Rattle.lgp_lab.specs.Reply.{FitsDrum, bad_sign_text, clock_text, count_text, orders_text, stopped_clock_text, tape_text, typed_text, word_line, written_address, mode_text, on_text, panel_text, printed_text, refusal_text, console_text, registers_text, reply_text, status_text, switch_text, switches_text, words_text};
 
 use itoa::Buffer;
 use lgp_flexo::{Code, write_tape_text};
@@ -216,7 +216,11 @@ fn push_panel<A: Allocator>(text: &mut Vec<u8, A>, look: &Look, left: u64) -> Re
 
 /// Appends a word's line.
 #[tactic(auto, unfolding(crate::specs::Reply::word_line))]
-fn push_word<A: Allocator>(text: &mut Vec<u8, A>, address: Address, word: Word) -> Result<(), AllocError>
+fn push_word<A: Allocator>(
+    text: &mut Vec<u8, A>,
+    address: Address,
+    word: Word,
+) -> Result<(), AllocError>
     ensures { IfOk result (λ _. text.new.items ≡ text.old.items ++ word_line address word) }
 {
     push_address(text, address)?;
@@ -248,7 +252,11 @@ fn push_words<A: Allocator>(
 
 /// Appends what is printed.
 #[tactic(auto, unfolding(crate::specs::Reply::printed_text))]
-fn push_printed<A: Allocator + Copy>(alloc: A, text: &mut Vec<u8, A>, codes: &[Code]) -> Result<(), AllocError>
+fn push_printed<A: Allocator + Copy>(
+    alloc: A,
+    text: &mut Vec<u8, A>,
+    codes: &[Code],
+) -> Result<(), AllocError>
     ensures { IfOk result (λ _. text.new.items ≡ text.old.items ++ printed_text codes.now) }
 {
     if codes.is_empty() {
@@ -327,7 +335,11 @@ fn push_stopped_clock<A: Allocator>(text: &mut Vec<u8, A>, clock: u64) -> Result
 
 /// Appends how many orders were performed, and the status.
 #[tactic(auto, unfolding(crate::specs::Reply::orders_text))]
-fn push_orders<A: Allocator>(text: &mut Vec<u8, A>, done: u64, status: Status) -> Result<(), AllocError>
+fn push_orders<A: Allocator>(
+    text: &mut Vec<u8, A>,
+    done: u64,
+    status: Status,
+) -> Result<(), AllocError>
     ensures { IfOk result (λ _. text.new.items ≡ text.old.items ++ orders_text done status) }
 {
     text.extend_from_slice(b"orders ")?;

@@ -194,7 +194,7 @@ impl<A: Allocator + Copy> Session<A> {
         requires { IsAtBoundary self.old.machine }
         ensures stands { (s : Standing) → StandsAt self.old.machine self.old.line self.old.faults s
             → OnOk result (StandsAt self.new.machine self.new.line self.new.faults (stood s byte)
-                × Appends (W.contents writer.old) (W.contents writer.new) (concat (said s byte))) }
+            × Appends (W.contents writer.old) (W.contents writer.new) (concat (said s byte))) }
         ensures boundary { OnOk result (IsAtBoundary self.new.machine) }
     {
         if byte != b'\n' {
@@ -210,7 +210,7 @@ impl<A: Allocator + Copy> Session<A> {
         requires { IsAtBoundary self.old.machine }
         ensures stands { (s : Standing) → StandsAt self.old.machine self.old.line self.old.faults s
             → OnOk result (StandsAt self.new.machine self.new.line self.new.faults (stood_all s bytes.now)
-                × Appends (W.contents writer.old) (W.contents writer.new) (concat (said_all s bytes.now))) }
+            × Appends (W.contents writer.old) (W.contents writer.new) (concat (said_all s bytes.now))) }
         ensures boundary { OnOk result (IsAtBoundary self.new.machine) }
     {
         for byte in bytes {
@@ -224,7 +224,7 @@ impl<A: Allocator + Copy> Session<A> {
         requires { IsAtBoundary self.old.machine }
         ensures stands { (s : Standing) → StandsAt self.old.machine self.old.line self.old.faults s
             → OnOk result (StandsAt self.new.machine self.new.line self.new.faults (ended s)
-                × Appends (W.contents writer.old) (W.contents writer.new) (concat (said_last s))) }
+            × Appends (W.contents writer.old) (W.contents writer.new) (concat (said_last s))) }
     {
         let line = mem::replace(&mut self.line, Line::new()).last();
         self.finish(&line, writer)?;

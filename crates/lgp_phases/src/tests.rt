@@ -50,7 +50,8 @@ impl<A: Allocator> Model for Bench<A> {
 }
 
 impl<A: Allocator + Copy> Bench<A> {
-    /// The registers given, with these words on the drum and this tape in the reader, at clock 0.
+    /// The registers given, with these words on the drum and this tape in the reader, at clock 0. The reader is on where a tape is
+    /// read from the console.
     fn new(
         alloc: A,
         panel: &Panel,
@@ -65,6 +66,9 @@ impl<A: Allocator + Copy> Bench<A> {
         if reader.mount(read_tape_text(alloc, tape)?).is_err() {
             return Err(Fail::from("the tape is too long"));
         }
+        if panel.status == Status::Reading {
+            reader.start();
+        }
         Ok(Bench {
             panel: *panel,
             drum,
@@ -72,6 +76,25 @@ impl<A: Allocator + Copy> Bench<A> {
             processor: Processor::new(alloc)?,
             clock: 0,
         })
+    }
+
+    /// The activity that begins here in one call, by a processor of its own.
+    fn at_once(&mut self, alloc: A) -> Result<Outcome, Fail> {
+        let mut processor = Processor::new(alloc)?;
+        let cost = self.ahead().cost;
+        if cost > CLOCK_END - self.clock {
+            return Err(Fail::from("the clock ends"));
+        }
+        let outcome = processor.activity(
+            &mut self.panel,
+            &mut self.drum,
+            &mut self.reader,
+            self.clock,
+        );
+        self.clock += cost;
+        processor.clear();
+        self.processor = processor;
+        Ok(outcome)
     }
 }
 
@@ -171,24 +194,14 @@ fn a_sum_is_stored(rt: HostRuntime) -> Result<(), Fail> {
 #[test]
 fn an_activity_is_its_word_times(rt: HostRuntime) -> Result<(), Fail> {
     let mut bench = Bench::new(rt.alloc(), &panel(Status::Going), &SUM, b"")?;
-    let twin = Bench::new(rt.alloc(), &panel(Status::Going), &SUM, b"")?;
-    let Bench {
-        mut panel,
-        mut drum,
-        mut reader,
-        ..
-    } = twin;
-    let mut processor = Processor::new(rt.alloc())?;
-    let mut clock = 0;
+    let mut twin = Bench::new(rt.alloc(), &panel(Status::Going), &SUM, b"")?;
     for _ in 0..4 {
-        let outcome = processor.activity(&mut panel, &mut drum, &mut reader, clock);
+        let outcome = twin.at_once(rt.alloc())?;
         assert_eq!(rt; bench.order(), Some(outcome));
-        assert_eq!(rt; bench.panel, panel);
-        clock = bench.clock;
+        assert_eq!(rt; bench.panel, twin.panel);
+        assert_eq!(rt; bench.clock, twin.clock);
     }
-    assert_eq!(rt; drum.word(at(b"0052")?), word(b"00000010")?);
-    processor.clear();
-    assert!(rt; processor.is_idle());
+    assert_eq!(rt; twin.drum.word(at(b"0052")?), word(b"00000010")?);
     Ok(())
 }
 
@@ -462,30 +475,12 @@ fn a_tape_is_read_from_the_console(rt: HostRuntime) -> Result<(), Fail> {
     ] {
         let mut start = panel(Status::Reading);
         start.mode = mode;
-        let Bench {
-            mut panel,
-            mut drum,
-            mut reader,
-            ..
-        } = Bench::new(rt.alloc(), &start, &[], tape)?;
-        reader.start();
-        assert_eq!(rt;
-            ahead(&panel, &drum, &reader, 0),
-            Ahead { cost, prints: None }
-        );
-        let mut processor = Processor::new(rt.alloc())?;
-        let outcome = processor.activity(&mut panel, &mut drum, &mut reader, 0);
-        assert_eq!(rt;
-            outcome,
-            Outcome {
-                cost,
-                status,
-                printed: None
-            },
-            "{mode:?}"
-        );
-        assert_eq!(rt; panel.accumulator, 0x12, "{mode:?}");
-        assert!(rt; !reader.is_on());
+        let mut bench = Bench::new(rt.alloc(), &start, &[], tape)?;
+        let outcome = bench.order().ok_or("not as foretold")?;
+        assert_eq!(rt; outcome.cost, cost, "{mode:?}");
+        assert_eq!(rt; outcome.status, status, "{mode:?}");
+        assert_eq!(rt; bench.panel.accumulator, 0x12, "{mode:?}");
+        assert!(rt; !bench.reader.is_on());
     }
     Ok(())
 }

@@ -10,14 +10,16 @@ use Rattle.lgp_lab.proofs.script.Session.take.Goals as goal
 
 pub returns-then-byte-ne10-clause-stands : goal.returns-then-byte-ne10-clause-stands
 returns-then-byte-ne10-clause-stands g c = λ s stands.
-    let other : eqb c.args.byte 10 ≡ false = grind (arith, nat_tests) in
-    (rw c.push.ensures (StandsAt-push c.args.self.now.machine c.args.self.now.line c.args.self.now.faults s c.args.byte stands other),
-     rw (said-push s c.args.byte other) (Appends-none (g.W.Sink.contents c.args.writer.now)))
+    let other : eqb c.args.byte 10 ≡ false = grind (arith, nat_tests) in (
+      rw c.push.ensures (StandsAt-push c.args.self.now.machine c.args.self.now.line c.args.self.now.faults s c.args.byte stands other),
+      rw (said-push s c.args.byte other) (Appends-none (g.W.Sink.contents c.args.writer.now)),
+    )
 
 pub returns-clause-stands : goal.returns-clause-stands
 returns-clause-stands g c = λ s stands.
     let feed : c.args.byte ≡ 10 = omega arith in
-    let is_kept : c.ended-line.result ≡ kept_of (strip_carriage_return s.line) = c.ended-line.ensures ∙ (ap (λ (o : Open). o.kept) (c.replace.ensures.value ∙ stands.line_at) ∙ kept-open_of s.line) in
-    (rw (stood-feed s c.args.byte feed) (StandsAt-answered c.args.self.now.machine c.args.self.now.line c.args.self.now.faults s (strip_carriage_return s.line) c.ended-line.result _ _ _ stands is_kept
-        c.in_ok-finish.ensures.machine (c.in_ok-finish.ensures.line ∙ (c.replace.ensures.after ∙ c.new.ensures)) c.in_ok-finish.ensures.faults),
-     rw (said-feed s c.args.byte feed) (rw (reply-answered c.args.self.now.machine c.args.self.now.line c.args.self.now.faults s (strip_carriage_return s.line) c.ended-line.result stands is_kept) at c.in_ok-finish.ensures.reply))
+    let is_kept : c.ended-line.result ≡ kept_of (strip_carriage_return s.line) = c.ended-line.ensures ∙ (ap (λ (o : Open). o.kept) (c.replace.ensures.value ∙ stands.line_at) ∙ kept-open_of s.line) in (
+      rw (stood-feed s c.args.byte feed) (StandsAt-answered c.args.self.now.machine c.args.self.now.line c.args.self.now.faults s (strip_carriage_return s.line) c.ended-line.result _ _ _ stands is_kept
+          c.in_ok-finish.ensures.machine (c.in_ok-finish.ensures.line ∙ (c.replace.ensures.after ∙ c.new.ensures)) c.in_ok-finish.ensures.faults),
+      rw (said-feed s c.args.byte feed) (rw (reply-answered c.args.self.now.machine c.args.self.now.line c.args.self.now.faults s (strip_carriage_return s.line) c.ended-line.result stands is_kept) at c.in_ok-finish.ensures.reply),
+    )

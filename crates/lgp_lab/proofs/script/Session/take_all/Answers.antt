@@ -10,13 +10,14 @@ pub loop-byte-preserved : goal.loop-byte-preserved
 loop-byte-preserved g c = record {
   boundary = c.in_ok-take.ensures.boundary;
   stands = λ s stands.
-    let bytes = c.args.bytes.now in
-    let i = c.loop-byte.byte-index in
-    let within : i < length bytes = omega arith in
-    let before = c.loop-byte.invariant.stands s stands in
-    let now = c.in_ok-take.ensures.stands (stood_all s (take i bytes)) before.0 in
-    let longer = take_more bytes i 0 within in
-    (rw (longer, stood_all-push s (take i bytes) (get_or bytes i 0)) now.0,
-     rw (longer, said_all-push s (take i bytes) (get_or bytes i 0), concat-append (said_all s (take i bytes)) (said (stood_all s (take i bytes)) (get_or bytes i 0)))
-     (Appends-trans _ _ _ _ _ before.1 now.1));
+      let bytes = c.args.bytes.now in
+      let i = c.loop-byte.byte-index in
+      let within : i < length bytes = omega arith in
+      let before = c.loop-byte.invariant.stands s stands in
+      let now = c.in_ok-take.ensures.stands (stood_all s (take i bytes)) before.0 in
+      let longer = take_more bytes i 0 within in (
+        rw (longer, stood_all-push s (take i bytes) (get_or bytes i 0)) now.0,
+        rw (longer, said_all-push s (take i bytes) (get_or bytes i 0), concat-append (said_all s (take i bytes)) (said (stood_all s (take i bytes)) (get_or bytes i 0)))
+            (Appends-trans _ _ _ _ _ before.1 now.1),
+      );
 }

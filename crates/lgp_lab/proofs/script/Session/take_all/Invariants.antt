@@ -10,5 +10,5 @@ invariant-loop-byte g l = record {
   boundary : IsAtBoundary l.self.machine;
   stands : (s : Standing) → StandsAt l.fn.self.machine l.fn.self.line l.fn.self.faults s
       → StandsAt l.self.machine l.self.line l.self.faults (stood_all s (take l.byte-index l.bytes))
-        × Appends (g.W.Sink.contents l.fn.writer) (g.W.Sink.contents l.writer) (concat (said_all s (take l.byte-index l.bytes)));
+      × Appends (g.W.Sink.contents l.fn.writer) (g.W.Sink.contents l.writer) (concat (said_all s (take l.byte-index l.bytes)));
 }
