@@ -4,6 +4,7 @@ pub mod Rows
 pub mod Activity
 pub mod Console
 pub mod Interleaving
+pub mod Worked
 pub use Rattle.lgp_flexo.specs.Code
 pub use Rattle.lgp_flexo.specs.Input
 pub use Rattle.lgp_flexo.specs.Tape

@@ -1,10 +1,19 @@
 //! What follows from the definitions, each law as the contract of a function that does nothing.
 
-ghost use Rattle.std.specs.Prelude.{◌≡◌, ◌≢◌, ◌+◌, ◌<◌, ◌≤◌, ℕ, IsTrue, false};
+ghost use Rattle.std.specs.Prelude.{◌≡◌, ◌≢◌, ◌+◌, ◌<◌, ◌≤◌, ℕ, Bool, List, IsTrue, true, false, [], ◌∷◌, length};
+ghost use Rattle.lgp_flexo.specs.Code.{is_skipped};
+ghost use Rattle.lgp_flexo.specs.Input.{entered_all};
+ghost use Rattle.lgp_word.specs.declared.order.Op.{Op};
+ghost use Rattle.lgp_table.specs.Activity.{cost, next};
+ghost use Rattle.lgp_table.specs.Interleaving.{Configuration, acted, at_boundary, pressed, turned};
+ghost use Rattle.lgp_table.specs.Rows.{row};
+ghost use Rattle.lgp_table.specs.State.{Core, State, word_at};
+ghost use Rattle.lgp_table.specs.declared.panel.Panel.{Panel};
 ghost use Rattle.lgp_word.specs.Drum.{position_of, position_under_head};
 ghost use Rattle.lgp_table.specs.Wait.{wait};
 ghost use Rattle.lgp_table.specs.Console.{Desk, desk_after, is_live};
-ghost use Rattle.lgp_table.specs.declared.action.Action.{Action};
+
+use crate::action::Action;
 
 /// A wait is the number of word times until the head first reads the sector, and never more than a revolution.
 pub fn waits()
@@ -17,4 +26,35 @@ pub fn waits()
 /// A dead action changes nothing.
 pub fn dead_actions()
     ensures unchanged { (desk : Desk) (action : Action) → is_live desk.panel action ≡ false → desk_after desk action ≡ desk }
+{}
+
+/// Every activity takes a word time at least, and the clock never goes back.
+#[tactic(auto, using(crate::proofs::Costs::cost_more))]
+pub fn costs()
+    ensures cost { (s : State) → 1 ≤ cost s }
+    ensures clock { (s : State) → s.clock < (next s).clock }
+{}
+
+/// An order changes no word but the one at its address.
+pub fn other_words()
+    ensures unchanged { (op : Op) → (minus : Bool) → (m other : ℕ) → (core : Core) → other ≢ m
+        → word_at (row op minus m core).core other ≡ word_at core other }
+{}
+
+/// A skipped code passes and does not enter, from the tape as from the keys.
+pub fn skipped_codes()
+    ensures tape { (six_bit : Bool) → (accumulator code : ℕ) → (codes : List ℕ) → is_skipped code ≡ true
+        → entered_all six_bit accumulator (code ∷ codes) ≡ entered_all six_bit accumulator codes }
+    ensures key { (panel : Panel) → (code : ℕ) → is_skipped code ≡ true → is_live panel (Action.Key code) ≡ false }
+{}
+
+/// What is pressed within an activity waits for its end, where all that is kept acts in order; with 16 kept a press is lost.
+pub fn kept_actions()
+    ensures kept { (now : Configuration) → (first second : Action) → now.elapsed ≡ 1 → now.kept ≡ first ∷ []
+        → pressed now second ≡ record now { kept = first ∷ second ∷ [] } }
+    ensures full { (now : Configuration) → (action : Action) → now.elapsed ≡ 1 → length now.kept ≡ 16 → pressed now action ≡ now }
+    ensures at_once { (s : State) → (action : Action) → pressed (at_boundary s) action ≡ at_boundary (acted s action) }
+    ensures in_order { (now : Configuration) → (first second : Action) → now.elapsed + 1 ≡ cost now.state
+        → now.kept ≡ first ∷ second ∷ [] → turned now ≡ at_boundary (acted (acted (next now.state) first) second) }
+    ensures not_yet { (now : Configuration) → now.elapsed + 1 < cost now.state → turned now ≡ record now { elapsed = now.elapsed + 1 } }
 {}

@@ -5,6 +5,10 @@
 pub mod action;
 pub mod laws;
 pub mod panel;
+pub mod worked;
 
 pub use action::{Action, Event};
 pub use panel::{Cause, Ending, Mode, Panel, Status, Switches, Which};
+
+#[cfg(test)]
+mod tests;
