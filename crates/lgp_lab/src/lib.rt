@@ -7,5 +7,3 @@ pub mod feed;
 pub mod line;
 pub mod reply;
 pub mod script;
-#[cfg(test)]
-mod tests;

@@ -10,6 +10,3 @@ pub use fault::{
 };
 pub use look::Look;
 pub use machine::Machine;
-
-#[cfg(test)]
-mod tests;

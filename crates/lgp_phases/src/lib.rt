@@ -11,6 +11,3 @@ pub mod processor;
 pub use forecast::ahead;
 pub use outcome::{Ahead, Outcome, Progress};
 pub use processor::Processor;
-
-#[cfg(test)]
-mod tests;
