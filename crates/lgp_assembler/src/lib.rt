@@ -26,8 +26,6 @@ mod operations;
 mod output;
 mod passes;
 mod refusal;
-#[cfg(test)]
-mod tests;
 
 /// How many lines a source has.
 fn line_count(source: &[u8]) -> u64
