@@ -1,6 +1,8 @@
 //! The LGP-30 laboratory's program: a script from standard input to standard output.
 #![tactic(auto)]
 
+ghost use Rattle.std.specs.Prelude.{◌≡◌, ◌↔◌, Err, Ok};
+
 use lgp_lab::feed::{FeedOf, SinkOf};
 use lgp_lab::script::{LabFault, run_script};
 use std::process::ExitCode;
@@ -14,7 +16,11 @@ const USAGE: u8 = 64;
 
 /// The status for what a script came to: 0; 1 where a reply begins with a question mark; 2 after a read or a write that
 /// failed; 3 for want of memory.
-fn status_of(outcome: Result<u64, LabFault>) -> u8 {
+fn status_of(outcome: Result<u64, LabFault>) -> u8
+    ensures all_well { (result ≡ 0) ↔ (outcome ≡ Ok 0) }
+    ensures memory { (result ≡ 3) ↔ (outcome ≡ Err LabFault.Memory) }
+    ensures read { outcome ≡ Err LabFault.Read → result ≡ 2 }
+{
     match outcome {
         Ok(0) => 0,
         Ok(_) => 1,
