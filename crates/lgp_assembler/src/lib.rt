@@ -85,3 +85,6 @@ pub fn assemble<A: Allocator + Copy>(alloc: A, source: &[u8]) -> Result<Image<A>
     add_missing_end(&mut draft.faults, scan.ended, source)?;
     image_or_faults(draft)
 }
+
+#[cfg(test)]
+mod tests;
