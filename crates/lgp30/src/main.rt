@@ -1,7 +1,7 @@
 //! The LGP-30 laboratory's program: a script from standard input to standard output.
 #![tactic(auto)]
 
-ghost use Rattle.std.specs.Prelude.{◌≡◌, ◌↔◌, Err, Ok};
+ghost use Rattle.std.specs.Prelude.{◌≡◌, ◌+◌, ◌↔◌, ℕ, Err, Ok};
 
 use lgp_lab::feed::{FeedOf, SinkOf};
 use lgp_lab::script::{LabFault, run_script};
@@ -18,8 +18,10 @@ const USAGE: u8 = 64;
 /// failed; 3 for want of memory.
 fn status_of(outcome: Result<u64, LabFault>) -> u8
     ensures all_well { (result ≡ 0) ↔ (outcome ≡ Ok 0) }
-    ensures memory { (result ≡ 3) ↔ (outcome ≡ Err LabFault.Memory) }
+    ensures questions { (more : ℕ) → outcome ≡ Ok (more + 1) → result ≡ 1 }
     ensures read { outcome ≡ Err LabFault.Read → result ≡ 2 }
+    ensures write { (count : ℕ) → outcome ≡ Err (LabFault.Write count) → result ≡ 2 }
+    ensures memory { (result ≡ 3) ↔ (outcome ≡ Err LabFault.Memory) }
 {
     match outcome {
         Ok(0) => 0,

@@ -4,3 +4,4 @@ pub mod ScriptLemmas
 pub mod LineLemmas
 pub mod KnownLemmas
 pub mod SessionLemmas
+pub mod StopLemmas

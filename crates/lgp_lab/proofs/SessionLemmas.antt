@@ -1,5 +1,5 @@
 -- A session stands where the bytes that it took say.
-use Rattle.std.proofs.Common.{◌≡◌, ℕ, ◌+◌, ◌-◌, ◌^◌, ◌<◌, ◌≤◌, ◌==◌, ◌||◌, Bool, true, false, cond, min, nat_lt, List, [], ◌∷◌, ◌++◌, length, take, get_or, refl, sym, ap, ◌∙◌, arith, add-zero, append_assoc, count_by, eqb, None, Some, Option, IfSome}
+use Rattle.std.proofs.Common.{◌≡◌, ℕ, ◌+◌, ◌-◌, ◌^◌, ◌<◌, ◌≤◌, ◌==◌, ◌||◌, Bool, true, false, cond, min, nat_lt, List, [], ◌∷◌, ◌++◌, length, take, get_or, refl, sym, ap, ◌∙◌, arith, add-zero, append_assoc, count_by, eqb, length-append, None, Some, Option, IfSome}
 use Rattle.std.specs.List.{concat, list_all}
 use Rattle.std.specs.Str.Lines.{strip_carriage_return}
 use Rattle.std.proofs.lemmas.List.{append-nil, get_or-take, take_all}
@@ -63,13 +63,14 @@ counted-more : (faults more total limit : ℕ) → faults ≡ min total limit �
 counted-more faults more total limit e = omega arith
 
 -- after a line of which this is kept
-pub StandsAt-answered : (machine : Configuration) (line : Open) (faults : ℕ) (s : Standing) (text : List ℕ) (kept : Kept) (machine_after : Configuration) (line_after : Open) (faults_after : ℕ)
-    → StandsAt machine line faults s → kept ≡ kept_of text
+pub StandsAt-answered : (machine : Configuration) (line : Open) (faults written : ℕ) (s : Standing) (text : List ℕ) (kept : Kept) (machine_after : Configuration) (line_after : Open) (faults_after written_after : ℕ)
+    → StandsAt machine line faults written s → kept ≡ kept_of text
     → machine_after ≡ at_boundary (after_kept machine.state kept) → line_after ≡ open_of []
     → faults_after ≡ min (faults + count_by is_question (reply_to_kept machine.state kept)) (2 ^ 64 - 1)
-    → StandsAt machine_after line_after faults_after (answered s text)
+    → written_after ≡ min (written + length (concat (reply_to_kept machine.state kept))) (2 ^ 64 - 1)
+    → StandsAt machine_after line_after faults_after written_after (answered s text)
 unfolding answered
-StandsAt-answered machine line faults s text kept machine_after line_after faults_after stands is_kept is_machine is_line is_faults =
+StandsAt-answered machine line faults written s text kept machine_after line_after faults_after written_after stands is_kept is_machine is_line is_faults is_written =
     let state : machine.state ≡ s.state = ap (λ (now : Configuration). now.state) stands.machine_at in
     let after : after_kept machine.state kept ≡ after_line s.state text = rw (state, is_kept) (after_kept-kept_of s.state text) in
     let reply : reply_to_kept machine.state kept ≡ reply_to_line s.state text = rw (state, is_kept) (reply_to_kept-kept_of s.state text) in
@@ -78,22 +79,25 @@ StandsAt-answered machine line faults s text kept machine_after line_after fault
       line_at = is_line;
       faults_at = is_faults ∙ (ap (λ (r : List (List ℕ)). min (faults + count_by is_question r) (2 ^ 64 - 1)) reply
           ∙ counted-more faults (count_by is_question (reply_to_line s.state text)) s.faults (2 ^ 64 - 1) stands.faults_at);
+      written_at = is_written ∙ (ap (λ (r : List (List ℕ)). min (written + length (concat r)) (2 ^ 64 - 1)) reply
+          ∙ counted-more written (length (concat (reply_to_line s.state text))) s.written (2 ^ 64 - 1) stands.written_at);
     }
 
 -- the reply that was written for it
-pub reply-answered : (machine : Configuration) (line : Open) (faults : ℕ) (s : Standing) (text : List ℕ) (kept : Kept)
-    → StandsAt machine line faults s → kept ≡ kept_of text → reply_to_kept machine.state kept ≡ reply_to_line s.state text
-reply-answered machine line faults s text kept stands is_kept =
+pub reply-answered : (machine : Configuration) (line : Open) (faults written : ℕ) (s : Standing) (text : List ℕ) (kept : Kept)
+    → StandsAt machine line faults written s → kept ≡ kept_of text → reply_to_kept machine.state kept ≡ reply_to_line s.state text
+reply-answered machine line faults written s text kept stands is_kept =
     let state : machine.state ≡ s.state = ap (λ (now : Configuration). now.state) stands.machine_at in
     rw (state, is_kept) (reply_to_kept-kept_of s.state text)
 
 -- after a byte that is no line feed
-pub StandsAt-push : (machine : Configuration) (line : Open) (faults : ℕ) (s : Standing) (byte : ℕ) → StandsAt machine line faults s → eqb byte 10 ≡ false → StandsAt machine (open_push line byte) faults (stood s byte)
+pub StandsAt-push : (machine : Configuration) (line : Open) (faults written : ℕ) (s : Standing) (byte : ℕ) → StandsAt machine line faults written s → eqb byte 10 ≡ false → StandsAt machine (open_push line byte) faults written (stood s byte)
 unfolding stood
-StandsAt-push machine line faults s byte stands other = rw other (record {
+StandsAt-push machine line faults written s byte stands other = rw other (record {
   machine_at = stands.machine_at;
   line_at = ap (λ (o : Open). open_push o byte) stands.line_at ∙ open_push-open_of s.line byte;
   faults_at = stands.faults_at;
+  written_at = stands.written_at;
 })
 
 pub said-push : (s : Standing) (byte : ℕ) → eqb byte 10 ≡ false → said s byte ≡ []
@@ -135,14 +139,14 @@ pub said_all-append : (s : Standing) (bytes more : List ℕ) → said_all s (byt
 said_all-append s [] more = refl
 said_all-append s (first ∷ bytes) more = ap (λ (rest : List (List ℕ)). said s first ++ rest) (said_all-append (stood s first) bytes more) ∙ sym (append_assoc (said s first) (said_all (stood s first) bytes) (said_all (stood_all (stood s first) bytes) more))
 
-pub Ran-first : (r w : Option (List ℕ)) (machine : Configuration) (line : Open) (faults : ℕ) → StandsAt machine line faults first_standing → Ran r r w w machine line faults
-Ran-first r w machine line faults stands = record { past = []; consumed = Consumes-none r; stands = stands; sent = Appends-none w }
+pub Ran-first : (r w : Option (List ℕ)) (machine : Configuration) (line : Open) (faults written : ℕ) → StandsAt machine line faults written first_standing → Ran r r w w machine line faults written
+Ran-first r w machine line faults written stands = record { past = []; consumed = Consumes-none r; stands = stands; sent = Appends-none w }
 
-pub Ran-more : (r₀ r₁ r₂ w₀ w₁ w₂ : Option (List ℕ)) (machine₁ machine₂ : Configuration) (line₁ line₂ : Open) (faults₁ faults₂ : ℕ) (bytes : List ℕ)
-    → Ran r₀ r₁ w₀ w₁ machine₁ line₁ faults₁ → Consumes r₁ r₂ bytes
-    → ((s : Standing) → StandsAt machine₁ line₁ faults₁ s → StandsAt machine₂ line₂ faults₂ (stood_all s bytes) × Appends w₁ w₂ (concat (said_all s bytes)))
-    → Ran r₀ r₂ w₀ w₂ machine₂ line₂ faults₂
-Ran-more r₀ r₁ r₂ w₀ w₁ w₂ machine₁ machine₂ line₁ line₂ faults₁ faults₂ bytes ran read more =
+pub Ran-more : (r₀ r₁ r₂ w₀ w₁ w₂ : Option (List ℕ)) (machine₁ machine₂ : Configuration) (line₁ line₂ : Open) (faults₁ faults₂ written₁ written₂ : ℕ) (bytes : List ℕ)
+    → Ran r₀ r₁ w₀ w₁ machine₁ line₁ faults₁ written₁ → Consumes r₁ r₂ bytes
+    → ((s : Standing) → StandsAt machine₁ line₁ faults₁ written₁ s → StandsAt machine₂ line₂ faults₂ written₂ (stood_all s bytes) × Appends w₁ w₂ (concat (said_all s bytes)))
+    → Ran r₀ r₂ w₀ w₂ machine₂ line₂ faults₂ written₂
+Ran-more r₀ r₁ r₂ w₀ w₁ w₂ machine₁ machine₂ line₁ line₂ faults₁ faults₂ written₁ written₂ bytes ran read more =
     let next = more (stood_all first_standing ran.past) ran.stands in
     record {
       past = ran.past ++ bytes;
@@ -155,10 +159,13 @@ Ran-more r₀ r₁ r₂ w₀ w₁ w₂ machine₁ machine₂ line₁ line₂ fau
 -- the script's end answers what is open like a line
 pub ended-answered : (s : Standing) → ended s ≡ answered s s.line
 unfolding ended answered
-ended-answered s = by_line s.state s.line s.faults where
-  by_line : (state : State) (line : List ℕ) (faults : ℕ) → ◌≡◌ {A = Standing} (cond (eqb (length line) 0) (record { state = state; line = line; faults = faults }) (record { state = after_line state line; line = []; faults = faults + count_by is_question (reply_to_line state line) })) (record { state = after_line state line; line = []; faults = faults + count_by is_question (reply_to_line state line) })
-  by_line state [] faults = rw ((empty_line state).0, (empty_line state).1, add-zero faults) refl
-  by_line state (first ∷ more) faults =
+ended-answered s = by_line s.state s.line s.faults s.written where
+  after : State → List ℕ → ℕ → ℕ → Standing
+  after state line faults written = record { state = after_line state line; line = []; faults = faults + count_by is_question (reply_to_line state line); written = written + length (concat (reply_to_line state line)) }
+
+  by_line : (state : State) (line : List ℕ) (faults written : ℕ) → ◌≡◌ {A = Standing} (cond (eqb (length line) 0) (record { state = state; line = line; faults = faults; written = written }) (after state line faults written)) (after state line faults written)
+  by_line state [] faults written = rw ((empty_line state).0, (empty_line state).1, add-zero faults, add-zero written) refl
+  by_line state (first ∷ more) faults written =
       let some : eqb (length (first ∷ more)) 0 ≡ false = grind (arith, nat_tests) in rw some refl
 
 pub said_last-answered : (s : Standing) → said_last s ≡ reply_to_line s.state s.line
@@ -191,6 +198,23 @@ ended-faults : (s : Standing) → (ended s).faults ≡ s.faults + count_by is_qu
 unfolding answered
 ended-faults s = rw (ended-answered s, said_last-answered s) refl
 
+-- how many bytes the replies have
+stood-written : (s : Standing) (byte : ℕ) → (stood s byte).written ≡ s.written + length (concat (said s byte))
+unfolding stood said answered
+stood-written s byte = by_feed (byte == 10) where
+  by_feed : (feed : Bool) → (cond feed (answered s (strip_carriage_return s.line)) (record s { line = s.line ++ byte ∷ [] })).written ≡ s.written + length (concat (cond feed (reply_to_line s.state (strip_carriage_return s.line)) []))
+  by_feed true = refl
+  by_feed false = sym (add-zero s.written)
+
+pub stood_all-written : (s : Standing) (bytes : List ℕ) → (stood_all s bytes).written ≡ s.written + length (concat (said_all s bytes))
+stood_all-written s [] = sym (add-zero s.written)
+stood_all-written s (byte ∷ bytes) =
+    let rest = stood_all-written (stood s byte) bytes in
+    let first = stood-written s byte in
+    let both = ap length (concat-append (said s byte) (said_all (stood s byte) bytes)) in
+    let lengths = length-append (concat (said s byte)) (concat (said_all (stood s byte) bytes)) in
+    omega (arith, rest, first, both, lengths)
+
 script-faults : (bytes : List ℕ) → (ended (stood_all first_standing bytes)).faults ≡ count_by is_question (script_replies bytes)
 script-faults bytes =
     let said = stood_all-faults first_standing bytes in
@@ -199,22 +223,22 @@ script-faults bytes =
     rw (script_replies-said bytes) (omega (arith, said, last, both))
 
 -- a reader whose known bytes were all read
-all_read : (bytes past rest : List ℕ) → bytes ≡ past ++ rest → rest ≡ [] → bytes ≡ past
+pub all_read : (bytes past rest : List ℕ) → bytes ≡ past ++ rest → rest ≡ [] → bytes ≡ past
 all_read bytes past rest e none = e ∙ (ap (λ (xs : List ℕ). past ++ xs) none ∙ append-nil past)
 
-pub Ran-text : (r₀ r w₀ w₁ w₂ : Option (List ℕ)) (machine : Configuration) (line : Open) (faults : ℕ) → (ran : Ran r₀ r w₀ w₁ machine line faults) → IsAtEnd r
+pub Ran-text : (r₀ r w₀ w₁ w₂ : Option (List ℕ)) (machine : Configuration) (line : Open) (faults written : ℕ) → (ran : Ran r₀ r w₀ w₁ machine line faults written) → IsAtEnd r
     → Appends w₁ w₂ (concat (said_last (stood_all first_standing ran.past))) → IfSome r₀ (λ bytes. Appends w₀ w₂ (script_text bytes))
-Ran-text None r w₀ w₁ w₂ machine line faults ran at_end last = tt
-Ran-text (Some bytes) None w₀ w₁ w₂ machine line faults ran at_end last = absurd ran.consumed
-Ran-text (Some bytes) (Some rest) w₀ w₁ w₂ machine line faults ran at_end last =
+Ran-text None r w₀ w₁ w₂ machine line faults written ran at_end last = tt
+Ran-text (Some bytes) None w₀ w₁ w₂ machine line faults written ran at_end last = absurd ran.consumed
+Ran-text (Some bytes) (Some rest) w₀ w₁ w₂ machine line faults written ran at_end last =
     let read = all_read bytes ran.past rest ran.consumed at_end in
     rw (read, script_replies-said ran.past, concat-append (said_all first_standing ran.past) (said_last (stood_all first_standing ran.past)))
     (Appends-trans w₀ w₁ w₂ _ _ ran.sent last)
 
-pub Ran-faults : (r₀ r w₀ w₁ : Option (List ℕ)) (machine : Configuration) (line : Open) (faults counted : ℕ) → (ran : Ran r₀ r w₀ w₁ machine line faults) → IsAtEnd r
+pub Ran-faults : (r₀ r w₀ w₁ : Option (List ℕ)) (machine : Configuration) (line : Open) (faults written counted : ℕ) → (ran : Ran r₀ r w₀ w₁ machine line faults written) → IsAtEnd r
     → counted ≡ min (ended (stood_all first_standing ran.past)).faults (2 ^ 64 - 1) → IfSome r₀ (λ bytes. counted ≡ script_faults bytes)
-Ran-faults None r w₀ w₁ machine line faults counted ran at_end e = tt
-Ran-faults (Some bytes) None w₀ w₁ machine line faults counted ran at_end e = absurd ran.consumed
-Ran-faults (Some bytes) (Some rest) w₀ w₁ machine line faults counted ran at_end e =
+Ran-faults None r w₀ w₁ machine line faults written counted ran at_end e = tt
+Ran-faults (Some bytes) None w₀ w₁ machine line faults written counted ran at_end e = absurd ran.consumed
+Ran-faults (Some bytes) (Some rest) w₀ w₁ machine line faults written counted ran at_end e =
     let read = all_read bytes ran.past rest ran.consumed at_end in
     e ∙ (ap (λ (n : ℕ). min n (2 ^ 64 - 1)) (script-faults ran.past) ∙ ap script_faults (sym read))

@@ -2,3 +2,4 @@ pub mod Command
 pub mod Reply
 pub mod Script
 pub mod Session
+pub mod Stop

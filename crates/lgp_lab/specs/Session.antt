@@ -1,5 +1,5 @@
--- A script taken byte by byte: the state after the lines that have ended, the line that is open, and how many replies so far
--- began with a question mark.
+-- A script taken byte by byte: the state after the lines that have ended, the line that is open, how many replies so far began
+-- with a question mark, and how many bytes all replies so far have.
 use Rattle.std.specs.Prelude.{◌≡◌, ℕ, ◌+◌, ◌-◌, ◌^◌, ◌==◌, ◌&&◌, ◌||◌, Bool, true, false, if◌then◌else◌, min, nat_le, nat_lt, List, [], ◌∷◌, ◌++◌, length, take, slice_index, count_by, fold, Option}
 use Rattle.std.specs.List.{concat, list_all}
 use Rattle.std.specs.Io.KnownBytes.{Appends, Consumes}
@@ -16,9 +16,10 @@ pub record Standing : Type 0 where
   pub state : State
   pub line : List ℕ
   pub faults : ℕ
+  pub written : ℕ
 
 abbrev pub first_standing : Standing
-first_standing = record { state = opening blank_words; line = []; faults = 0 }
+first_standing = record { state = opening blank_words; line = []; faults = 0; written = 0 }
 
 -- after a line that has ended
 unfoldable pub answered : Standing → List ℕ → Standing
@@ -26,6 +27,7 @@ answered s line = record {
   state = after_line s.state line;
   line = [];
   faults = s.faults + count_by is_question (reply_to_line s.state line);
+  written = s.written + length (concat (reply_to_line s.state line));
 }
 
 -- after one byte more, and the replies that it brings
@@ -110,14 +112,15 @@ unfoldable pub after_kept : State → Kept → State
 after_kept s kept = if is_passed_over_kept kept then s else (answer_to_kept s kept).state
 
 -- a laboratory that stands there, as far as 64 bits count
-pub record StandsAt (machine : Configuration) (line : Open) (faults : ℕ) (s : Standing) : Type 0 where
+pub record StandsAt (machine : Configuration) (line : Open) (faults written : ℕ) (s : Standing) : Type 0 where
   pub machine_at : machine ≡ at_boundary s.state
   pub line_at : line ≡ open_of s.line
   pub faults_at : faults ≡ min s.faults (2 ^ 64 - 1)
+  pub written_at : written ≡ min s.written (2 ^ 64 - 1)
 
 -- a script of which these bytes were read: where it stands, and what was written
-pub record Ran (r₀ r w₀ w : Option (List ℕ)) (machine : Configuration) (line : Open) (faults : ℕ) : Type 0 where
+pub record Ran (r₀ r w₀ w : Option (List ℕ)) (machine : Configuration) (line : Open) (faults written : ℕ) : Type 0 where
   pub past : List ℕ
   pub consumed : Consumes r₀ r past
-  pub stands : StandsAt machine line faults (stood_all first_standing past)
+  pub stands : StandsAt machine line faults written (stood_all first_standing past)
   pub sent : Appends w₀ w (concat (said_all first_standing past))

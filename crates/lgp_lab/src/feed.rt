@@ -66,12 +66,12 @@ pub struct FeedOf<T> {
     failed: bool,
 }
 
-impl<T> FeedOf<T> {
-    /// A feed that reads at most so many times.
+impl<T: Read> FeedOf<T> {
+    /// A feed of what a reader has left, which reads at most so many times.
     pub fn new(reader: T, reads: u64) -> FeedOf<T>
-        ensures reader { result.reader ≡ reader }
-        ensures reads { result.reads ≡ reads }
-        ensures failed { result.failed ≡ false }
+        ensures remaining { ⟦<FeedOf<T> as Feed>⟧.remaining result ≡ T.remaining reader }
+        ensures reads { ⟦<FeedOf<T> as Feed>⟧.reads result ≡ reads }
+        ensures failed { ⟦<FeedOf<T> as Feed>⟧.failed result ≡ false }
     {
         FeedOf {
             reader,
@@ -119,11 +119,11 @@ pub struct SinkOf<T> {
     failed: bool,
 }
 
-impl<T> SinkOf<T> {
-    /// A sink of a writer.
+impl<T: Write> SinkOf<T> {
+    /// A sink that writes behind what a writer holds.
     pub fn new(writer: T) -> SinkOf<T>
-        ensures writer { result.writer ≡ writer }
-        ensures failed { result.failed ≡ false }
+        ensures contents { ⟦<SinkOf<T> as Sink>⟧.contents result ≡ T.contents writer }
+        ensures failed { ⟦<SinkOf<T> as Sink>⟧.failed result ≡ false }
     {
         SinkOf {
             writer,

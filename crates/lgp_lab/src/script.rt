@@ -7,6 +7,7 @@ ghost use Rattle.lgp_table.specs.Interleaving.{at_boundary};
 ghost use Rattle.lgp_lab.specs.Command.{command_of, text_behind};
 ghost use Rattle.lgp_lab.specs.Reply.{FitsDrum, IsAtBoundary};
 ghost use Rattle.lgp_lab.specs.Script.{answer_by, is_question, script_faults, script_text};
+ghost use Rattle.lgp_lab.specs.Stop.{HasCause, StandsWritten, StoppedAt, StoppedRead, StoppedWithin};
 ghost use Rattle.lgp_lab.specs.Session.{Ran, StandsAt, Standing, after_kept, ended, first_standing, reply_to_kept, said, said_all, said_last, stood, stood_all};
 
 use crate::answer::answer;
@@ -132,7 +133,9 @@ fn deliver<W: Sink>(
 ) -> Result<(), LabFault>
     ensures sent { OnOk result (Appends (W.contents writer.old) (W.contents writer.new) reply.now) }
     ensures faults { faults.new ≡ min (faults.old + (if is_question reply.now then 1 else 0)) (2 ^ 64 - 1) }
-    ensures failed { IsErr result → W.failed writer.new ≡ true }
+    ensures written { OnOk result (written.new ≡ min (written.old + length reply.now) (2 ^ 64 - 1)) }
+    ensures stopped { IfErr result (λ fault. StoppedAt fault written.old
+        (W.contents writer.old) (W.contents writer.new) (W.failed writer.new) reply.now) }
 {
     *faults = faults.saturating_add(u64::from(is_question(reply)));
     match send(writer, reply) {
@@ -158,7 +161,7 @@ struct Session<A: Allocator> {
 impl<A: Allocator + Copy> Session<A> {
     /// A script that has not begun.
     fn new(alloc: A) -> Result<Session<A>, AllocError>
-        ensures { IfOk result (λ session. StandsAt session.machine session.line session.faults first_standing) }
+        ensures { IfOk result (λ session. StandsAt session.machine session.line session.faults session.written first_standing) }
     {
         Ok(Session {
             alloc,
@@ -179,6 +182,11 @@ impl<A: Allocator + Copy> Session<A> {
             (concat (reply_to_kept self.old.machine.state line.now))) }
         ensures faults { OnOk result (self.new.faults
             ≡ min (self.old.faults + count_by is_question (reply_to_kept self.old.machine.state line.now)) (2 ^ 64 - 1)) }
+        ensures written { OnOk result (self.new.written
+            ≡ min (self.old.written + length (concat (reply_to_kept self.old.machine.state line.now))) (2 ^ 64 - 1)) }
+        ensures stopped { IfErr result (λ fault. StoppedAt fault self.old.written
+            (W.contents writer.old) (W.contents writer.new) (W.failed writer.new)
+            (concat (reply_to_kept self.old.machine.state line.now))) }
     {
         let mut reply = Vec::new(self.alloc);
         if answer_bytes(self.alloc, &mut self.machine, line, &mut reply).is_err() {
@@ -186,15 +194,16 @@ impl<A: Allocator + Copy> Session<A> {
         }
         deliver(writer, &reply, &mut self.faults, &mut self.written)
     }
-}
 
-impl<A: Allocator + Copy> Session<A> {
     /// One byte more.
     fn take<W: Sink>(&mut self, byte: u8, writer: &mut W) -> Result<(), LabFault>
         requires { IsAtBoundary self.old.machine }
-        ensures stands { (s : Standing) → StandsAt self.old.machine self.old.line self.old.faults s
-            → OnOk result (StandsAt self.new.machine self.new.line self.new.faults (stood s byte)
+        ensures stands { (s : Standing) → StandsAt self.old.machine self.old.line self.old.faults self.old.written s
+            → OnOk result (StandsAt self.new.machine self.new.line self.new.faults self.new.written (stood s byte)
             × Appends (W.contents writer.old) (W.contents writer.new) (concat (said s byte))) }
+        ensures stopped { (s : Standing) → StandsAt self.old.machine self.old.line self.old.faults self.old.written s
+            → IfErr result (λ fault. StoppedAt fault s.written
+            (W.contents writer.old) (W.contents writer.new) (W.failed writer.new) (concat (said s byte))) }
         ensures boundary { OnOk result (IsAtBoundary self.new.machine) }
     {
         if byte != b'\n' {
@@ -205,12 +214,16 @@ impl<A: Allocator + Copy> Session<A> {
         self.finish(&line, writer)?;
         Ok(())
     }
+
     /// More bytes.
     fn take_all<W: Sink>(&mut self, bytes: &[u8], writer: &mut W) -> Result<(), LabFault>
         requires { IsAtBoundary self.old.machine }
-        ensures stands { (s : Standing) → StandsAt self.old.machine self.old.line self.old.faults s
-            → OnOk result (StandsAt self.new.machine self.new.line self.new.faults (stood_all s bytes.now)
+        ensures stands { (s : Standing) → StandsAt self.old.machine self.old.line self.old.faults self.old.written s
+            → OnOk result (StandsAt self.new.machine self.new.line self.new.faults self.new.written (stood_all s bytes.now)
             × Appends (W.contents writer.old) (W.contents writer.new) (concat (said_all s bytes.now))) }
+        ensures stopped { (s : Standing) → StandsAt self.old.machine self.old.line self.old.faults self.old.written s
+            → IfErr result (λ fault. StoppedWithin fault s
+            (W.contents writer.old) (W.contents writer.new) (W.failed writer.new) bytes.now) }
         ensures boundary { OnOk result (IsAtBoundary self.new.machine) }
     {
         for byte in bytes {
@@ -222,9 +235,12 @@ impl<A: Allocator + Copy> Session<A> {
     /// The script's end.
     fn end<W: Sink>(&mut self, writer: &mut W) -> Result<(), LabFault>
         requires { IsAtBoundary self.old.machine }
-        ensures stands { (s : Standing) → StandsAt self.old.machine self.old.line self.old.faults s
-            → OnOk result (StandsAt self.new.machine self.new.line self.new.faults (ended s)
+        ensures stands { (s : Standing) → StandsAt self.old.machine self.old.line self.old.faults self.old.written s
+            → OnOk result (StandsAt self.new.machine self.new.line self.new.faults self.new.written (ended s)
             × Appends (W.contents writer.old) (W.contents writer.new) (concat (said_last s))) }
+        ensures stopped { (s : Standing) → StandsAt self.old.machine self.old.line self.old.faults self.old.written s
+            → IfErr result (λ fault. StoppedAt fault s.written
+            (W.contents writer.old) (W.contents writer.new) (W.failed writer.new) (concat (said_last s))) }
     {
         let line = mem::replace(&mut self.line, Line::new()).last();
         self.finish(&line, writer)?;
@@ -245,6 +261,9 @@ pub fn run_script<A: Allocator + Copy, R: Feed, W: Sink>(
     ensures text { OnOk result (IfSome (R.remaining reader.old) (λ bytes.
         Appends (W.contents writer.old) (W.contents writer.new) (script_text bytes))) }
     ensures faults { IfOk result (λ faults. IfSome (R.remaining reader.old) (λ bytes. faults ≡ script_faults bytes)) }
+    ensures cause { IfErr result (λ fault. HasCause fault (R.failed reader.new) (W.failed writer.new)) }
+    ensures stands { IfErr result (λ fault. IfSome (R.remaining reader.old) (λ bytes.
+        StandsWritten fault bytes (R.remaining reader.new) (W.contents writer.old) (W.contents writer.new))) }
 {
     let Ok(mut session) = Session::new(alloc) else {
         return Err(LabFault::Memory);
@@ -260,9 +279,12 @@ fn read_all<A: Allocator + Copy, R: Feed, W: Sink>(
     reader: &mut R,
     writer: &mut W,
 ) -> Result<(), LabFault>
-    requires { StandsAt session.old.machine session.old.line session.old.faults first_standing }
+    requires { StandsAt session.old.machine session.old.line session.old.faults session.old.written first_standing }
     ensures ran { OnOk result (Ran (R.remaining reader.old) (R.remaining reader.new) (W.contents writer.old) (W.contents writer.new)
-        session.new.machine session.new.line session.new.faults) }
+        session.new.machine session.new.line session.new.faults session.new.written) }
+    ensures cause { IfErr result (λ fault. HasCause fault (R.failed reader.new) (W.failed writer.new)) }
+    ensures stopped { IfErr result (λ fault. StoppedRead fault
+        (R.remaining reader.old) (R.remaining reader.new) (W.contents writer.old) (W.contents writer.new)) }
     ensures read { OnOk result (IsAtEnd (R.remaining reader.new)) }
     ensures boundary { OnOk result (IsAtBoundary session.new.machine) }
 {
