@@ -1,14 +1,13 @@
 -- A script's replies are those of its bytes, one after another.
-use Rattle.std.proofs.Common.{◌≡◌, ℕ, ◌+◌, ◌-◌, ◌==◌, Bool, true, false, cond, List, [], ◌∷◌, ◌++◌, length, refl, sym, ap, ◌∙◌, arith, eqb, append_assoc, count_by}
-use Rattle.std.specs.List.{All, AllByRecursion, onto_first, slice_split}
+use Rattle.std.proofs.Common.{◌≡◌, ℕ, Bool, true, false, cond, List, [], ◌∷◌, ◌++◌, length, refl, sym, eqb, append_assoc}
+use Rattle.std.specs.List.{AllByRecursion, onto_first, slice_split}
 use Rattle.std.specs.Str.Lines.{lines, lines_of_parts, strip_carriage_return}
 use Rattle.std.proofs.lemmas.List.{append-nil}
 use Rattle.std.proofs.lemmas.List.Splits.{slice_split_at, slice_split_none}
 use Rattle.std.proofs.lemmas.List.Elements.{All-from_recursion}
 use Rattle.std.proofs.lemmas.Bool.{eqb-true}
-use Rattle.lgp_table.specs.State.{State}
-use Rattle.lgp_lab.specs.Script.{after_line, is_question, replies_to, reply_to_line, script_replies}
-use Rattle.lgp_lab.specs.Session.{Standing, answered, ended, first_standing, said, said_all, said_last, stood, stood_all}
+use Rattle.lgp_lab.specs.Script.{replies_to, reply_to_line, script_replies}
+use Rattle.lgp_lab.specs.Session.{Standing, answered, first_standing, said, said_all, said_last, stood, stood_all}
 
 is_feed : ℕ → Bool
 is_feed byte = eqb byte 10

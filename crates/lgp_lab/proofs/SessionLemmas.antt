@@ -17,7 +17,7 @@ use Rattle.lgp_lab.specs.declared.reply.Refusal.TheVariants.{TooLong}
 use Rattle.lgp_lab.specs.Script.{after_line, answer_by, answer_to_line, is_passed_over, is_question, line_limit, reply_to_line, script_faults, script_replies, script_text}
 use Rattle.lgp_lab.specs.Session.{Kept, Open, Ran, Standing, StandsAt, after_kept, answer_to_kept, answered, is_passed_over_kept, kept_of, open_of, open_push, ended, first_standing, reply_to_kept, said, said_all, said_last, stood, stood_all}
 use Rattle.lgp_lab.proofs.ScriptLemmas.{script_replies-said}
-use Rattle.lgp_lab.proofs.LineLemmas.{open_push-open_of, whole-open_of}
+use Rattle.lgp_lab.proofs.LineLemmas.{open_push-open_of}
 
 -- a line has one reply at most, so its bytes show whether there is one that begins with a question mark
 pub count_lone : (s : State) (kept : Kept) → count_by is_question (reply_to_kept s kept) ≡ cond (is_question (concat (reply_to_kept s kept))) 1 0

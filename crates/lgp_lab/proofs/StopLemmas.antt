@@ -1,5 +1,5 @@
 -- What stands written after a fault, one call after another.
-use Rattle.std.proofs.Common.{◌≡◌, ℕ, ◌+◌, ◌-◌, ◌^◌, ◌≤◌, Bool, true, min, Option, Some, None, List, [], ◌∷◌, ◌++◌, length, take, refl, sym, ap, ◌∙◌, append_assoc, length-append, arith, IfSome}
+use Rattle.std.proofs.Common.{◌≡◌, ℕ, ◌+◌, ◌-◌, ◌^◌, ◌≤◌, Bool, min, Option, Some, None, List, [], ◌∷◌, ◌++◌, length, take, refl, sym, ap, ◌∙◌, append_assoc, length-append, arith, IfSome}
 use Rattle.std.specs.List.{concat}
 use Rattle.std.specs.Io.KnownBytes.{Appends, Consumes, IsAtEnd}
 use Rattle.std.proofs.lemmas.List.{append-nil, take-append-le}
@@ -7,13 +7,13 @@ use Rattle.std.proofs.Math.Seq.{take-append-add}
 use Rattle.std.proofs.lemmas.List.Folds.{concat-append}
 use Rattle.lgp_table.specs.Interleaving.{Configuration}
 use Rattle.lgp_lab.specs.Script.{script_text}
-use Rattle.lgp_lab.specs.Session.{Open, Ran, Standing, StandsAt, first_standing, said, said_all, said_last, stood, stood_all}
-use Rattle.lgp_lab.specs.Stop.{Answered, Cut, HasCause, ReadAnswered, StandsWritten, StoppedAt, StoppedRead, StoppedWithin}
+use Rattle.lgp_lab.specs.Session.{Open, Ran, Standing, first_standing, said, said_all, said_last, stood_all}
+use Rattle.lgp_lab.specs.Stop.{Cut, HasCause, StandsWritten, StoppedAt, StoppedRead, StoppedWithin}
 use Rattle.lgp_lab.specs.declared.script.LabFault.{LabFault}
 use Rattle.lgp_lab.specs.declared.script.LabFault.TheVariants.{Read, Write, Memory}
-use Rattle.lgp_lab.proofs.KnownLemmas.{Appends-none, Appends-trans, Consumes-none, Consumes-trans}
+use Rattle.lgp_lab.proofs.KnownLemmas.{Appends-none, Appends-trans, Consumes-trans}
 use Rattle.lgp_lab.proofs.ScriptLemmas.{script_replies-said}
-use Rattle.lgp_lab.proofs.SessionLemmas.{all_read, said_all-append, said_all-push, stood_all-append, stood_all-written}
+use Rattle.lgp_lab.proofs.SessionLemmas.{all_read, said_all-append, said_all-push, stood_all-written}
 
 counted-behind : (written taken before limit : ℕ) → written ≡ min before limit → min (written + taken) limit ≡ min (before + taken) limit
 counted-behind written taken before limit e = omega arith

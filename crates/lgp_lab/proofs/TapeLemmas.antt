@@ -1,9 +1,9 @@
 -- A text stands for no more codes than it has bytes.
-use Rattle.std.proofs.Common.{◌≡◌, ℕ, zero, suc, ◌+◌, ◌<◌, ◌≤◌, Bool, true, false, cond, Option, Some, None, Result, Ok, Err, IfOk, IfSome, List, [], ◌∷◌, ◌++◌, length, length-append, arith, ◌==◌, ◌||◌}
+use Rattle.std.proofs.Common.{ℕ, zero, suc, ◌+◌, ◌<◌, ◌≤◌, Bool, true, false, cond, Option, Some, None, Result, Ok, Err, IfOk, IfSome, List, [], ◌∷◌, length, length-append, arith, ◌==◌, ◌||◌}
 use Rattle.std.specs.Option.{option_map}
 use Rattle.std.specs.Result.{IsOkAnd}
 use Rattle.lgp_flexo.specs.Code.{code_at}
-use Rattle.lgp_flexo.specs.TapeText.{before, bytes_behind, codes_of_text, group_at, joined, piece_at, tape_limit, text_from}
+use Rattle.lgp_flexo.specs.TapeText.{bytes_behind, codes_of_text, group_at, joined, piece_at, tape_limit, text_from}
 
 IsShort : Result (List ℕ) ℕ → ℕ → Type 0
 IsShort r n = IfOk r (λ codes. length codes ≤ n)

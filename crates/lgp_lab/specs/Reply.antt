@@ -1,5 +1,5 @@
 -- The replies of the script language (this project's own): what the laboratory answers to a command, and how that is written.
-use Rattle.std.specs.Prelude.{ℕ, zero, suc, ◌≡◌, ◌+◌, ◌≤◌, ◌*◌, ◌-◌, ◌==◌, ◌&&◌, Bool, true, false, not, if◌then◌else◌, nat_le, nat_lt, Option, Some, None, Result, Ok, Err, List, [], ◌∷◌, ◌++◌, length, fold, codes, decimal}
+use Rattle.std.specs.Prelude.{ℕ, zero, suc, ◌≡◌, ◌+◌, ◌≤◌, Bool, true, false, not, if◌then◌else◌, nat_lt, Result, Ok, Err, List, [], ◌∷◌, ◌++◌, length, fold, codes, decimal}
 use Rattle.lgp_word.specs.Digits.{address_digits, digits_of}
 use Rattle.lgp_flexo.specs.TapeText.{codes_of_text, written_tape}
 use Rattle.lgp_table.specs.State.{State, word_at}
@@ -7,11 +7,9 @@ use Rattle.lgp_table.specs.Activity.{cost, next}
 use Rattle.lgp_table.specs.Console.{is_at_rest, is_live}
 use Rattle.lgp_table.specs.Interleaving.{Configuration, acted, at_boundary, mounted, rested, word_put}
 use Rattle.lgp_table.specs.declared.action.Action.TheVariants as actions
-use Rattle.lgp_table.specs.declared.panel.Panel.{Panel}
 use Rattle.lgp_table.specs.declared.panel.Switches.{Switches}
 use Rattle.lgp_table.specs.declared.panel.Status.{Status}
 use Rattle.lgp_table.specs.declared.panel.Status.TheVariants.{Halted, Going, Executing, Waiting, Reading}
-use Rattle.lgp_table.specs.declared.panel.Cause.{Cause}
 use Rattle.lgp_table.specs.declared.panel.Cause.TheVariants.{Operator, Stop, Overflow, Step}
 use Rattle.lgp_table.specs.declared.panel.Mode.{Mode}
 use Rattle.lgp_table.specs.declared.panel.Mode.TheVariants.{Normal, OneOperation, Manual}

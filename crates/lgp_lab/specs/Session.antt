@@ -1,6 +1,6 @@
 -- A script taken byte by byte: the state after the lines that have ended, the line that is open, how many replies so far began
 -- with a question mark, and how many bytes all replies so far have.
-use Rattle.std.specs.Prelude.{◌≡◌, ℕ, ◌+◌, ◌-◌, ◌^◌, ◌==◌, ◌&&◌, ◌||◌, Bool, true, false, if◌then◌else◌, min, nat_le, nat_lt, List, [], ◌∷◌, ◌++◌, length, take, slice_index, count_by, fold, Option}
+use Rattle.std.specs.Prelude.{◌≡◌, ℕ, ◌+◌, ◌-◌, ◌^◌, ◌==◌, ◌&&◌, ◌||◌, Bool, if◌then◌else◌, min, nat_le, nat_lt, List, [], ◌∷◌, ◌++◌, length, take, slice_index, count_by, Option}
 use Rattle.std.specs.List.{concat, list_all}
 use Rattle.std.specs.Io.KnownBytes.{Appends, Consumes}
 use Rattle.std.specs.Str.Lines.{strip_carriage_return}

@@ -11,3 +11,6 @@ pub mod processor;
 pub use forecast::ahead;
 pub use outcome::{Ahead, Outcome, Progress};
 pub use processor::Processor;
+
+#[cfg(test)]
+mod tests;

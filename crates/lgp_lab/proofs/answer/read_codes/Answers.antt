@@ -1,4 +1,4 @@
-use Rattle.std.proofs.Common.{◌≡◌, ◌∙◌, ap, Err}
+use Rattle.std.proofs.Common.{◌∙◌, ap, Err}
 use Rattle.lgp_lab.proofs.TapeLemmas.{line_fits}
 use Rattle.lgp_lab.proofs.answer.read_codes.Goals as goal
 

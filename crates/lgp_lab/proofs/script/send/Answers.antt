@@ -1,4 +1,4 @@
-use Rattle.std.proofs.Common.{◌≡◌, ◌+◌, ◌≤◌, length, take, arith, rules}
+use Rattle.std.proofs.Common.{rules}
 use Rattle.lgp_lab.proofs.KnownLemmas.{Appends-trans, take-piece}
 use Rattle.lgp_lab.proofs.script.send.Goals as goal
 

@@ -1,5 +1,5 @@
 use Rattle.std.proofs.Common.{◌≡◌, ◌∙◌, ap, Err, rules}
-use Rattle.lgp_lab.specs.Session.{Open, Standing, kept_of, whole}
+use Rattle.lgp_lab.specs.Session.{kept_of, whole}
 use Rattle.lgp_lab.proofs.LineLemmas.{whole-open_of}
 use Rattle.lgp_lab.proofs.SessionLemmas.{StandsAt-answered, ended-answered, reply-answered, said_last-answered}
 use Rattle.lgp_lab.proofs.StopLemmas.{StoppedAt-counted}

@@ -1,9 +1,7 @@
 use Rattle.std.proofs.Common.{◌≡◌, ◌∙◌, ap, false, rules, arith, eqb, Err}
-use Rattle.std.specs.List.{concat}
 use Rattle.std.specs.Str.Lines.{strip_carriage_return}
 use Rattle.std.proofs.lemmas.Bool.Decides.{nat_tests}
-use Rattle.std.proofs.Common.{ℕ, List}
-use Rattle.lgp_lab.specs.Session.{Open, Standing, kept_of}
+use Rattle.lgp_lab.specs.Session.{Open, kept_of}
 use Rattle.lgp_lab.proofs.KnownLemmas.{Appends-none}
 use Rattle.lgp_lab.proofs.SessionLemmas.{StandsAt-answered, StandsAt-push, kept-open_of, reply-answered, said-feed, said-push, stood-feed}
 use Rattle.lgp_lab.proofs.StopLemmas.{StoppedAt-counted}

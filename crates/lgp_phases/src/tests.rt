@@ -1,0 +1,859 @@
+//! Worked orders, each by its word times and in one call.
+
+use crate::phase::{act_time, seek_time, wait};
+use crate::{Ahead, Outcome, Processor, Progress, ahead};
+use lgp_drum::Drum;
+use lgp_flexo::{Code, read_tape_text};
+use lgp_reader::Reader;
+use lgp_table::{Cause, Mode, Panel, Status, Switches};
+use lgp_word::{Address, Op, Word, read_digits, write_digits};
+use linked_list_allocator::LocalHeap;
+use std::alloc::Allocator;
+use std::marker::Model;
+use std::process::Abort;
+use std::test::Fail;
+
+/// A word on the drum: its address and its digits.
+type Cell = ([u8; 4], [u8; 8]);
+
+/// How a machine stands before worked orders, how after each, and a word that is then on the drum. The reader is on where the
+/// tape is read from the console.
+#[derive(Clone, Copy)]
+struct Case<'a, 'b> {
+    cells: &'a [Cell],
+    tape: &'a [u8],
+    counter: [u8; 4],
+    register: [u8; 8],
+    accumulator: u32,
+    status: Status,
+    mode: Mode,
+    switches: Switches,
+    ends: &'b [End],
+    stored: Cell,
+}
+
+/// How a machine stands after an activity.
+#[derive(Clone, Copy, Debug, PartialEq, Eq)]
+struct End {
+    clock: u64,
+    status: Status,
+    counter: [u8; 4],
+    register: [u8; 8],
+    accumulator: u32,
+    printed: Option<u8>,
+    is_on: bool,
+    left: usize,
+}
+
+/// Every switch is up.
+const UP: Switches = Switches {
+    b32: false,
+    b16: false,
+    b8: false,
+    b4: false,
+    transfer: false,
+    six_bit: false,
+};
+
+/// A machine in Normal that begins the order at 0000, all else blank.
+const CASE: Case = Case {
+    cells: &[],
+    tape: b"",
+    counter: *b"0000",
+    register: *b"00000000",
+    accumulator: 0,
+    status: Status::Going,
+    mode: Mode::Normal,
+    switches: UP,
+    ends: &[],
+    stored: (*b"6363", *b"00000000"),
+};
+
+/// The same machine before its next order, but for the clock and the register.
+const END: End = End {
+    clock: 0,
+    status: Status::Going,
+    counter: *b"0001",
+    register: *b"00000000",
+    accumulator: 0,
+    printed: None,
+    is_on: false,
+    left: 0,
+};
+
+/// The word of these digits.
+fn word(digits: &[u8; 8]) -> Result<Word, Fail> {
+    Ok(read_digits(digits.as_slice()).ok_or("not a word")?)
+}
+
+/// The address of this text.
+fn at(text: &[u8; 4]) -> Result<Address, Fail> {
+    Ok(Address::parse(text.as_slice()).ok_or("not an address")?)
+}
+
+/// A drum with these words.
+fn drum_of<A: Allocator + Copy>(alloc: A, cells: &[Cell]) -> Result<Drum<A>, Fail> {
+    let mut drum = Drum::new(alloc)?;
+    for (address, digits) in cells {
+        drum.put(at(address)?, word(digits)?);
+    }
+    Ok(drum)
+}
+
+/// A reader with this tape.
+fn reader_of<A: Allocator + Copy>(alloc: A, tape: &[u8]) -> Result<Reader<A>, Fail> {
+    let mut reader = Reader::new(alloc);
+    match reader.mount(read_tape_text(alloc, tape)?) {
+        Ok(()) => Ok(reader),
+        Err(_) => Err(Fail::from("the tape is too long")),
+    }
+}
+
+/// The registers of a case.
+fn panel_of(case: &Case) -> Result<Panel, Fail> {
+    Ok(Panel {
+        counter: at(&case.counter)?,
+        accumulator: case.accumulator,
+        register: word(&case.register)?,
+        status: case.status,
+        mode: case.mode,
+        switches: case.switches,
+    })
+}
+
+/// A processor with its registers, drum, reader and clock.
+#[derive(Drop)]
+struct Bench<A: Allocator> {
+    panel: Panel,
+    drum: Drum<A>,
+    reader: Reader<A>,
+    processor: Processor<A>,
+    clock: u64,
+}
+
+impl<A: Allocator> Model for Bench<A> {
+    ghost use Rattle.std.specs.Prelude.{ℕ};
+    ghost use Rattle.lgp_table.specs.State.{core_of};
+    ghost use Rattle.lgp_phases.specs.Latch.{IsWithin};
+
+    ghost Value = { ℕ };
+
+    ghost view = { λ bench. bench.clock };
+
+    ghost invariant = { λ bench. IsWithin bench.processor (core_of bench.panel bench.drum bench.reader) bench.clock };
+}
+
+impl<A: Allocator + Copy> Bench<A> {
+    /// The bench of a case, at clock 0.
+    fn new(alloc: A, case: &Case) -> Result<Bench<A>, Fail> {
+        let mut reader = reader_of(alloc, case.tape)?;
+        if case.status == Status::Reading {
+            reader.start();
+        }
+        Ok(Bench {
+            panel: panel_of(case)?,
+            drum: drum_of(alloc, case.cells)?,
+            reader,
+            processor: Processor::new(alloc)?,
+            clock: 0,
+        })
+    }
+
+    /// The activity that begins here in one call, by a processor of its own.
+    fn at_once(&mut self, alloc: A) -> Result<Outcome, Fail> {
+        let mut processor = Processor::new(alloc)?;
+        let outcome = processor.activity(
+            &mut self.panel,
+            &mut self.drum,
+            &mut self.reader,
+            self.clock,
+        );
+        processor.clear();
+        self.processor = processor;
+        self.clock = self
+            .clock
+            .checked_add(outcome.cost)
+            .ok_or("the clock ends")?;
+        Ok(outcome)
+    }
+
+    /// One activity, in one call or by its word times.
+    fn activity(&mut self, alloc: A, in_one_call: bool) -> Result<Outcome, Fail> {
+        if in_one_call {
+            self.at_once(alloc)
+        } else {
+            Ok(self.order().ok_or("not as foretold")?)
+        }
+    }
+
+    /// Goes on with a copy of the processor.
+    fn copy(&mut self) -> Result<(), Fail> {
+        self.processor = self.processor.copy()?;
+        Ok(())
+    }
+}
+
+impl<A: Allocator> Bench<A> {
+    /// What the activity that begins here will cost and print.
+    fn ahead(&self) -> Ahead {
+        ahead(&self.panel, &self.drum, &self.reader, self.clock)
+    }
+
+    /// Whether the next word time prints.
+    fn prints_next(&self) -> bool {
+        self.processor
+            .prints_next(&self.panel, &self.drum, &self.reader, self.clock)
+    }
+
+    /// Whether the machine is at rest.
+    fn is_at_rest(&self) -> bool {
+        self.processor
+            .is_at_rest(&self.panel, &self.drum, &self.reader, self.clock)
+    }
+
+    /// One word time; none at the last clock.
+    fn turn(&mut self) -> Progress {
+        let Some(next) = self.clock.checked_add(1) else {
+            return Progress::More;
+        };
+        let progress = self.processor.word_time(
+            &mut self.panel,
+            &mut self.drum,
+            &mut self.reader,
+            self.clock,
+        );
+        self.clock = next;
+        progress
+    }
+
+    /// All but the last of so many word times, if each answers that the activity goes on and none prints.
+    fn turns_before(&mut self, cost: u64) -> bool {
+        for _ in 1..cost {
+            if self.prints_next() || self.turn() != Progress::More || self.processor.is_idle() {
+                return false;
+            }
+        }
+        true
+    }
+
+    /// One activity by its word times, if it is as it was foretold and prints in the last of them.
+    fn order(&mut self) -> Option<Outcome> {
+        let foretold = self.ahead();
+        if !self.turns_before(foretold.cost) || self.prints_next() != foretold.prints.is_some() {
+            return None;
+        }
+        match self.turn() {
+            Progress::Done(outcome)
+                if outcome.cost == foretold.cost
+                    && outcome.printed == foretold.prints
+                    && outcome.status == self.panel.status
+                    && self.processor.is_idle() => { Some(outcome) }
+            _ => None,
+        }
+    }
+
+    /// Whether this word is on the drum.
+    fn holds(&self, cell: Cell) -> Result<bool, Fail> {
+        let (address, digits) = cell;
+        Ok(self.drum.word(at(&address)?) == word(&digits)?)
+    }
+
+    /// How the machine stands after an activity of this outcome.
+    fn end(&self, outcome: &Outcome) -> End {
+        End {
+            clock: self.clock,
+            status: outcome.status,
+            counter: self.panel.counter.print(),
+            register: write_digits(self.panel.register),
+            accumulator: self.panel.accumulator,
+            printed: outcome.printed.map(Code::number),
+            is_on: self.reader.is_on(),
+            left: self.reader.left().len(),
+        }
+    }
+}
+
+/// Performs activities, in one call each or by their word times, and compares how the machine stands.
+fn perform_to<A: Allocator + Copy>(
+    rt: &impl Abort,
+    alloc: A,
+    bench: &mut Bench<A>,
+    ends: &[End],
+    in_one_call: bool,
+) -> Result<(), Fail> {
+    for end in ends {
+        let outcome = bench.activity(alloc, in_one_call)?;
+        assert_eq!(rt; bench.end(&outcome), *end);
+    }
+    Ok(())
+}
+
+/// Performs the activities of a case.
+fn perform<A: Allocator + Copy>(
+    rt: &impl Abort,
+    alloc: A,
+    case: &Case,
+    in_one_call: bool,
+) -> Result<(), Fail> {
+    let mut bench = Bench::new(alloc, case)?;
+    perform_to(rt, alloc, &mut bench, case.ends, in_one_call)?;
+    assert!(rt; bench.holds(case.stored)?);
+    Ok(())
+}
+
+/// Performs the activities of a case both ways.
+fn perform_both<A: Allocator + Copy>(rt: &impl Abort, alloc: A, case: &Case) -> Result<(), Fail> {
+    perform(rt, alloc, case, false)?;
+    perform(rt, alloc, case, true)
+}
+
+/// A load, a sum, a store and a stop.
+const SUM: Case = Case {
+    cells: &[
+        (*b"0000", *b"000100j8"),
+        (*b"0001", *b"000q00jj"),
+        (*b"0002", *b"000j00k0"),
+        (*b"0050", *b"00000006"),
+        (*b"0051", *b"0000000f"),
+    ],
+    ends: &[
+        End {
+            clock: 67,
+            register: *b"000100j8",
+            accumulator: 6,
+            ..END
+        },
+        End {
+            clock: 76,
+            counter: *b"0002",
+            register: *b"000q00jj",
+            accumulator: 16,
+            ..END
+        },
+        End {
+            clock: 85,
+            counter: *b"0003",
+            register: *b"000j00k0",
+            accumulator: 16,
+            ..END
+        },
+        End {
+            clock: 94,
+            status: Status::Halted(Cause::Stop),
+            counter: *b"0004",
+            accumulator: 16,
+            ..END
+        },
+    ],
+    stored: (*b"0052", *b"00000010"),
+    ..CASE
+};
+
+#[test]
+fn a_sum_is_stored(rt: HostRuntime) -> Result<(), Fail> {
+    perform_both(&rt, rt.alloc(), &SUM)
+}
+
+#[test]
+fn a_sum_is_stored_over_a_small_heap(rt: HostRuntime) -> Result<(), Fail> {
+    let heap = LocalHeap::new(rt.alloc(), 65536)?;
+    perform_both(&rt, &heap, &SUM)
+}
+
+/// Two loads that wait long.
+const WAITS: [Case; 2] = [
+    Case {
+        cells: &[(*b"0000", *b"000100j8")],
+        ends: &[End {
+            clock: 67,
+            register: *b"000100j8",
+            ..END
+        }],
+        ..CASE
+    },
+    Case {
+        cells: &[(*b"0000", *b"00010000")],
+        ends: &[End {
+            clock: 129,
+            register: *b"00010000",
+            accumulator: 0x10000,
+            ..END
+        }],
+        ..CASE
+    },
+];
+
+#[test]
+fn orders_wait_for_their_sectors(rt: HostRuntime) -> Result<(), Fail> {
+    for case in &WAITS {
+        perform_both(&rt, rt.alloc(), case)?;
+    }
+    for (sector, clock, after, read) in [(1, 67, 0, 73), (1, 129, 0, 137), (1, 60, 69, 137)] {
+        assert_eq!(rt; clock + after + wait(sector, clock, after), read);
+    }
+    Ok(())
+}
+
+#[test]
+fn phases_take_their_word_times(rt: HostRuntime) -> Result<(), Fail> {
+    for (op, address, clock, after, time) in [
+        (Op::B, b"0050", 65, 0, 1),
+        (Op::B, b"0000", 60, 5, 63),
+        (Op::Z, b"0000", 65, 0, 1),
+    ] {
+        assert_eq!(rt; seek_time(op, at(address)?, clock, after), time, "{op:?}");
+    }
+    let reader = Reader::new(rt.alloc());
+    for (op, address, time) in [
+        (Op::B, b"0050", 1),
+        (Op::M, b"0050", 65),
+        (Op::P, b"0063", 1),
+        (Op::P, b"0100", 385),
+        (Op::I, b"0000", 1),
+    ] {
+        assert_eq!(rt; act_time(op, at(address)?, &reader), time, "{op:?}");
+    }
+    Ok(())
+}
+
+/// A sum above the largest fraction.
+const OVERFLOW: Case = Case {
+    cells: &[
+        (*b"0000", *b"000100j8"),
+        (*b"0001", *b"000q00jj"),
+        (*b"0050", *b"7wwwwwwq"),
+        (*b"0051", *b"00000002"),
+    ],
+    ends: &[
+        End {
+            clock: 67,
+            register: *b"000100j8",
+            accumulator: 0x7fff_fffe,
+            ..END
+        },
+        End {
+            clock: 76,
+            status: Status::Halted(Cause::Overflow),
+            counter: *b"0002",
+            register: *b"000q00jj",
+            accumulator: 0x8000_0000,
+            ..END
+        },
+    ],
+    ..CASE
+};
+
+#[test]
+fn an_overflow_halts(rt: HostRuntime) -> Result<(), Fail> {
+    perform_both(&rt, rt.alloc(), &OVERFLOW)
+}
+
+/// An address that is stored into a later order.
+const ADDRESS: Case = Case {
+    cells: &[
+        (*b"0000", *b"000100j8"),
+        (*b"0001", *b"00020008"),
+        (*b"0002", *b"00010000"),
+        (*b"0050", *b"00000100"),
+        (*b"0100", *b"00000022"),
+    ],
+    ends: &[
+        End {
+            clock: 67,
+            register: *b"000100j8",
+            accumulator: 0x100,
+            ..END
+        },
+        End {
+            clock: 83,
+            counter: *b"0002",
+            register: *b"00020008",
+            accumulator: 0x100,
+            ..END
+        },
+        End {
+            clock: 193,
+            counter: *b"0003",
+            register: *b"00010100",
+            accumulator: 0x22,
+            ..END
+        },
+    ],
+    stored: (*b"0002", *b"00010100"),
+    ..CASE
+};
+
+/// An order that replaces itself, and is read again.
+const REPLACED: Case = Case {
+    cells: &[
+        (*b"0000", *b"000100j8"),
+        (*b"0001", *b"000k0004"),
+        (*b"0002", *b"000f0004"),
+        (*b"0050", *b"000f0000"),
+    ],
+    ends: &[
+        End {
+            clock: 67,
+            register: *b"000100j8",
+            accumulator: 0x000a_0000,
+            ..END
+        },
+        End {
+            clock: 138,
+            counter: *b"0002",
+            register: *b"000k0004",
+            ..END
+        },
+        End {
+            clock: 149,
+            register: *b"000f0004",
+            ..END
+        },
+        End {
+            clock: 204,
+            counter: *b"0000",
+            register: *b"000f0000",
+            ..END
+        },
+    ],
+    stored: (*b"0001", *b"000f0000"),
+    ..CASE
+};
+
+#[test]
+fn orders_are_changed_before_they_are_read(rt: HostRuntime) -> Result<(), Fail> {
+    for case in &[ADDRESS, REPLACED] {
+        perform_both(&rt, rt.alloc(), case)?;
+    }
+    Ok(())
+}
+
+/// Return addresses, the last one after the last word of the drum.
+const RETURNS: [Case; 2] = [
+    Case {
+        cells: &[
+            (*b"0100", *b"00030128"),
+            (*b"0101", *b"000f0128"),
+            (*b"0110", *b"000f0000"),
+        ],
+        counter: *b"0100",
+        ends: &[
+            End {
+                clock: 91,
+                counter: *b"0101",
+                register: *b"00030128",
+                ..END
+            },
+            End {
+                clock: 140,
+                counter: *b"0110",
+                register: *b"000f0128",
+                ..END
+            },
+            End {
+                clock: 157,
+                counter: *b"0102",
+                register: *b"000f0108",
+                ..END
+            },
+        ],
+        stored: (*b"0110", *b"000f0108"),
+        ..CASE
+    },
+    Case {
+        cells: &[(*b"6363", *b"00030000"), (*b"0000", *b"000f0000")],
+        counter: *b"6363",
+        ends: &[End {
+            clock: 65,
+            counter: *b"0000",
+            register: *b"00030000",
+            ..END
+        }],
+        stored: (*b"0000", *b"000f0004"),
+        ..CASE
+    },
+];
+
+#[test]
+fn return_addresses_are_stored(rt: HostRuntime) -> Result<(), Fail> {
+    for case in &RETURNS {
+        perform_both(&rt, rt.alloc(), case)?;
+    }
+    Ok(())
+}
+
+/// A break point at track 32.
+const BREAK_POINT: Case = Case {
+    cells: &[(*b"0000", *b"00002000")],
+    ..CASE
+};
+
+#[test]
+fn a_break_point_is_passed(rt: HostRuntime) -> Result<(), Fail> {
+    for (b32, status) in [(true, Status::Going), (false, Status::Halted(Cause::Stop))] {
+        let ends = [End {
+            clock: 67,
+            status,
+            register: *b"00002000",
+            ..END
+        }];
+        let case = Case {
+            switches: Switches { b32, ..UP },
+            ends: &ends,
+            ..BREAK_POINT
+        };
+        perform_both(&rt, rt.alloc(), &case)?;
+    }
+    Ok(())
+}
+
+/// An order, the accumulator before it, the word at 0050, the accumulator after it and the clock then.
+type Sum = ([u8; 8], u32, [u8; 8], u32, u64);
+
+const SUMS: [Sum; 6] = [
+    (*b"000500j8", 2, *b"00000006", 0x2aaa_aaaa, 131),
+    (*b"000600j8", 6, *b"0000000f", 0x3c, 131),
+    (*b"000700j8", 6, *b"0000000f", 0, 131),
+    (*b"000700j8", 0xffff_fffe, *b"00000002", 0xffff_fffe, 131),
+    (*b"000900j8", 0x1d, *b"0000000q", 0xc, 67),
+    (*b"000w00j8", 10, *b"00000006", 4, 67),
+];
+
+#[test]
+fn arithmetic_takes_a_revolution_more(rt: HostRuntime) -> Result<(), Fail> {
+    for (order, before, memory, accumulator, clock) in &SUMS {
+        let case = Case {
+            cells: &[(*b"0000", *order), (*b"0050", *memory)],
+            accumulator: *before,
+            ends: &[End {
+                clock: *clock,
+                register: *order,
+                accumulator: *accumulator,
+                ..END
+            }],
+            ..CASE
+        };
+        perform_both(&rt, rt.alloc(), &case)?;
+    }
+    Ok(())
+}
+
+/// A test order, the accumulator, whether TRANSFER CONTROL is down, and the counter after it.
+const TESTS: [([u8; 8], u32, bool, [u8; 4]); 4] = [
+    (*b"800g0100", 0, false, *b"0001"),
+    (*b"800g0100", 0, true, *b"0100"),
+    (*b"000g0100", 0, true, *b"0001"),
+    (*b"000g0100", 0x8000_0000, false, *b"0100"),
+];
+
+#[test]
+fn a_test_transfers_by_sign_or_switch(rt: HostRuntime) -> Result<(), Fail> {
+    for (order, accumulator, transfer, counter) in &TESTS {
+        let case = Case {
+            cells: &[(*b"0000", *order)],
+            accumulator: *accumulator,
+            switches: Switches {
+                transfer: *transfer,
+                ..UP
+            },
+            ends: &[End {
+                clock: 67,
+                counter: *counter,
+                register: *order,
+                accumulator: *accumulator,
+                ..END
+            }],
+            ..CASE
+        };
+        perform_both(&rt, rt.alloc(), &case)?;
+    }
+    Ok(())
+}
+
+/// The code 57, printed.
+const PRINT: Case = Case {
+    cells: &[(*b"0000", *b"00083900")],
+    ends: &[End {
+        clock: 451,
+        register: *b"00083900",
+        printed: Some(57),
+        ..END
+    }],
+    ..CASE
+};
+
+#[test]
+fn a_code_is_printed(rt: HostRuntime) -> Result<(), Fail> {
+    perform_both(&rt, rt.alloc(), &PRINT)
+}
+
+#[test]
+fn the_last_word_time_prints(rt: HostRuntime) -> Result<(), Fail> {
+    let mut bench = Bench::new(rt.alloc(), &PRINT)?;
+    assert!(rt; bench.turns_before(451));
+    bench.copy()?;
+    assert!(rt; bench.prints_next());
+    let outcome = Outcome {
+        cost: 451,
+        status: Status::Going,
+        printed: Code::new(57),
+    };
+    assert_eq!(rt; bench.turn(), Progress::Done(outcome));
+    Ok(())
+}
+
+/// Switches the reader on, and performs an input.
+const INPUT: Case = Case {
+    cells: &[(*b"0000", *b"00080000"), (*b"0001", *b"00040000")],
+    ..CASE
+};
+
+/// A tape, whether 6 BIT INPUT is down, its codes, the clock after the input, the status and the accumulator then.
+type Tape<'a> = (&'a [u8], bool, usize, u64, Status, u32);
+
+const TAPES: [Tape; 3] = [
+    (b"12[16]3'", false, 5, 1996, Status::Going, 0x123),
+    (b"12[16]3", false, 4, 1612, Status::Waiting, 0x123),
+    (b"a'", true, 2, 844, Status::Going, 0x39),
+];
+
+#[test]
+fn an_input_passes_codes(rt: HostRuntime) -> Result<(), Fail> {
+    for (tape, six_bit, codes, clock, status, accumulator) in &TAPES {
+        let started = End {
+            clock: 67,
+            register: *b"00080000",
+            is_on: true,
+            left: *codes,
+            ..END
+        };
+        let done = End {
+            clock: *clock,
+            status: *status,
+            counter: *b"0002",
+            register: *b"00040000",
+            accumulator: *accumulator,
+            ..END
+        };
+        let case = Case {
+            tape: *tape,
+            switches: Switches {
+                six_bit: *six_bit,
+                ..UP
+            },
+            ends: &[started, done],
+            ..INPUT
+        };
+        perform_both(&rt, rt.alloc(), &case)?;
+    }
+    Ok(())
+}
+
+/// A tape that is read from the console, the mode, the clock and the status after it, and the codes that are left.
+const READ: [(&[u8], Mode, u64, Status, usize); 5] = [
+    (b"12'3", Mode::Normal, 1153, Status::Going, 1),
+    (
+        b"12'3",
+        Mode::OneOperation,
+        1153,
+        Status::Halted(Cause::Step),
+        1,
+    ),
+    (
+        b"12'3",
+        Mode::Manual,
+        1153,
+        Status::Halted(Cause::Operator),
+        1,
+    ),
+    (b"12", Mode::OneOperation, 769, Status::Waiting, 0),
+    (b"12", Mode::Manual, 769, Status::Halted(Cause::Operator), 0),
+];
+
+#[test]
+fn a_tape_is_read_from_the_console(rt: HostRuntime) -> Result<(), Fail> {
+    for (tape, mode, clock, status, left) in &READ {
+        let case = Case {
+            tape: *tape,
+            status: Status::Reading,
+            mode: *mode,
+            ends: &[End {
+                clock: *clock,
+                status: *status,
+                counter: *b"0000",
+                accumulator: 0x12,
+                left: *left,
+                ..END
+            }],
+            ..CASE
+        };
+        perform_both(&rt, rt.alloc(), &case)?;
+    }
+    Ok(())
+}
+
+/// A load in the instruction register.
+const EXECUTED: Case = Case {
+    cells: &[(*b"0050", *b"00000006")],
+    register: *b"000100j8",
+    status: Status::Executing,
+    ends: &[End {
+        clock: 3,
+        status: Status::Halted(Cause::Step),
+        counter: *b"0000",
+        register: *b"000100j8",
+        accumulator: 6,
+        ..END
+    }],
+    ..CASE
+};
+
+#[test]
+fn the_register_is_executed(rt: HostRuntime) -> Result<(), Fail> {
+    perform_both(&rt, rt.alloc(), &EXECUTED)
+}
+
+#[test]
+fn at_rest_the_clock_goes_on(rt: HostRuntime) -> Result<(), Fail> {
+    for status in [Status::Halted(Cause::Operator), Status::Waiting] {
+        let end = End {
+            clock: 1,
+            status,
+            counter: *b"0000",
+            ..END
+        };
+        let case = Case {
+            status,
+            ends: &[end],
+            ..CASE
+        };
+        perform_both(&rt, rt.alloc(), &case)?;
+    }
+    Ok(())
+}
+
+#[test]
+fn a_machine_is_at_rest_or_at_work(rt: HostRuntime) -> Result<(), Fail> {
+    for (status, rest) in [
+        (Status::Halted(Cause::Stop), true),
+        (Status::Waiting, true),
+        (Status::Going, false),
+        (Status::Executing, false),
+        (Status::Reading, false),
+    ] {
+        let bench = Bench::new(rt.alloc(), &Case { status, ..CASE })?;
+        assert_eq!(rt; bench.is_at_rest(), rest, "{status:?}");
+    }
+    Ok(())
+}
+
+#[test]
+fn a_full_heap_refuses_a_drum_and_no_processor(rt: HostRuntime) -> Result<(), Fail> {
+    let heap = LocalHeap::new(rt.alloc(), 65536)?;
+    let filler: Vec<u8, &LocalHeap> = Vec::with_capacity(&heap, heap.free())?;
+    assert!(rt; Drum::new(&heap).is_err());
+    let processor = Processor::new(&heap)?;
+    assert!(rt; processor.copy()?.is_idle());
+    drop(filler);
+    perform(&rt, &heap, &SUM, false)
+}
