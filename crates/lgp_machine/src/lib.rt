@@ -2,6 +2,7 @@
 #![tactic(auto)]
 
 pub mod fault;
+pub mod laws;
 pub mod look;
 pub mod machine;
 
@@ -10,3 +11,6 @@ pub use fault::{
 };
 pub use look::Look;
 pub use machine::Machine;
+
+#[cfg(test)]
+mod tests;

@@ -1,11 +1,10 @@
 -- No activity takes less than a word time.
-use Rattle.std.proofs.Common.{ℕ, ◌+◌, ◌<◌, ◌≤◌, arith}
+use Rattle.std.proofs.Common.{ℕ, ◌≤◌, arith}
 use Rattle.lgp_word.specs.declared.order.Op.{Op}
 use Rattle.lgp_word.specs.declared.order.Op.TheVariants.{Z, B, Y, R, I, D, N, M, P, E, U, T, H, C, A, S}
 use Rattle.lgp_word.specs.Address.{sector_of}
 use Rattle.lgp_word.specs.Order.{op_at, address_at}
-use Rattle.lgp_flexo.specs.Tape.{Tape}
-use Rattle.lgp_table.specs.State.{Core, State, word_at}
+use Rattle.lgp_table.specs.State.{Core, State}
 use Rattle.lgp_table.specs.Wait.{wait}
 use Rattle.lgp_table.specs.Activity.{cost, cost_at, seek_time, time_by}
 use Rattle.lgp_table.specs.declared.panel.Status.{Status}
