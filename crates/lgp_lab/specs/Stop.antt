@@ -7,7 +7,7 @@ use Rattle.lgp_lab.specs.Session.{Standing, first_standing, said_all}
 use Rattle.lgp_lab.specs.declared.script.LabFault.{LabFault}
 use Rattle.lgp_lab.specs.declared.script.LabFault.TheVariants.{Read, Write, Memory}
 
--- of a text a first part was written, which ends so many bytes behind the first byte of all, as far as 64 bits count
+-- the first part of a text was written, behind `before` bytes of other texts; `count` bytes in all, as far as 64 bits count
 pub record Cut (before count : ℕ) (w₀ w : Option (List ℕ)) (text : List ℕ) : Type 0 where
   pub taken : ℕ
   pub within : taken ≤ length text

@@ -1,0 +1,310 @@
+//! A processor on a bench: how it stands before worked orders, and how after each.
+
+use crate::{Ahead, Outcome, Processor, Progress, ahead};
+use lgp_drum::Drum;
+use lgp_flexo::{Code, read_tape_text};
+use lgp_reader::Reader;
+use lgp_table::{Mode, Panel, Status, Switches};
+use lgp_word::{Address, Word, read_digits, write_digits};
+use std::alloc::Allocator;
+use std::marker::Model;
+use std::process::Abort;
+use std::test::Fail;
+
+/// A word on the drum: its address and its digits.
+pub type Cell = ([u8; 4], [u8; 8]);
+
+/// How a machine stands before worked orders, how after each, and a word that is then on the drum. The reader is on where the
+/// tape is read from the console.
+#[derive(Clone, Copy)]
+pub struct Case<'a, 'b> {
+    pub cells: &'a [Cell],
+    pub tape: &'a [u8],
+    pub counter: [u8; 4],
+    pub register: [u8; 8],
+    pub accumulator: u32,
+    pub status: Status,
+    pub mode: Mode,
+    pub switches: Switches,
+    pub ends: &'b [End],
+    pub stored: Cell,
+}
+
+/// How a machine stands after an activity.
+#[derive(Clone, Copy, Debug, PartialEq, Eq)]
+pub struct End {
+    pub clock: u64,
+    pub status: Status,
+    pub counter: [u8; 4],
+    pub register: [u8; 8],
+    pub accumulator: u32,
+    pub printed: Option<u8>,
+    pub is_on: bool,
+    pub left: usize,
+}
+
+/// Every switch is up.
+pub const UP: Switches = Switches {
+    b32: false,
+    b16: false,
+    b8: false,
+    b4: false,
+    transfer: false,
+    six_bit: false,
+};
+
+/// A machine in Normal that begins the order at 0000, all else blank.
+pub const CASE: Case = Case {
+    cells: &[],
+    tape: b"",
+    counter: *b"0000",
+    register: *b"00000000",
+    accumulator: 0,
+    status: Status::Going,
+    mode: Mode::Normal,
+    switches: UP,
+    ends: &[],
+    stored: (*b"6363", *b"00000000"),
+};
+
+/// The same machine before its next order, but for the clock and the register.
+pub const END: End = End {
+    clock: 0,
+    status: Status::Going,
+    counter: *b"0001",
+    register: *b"00000000",
+    accumulator: 0,
+    printed: None,
+    is_on: false,
+    left: 0,
+};
+
+/// The word of these digits.
+fn word(digits: &[u8; 8]) -> Result<Word, Fail> {
+    Ok(read_digits(digits.as_slice()).ok_or("not a word")?)
+}
+
+/// The address of this text.
+pub fn at(text: &[u8; 4]) -> Result<Address, Fail> {
+    Ok(Address::parse(text.as_slice()).ok_or("not an address")?)
+}
+
+/// A drum with these words.
+fn drum_of<A: Allocator + Copy>(alloc: A, cells: &[Cell]) -> Result<Drum<A>, Fail> {
+    let mut drum = Drum::new(alloc)?;
+    for (address, digits) in cells {
+        drum.put(at(address)?, word(digits)?);
+    }
+    Ok(drum)
+}
+
+/// A reader with this tape.
+fn reader_of<A: Allocator + Copy>(alloc: A, tape: &[u8]) -> Result<Reader<A>, Fail> {
+    let mut reader = Reader::new(alloc);
+    match reader.mount(read_tape_text(alloc, tape)?) {
+        Ok(()) => Ok(reader),
+        Err(_) => Err(Fail::from("the tape is too long")),
+    }
+}
+
+/// The registers of a case.
+fn panel_of(case: &Case) -> Result<Panel, Fail> {
+    Ok(Panel {
+        counter: at(&case.counter)?,
+        accumulator: case.accumulator,
+        register: word(&case.register)?,
+        status: case.status,
+        mode: case.mode,
+        switches: case.switches,
+    })
+}
+
+/// A processor with its registers, drum, reader and clock.
+#[derive(Drop)]
+pub struct Bench<A: Allocator> {
+    panel: Panel,
+    drum: Drum<A>,
+    reader: Reader<A>,
+    processor: Processor<A>,
+    clock: u64,
+}
+
+impl<A: Allocator> Model for Bench<A> {
+    ghost use Rattle.std.specs.Prelude.{ℕ};
+    ghost use Rattle.lgp_table.specs.State.{core_of};
+    ghost use Rattle.lgp_phases.specs.Latch.{IsWithin};
+
+    ghost Value = { ℕ };
+
+    ghost view = { λ bench. bench.clock };
+
+    ghost invariant = { λ bench. IsWithin bench.processor (core_of bench.panel bench.drum bench.reader) bench.clock };
+}
+
+impl<A: Allocator + Copy> Bench<A> {
+    /// The bench of a case, at clock 0.
+    pub fn new(alloc: A, case: &Case) -> Result<Bench<A>, Fail> {
+        let mut reader = reader_of(alloc, case.tape)?;
+        if case.status == Status::Reading {
+            reader.start();
+        }
+        Ok(Bench {
+            panel: panel_of(case)?,
+            drum: drum_of(alloc, case.cells)?,
+            reader,
+            processor: Processor::new(alloc)?,
+            clock: 0,
+        })
+    }
+
+    /// The activity that begins here in one call, by a processor of its own.
+    fn at_once(&mut self, alloc: A) -> Result<Outcome, Fail> {
+        let mut processor = Processor::new(alloc)?;
+        let outcome = processor.activity(
+            &mut self.panel,
+            &mut self.drum,
+            &mut self.reader,
+            self.clock,
+        );
+        processor.clear();
+        self.processor = processor;
+        self.clock = self
+            .clock
+            .checked_add(outcome.cost)
+            .ok_or("the clock ends")?;
+        Ok(outcome)
+    }
+
+    /// One activity, in one call or by its word times.
+    fn activity(&mut self, alloc: A, in_one_call: bool) -> Result<Outcome, Fail> {
+        if in_one_call {
+            self.at_once(alloc)
+        } else {
+            Ok(self.order().ok_or("not as foretold")?)
+        }
+    }
+
+    /// Goes on with a copy of the processor.
+    pub fn copy(&mut self) -> Result<(), Fail> {
+        self.processor = self.processor.copy()?;
+        Ok(())
+    }
+}
+
+impl<A: Allocator> Bench<A> {
+    /// What the activity that begins here will cost and print.
+    fn ahead(&self) -> Ahead {
+        ahead(&self.panel, &self.drum, &self.reader, self.clock)
+    }
+
+    /// Whether the next word time prints.
+    pub fn prints_next(&self) -> bool {
+        self.processor
+            .prints_next(&self.panel, &self.drum, &self.reader, self.clock)
+    }
+
+    /// Whether the machine is at rest.
+    pub fn is_at_rest(&self) -> bool {
+        self.processor
+            .is_at_rest(&self.panel, &self.drum, &self.reader, self.clock)
+    }
+
+    /// One word time; none at the last clock.
+    pub fn turn(&mut self) -> Progress {
+        let Some(next) = self.clock.checked_add(1) else {
+            return Progress::More;
+        };
+        let progress = self.processor.word_time(
+            &mut self.panel,
+            &mut self.drum,
+            &mut self.reader,
+            self.clock,
+        );
+        self.clock = next;
+        progress
+    }
+
+    /// All but the last of so many word times, if each answers that the activity goes on and none prints.
+    pub fn turns_before(&mut self, cost: u64) -> bool {
+        for _ in 1..cost {
+            if self.prints_next() || self.turn() != Progress::More || self.processor.is_idle() {
+                return false;
+            }
+        }
+        true
+    }
+
+    /// One activity by its word times, if it is as it was foretold and prints in the last of them.
+    fn order(&mut self) -> Option<Outcome> {
+        let foretold = self.ahead();
+        if !self.turns_before(foretold.cost) || self.prints_next() != foretold.prints.is_some() {
+            return None;
+        }
+        match self.turn() {
+            Progress::Done(outcome)
+                if outcome.cost == foretold.cost
+                    && outcome.printed == foretold.prints
+                    && outcome.status == self.panel.status
+                    && self.processor.is_idle() => { Some(outcome) }
+            _ => None,
+        }
+    }
+
+    /// Whether this word is on the drum.
+    fn holds(&self, cell: Cell) -> Result<bool, Fail> {
+        let (address, digits) = cell;
+        Ok(self.drum.word(at(&address)?) == word(&digits)?)
+    }
+
+    /// How the machine stands after an activity of this outcome.
+    fn end(&self, outcome: &Outcome) -> End {
+        End {
+            clock: self.clock,
+            status: outcome.status,
+            counter: self.panel.counter.print(),
+            register: write_digits(self.panel.register),
+            accumulator: self.panel.accumulator,
+            printed: outcome.printed.map(Code::number),
+            is_on: self.reader.is_on(),
+            left: self.reader.left().len(),
+        }
+    }
+}
+
+/// Performs activities, in one call each or by their word times, and compares how the machine stands.
+fn perform_to<A: Allocator + Copy>(
+    rt: &impl Abort,
+    alloc: A,
+    bench: &mut Bench<A>,
+    ends: &[End],
+    in_one_call: bool,
+) -> Result<(), Fail> {
+    for end in ends {
+        let outcome = bench.activity(alloc, in_one_call)?;
+        assert_eq!(rt; bench.end(&outcome), *end);
+    }
+    Ok(())
+}
+
+/// Performs the activities of a case.
+pub fn perform<A: Allocator + Copy>(
+    rt: &impl Abort,
+    alloc: A,
+    case: &Case,
+    in_one_call: bool,
+) -> Result<(), Fail> {
+    let mut bench = Bench::new(alloc, case)?;
+    perform_to(rt, alloc, &mut bench, case.ends, in_one_call)?;
+    assert!(rt; bench.holds(case.stored)?);
+    Ok(())
+}
+
+/// Performs the activities of a case both ways.
+pub fn perform_both<A: Allocator + Copy>(
+    rt: &impl Abort,
+    alloc: A,
+    case: &Case,
+) -> Result<(), Fail> {
+    perform(rt, alloc, case, false)?;
+    perform(rt, alloc, case, true)
+}
