@@ -2,7 +2,7 @@
 
 ghost use Rattle.std.specs.Prelude.{◌≡◌, ◌==◌, ◌<◌, ◌≤◌, ◌↔◌, length, slice_get, position, IsSome, IfSome};
 ghost use Rattle.lgp_flexo.specs.Code.{IsCode, sign_at, code_at, code_in_row, digit_at, is_skipped};
-ghost use Rattle.lgp_flexo.specs.Input.{entered};
+ghost use Rattle.lgp_flexo.specs.Input.{accumulator_after};
 
 use std::marker::Model;
 
@@ -143,7 +143,7 @@ pub fn skipped(code: Code) -> bool
 
 /// The accumulator after a code has entered: the code's first four bits, or all six where the switch 6 BIT INPUT is down.
 pub fn enter(six_bit: bool, accumulator: u32, code: Code) -> u32
-    ensures { result ≡ entered six_bit accumulator code }
+    ensures { result ≡ accumulator_after six_bit accumulator code }
 {
     let number = u32::from(code.number());
     if six_bit {

@@ -5,7 +5,7 @@ use Rattle.lgp_flexo.specs.TapeText.{codes_of_text, written_tape}
 use Rattle.lgp_table.specs.State.{State, word_at}
 use Rattle.lgp_table.specs.Activity.{cost, next}
 use Rattle.lgp_table.specs.Console.{is_at_rest, is_live}
-use Rattle.lgp_table.specs.Interleaving.{Configuration, acted, at_boundary, mounted, rested, word_put}
+use Rattle.lgp_table.specs.Interleaving.{Configuration, after_action, at_boundary, after_mount, after_rest, after_put}
 use Rattle.lgp_table.specs.declared.action.Action.TheVariants as actions
 use Rattle.lgp_table.specs.declared.panel.Switches.{Switches}
 use Rattle.lgp_table.specs.declared.panel.Status.{Status}
@@ -47,7 +47,7 @@ key_struck so_far code =
     record {
       live = if live then so_far.live + 1 else so_far.live;
       dead = if live then so_far.dead else so_far.dead + 1;
-      state = acted so_far.state (actions.Key code);
+      state = after_action so_far.state (actions.Key code);
     }
 
 unfoldable pub typed : State → List ℕ → Typed
@@ -73,7 +73,7 @@ performed limit s = performed_on 0 limit s
 unfoldable pub answer_to_mount : State → Result (List ℕ) ℕ → Answer
 answer_to_mount s (Err place) = refused (refusals.BadSign place) s
 answer_to_mount s (Ok tape) =
-    if is_at_rest s.core.panel.status then record { reply = replies.Count (length tape); state = mounted s tape }
+    if is_at_rest s.core.panel.status then record { reply = replies.Count (length tape); state = after_mount s tape }
     else refused refusals.Moving s
 
 unfoldable pub answer_to_type : State → Result (List ℕ) ℕ → Answer
@@ -85,7 +85,7 @@ unfoldable pub answer_to_turn : State → ℕ → Answer
 answer_to_turn s times =
     if not (is_at_rest s.core.panel.status) then refused refusals.AtWork s
     else (if nat_lt clock_end (s.clock + times) then refused refusals.ClockEnd s
-    else record { reply = replies.Clock (s.clock + times); state = rested s times })
+    else record { reply = replies.Clock (s.clock + times); state = after_rest s times })
 
 unfoldable pub answer_to_orders : State → ℕ → Answer
 answer_to_orders s limit =
@@ -98,11 +98,11 @@ answer_to_orders s limit =
 -- the answer to a command; the text is that of mount and type
 abbrev pub answer_to : State → Command → List ℕ → Answer
 answer_to s (commands.Put address word) text =
-    if is_at_rest s.core.panel.status then record { reply = replies.Done; state = word_put s address word }
+    if is_at_rest s.core.panel.status then record { reply = replies.Done; state = after_put s address word }
     else refused refusals.Moving s
 answer_to s commands.Mount text = answer_to_mount s (codes_of_text text)
 answer_to s (commands.Press action) text =
-    record { reply = if is_live s.core.panel action then replies.Live else replies.Dead; state = acted s action }
+    record { reply = if is_live s.core.panel action then replies.Live else replies.Dead; state = after_action s action }
 answer_to s commands.Type text = answer_to_type s (codes_of_text text)
 answer_to s (commands.Turn times) text = answer_to_turn s times
 answer_to s (commands.Orders limit) text = answer_to_orders s limit

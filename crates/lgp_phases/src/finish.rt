@@ -1,11 +1,11 @@
 //! What an activity leaves, apart from the time that it takes.
 
 ghost use Rattle.std.specs.Prelude.{◌≡◌, if◌then◌else◌, slice_index};
-ghost use Rattle.lgp_flexo.specs.Input.{entered_all};
+ghost use Rattle.lgp_flexo.specs.Input.{accumulator_after_all};
 ghost use Rattle.lgp_flexo.specs.Tape.{passing, input_done, tape_after_input};
 ghost use Rattle.lgp_table.specs.State.{core_of};
 ghost use Rattle.lgp_table.specs.Rows.{effect_of};
-ghost use Rattle.lgp_table.specs.Activity.{core_after, ended, fetched, print_of, status_at_end, resume};
+ghost use Rattle.lgp_table.specs.Activity.{core_after, ended, after_fetch, print_of, status_at_end, resume};
 
 use crate::perform::{input, perform};
 use lgp_drum::Drum;
@@ -21,8 +21,8 @@ fn perform_next<A: Allocator>(
     reader: &mut Reader<A>,
 ) -> Option<Code>
     ensures core { core_of panel.new drum.new reader.new
-        ≡ ended (effect_of (slice_index drum.old panel.old.counter) (fetched (core_of panel.old drum.old reader.old))) (resume panel.old.mode) }
-    ensures prints { result ≡ (effect_of (slice_index drum.old panel.old.counter) (fetched (core_of panel.old drum.old reader.old))).prints }
+        ≡ ended (effect_of (slice_index drum.old panel.old.counter) (after_fetch (core_of panel.old drum.old reader.old))) (resume panel.old.mode) }
+    ensures prints { result ≡ (effect_of (slice_index drum.old panel.old.counter) (after_fetch (core_of panel.old drum.old reader.old))).prints }
 {
     let on = panel.mode.resume();
     let word = drum.word(panel.counter);
@@ -51,7 +51,7 @@ fn perform_register<A: Allocator>(
 /// Passes the tape for the operator.
 fn read_tape<A: Allocator>(panel: &mut Panel, reader: &mut Reader<A>)
     ensures panel { panel.new ≡ record panel.old {
-      accumulator = entered_all panel.old.switches.six_bit panel.old.accumulator (passing reader.old);
+      accumulator = accumulator_after_all panel.old.switches.six_bit panel.old.accumulator (passing reader.old);
       status = if input_done reader.old then resume panel.old.mode else status_at_end panel.old.mode;
     } }
     ensures tape { reader.new ≡ tape_after_input reader.old }

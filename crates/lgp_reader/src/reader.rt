@@ -1,7 +1,7 @@
 //! The reader with its tape.
 
 ghost use Rattle.std.specs.Prelude.{◌≡◌, ◌↔◌, ◌<◌, ◌≤◌, [], true, false, length, drop, slice_get, vec_len, IsErr, IfErr, IfOk, OnOk, OnErr};
-ghost use Rattle.lgp_flexo.specs.Input.{entered_all, left_after, met_stop, passed_codes};
+ghost use Rattle.lgp_flexo.specs.Input.{accumulator_after_all, left_after, met_stop, passed_codes};
 ghost use Rattle.lgp_flexo.specs.Tape.{input_done, passing, tape_after_input};
 ghost use Rattle.lgp_flexo.specs.TapeText.{tape_limit};
 
@@ -121,7 +121,7 @@ impl<A: Allocator> Reader<A> {
     /// Performs an input: passes those codes and switches the reader off. Answers the accumulator after the codes that enter, and
     /// whether a conditional stop ended the input.
     pub fn pass_input(&mut self, six_bit: bool, accumulator: u32) -> Input
-        ensures accumulator { result.accumulator ≡ entered_all six_bit accumulator (passing self.old) }
+        ensures accumulator { result.accumulator ≡ accumulator_after_all six_bit accumulator (passing self.old) }
         ensures done { result.done ≡ input_done self.old }
         ensures tape { self.new ≡ tape_after_input self.old }
     {
@@ -166,7 +166,7 @@ fn stop_length(codes: &[Code]) -> usize
 
 /// Passes the codes up to and with the first conditional stop, or all that are left, and enters them.
 fn pass_codes<A: Allocator>(reader: &mut Reader<A>, six_bit: bool, mut accumulator: u32) -> Input
-    ensures accumulator { result.accumulator ≡ entered_all six_bit accumulator (passed_codes reader.old.left) }
+    ensures accumulator { result.accumulator ≡ accumulator_after_all six_bit accumulator (passed_codes reader.old.left) }
     ensures done { result.done ≡ met_stop reader.old.left }
     ensures tape { reader.new ≡ record reader.old { left = left_after reader.old.left } }
 {

@@ -3,7 +3,7 @@
 use Rattle.std.specs.Prelude.{ℕ, ◌&&◌, Bool, true, false, not, if◌then◌else◌}
 use Rattle.lgp_word.specs.Word.{stored}
 use Rattle.lgp_flexo.specs.Code.{is_stop, is_skipped}
-use Rattle.lgp_flexo.specs.Input.{entered}
+use Rattle.lgp_flexo.specs.Input.{accumulator_after}
 use Rattle.lgp_flexo.specs.Tape.{Tape}
 use Rattle.lgp_table.specs.Activity.{resume}
 use Rattle.lgp_table.specs.declared.action.Action.{Action}
@@ -87,7 +87,7 @@ with_break_point switches B4 down = record switches { b4 = down }
 -- a key struck: the conditional stop ends the input, any other code enters
 abbrev pub after_key : Panel → ℕ → Panel
 after_key panel code = record panel {
-  accumulator = if is_stop code then panel.accumulator else entered panel.switches.six_bit panel.accumulator code;
+  accumulator = if is_stop code then panel.accumulator else accumulator_after panel.switches.six_bit panel.accumulator code;
   status = if is_stop code then resume panel.mode else panel.status;
 }
 

@@ -2,10 +2,10 @@
 
 ghost use Rattle.std.specs.Prelude.{◌≡◌, ◌≢◌, ◌+◌, ◌<◌, ◌≤◌, ℕ, Bool, List, IsTrue, true, false, [], ◌∷◌, length};
 ghost use Rattle.lgp_flexo.specs.Code.{is_skipped};
-ghost use Rattle.lgp_flexo.specs.Input.{entered_all};
+ghost use Rattle.lgp_flexo.specs.Input.{accumulator_after_all};
 ghost use Rattle.lgp_word.specs.declared.order.Op.{Op};
 ghost use Rattle.lgp_table.specs.Activity.{cost, next};
-ghost use Rattle.lgp_table.specs.Interleaving.{Configuration, acted, at_boundary, pressed, turned};
+ghost use Rattle.lgp_table.specs.Interleaving.{Configuration, after_action, at_boundary, after_press, after_word_time};
 ghost use Rattle.lgp_table.specs.Rows.{row};
 ghost use Rattle.lgp_table.specs.State.{Core, State, word_at};
 ghost use Rattle.lgp_table.specs.declared.panel.Panel.{Panel};
@@ -44,17 +44,17 @@ pub fn other_words()
 /// A skipped code passes and does not enter, from the tape as from the keys.
 pub fn skipped_codes()
     ensures tape { (six_bit : Bool) → (accumulator code : ℕ) → (codes : List ℕ) → is_skipped code ≡ true
-        → entered_all six_bit accumulator (code ∷ codes) ≡ entered_all six_bit accumulator codes }
+        → accumulator_after_all six_bit accumulator (code ∷ codes) ≡ accumulator_after_all six_bit accumulator codes }
     ensures key { (panel : Panel) → (code : ℕ) → is_skipped code ≡ true → is_live panel (Action.Key code) ≡ false }
 {}
 
 /// What is pressed within an activity waits for its end, where all that is kept acts in order; with 16 kept a press is lost.
 pub fn kept_actions()
     ensures kept { (now : Configuration) → (first second : Action) → now.elapsed ≡ 1 → now.kept ≡ first ∷ []
-        → pressed now second ≡ record now { kept = first ∷ second ∷ [] } }
-    ensures full { (now : Configuration) → (action : Action) → now.elapsed ≡ 1 → length now.kept ≡ 16 → pressed now action ≡ now }
-    ensures at_once { (s : State) → (action : Action) → pressed (at_boundary s) action ≡ at_boundary (acted s action) }
+        → after_press now second ≡ record now { kept = first ∷ second ∷ [] } }
+    ensures full { (now : Configuration) → (action : Action) → now.elapsed ≡ 1 → length now.kept ≡ 16 → after_press now action ≡ now }
+    ensures at_once { (s : State) → (action : Action) → after_press (at_boundary s) action ≡ at_boundary (after_action s action) }
     ensures in_order { (now : Configuration) → (first second : Action) → now.elapsed + 1 ≡ cost now.state
-        → now.kept ≡ first ∷ second ∷ [] → turned now ≡ at_boundary (acted (acted (next now.state) first) second) }
-    ensures not_yet { (now : Configuration) → now.elapsed + 1 < cost now.state → turned now ≡ record now { elapsed = now.elapsed + 1 } }
+        → now.kept ≡ first ∷ second ∷ [] → after_word_time now ≡ at_boundary (after_action (after_action (next now.state) first) second) }
+    ensures not_yet { (now : Configuration) → now.elapsed + 1 < cost now.state → after_word_time now ≡ record now { elapsed = now.elapsed + 1 } }
 {}
