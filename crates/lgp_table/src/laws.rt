@@ -53,7 +53,7 @@ pub fn skipped_codes()
 pub fn kept_actions()
     ensures kept { (now : Configuration) → (first second : Action) → is_boundary now ≡ false
         → now.kept ≡ first ∷ [] → after_press now second
-            ≡ record now { kept = first ∷ second ∷ [] } }
+        ≡ record now { kept = first ∷ second ∷ [] } }
     ensures full { (now : Configuration) → (action : Action) → is_boundary now ≡ false
         → length now.kept ≡ latch_limit → after_press now action ≡ now }
     ensures at_once { (s : State) → (action : Action)
@@ -61,7 +61,7 @@ pub fn kept_actions()
     ensures in_order { (now : Configuration) → (first second : Action)
         → now.elapsed + 1 ≡ cost now.state → now.kept ≡ first ∷ second ∷ []
         → after_word_time now
-            ≡ at_boundary (after_action (after_action (next now.state) first) second) }
+        ≡ at_boundary (after_action (after_action (next now.state) first) second) }
     ensures not_yet { (now : Configuration) → now.elapsed + 1 < cost now.state
         → after_word_time now ≡ record now { elapsed = now.elapsed + 1 } }
 {}
@@ -75,5 +75,5 @@ pub fn passed_codes()
         → without_passed (next (without_passed s)) ≡ without_passed (next s) }
     ensures action { (s : State) → (action : Action)
         → without_passed (after_action (without_passed s) action)
-            ≡ without_passed (after_action s action) }
+        ≡ without_passed (after_action s action) }
 {}

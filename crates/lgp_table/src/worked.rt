@@ -163,7 +163,7 @@ pub fn keys_in_manual()
     ensures enters { (desk : Desk) → (cause : Cause) → desk.panel.status ≡ Status.Halted cause
         → desk.panel.mode ≡ Mode.Manual → desk.panel.switches.six_bit ≡ false
         → (desk_after desk (Action.Key 6)).panel.accumulator
-            ≡ (16 * desk.panel.accumulator + 1) % 2 ^ 32 }
+        ≡ (16 * desk.panel.accumulator + 1) % 2 ^ 32 }
     ensures stop_dead { (desk : Desk) → (cause : Cause) → desk.panel.status ≡ Status.Halted cause
         → is_live desk.panel (Action.Key 32) ≡ false }
     ensures skipped_dead { (desk : Desk) → is_live desk.panel (Action.Key 16) ≡ false }
