@@ -44,6 +44,8 @@ pub fn read_decimal(text: &[u8], most: usize) -> Option<u64>
     requires { most ≤ digit_limit }
     ensures value { result ≡ decimal_number most text.now }
     ensures below { IfSome result (λ number. number < 10 ^ most) }
+    ensures digits { IfSome result (λ number.
+        (length text.now ≤ most) × (number < 10 ^ length text.now)) }
 {
     if is_decimal(most, text) {
         Some(decimal_of(text))
