@@ -2,7 +2,7 @@
 use Rattle.std.proofs.Common.{◌≡◌, ℕ, zero, suc, ◌+◌, ◌<◌, List, [], ◌∷◌, ◌++◌, length, get_or, take, drop, ◌-◌, Some, Result, Ok, Err, refl, ap, sym, ◌∙◌, append_assoc, arith, add-one, drop-cons}
 use Rattle.std.proofs.lemmas.List.{drop-drop, take_rest}
 use Rattle.lgp_flexo.specs.TapeText.{text_from, piece_at, bytes_behind, before, joined}
-use Rattle.lgp_flexo.specs.Pieces.{rest_from}
+use Rattle.lgp_flexo.specs.PiecesInside.{rest_from}
 
 -- this many codes in front of what follows
 abbrev pub added : ℕ → Result ℕ ℕ → Result ℕ ℕ

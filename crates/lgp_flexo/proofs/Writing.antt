@@ -1,12 +1,13 @@
 -- What is written reads back.
-use Rattle.std.proofs.Common.{◌≡◌, ℕ, zero, suc, ◌+◌, ◌/◌, ◌%◌, ◌<◌, ◌≤◌, Bool, true, false, not, cond, ◌&&◌, ◌||◌, eqb, List, [], ◌∷◌, ◌++◌, length, get_or, take, Option, Some, None, Ok, refl, ap, sym, subst, ◌∙◌, ⊎_elim, arith, append_assoc, length-append}
+use Rattle.std.proofs.Common.{◌≡◌, ℕ, zero, suc, ◌+◌, ◌<◌, ◌≤◌, Bool, true, false, not, cond, ◌&&◌, ◌||◌, eqb, List, [], ◌∷◌, ◌++◌, length, get_or, take, Option, Some, None, Ok, refl, ap, sym, subst, ◌∙◌, ⊎_elim, arith, append_assoc, length-append}
 use Rattle.std.proofs.lemmas.List.{append-nil, take_more}
 use Rattle.std.proofs.lemmas.Bool.{cases_lt, eqb-true, false≢true, not-true}
-use Rattle.std.proofs.lemmas.Bool.Decides.{nat_tests}
-use Rattle.std.specs.Option.{option_map}
+use Rattle.std.specs.Option.{option_map, option_and_then}
 use Rattle.lgp_flexo.proofs.Reading.{before-before}
 use Rattle.lgp_flexo.specs.Code.{sign_at, code_at}
-use Rattle.lgp_flexo.specs.TapeText.{text_from, piece_at, bytes_behind, before, joined, group_at, codes_of_text, written_code, sign_or_group, code_of_digits}
+use Rattle.lgp_flexo.specs.TapeText.{text_from, piece_at, bytes_behind, before, joined, group_at, codes_of_text, written_code, sign_or_group, code_of_number}
+use Rattle.lgp_word.specs.Decimal.{decimal_number, decimal_of, is_decimal}
+use Rattle.lgp_word.specs.Digits.{two_digits}
 
 -- a test of each number below one
 abbrev pub all_below : (ℕ → Bool) → ℕ → Bool
@@ -39,12 +40,22 @@ pub all_read_back : all_below (λ code. reads_back code (sign_at code)) 64 ≡ t
 unfolding sign_at code_at
 all_read_back = refl
 
-code_of_digits-written : (code : ℕ) → code < 64 → code_of_digits (48 + code / 10) (48 + code % 10) ≡ Some code
-code_of_digits-written code h = grind (arith, nat_tests)
-
 found-code : (code : ℕ) (found : Option ℕ) → is_piece code found ≡ true → found ≡ Some code
 found-code code (Some found) h = ap Some (eqb-true found code h)
 found-code code None h = absurd (false≢true h)
+
+-- the code of its group, seen group by group
+abbrev pub group_reads_back : ℕ → Bool
+group_reads_back code = is_piece code (option_and_then code_of_number (decimal_number 2 (two_digits code)))
+
+pub all_groups_read_back : all_below group_reads_back 64 ≡ true
+unfolding decimal_number is_decimal decimal_of
+all_groups_read_back = refl
+
+group-written : (code : ℕ) → code < 64 → option_and_then code_of_number (decimal_number 2 (two_digits code)) ≡ Some code
+group-written code h =
+    found-code code (option_and_then code_of_number (decimal_number 2 (two_digits code)))
+    (all_below-at group_reads_back 64 code all_groups_read_back h)
 
 last_choice : (X : Type 0) (first second : Bool) (x y z : X) → first ≡ false → second ≡ false → cond first x (cond second y z) ≡ z
 last_choice X false false x y z f g = refl
@@ -78,7 +89,7 @@ ReadsBack-piece code (Some sign) small h = λ following place.
 ReadsBack-piece code None small h = λ following place.
     let past : ℕ = ((place + 1) + 1) + 1 + 1 in
     let e : past ≡ place + 4 = omega arith in
-    ap (λ p. joined place (option_map (λ (c : ℕ). c ∷ []) p) (text_from past 0 following)) (code_of_digits-written code small)
+    ap (λ p. joined place (option_map (λ (c : ℕ). c ∷ []) p) (text_from past 0 following)) (group-written code small)
     ∙ ap (λ n. before (code ∷ []) (text_from n 0 following)) e
 
 -- each code reads back as it is written

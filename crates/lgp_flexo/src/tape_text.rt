@@ -2,10 +2,11 @@
 
 ghost use Rattle.std.specs.Prelude.{◌≡◌, ◌↔◌, ◌<◌, ◌≤◌, ◌++◌, ℕ, Ok, Err, IfSome, IfNone, IfOk, IsOkAnd, IsErrOf, length, vec_len, option_map, option_to_list};
 ghost use Rattle.lgp_flexo.specs.Code.{IsCode};
-ghost use Rattle.lgp_flexo.specs.TapeText.{tape_limit, written_code, written_tape, code_of_digits, group_at, piece_at, bytes_behind, before, codes_of_text};
-ghost use Rattle.lgp_flexo.specs.Pieces.{rest_from, counted};
+ghost use Rattle.lgp_flexo.specs.TapeText.{tape_limit, written_code, written_tape, group_at, piece_at, bytes_behind, before, codes_of_text};
+ghost use Rattle.lgp_flexo.specs.PiecesInside.{rest_from, counted};
 
 use crate::code::{Code, code_of, sign_byte};
+use lgp_word::read_decimal;
 use std::alloc::{AllocError, Allocator};
 use thiserror::Error;
 
@@ -26,23 +27,15 @@ pub enum TextFault {
     Memory(AllocError),
 }
 
-/// The code that two decimal digits stand for.
-fn code_of_digits(tens: u8, units: u8) -> Option<Code>
-    ensures { result ≡ code_of_digits tens units }
-{
-    if tens.is_ascii_digit() && units.is_ascii_digit() {
-        Code::new(10 * (tens - b'0') + (units - b'0'))
-    } else {
-        None
-    }
-}
-
 /// The code of a group whose `[` stands just before the text.
 fn group_at(text: &[u8]) -> Option<Code>
     ensures { result ≡ group_at text.now }
 {
     match text {
-        [tens, units, b']', ..] => code_of_digits(*tens, *units),
+        [tens, units, b']', ..] => {
+            let number = read_decimal(&[*tens, *units], 2)?;
+            Code::new(number as u8)
+        }
         _ => None,
     }
 }

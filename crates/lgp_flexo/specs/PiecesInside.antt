@@ -1,4 +1,4 @@
--- Reading a text piece by piece, for the functions that do so.
+-- Serves proofs only: a tape's text read piece by piece, for the functions that do so.
 use Rattle.std.specs.Prelude.{ℕ, Result, Ok, Err, List, length, drop}
 use Rattle.lgp_flexo.specs.TapeText.{text_from}
 
