@@ -1,3 +1,5 @@
+//! Codes and tape text on the table and on values from outside.
+
 use crate::{
     Code, TAPE_LIMIT, TextFault, code_of, digit_of, enter, read_tape_text, sign_of, skipped,
     write_tape_text,

@@ -1,4 +1,4 @@
--- Quotients to the nearest whole number, ties away from zero (this project's own choice).
+-- Part of the public promise: quotients to the nearest whole number, ties away from zero (this project's own choice).
 use Rattle.std.specs.Prelude.{ℕ, ◌+◌, ◌*◌, ◌/◌, ◌≤◌, Bool, if◌then◌else◌, ℤ, pos, neg_ℤ, ◌-ℤ◌, ◌*ℤ◌, unsigned_abs}
 use Rattle.std.specs.Int.{is_negative}
 use Rattle.std.specs.Bool.{xor}
