@@ -1,19 +1,15 @@
 -- Part of the public promise: the text of a drum's words, and the first fault of a text that is no drum's. This project's own choice.
-use Rattle.std.specs.Prelude.{◌≡◌, ℕ, ◌+◌, ◌++◌, ◌==◌, ◌&&◌, nat_lt, if◌then◌else◌, Option, Some, None, List, [], ◌∷◌, length, take, drop, codes, slice_index}
+use Rattle.std.specs.Prelude.{◌≡◌, ℕ, ◌+◌, ◌++◌, ◌==◌, ◌&&◌, nat_lt, if◌then◌else◌, Option, Some, None, List, [], ◌∷◌, length, take, drop, codes, slice_index, All}
 use Rattle.bstr.specs.Text.{lines_of}
 use Rattle.lgp_word.specs.Digits.{digits_of, address_digits, address_text, word_at}
 use Rattle.lgp_word.specs.Word.{IsWord}
 use Rattle.lgp_listing.specs.declared.reading.DumpFault.{DumpFault}
 use Rattle.lgp_listing.specs.declared.reading.DumpFault.TheVariants.{Form, Order}
 
-abbrev pub AreWords : List ℕ → Type 0
-AreWords [] = Unit {0}
-AreWords (word ∷ words) = IsWord word × AreWords words
-
 -- what the words of a drum are
 pub record IsDrum (words : List ℕ) : Type 0 where
   pub size : length words ≡ 4096
-  pub words_are : AreWords words
+  pub words_are : All IsWord words
 
 -- ---- the dump of some words
 
