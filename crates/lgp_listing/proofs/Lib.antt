@@ -1,1 +1,6 @@
 pub mod Dumps
+pub mod Cells
+pub mod FaultSteps
+pub mod FaultLaws
+pub mod ReadingSteps
+pub mod DumpsReadBack

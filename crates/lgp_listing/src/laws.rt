@@ -12,6 +12,7 @@ pub fn each_word_assembles()
 /// that go up, and so are all lines of a text without a fault. A line that is a fault of form is no
 /// line of a dump. A line that is a fault of order is one, but its address is not above that of the
 /// line before it.
+#[tactic(auto, using(crate::proofs::FaultLaws::faults_law))]
 pub fn first_faults_are_first()
     ensures { FirstFaultsAreFirst }
 {}

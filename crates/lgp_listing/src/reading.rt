@@ -78,8 +78,8 @@ fn put_lines<A: Allocator>(drum: &mut Drum<A>, text: &[u8])
     ensures drum { spec.IsDrum drum.new }
 {
     for line in text.lines_with_terminator() {
-        if let Some((address, word)) = cell_in(line) {
-            drum.put(address, word);
+        if let Some(cell) = cell_in(line) {
+            drum.put(cell.0, cell.1);
         }
     }
 }
