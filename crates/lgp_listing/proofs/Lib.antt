@@ -4,3 +4,4 @@ pub mod FaultSteps
 pub mod FaultLaws
 pub mod ReadingSteps
 pub mod DumpsReadBack
+pub mod ListingSteps
