@@ -1,10 +1,10 @@
 -- A line without a fault has a cell exactly where it has a word, and the cells of a source are those of its lines in order.
-use Rattle.std.proofs.Common.{◌≡◌, ◌+◌, ◌-◌, ◌*◌, ◌%◌, ◌++◌, ◌^◌, ◌&&◌, ◌==◌, ℕ, ℤ, length, slice_index, Bool, true, false, cond, List, [], ◌∷◌, Option, None, Some, is_some, Result, Ok, Err, refl, sym, ap, subst, ◌∙◌, ⊎_elim, option_to_list, nat_le, nat_lt}
-use Rattle.std.proofs.lemmas.Bool.{cases_Bool, true≢false}
+use Rattle.std.proofs.Common.{◌≡◌, ◌-◌, ◌*◌, ◌%◌, ◌++◌, ◌^◌, ◌&&◌, ◌==◌, ℕ, ℤ, length, slice_index, Bool, true, false, cond, List, [], ◌∷◌, Option, None, Some, is_some, Result, Ok, Err, refl, sym, ◌∙◌, option_to_list, nat_le, nat_lt}
+use Rattle.std.proofs.lemmas.Bool.{true≢false}
 use Rattle.std.proofs.lemmas.List.{append_assoc, append-nil}
 use Rattle.lgp_word.specs.declared.order.Op.{Op}
 use Rattle.lgp_word.specs.declared.order.Op.TheVariants.{Z, B, Y, R, I, D, N, M, P, E, U, T, H, C, A, S}
-use Rattle.lgp_word.specs.Digits.{address_text, word_at}
+use Rattle.lgp_word.specs.Digits.{word_at}
 use Rattle.lgp_flexo.specs.Code.{code_at}
 use Rattle.lgp_fraction.specs.declared.fraction.FractionFault.{FractionFault}
 use Rattle.lgp_fraction.specs.declared.fraction.FractionFault.TheVariants.{Form, OutOfRange}
@@ -193,6 +193,7 @@ front_faultless names earlier (line ∷ lines) none = (append_none (faults_in na
 pub each_faultless : (names : List (List ℕ × ℕ)) (earlier lines : List LineFields) → faults_in names (passed earlier lines) ≡ [] → AreFaultless names earlier lines
 unfolding faults_in
 each_faultless names earlier [] none = tt
-each_faultless names earlier (line ∷ lines) none =
-    (list_none line.number (fault_of names line earlier) (append_none (faults_in names earlier) _ (front_faultless names (line ∷ earlier) lines none)).1,
-    each_faultless names (line ∷ earlier) lines none)
+each_faultless names earlier (line ∷ lines) none = (
+  list_none line.number (fault_of names line earlier) (append_none (faults_in names earlier) _ (front_faultless names (line ∷ earlier) lines none)).1,
+  each_faultless names (line ∷ earlier) lines none,
+)

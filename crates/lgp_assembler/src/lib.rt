@@ -10,8 +10,8 @@ ghost use Rattle.lgp_assembler.specs.Parts.{AreProgramCells};
 
 use drafting::{Draft, draft_source};
 pub use laws::{names_are_first_places, places_count_from_orgs};
-pub use line_fields::has_word;
 use lgp_source::Lines;
+pub use line_fields::has_word;
 pub use output::{Image, LOADER_PLACES, Name};
 use passes::scan_source;
 pub use refusal::{AssembleError, Fault, FaultKind, FaultList};

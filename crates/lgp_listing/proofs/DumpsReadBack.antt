@@ -1,9 +1,8 @@
 -- Each drum's dump is read back: it has no fault, and no other drum has it.
-use Rattle.std.proofs.Common.{◌≡◌, ◌≢◌, ◌<◌, ◌≤◌, ◌+◌, ◌-◌, ◌/◌, ◌%◌, ◌++◌, ◌⊎◌, ◌||◌, ◌&&◌, ◌==◌, ℕ, zero, suc, Bool, true, false, not, List, [], ◌∷◌, length, take, drop, get_or, Option, Some, None, Result, Ok, Err, MatchResult, IfOk, refl, sym, ap, subst, ◌∙◌, arith, ⊎_elim, inl, inr, cond, eqb, nat_lt, nat_le, codes, rules}
-use Rattle.std.specs.List.{All, list_all}
-use Rattle.std.proofs.lemmas.Bool.{cond-true, cond-false, cases_eq, eq-eqb, ne_eqb, and_parts, and_from, cases_Bool}
-use Rattle.std.proofs.lemmas.Option.{none-some}
-use Rattle.std.proofs.lemmas.List.{append_assoc, append-nil, take_at, drop_at, length-append}
+use Rattle.std.proofs.Common.{◌≡◌, ◌≢◌, ◌<◌, ◌≤◌, ◌+◌, ◌/◌, ◌%◌, ◌++◌, ◌==◌, ℕ, suc, List, [], ◌∷◌, length, take, drop, Some, None, refl, sym, ap, ◌∙◌, arith, ⊎_elim, codes, rules}
+use Rattle.std.specs.List.{All}
+use Rattle.std.proofs.lemmas.Bool.{cond-true, cond-false, cases_eq, eq-eqb, ne_eqb}
+use Rattle.std.proofs.lemmas.List.{append_assoc, take_at, drop_at, length-append}
 use Rattle.std.proofs.lemmas.List.Elements.{All-get_or}
 use Rattle.bstr.specs.Text.{line_len, lines_of}
 use Rattle.bstr.proofs.lemmas.LineLemmas.{lines-nil, lines-step}
@@ -12,7 +11,6 @@ use Rattle.lgp_word.specs.Word.{IsWord}
 use Rattle.lgp_word.specs.Digits.{digits, digit_byte, digits_of, four_digits, address_digits, address_text, word_at}
 use Rattle.lgp_word.proofs.DigitLemmas.{word_at-digits_of}
 use Rattle.lgp_word.proofs.TextLemmas.{address_text-address_digits}
-use Rattle.lgp_listing.specs.declared.reading.DumpFault.{DumpFault}
 use Rattle.lgp_listing.specs.Dump.{IsDrum, cell_line, word_line, dump_from, dump_of, fault_from, first_fault}
 use Rattle.lgp_listing.proofs.Cells.{cell_in-cell_line}
 use Rattle.lgp_listing.proofs.FaultSteps.{onward}

@@ -1,13 +1,12 @@
 -- The law on the first fault of a text.
-use Rattle.std.proofs.Common.{◌≡◌, ◌<◌, ◌≤◌, ◌+◌, ◌++◌, ◌⊎◌, ℕ, List, [], ◌∷◌, length, Option, Some, None, refl, sym, ap, subst, ◌∙◌, arith, inl, inr, ⊎_elim}
+use Rattle.std.proofs.Common.{◌≡◌, ◌+◌, ◌++◌, ◌⊎◌, ℕ, List, [], ◌∷◌, length, Some, None, refl, sym, ap, ◌∙◌, arith, inl, inr, ⊎_elim}
 use Rattle.std.proofs.lemmas.Option.{none-some}
 use Rattle.bstr.specs.Text.{lines_of}
-use Rattle.lgp_listing.specs.declared.reading.DumpFault.{DumpFault}
 use Rattle.lgp_listing.specs.declared.reading.DumpFault.TheVariants.{Form, Order}
-use Rattle.lgp_listing.specs.Dump.{cell_line, cell_in, fault_from, first_fault}
-use Rattle.lgp_listing.specs.Laws.{IsLineOf, AreSound, IsFormFault, IsOrderFault, FirstFaultsAreFirst}
+use Rattle.lgp_listing.specs.Dump.{cell_in, fault_from}
+use Rattle.lgp_listing.specs.Laws.{IsLineOf, AreSound, FirstFaultsAreFirst}
 use Rattle.lgp_listing.proofs.Cells.{cell_in-cell_line, cell_line-cell_in}
-use Rattle.lgp_listing.proofs.FaultSteps.{at_form, at_order, onward, IsAtOrAbove, IsBelow, cases_line}
+use Rattle.lgp_listing.proofs.FaultSteps.{at_form, at_order, onward, IsBelow, cases_line}
 
 -- where no line is faulty, all are sound
 pub sound_from : (number least : ℕ) (lines : List (List ℕ)) → fault_from number least lines ≡ None → AreSound least lines

@@ -5,3 +5,5 @@ pub mod FaultLaws
 pub mod ReadingSteps
 pub mod DumpsReadBack
 pub mod ListingSteps
+pub mod Meanings
+pub mod OneLine

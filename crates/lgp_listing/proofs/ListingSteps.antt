@@ -1,5 +1,5 @@
 -- A listing whose lines are added one by one.
-use Rattle.std.proofs.Common.{◌≡◌, ◌++◌, ℕ, Bool, true, false, List, [], ◌∷◌, map, Option, Some, None, is_some, option_to_list, refl, sym, ap, ◌∙◌, arith, ◌+◌, length, MatchOption}
+use Rattle.std.proofs.Common.{◌≡◌, ◌++◌, ℕ, true, false, List, [], ◌∷◌, map, Option, Some, None, is_some, option_to_list, refl, sym, ap, ◌∙◌, arith, ◌+◌, length, MatchOption}
 use Rattle.std.specs.Borrow.{Bor}
 use Rattle.std.specs.Option.{option_copied}
 use Rattle.std.proofs.lemmas.List.{append_assoc, append-nil}
@@ -7,7 +7,7 @@ use Rattle.lgp_source.specs.Source.{SourceLine, lines_of}
 use Rattle.lgp_assembler.specs.Fields.{LineFields, fields_of}
 use Rattle.lgp_assembler.specs.Places.{has_word, names_of}
 use Rattle.lgp_assembler.specs.Faults.{faults_in, missing_end}
-use Rattle.lgp_assembler.specs.Image.{cells_in, all_lines, passed, faults_of, image_of}
+use Rattle.lgp_assembler.specs.Image.{cells_in, all_lines, faults_of, image_of}
 use Rattle.lgp_assembler.proofs.DraftSteps.{append_none}
 use Rattle.lgp_assembler.proofs.LineCells.{line_cell, cell_there, cell_missing, cells_behind, cells_in_order, AreFaultless, each_faultless}
 use Rattle.lgp_listing.specs.Listing.{listed_line, listing_from, listing_of}

@@ -1,6 +1,6 @@
 -- A drum whose dump is read line by line.
-use Rattle.std.proofs.Common.{◌≡◌, ◌≢◌, ◌<◌, ◌≤◌, ◌+◌, ◌++◌, ℕ, zero, suc, Bool, List, [], ◌∷◌, length, take, drop, get_or, set, replicate, Option, Some, None, refl, sym, ap, subst, ◌∙◌, arith, ⊎_elim, cond, eqb, length-set}
-use Rattle.std.specs.List.{All, flat_map}
+use Rattle.std.proofs.Common.{◌≡◌, ◌<◌, ◌≤◌, ◌+◌, ◌++◌, ℕ, zero, suc, List, [], ◌∷◌, length, take, drop, get_or, set, Some, None, refl, sym, ap, subst, ◌∙◌, arith, ⊎_elim, eqb, length-set}
+use Rattle.std.specs.List.{flat_map}
 use Rattle.std.proofs.lemmas.Bool.{cond-false, cases_lt, ne_eqb}
 use Rattle.std.proofs.lemmas.Option.{none-some}
 use Rattle.std.proofs.lemmas.List.{append_assoc, append-nil, take-append-drop, length-drop, length-replicate, get_or-replicate, get_or_past, get_or-set_other}
@@ -11,9 +11,8 @@ use Rattle.lgp_word.specs.Word.{IsWord}
 use Rattle.lgp_word.specs.Drum.{blank_words}
 use Rattle.lgp_listing.specs.declared.reading.DumpFault.TheVariants.{Form, Order}
 use Rattle.lgp_listing.specs.Dump.{IsDrum, cell_line, word_line, dump_from, dump_of, cell_in, fault_from, first_fault}
-use Rattle.lgp_listing.specs.Laws.{IsLineOf}
 use Rattle.lgp_listing.proofs.Cells.{cell_line-cell_in}
-use Rattle.lgp_listing.proofs.FaultSteps.{at_form, at_order, onward, IsAtOrAbove, cases_line}
+use Rattle.lgp_listing.proofs.FaultSteps.{at_form, at_order, onward}
 
 abbrev pub joined : List (List ℕ) → List ℕ
 joined lines = flat_map (λ line. line) lines

@@ -1,11 +1,9 @@
 -- Part of the public promise: laws on the definitions of this crate. This project's own choice.
-use Rattle.std.specs.Prelude.{◌≡◌, ◌≢◌, ◌↔◌, ℕ, ◌+◌, ◌<◌, ◌≤◌, ◌++◌, Option, Some, None, List, [], ◌∷◌, length, codes}
+use Rattle.std.specs.Prelude.{◌≡◌, ◌≢◌, ℕ, ◌+◌, ◌≤◌, ◌++◌, Some, None, List, [], ◌∷◌, length, codes}
 use Rattle.bstr.specs.Text.{lines_of}
 use Rattle.lgp_word.specs.Address.{IsAddress}
 use Rattle.lgp_word.specs.Word.{IsWord}
-use Rattle.lgp_assembler.specs.Parts.{ImageParts}
 use Rattle.lgp_assembler.specs.Image.{faults_of, image_of}
-use Rattle.lgp_listing.specs.declared.reading.DumpFault.{DumpFault}
 use Rattle.lgp_listing.specs.declared.reading.DumpFault.TheVariants.{Form, Order}
 use Rattle.lgp_listing.specs.Disassembly.{disassembly}
 use Rattle.lgp_listing.specs.Dump.{cell_line, first_fault}

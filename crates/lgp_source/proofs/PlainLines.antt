@@ -1,10 +1,10 @@
 -- Lines of graphic bytes without a `;`: how they are cut, and what two words with spaces before them are as tokens.
-use Rattle.std.proofs.Common.{◌≡◌, ◌≢◌, ◌<◌, ◌≤◌, ◌+◌, ◌++◌, ◌&&◌, ◌||◌, ◌==◌, ℕ, suc, Bool, true, false, not, cond, eqb, nat_le, nat_lt, List, [], ◌∷◌, length, take, drop, Option, Some, None, refl, sym, ap, ◌∙◌, arith}
+use Rattle.std.proofs.Common.{◌≡◌, ◌≢◌, ◌≤◌, ◌+◌, ◌++◌, ◌&&◌, ◌||◌, ◌==◌, ℕ, suc, Bool, true, false, not, cond, nat_le, nat_lt, List, [], ◌∷◌, length, take, drop, Some, None, refl, sym, ap, ◌∙◌, arith}
 use Rattle.std.specs.List.{position_or_len, position}
-use Rattle.std.proofs.lemmas.Bool.{cond-true, cond-false, ne_eqb, le-leb, le-ltb, and_from}
-use Rattle.std.proofs.lemmas.List.{append-nil, take_at, drop_at, length-append}
-use Rattle.lgp_source.specs.Source.{SourceToken, SourceLine, before_pieces, pieces, without_last, text_of, is_blank, is_bad, code_from, before_comment, tokens_from, token_at, tokens_of, statement_of, line_of, line_by, line_with}
-use Rattle.lgp_source.proofs.Places.{after_blank, run_more, run_none, past_token}
+use Rattle.std.proofs.lemmas.Bool.{cond-false, ne_eqb, le-leb, le-ltb, and_from}
+use Rattle.std.proofs.lemmas.List.{append-nil, take_at, drop_at}
+use Rattle.lgp_source.specs.Source.{SourceToken, SourceLine, before_pieces, pieces, text_of, is_blank, is_bad, code_from, before_comment, tokens_from, tokens_of, statement_of, line_of, line_by, line_with}
+use Rattle.lgp_source.proofs.Places.{run_more, run_none, past_token}
 
 -- a byte from the space to `~`, but no `;`
 abbrev pub IsPlain : ℕ → Type 0
@@ -121,9 +121,11 @@ pub statement_line : (number n o : ℕ) (name operand : List ℕ) → AreVisible
 unfolding token_of
 statement_line number n o name operand is_name is_operand =
     let text = 32 ∷ ((n ∷ name) ++ 32 ∷ (o ∷ operand)) in
-    let plain : ArePlain text =
-    ((omega arith, omega arith, λ e. absurd (omega arith)), plain_append (n ∷ name) (32 ∷ (o ∷ operand)) (plain_visible (n ∷ name) is_name)
-    ((omega arith, omega arith, λ e. absurd (omega arith)), plain_visible (o ∷ operand) is_operand)) in
+    let plain : ArePlain text = (
+      (omega arith, omega arith, λ e. absurd (omega arith)),
+      plain_append (n ∷ name) (32 ∷ (o ∷ operand)) (plain_visible (n ∷ name) is_name)
+          ((omega arith, omega arith, λ e. absurd (omega arith)), plain_visible (o ∷ operand) is_operand),
+    ) in
     let behind = 1 + length (n ∷ name) in
     let tokens : tokens_of text ≡ token_of 1 (n ∷ name) ∷ token_of (behind + 1) (o ∷ operand) ∷ [] =
     ap (tokens_from 0 true) (no_comment text plain)

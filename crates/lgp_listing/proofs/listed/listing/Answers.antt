@@ -1,10 +1,10 @@
-use Rattle.std.proofs.Common.{rules, ◌≡◌, ◌++◌, true, false, [], ◌∷◌, ℕ, List, Option, map, sym, ap, subst, ◌∙◌}
+use Rattle.std.proofs.Common.{◌≡◌, [], ◌∷◌, map, sym, ap, subst, ◌∙◌}
 use Rattle.lgp_source.specs.Seen.{line_seen}
 use Rattle.lgp_source.specs.Source.{lines_of}
 use Rattle.lgp_assembler.specs.Fields.{fields_of}
 use Rattle.lgp_assembler.specs.Places.{names_of}
 use Rattle.lgp_assembler.specs.Image.{all_lines, image_of}
-use Rattle.lgp_listing.specs.Listing.{listed_line, listing_of}
+use Rattle.lgp_listing.specs.Listing.{listing_of}
 use Rattle.lgp_assembler.proofs.LineCells.{line_cell, cells_behind}
 use Rattle.lgp_listing.proofs.ListingSteps.{IsListedSo, taken_first, listed_none, no_cell, first_cell, listed_more, no_more, listed_all}
 use Rattle.lgp_listing.proofs.listed.listing.Goals as goal

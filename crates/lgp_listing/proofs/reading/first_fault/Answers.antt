@@ -1,4 +1,4 @@
-use Rattle.std.proofs.Common.{◌≡◌, ◌+◌, ◌≤◌, length, None, sym, ap, arith, ◌∙◌}
+use Rattle.std.proofs.Common.{◌+◌, length, sym, ap, arith, ◌∙◌}
 use Rattle.lgp_listing.specs.Dump.{fault_from}
 use Rattle.lgp_listing.proofs.FaultSteps.{at_form, at_order, onward}
 use Rattle.lgp_listing.proofs.reading.first_fault.Goals as goal

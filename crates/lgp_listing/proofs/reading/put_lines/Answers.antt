@@ -1,5 +1,4 @@
 use Rattle.std.proofs.Common.{◌+◌, ◌∙◌, sym, subst}
-use Rattle.bstr.specs.Text.{lines_of}
 use Rattle.lgp_listing.proofs.ReadingSteps.{IsReadSo, read_none, in_form, read_more}
 use Rattle.lgp_listing.proofs.reading.put_lines.Goals as goal
 
