@@ -1,7 +1,4 @@
-pub mod AnswerLemmas
-pub mod TapeLemmas
-pub mod ScriptLemmas
-pub mod LineLemmas
 pub mod KnownLemmas
-pub mod SessionLemmas
-pub mod StopLemmas
+pub mod LineLemmas
+pub mod CutLemmas
+pub mod StreamLemmas

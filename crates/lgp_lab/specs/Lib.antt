@@ -1,5 +1,5 @@
-pub mod Command
-pub mod Reply
-pub mod Script
-pub mod Session
-pub mod Stop
+pub mod Limits
+pub mod Line
+pub mod Language
+pub mod LineInside
+pub mod StreamInside
