@@ -186,3 +186,93 @@ HasStopped-lines language s fault w₀ w text stop = HasStopped-more fault w₀ 
 -- no memory for a reply behind these
 pub HasStopped-memory : (w₀ w : Option (List ℕ)) (replies : List (List ℕ)) (reply : List ℕ) (tally : Tally) → HasWritten w₀ w replies tally → HasStopped Memory w₀ w (replies ++ reply ∷ [])
 HasStopped-memory w₀ w replies reply tally written = record { first = replies; rest = reply ∷ []; joined = refl; sent = written.sent }
+
+-- reading: nothing yet; bytes more
+pub HasTaken-none : {S : Type 0} (language : Language S) (s : S) (w : Option (List ℕ)) (line : Open) (tally : Tally) → line ≡ open_of [] → tally ≡ record { questions = 0; bytes = 0 } → HasTaken language s w w [] s line tally
+HasTaken-none language s w line tally begun none = record {
+  complete = [];
+  piece = [];
+  is_cut = IsCut-none;
+  line_at = begun;
+  answered = record {
+    state_at = refl;
+    written = record { sent = Appends-none w; questions = ap (λ (t : Tally). t.questions) none; bytes = ap (λ (t : Tally). t.bytes) none };
+  };
+}
+
+pub HasRead-none : {S : Type 0} (language : Language S) (s : S) (r w₀ w : Option (List ℕ)) (state : S) (line : Open) (tally : Tally) → HasTaken language s w₀ w [] state line tally → HasRead language s r r w₀ w state line tally
+HasRead-none language s r w₀ w state line tally taken = record { bytes = []; consumed = Consumes-none r; taken = taken }
+
+pub HasRead-more : {S : Type 0} (language : Language S) (s : S) (r₀ r₁ r₂ w₀ w₁ w₂ : Option (List ℕ)) (state state₂ : S) (line line₂ : Open) (tally tally₂ : Tally) (bytes : List ℕ)
+    → (read : HasRead language s r₀ r₁ w₀ w₁ state line tally) → Consumes r₁ r₂ bytes → HasTaken language s w₀ w₂ (read.bytes ++ bytes) state₂ line₂ tally₂
+    → HasRead language s r₀ r₂ w₀ w₂ state₂ line₂ tally₂
+HasRead-more language s r₀ r₁ r₂ w₀ w₁ w₂ state state₂ line line₂ tally tally₂ bytes read consumed taken = record {
+  bytes = read.bytes ++ bytes;
+  consumed = Consumes-trans r₀ r₁ r₂ read.bytes bytes read.consumed consumed;
+  taken = taken;
+}
+
+pub HasRead-still : {S : Type 0} (language : Language S) (s : S) (r₀ r₁ r₂ w₀ w : Option (List ℕ)) (state : S) (line : Open) (tally : Tally)
+    → HasRead language s r₀ r₁ w₀ w state line tally → Consumes r₁ r₂ [] → HasRead language s r₀ r₂ w₀ w state line tally
+HasRead-still language s r₀ r₁ r₂ w₀ w state line tally read still = record {
+  bytes = read.bytes;
+  consumed = rw (append-nil read.bytes) at (Consumes-trans r₀ r₁ r₂ read.bytes [] read.consumed still);
+  taken = read.taken;
+}
+
+-- what stands written after a fault of writing, and of reading
+pub StandsWritten-stopped : {S : Type 0} (language : Language S) (s : S) (fault : LabFault) (r₀ r w₀ w : Option (List ℕ)) (bytes : List ℕ) → Consumes r₀ r bytes → HasStoppedIn language s fault w₀ w bytes
+    → IfSome r₀ (λ text. StandsWritten language s fault text r w₀ w)
+StandsWritten-stopped language s fault None r w₀ w bytes consumed stop = tt
+StandsWritten-stopped language s fault (Some text) None w₀ w bytes consumed stop = absurd consumed
+StandsWritten-stopped language s Read (Some text) (Some rest) w₀ w bytes consumed stop = absurd (stop rest)
+StandsWritten-stopped language s (Write count) (Some text) (Some rest) w₀ w bytes consumed stop = rw consumed (stop rest)
+StandsWritten-stopped language s Memory (Some text) (Some rest) w₀ w bytes consumed stop = rw consumed (stop rest)
+
+pub StandsWritten-read : {S : Type 0} (language : Language S) (s : S) (r₀ r w₀ w : Option (List ℕ)) (state : S) (line : Open) (tally : Tally)
+    → HasRead language s r₀ r w₀ w state line tally → IfSome r₀ (λ text. StandsWritten language s Read text r w₀ w)
+StandsWritten-read language s None r w₀ w state line tally read = tt
+StandsWritten-read language s (Some text) r w₀ w state line tally read =
+    let complete : complete_lines read.bytes ≡ read.taken.complete = IsCut-complete read.bytes read.taken.complete read.taken.piece read.taken.is_cut in
+    record { part = read.bytes; consumed = read.consumed; sent = rw complete read.taken.answered.written.sent }
+
+-- a reader whose known bytes were all read
+all_read : (text bytes rest : List ℕ) → text ≡ bytes ++ rest → rest ≡ [] → text ≡ bytes
+all_read text bytes rest e none = e ∙ (ap (λ (more : List ℕ). bytes ++ more) none ∙ append-nil bytes)
+
+pub StandsWritten-end : {S : Type 0} (language : Language S) (s : S) (fault : LabFault) (r₀ r w₀ w : Option (List ℕ)) (bytes : List ℕ) → Consumes r₀ r bytes → IsAtEnd r
+    → HasStopped fault w₀ w (text_replies language s bytes) → IfSome r₀ (λ text. StandsWritten language s fault text r w₀ w)
+StandsWritten-end language s fault None r w₀ w bytes consumed at_end stop = tt
+StandsWritten-end language s fault (Some text) None w₀ w bytes consumed at_end stop = absurd consumed
+StandsWritten-end language s Read (Some text) (Some rest) w₀ w bytes consumed at_end stop = absurd stop
+StandsWritten-end language s (Write count) (Some text) (Some rest) w₀ w bytes consumed at_end stop = rw (all_read text bytes rest consumed at_end) stop
+StandsWritten-end language s Memory (Some text) (Some rest) w₀ w bytes consumed at_end stop = rw (all_read text bytes rest consumed at_end) stop
+
+-- a text that was read to its end
+HasWritten-text : {S : Type 0} (language : Language S) (s : S) (r₀ r w₀ w : Option (List ℕ)) (bytes : List ℕ) (tally : Tally) → Consumes r₀ r bytes → IsAtEnd r
+    → HasWritten w₀ w (text_replies language s bytes) tally → IfSome r₀ (λ text. HasWritten w₀ w (text_replies language s text) tally)
+HasWritten-text language s None r w₀ w bytes tally consumed at_end written = tt
+HasWritten-text language s (Some text) None w₀ w bytes tally consumed at_end written = absurd consumed
+HasWritten-text language s (Some text) (Some rest) w₀ w bytes tally consumed at_end written = rw (all_read text bytes rest consumed at_end) written
+
+IfSome-weaker : (o : Option (List ℕ)) (P Q : List ℕ → Type 0) → ((text : List ℕ) → P text → Q text) → IfSome o P → IfSome o Q
+IfSome-weaker None P Q weaker p = tt
+IfSome-weaker (Some text) P Q weaker p = weaker text p
+
+pub HasWritten-sent : {S : Type 0} (language : Language S) (s : S) (r₀ r w₀ w : Option (List ℕ)) (bytes : List ℕ) (tally : Tally) → Consumes r₀ r bytes → IsAtEnd r
+    → HasWritten w₀ w (text_replies language s bytes) tally → IfSome r₀ (λ text. Appends w₀ w (concat (text_replies language s text)))
+HasWritten-sent language s r₀ r w₀ w bytes tally consumed at_end written =
+    IfSome-weaker r₀ (λ text. HasWritten w₀ w (text_replies language s text) tally) (λ text. Appends w₀ w (concat (text_replies language s text)))
+    (λ text all. all.sent) (HasWritten-text language s r₀ r w₀ w bytes tally consumed at_end written)
+
+pub HasWritten-faults : {S : Type 0} (language : Language S) (s : S) (r₀ r w₀ w : Option (List ℕ)) (bytes : List ℕ) (tally : Tally) → Consumes r₀ r bytes → IsAtEnd r
+    → HasWritten w₀ w (text_replies language s bytes) tally → IfSome r₀ (λ text. tally.questions ≡ question_count (text_replies language s text))
+HasWritten-faults language s r₀ r w₀ w bytes tally consumed at_end written =
+    IfSome-weaker r₀ (λ text. HasWritten w₀ w (text_replies language s text) tally) (λ text. tally.questions ≡ question_count (text_replies language s text))
+    (λ text all. all.questions) (HasWritten-text language s r₀ r w₀ w bytes tally consumed at_end written)
+
+-- a fault that is not the reader's
+pub HasCause-writer : (fault : LabFault) (reader writer : Bool) → HasCause fault false writer → HasCause fault reader writer
+HasCause-writer Read reader writer cause = cc
+HasCause-writer (Write count) reader writer cause = cause
+HasCause-writer Memory reader writer cause = tt
