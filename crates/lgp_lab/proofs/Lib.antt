@@ -2,3 +2,5 @@ pub mod KnownLemmas
 pub mod LineLemmas
 pub mod CutLemmas
 pub mod StreamLemmas
+pub mod AnswerLemmas
+pub mod TapeLemmas

@@ -64,7 +64,7 @@ impl Bytes {
     }
 
     /// Whether no word stands on the line: all bytes are spaces.
-    pub fn is_blank(&self) -> bool
+    pub fn has_no_word(&self) -> bool
         ensures { result ≡ self.now.blank }
     {
         self.blank

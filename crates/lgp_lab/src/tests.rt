@@ -1,0 +1,446 @@
+use crate::feed::{Feed, FeedOf, Sink, SinkOf};
+use crate::script::run_script;
+use crate::stream::LabFault;
+use linked_list_allocator::LocalHeap;
+use std::alloc::{AllocError, Allocator, Global};
+use std::io;
+use std::io::{Read, Write};
+use std::test::Fail;
+
+const READS: u64 = 1 << 32;
+
+const FIRST_RUN: &[u8] =
+    b"put 0000 000100j8\nput 0001 000q00jj\nput 0002 000j00k0\nput 0050 00000006\nput 0051 0000000f\npress start\norders 10\npanel\nwords 0052 1\n";
+
+const FIRST_RUN_REPLIES: &[u8] =
+    b"ok\nok\nok\nok\nok\nlive\norders 4 halted stop\ncounter 0004 accumulator 00000010 register 00000000 status halted stop mode normal switches uuuuuu reader off tape 0 clock 94\n0052 00000010\n";
+
+/// Gives a text in pieces of at most so many bytes, and then ends or fails.
+#[derive(Drop)]
+struct Pieces {
+    text: &'static [u8],
+    most: usize,
+    fails: bool,
+}
+
+impl Read for Pieces {
+    fn read(&mut self, buffer: &mut [u8]) -> io::Result<usize> {
+        if self.text.is_empty() && self.fails {
+            return Err(io::ErrorKind::Other.into());
+        }
+        let count = self.text.len().min(self.most).min(buffer.len());
+        buffer[..count].copy_from_slice(&self.text[..count]);
+        self.text = &self.text[count..];
+        Ok(count)
+    }
+}
+
+/// Gives semicolons for ever, one a call.
+#[derive(Drop)]
+struct Semicolons;
+
+impl Read for Semicolons {
+    fn read(&mut self, buffer: &mut [u8]) -> io::Result<usize> {
+        if buffer.is_empty() {
+            return Ok(0);
+        }
+        buffer[0] = b';';
+        Ok(1)
+    }
+}
+
+/// Takes at most so many bytes a call, and fails once so many calls were answered.
+#[derive(Drop)]
+struct Failing {
+    taken: Vec<u8>,
+    most: usize,
+    calls: usize,
+}
+
+impl Write for Failing {
+    fn write(&mut self, buffer: &[u8]) -> io::Result<usize> {
+        if self.calls == 0 {
+            return Err(io::ErrorKind::Other.into());
+        }
+        self.calls -= 1;
+        let count = buffer.len().min(self.most);
+        self.taken.extend_from_slice(&buffer[..count])?;
+        Ok(count)
+    }
+
+    fn flush(&mut self) -> io::Result<()> {
+        Ok(())
+    }
+}
+
+/// Runs a script; its replies are written behind `written`.
+fn run<A: Allocator + Copy>(
+    alloc: A,
+    script: &[u8],
+    written: &mut Vec<u8>,
+) -> Result<u64, LabFault> {
+    let mut reader = FeedOf::new(script, READS);
+    let mut writer = SinkOf::new(written);
+    run_script(alloc, &mut reader, &mut writer)
+}
+
+/// A text as many times as told.
+fn repeated(alloc: Global, text: &[u8], times: usize) -> Result<Vec<u8>, AllocError> {
+    let mut all = Vec::new(alloc);
+    for _ in 0..times {
+        all.extend_from_slice(text)?;
+    }
+    Ok(all)
+}
+
+/// A line of so many bytes that is `turn 5` with spaces behind it, and a line behind that.
+fn padded(alloc: Global, length: usize, end: &[u8]) -> Result<Vec<u8>, AllocError> {
+    let mut script = repeated(alloc, b"turn 5", 1)?;
+    script.extend_from_slice(&repeated(alloc, b" ", length.saturating_sub(6))?)?;
+    script.extend_from_slice(end)?;
+    script.extend_from_slice(b"turn 1\n")?;
+    Ok(script)
+}
+
+/// Scripts, their replies, and how many of those begin with a question mark. The first four are those of `examples/`, without
+/// their comments.
+const ROWS: [(&[u8], &[u8], u64); 12] = [
+    (FIRST_RUN, FIRST_RUN_REPLIES, 0),
+    // A program that changes its own orders: the sum of a table.
+    (
+        b"put 0000 00030044\nput 0001 000f0010\nput 0002 000j0064\nput 0003 00000000\nput 0004 00010050\nput 0005 00020024\nput 0006 0001005j\nput 0007 000j0060\nput 0008 00010060\nput 0009 000q0000\nput 0010 000j0060\nput 0011 00010024\nput 0012 000q0058\nput 0013 00020024\nput 0014 000w0054\nput 0015 000g0020\nput 0016 00010060\nput 0017 000f0000\nput 0020 00000100\nput 0021 000q0110\nput 0022 00000004\nput 0023 00000000\nput 0100 00000002\nput 0101 00000004\nput 0102 00000006\nput 0103 00000008\npress start\norders 8\nwords 0009 1\norders 8\nwords 0009 1\norders 100\nwords 0025 1\nwords 0009 1\nwords 0017 1\npanel\n",
+        b"ok\nok\nok\nok\nok\nok\nok\nok\nok\nok\nok\nok\nok\nok\nok\nok\nok\nok\nok\nok\nok\nok\nok\nok\nok\nok\nlive\norders 8 going\n0009 000q0100\norders 8 going\n0009 000q0104\norders 26 halted stop\n0025 00000014\n0009 000q0110\n0017 000f0008\ncounter 0004 accumulator 00000014 register 00000000 status halted stop mode normal switches uuuuuu reader off tape 0 clock 2910\n",
+        0,
+    ),
+    // A number read from tape, and a word printed.
+    (
+        b"put 0000 00080000\nput 0001 00040000\nput 0002 000j00j8\nput 0003 00081500\nput 0004 00080k00\nput 0005 00082900\nput 0006 00081k00\nput 0007 00000000\nmount 12[16]34'\npanel\npress start\norders 100\nwords 0050 1\nprinted\npanel\nmount 5\npress clear\npress start\norders 100\ntype 68'\norders 100\nwords 0050 1\nprinted\n",
+        b"ok\nok\nok\nok\nok\nok\nok\nok\nok 6\ncounter 0000 accumulator 00000000 register 00000000 status halted operator mode normal switches uuuuuu reader off tape 6 clock 0\nlive\norders 8 halted stop\n0050 00001234\nprinted 4 drum\ncounter 0008 accumulator 00001234 register 00000000 status halted stop mode normal switches uuuuuu reader off tape 0 clock 4034\nok 1\nlive\nlive\norders 2 waiting\nlive 3 dead 0\norders 6 halted stop\n0050 01234568\nprinted 8 drumdrum\n",
+        0,
+    ),
+    // An order stored by hand from the console.
+    (
+        b"type 0\npress manual\ntype 000j0100\npress fill\ntype 00083900\npress oneop\npress execute\norders 1\nwords 0100 1\npanel\npress manual\ntype 000f0100\npress fill\npress oneop\npress execute\norders 1\npanel\npress normal\npress start\norders 10\nprinted\npanel\n",
+        b"live 0 dead 1\nlive\nlive 8 dead 0\nlive\nlive 8 dead 0\nlive\nlive\norders 1 halted step\n0100 00083900\ncounter 0000 accumulator 00083900 register 000j0100 status halted step mode oneop switches uuuuuu reader off tape 0 clock 65\nlive\nlive 8 dead 0\nlive\nlive\nlive\norders 1 halted step\ncounter 0100 accumulator 000f0100 register 000f0100 status halted step mode oneop switches uuuuuu reader off tape 0 clock 67\nlive\nlive\norders 2 halted stop\nprinted 1 a\ncounter 0102 accumulator 000f0100 register 00000000 status halted stop mode normal switches uuuuuu reader off tape 0 clock 524\n",
+        0,
+    ),
+    (
+        b"put 0000 000100j8\nput 0001 000q00jj\nput 0002 000j00k0\nput 0050 7wwwwwwq\nput 0051 00000002\npress start\norders 10\npanel\n",
+        b"ok\nok\nok\nok\nok\nlive\norders 2 halted overflow\ncounter 0002 accumulator 80000000 register 000q00jj status halted overflow mode normal switches uuuuuu reader off tape 0 clock 76\n",
+        0,
+    ),
+    (
+        b"put 0000 00080000\nput 0001 00040000\nmount 12[16]3'\npress start\norders 2\npanel\n",
+        b"ok\nok\nok 5\nlive\norders 2 going\ncounter 0002 accumulator 00000123 register 00040000 status going mode normal switches uuuuuu reader off tape 0 clock 1996\n",
+        0,
+    ),
+    (
+        b"put 0000 00080000\nput 0001 00040000\nmount 12[16]3\npress start\norders 9\npanel\ntype '\norders 1\n",
+        b"ok\nok\nok 4\nlive\norders 2 waiting\ncounter 0002 accumulator 00000123 register 00040000 status waiting mode normal switches uuuuuu reader off tape 0 clock 1612\nlive 1 dead 0\norders 1 halted stop\n",
+        0,
+    ),
+    (
+        b"printed\nput 0000 00083900\npress start\norders 1\nprinted\nturn 1\n",
+        b"printed 0\nok\nlive\norders 1 going\nprinted 1 a\n? 3 AtWork\n",
+        1,
+    ),
+    (b"turn 5\n", b"clock 5\n", 0),
+    (
+        b"put 0000 00002000\npress bp32 down\npress start\norders 1\n",
+        b"ok\nlive\nlive\norders 1 going\n",
+        0,
+    ),
+    (
+        b"put 0000 00002000\npress bp32 down\npress bp32 up\npress start\norders 1\n",
+        b"ok\nlive\nlive\nlive\norders 1 halted stop\n",
+        0,
+    ),
+    (
+        b"mount 12A\npress start\npress start\nput 0000 00000001\nput 0000 00000002\nmount 12A\nmount 1\n",
+        b"? 12 BadSign 2\nlive\ndead\n? 1 Form\n? 2 Moving\n? 12 BadSign 2\n? 2 Moving\n",
+        5,
+    ),
+];
+
+#[test]
+fn scripts_are_answered_in_pieces_of_any_length(rt: HostRuntime) -> Result<(), Fail> {
+    for (text, replies, faults) in ROWS {
+        for most in [1, 7, 5000] {
+            let mut written = Vec::new(rt.alloc());
+            let mut reader = FeedOf::new(
+                Pieces {
+                    text,
+                    most,
+                    fails: false,
+                },
+                READS,
+            );
+            let mut writer = SinkOf::new(&mut written);
+            let answer = run_script(rt.alloc(), &mut reader, &mut writer);
+            assert_eq!(rt; answer, Ok(faults), "{} in pieces of {most}", text.len());
+            assert!(rt; !reader.has_failed());
+            assert!(rt; !writer.has_failed());
+            assert_eq!(rt;
+                written.as_slice(),
+                replies,
+                "{} in pieces of {most}",
+                text.len()
+            );
+        }
+    }
+    Ok(())
+}
+
+/// Lines in no command's form.
+const NOT_IN_FORM: [&[u8]; 30] = [
+    b"pan",
+    b"PANEL",
+    b"panel 1",
+    b"\tpanel",
+    b"panel\t",
+    b" ; a comment",
+    b"put",
+    b"put 0000",
+    b"put 6400 00000000",
+    b"put 0064 00000000",
+    b"put 0000 0000000",
+    b"put 0000 00000001",
+    b"put 0000 a0000000",
+    b"put 0000 00000004 1",
+    b"press",
+    b"press halt",
+    b"press start down",
+    b"press bp8",
+    b"press bp8 left",
+    b"press bp8 up up",
+    b"turn",
+    b"turn -1",
+    b"turn 12345678901",
+    b"orders x",
+    b"orders 1 2",
+    b"words 0000",
+    b"words 0000 0",
+    b"words 0000 65",
+    b"words 6363 2",
+    b"printed 1",
+];
+
+#[test]
+fn lines_not_in_form_are_refused(rt: HostRuntime) -> Result<(), Fail> {
+    for line in NOT_IN_FORM {
+        let mut written = Vec::new(rt.alloc());
+        let place = line.len();
+        assert_eq!(rt;
+            run(rt.alloc(), line, &mut written),
+            Ok(1),
+            "{place} {line:?}"
+        );
+        assert_eq!(rt;
+            written.as_slice(),
+            b"? 1 Form\n".as_slice(),
+            "{place} {line:?}"
+        );
+    }
+    Ok(())
+}
+
+/// Scripts of a few lines, and their replies.
+const LINES: [(&[u8], &[u8]); 20] = [
+    (b"", b""),
+    (b"\n\r\n   \n; turn 5\n;\n", b""),
+    (b"turn 5\r\nturn 1\n", b"clock 5\nclock 6\n"),
+    (b"turn 5\r\r\nturn 5\rturn 5\n", b"? 1 Form\n? 1 Form\n"),
+    (b"turn 5", b"clock 5\n"),
+    (b"turn 5\r", b"? 1 Form\n"),
+    (b"   turn    0000000005   \n", b"clock 5\n"),
+    (
+        b"mount [6\nmount [64]\n",
+        b"? 12 BadSign 0\n? 12 BadSign 0\n",
+    ),
+    (
+        b"mount\nmount \nmount  a\nmount a \nmount l[00]\n",
+        b"ok 0\nok 0\nok 2\nok 2\nok 2\n",
+    ),
+    (
+        b"type\ntype 12\ntype *\n",
+        b"live 0 dead 0\nlive 0 dead 2\n? 12 BadSign 0\n",
+    ),
+    (b"orders 5\n", b"orders 0 halted operator\n"),
+    (
+        b"press manual\ntype 00000004'[16]\npress fill\npress execute\n",
+        b"live\nlive 8 dead 2\nlive\ndead\n",
+    ),
+    (
+        b"press oneop\npress execute\norders 2\n",
+        b"live\nlive\norders 1 halted stop\n",
+    ),
+    (
+        b"press manual\npress read\norders 1\n",
+        b"live\nlive\norders 1 halted operator\n",
+    ),
+    (
+        b"press read\npress compute\npress clear\npress normal\npress transfer down\npress sixbit up\n",
+        b"dead\ndead\nlive\nlive\nlive\nlive\n",
+    ),
+    (
+        b"press bp32 down\npress bp8 down\npress transfer down\npanel\npress bp8 up\npress bp16 down\npress bp4 down\npress sixbit down\npanel\n",
+        b"live\nlive\nlive\ncounter 0000 accumulator 00000000 register 00000000 status halted operator mode normal switches dududu reader off tape 0 clock 0\nlive\nlive\nlive\nlive\ncounter 0000 accumulator 00000000 register 00000000 status halted operator mode normal switches dduddd reader off tape 0 clock 0\n",
+    ),
+    (
+        b"put 6363 wwwwwwwq\nwords 6362 2\n",
+        b"ok\n6362 00000000\n6363 wwwwwwwq\n",
+    ),
+    (
+        b"put 0063 80000000\nput 0100 00000004\nwords 0062 3\n",
+        b"ok\nok\n0062 00000000\n0063 80000000\n0100 00000004\n",
+    ),
+    (
+        b"turn 9999999999\nturn 1\n",
+        b"clock 9999999999\nclock 10000000000\n",
+    ),
+    (
+        b"press manual\npress start\nturn 0\n",
+        b"live\ndead\nclock 0\n",
+    ),
+];
+
+#[test]
+fn lines_are_answered_one_by_one(rt: HostRuntime) -> Result<(), Fail> {
+    for (script, replies) in LINES {
+        let mut written = Vec::new(rt.alloc());
+        let answer = run(rt.alloc(), script, &mut written);
+        assert_eq!(rt; written.as_slice(), replies, "{script:?}");
+        let faults = replies.iter().filter(|byte| **byte == b'?').count() as u64;
+        assert_eq!(rt; answer, Ok(faults), "{script:?}");
+    }
+    Ok(())
+}
+
+#[test]
+fn a_line_has_at_most_4096_bytes(rt: HostRuntime) -> Result<(), Fail> {
+    for (length, end, replies) in [
+        (4096, b"\n".as_slice(), b"clock 5\nclock 6\n".as_slice()),
+        (4096, b"\r\n".as_slice(), b"clock 5\nclock 6\n".as_slice()),
+        (
+            4097,
+            b"\n".as_slice(),
+            b"? 11 TooLong\nclock 1\n".as_slice(),
+        ),
+        (
+            4096,
+            b"\r\r\n".as_slice(),
+            b"? 11 TooLong\nclock 1\n".as_slice(),
+        ),
+        (
+            9000,
+            b"\n".as_slice(),
+            b"? 11 TooLong\nclock 1\n".as_slice(),
+        ),
+    ] {
+        let script = padded(rt.alloc(), length, end)?;
+        let mut written = Vec::new(rt.alloc());
+        let _faults = run(rt.alloc(), &script, &mut written);
+        assert_eq!(rt; written.as_slice(), replies, "{length}");
+    }
+    for text in [b" ", b";"] {
+        let mut script = repeated(rt.alloc(), text, 9000)?;
+        script.extend_from_slice(b"\nturn 1")?;
+        let mut written = Vec::new(rt.alloc());
+        assert_eq!(rt; run(rt.alloc(), &script, &mut written), Ok(0));
+        assert_eq!(rt; written.as_slice(), b"clock 1\n".as_slice());
+    }
+    Ok(())
+}
+
+#[test]
+fn a_read_that_fails_drops_the_open_line(rt: HostRuntime) -> Result<(), Fail> {
+    for (fails, replies, wanted) in [
+        (true, b"ok\n".as_slice(), Err(LabFault::Read)),
+        (false, b"ok\n? 1 Form\n".as_slice(), Ok(1)),
+    ] {
+        let mut written = Vec::new(rt.alloc());
+        let text = b"put 0000 000100j8\npan";
+        let mut reader = FeedOf::new(
+            Pieces {
+                text,
+                most: 7,
+                fails,
+            },
+            READS,
+        );
+        let mut writer = SinkOf::new(&mut written);
+        assert_eq!(rt; run_script(rt.alloc(), &mut reader, &mut writer), wanted);
+        assert_eq!(rt; reader.has_failed(), fails);
+        assert_eq!(rt; written.as_slice(), replies);
+    }
+    Ok(())
+}
+
+#[test]
+fn reads_are_counted_down(rt: HostRuntime) -> Result<(), Fail> {
+    let mut written = Vec::new(rt.alloc());
+    let mut reader = FeedOf::new(Semicolons, 10);
+    let mut writer = SinkOf::new(&mut written);
+    assert_eq!(rt; reader.reads_left(), 10);
+    assert_eq!(rt;
+        run_script(rt.alloc(), &mut reader, &mut writer),
+        Err(LabFault::Read)
+    );
+    assert_eq!(rt; reader.reads_left(), 0);
+    assert!(rt; reader.has_failed());
+    assert_eq!(rt; written.len(), 0);
+    Ok(())
+}
+
+#[test]
+fn a_write_that_fails_tells_how_many_bytes_were_taken(rt: HostRuntime) -> Result<(), Fail> {
+    for most in [0, 1] {
+        for calls in 0..FIRST_RUN_REPLIES.len() {
+            let mut failing = Failing {
+                taken: Vec::new(rt.alloc()),
+                most,
+                calls,
+            };
+            let mut reader = FeedOf::new(FIRST_RUN, READS);
+            let mut writer = SinkOf::new(&mut failing);
+            let answer = run_script(rt.alloc(), &mut reader, &mut writer);
+            let taken = most * calls;
+            assert_eq!(rt;
+                answer,
+                Err(LabFault::Write(taken as u64)),
+                "{most} {calls}"
+            );
+            assert!(rt; writer.has_failed());
+            assert_eq!(rt; failing.taken.as_slice(), &FIRST_RUN_REPLIES[..taken]);
+        }
+    }
+    Ok(())
+}
+
+#[test]
+fn a_refused_growth_leaves_no_part_of_a_reply(rt: HostRuntime) -> Result<(), Fail> {
+    let mut script = repeated(rt.alloc(), b"put 0000 000f0000\nmount ", 1)?;
+    script.extend_from_slice(&repeated(rt.alloc(), b"a", 4000)?)?;
+    let mut refused = false;
+    let mut answered = false;
+    for size in 8..32 {
+        let heap = LocalHeap::new(rt.alloc(), 2048 * size)?;
+        let mut written = Vec::new(rt.alloc());
+        match run(&heap, &script, &mut written) {
+            Ok(_) => {
+                assert_eq!(rt; written.as_slice(), b"ok\nok 4000\n".as_slice());
+                answered = true;
+            }
+            Err(fault) => {
+                assert_eq!(rt; fault, LabFault::Memory);
+                if !written.is_empty() {
+                    assert_eq!(rt; written.as_slice(), b"ok\n".as_slice(), "at {size}");
+                    refused = true;
+                }
+            }
+        }
+        assert_eq!(rt; heap.used(), 0, "at {size}");
+    }
+    assert!(rt; refused && answered, "{refused} {answered}");
+    Ok(())
+}
