@@ -4,3 +4,5 @@ pub mod CutLemmas
 pub mod StreamLemmas
 pub mod AnswerLemmas
 pub mod TapeLemmas
+pub mod PlaceLemmas
+pub mod KeptLemmas

@@ -2,7 +2,7 @@
 
 ghost use Rattle.std.specs.Prelude.{◌≡◌, ◌==◌, ◌<◌, ◌≤◌, IfSome, IsTrue, length};
 ghost use Rattle.std.specs.Char.{is_ascii_digit};
-ghost use Rattle.std.specs.List.{list_all, position_or_len};
+ghost use Rattle.std.specs.List.{list_all, position};
 ghost use Rattle.lgp_lab.specs.LaboratoryInside.{AsksOnDrum};
 ghost use Rattle.lgp_lab.specs.Command.{command_of, lone, lone_number, number_at, plain_action, position_named, press_command, put_command, switch_action, text_behind, value_of, words_command};
 ghost use Rattle.lgp_lab.specs.Limits.{digit_limit};
@@ -29,24 +29,18 @@ pub enum Command {
     Printed,
 }
 
-/// How many spaces a text begins with.
-fn leading_spaces(text: &[u8]) -> usize
-    ensures count { result ≡ position_or_len is_visible text.now }
-    ensures within { result ≤ length text.now }
+/// The place of a text's first byte that is no space.
+fn first_visible(text: &[u8]) -> Option<usize>
+    ensures { result ≡ position is_visible text.now }
 {
-    text.iter()
-        .position(|byte| *byte != b' ')
-        .unwrap_or(text.len())
+    text.iter().position(|byte| *byte != b' ')
 }
 
-/// How many bytes stand before a text's first space.
-fn word_length(text: &[u8]) -> usize
-    ensures count { result ≡ position_or_len is_space text.now }
-    ensures within { result ≤ length text.now }
+/// The place of a text's first space.
+fn first_space(text: &[u8]) -> Option<usize>
+    ensures { result ≡ position is_space text.now }
 {
-    text.iter()
-        .position(|byte| *byte == b' ')
-        .unwrap_or(text.len())
+    text.iter().position(|byte| *byte == b' ')
 }
 
 /// A word and what stands behind it.
@@ -57,14 +51,14 @@ struct Split<'a> {
 }
 
 /// The first word of a text.
-#[tactic(auto, unfolding(crate::specs::Line::first_word, crate::specs::Line::behind_word, crate::specs::Line::without_spaces))]
+#[tactic(auto, using(crate::proofs::PlaceLemmas::places), unfolding(crate::specs::Line::first_word, crate::specs::Line::behind_word, crate::specs::Line::without_spaces))]
 fn split_word(text: &[u8]) -> Split<'_>
     ensures word { result.word.now ≡ first_word text.now }
     ensures behind { result.behind.now ≡ behind_word text.now }
     ensures shorter { length result.behind.now ≤ length text.now }
 {
-    let (_, text) = text.split_at(leading_spaces(text));
-    let (word, behind) = text.split_at(word_length(text));
+    let (_, text) = text.split_at(first_visible(text).unwrap_or(text.len()));
+    let (word, behind) = text.split_at(first_space(text).unwrap_or(text.len()));
     Split { word, behind }
 }
 

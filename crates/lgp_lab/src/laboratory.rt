@@ -1,6 +1,6 @@
 //! The laboratory: a machine between two activities, and what is answered to a command.
 
-ghost use Rattle.std.specs.Prelude.{◌≡◌, ◌++◌, ◌==◌, ◌≤◌, [], IfErr, IfOk, OnOk, length, slice_index, vec_len};
+ghost use Rattle.std.specs.Prelude.{◌≡◌, ◌++◌, ◌==◌, ◌≤◌, [], List, ℕ, IfErr, IfOk, OnOk, length, slice_index, vec_len};
 ghost use Rattle.std.specs.Str.{byte};
 ghost use Rattle.lgp_table.specs.Interleaving.{at_boundary};
 ghost use Rattle.lgp_table.specs.State.{opening};
@@ -8,10 +8,9 @@ ghost use Rattle.lgp_word.specs.Drum.{blank_words};
 ghost use Rattle.lgp_flexo.specs.TapeText.{codes_of_text};
 ghost use Rattle.lgp_lab.specs.Answer.{answer_to, answer_to_mount, answer_to_orders, answer_to_turn, answer_to_type, performed, typed};
 ghost use Rattle.lgp_lab.specs.LaboratoryInside.{AsksOnDrum, FitsDrum, IsAtBoundary};
-ghost use Rattle.lgp_lab.specs.Command.{command_of, text_behind};
 ghost use Rattle.lgp_lab.specs.Limits.{line_limit};
 ghost use Rattle.lgp_lab.specs.LineInside.{kept_of};
-ghost use Rattle.lgp_lab.specs.Script.{answer_by, script_language};
+ghost use Rattle.lgp_lab.specs.Script.{answer_to_line, is_passed_over, script_language};
 
 use crate::command::{Command, command_of, text_behind};
 use crate::line::Bytes;
@@ -275,21 +274,30 @@ fn is_comment(line: &[u8]) -> bool
     }
 }
 
-/// The answer to a line of at most 4,096 bytes that is not passed over.
-fn answer_short<A: Allocator + Copy>(
-    laboratory: &mut Laboratory<A>,
-    line: &[u8],
-) -> Result<Reply, AllocError>
-    requires { length line.now ≤ line_limit }
-    ensures reply { IfOk result (λ reply. reply
-        ≡ (answer_by laboratory.old (command_of line.now) (text_behind line.now)).reply) }
-    ensures state { IfOk result (λ _. laboratory.new
-        ≡ (answer_by laboratory.old (command_of line.now) (text_behind line.now)).state) }
-    ensures on_drum { IfOk result FitsDrum }
+/// Whether a line has no reply: no word stands on it, or it begins with a semicolon.
+fn is_passed_over(line: &Bytes) -> bool
+    ensures { (text : List ℕ) → line.now ≡ kept_of text → result ≡ is_passed_over text }
 {
-    match command_of(line) {
-        Some(command) => laboratory.perform_command(&command, text_behind(line)),
-        None => Ok(Reply::Refused(Refusal::Form)),
+    line.has_no_word() || is_comment(line.front())
+}
+
+impl<A: Allocator + Copy> Laboratory<A> {
+    /// The answer to a line that is not passed over.
+    fn answer_line(&mut self, line: &Bytes) -> Result<Reply, AllocError>
+        ensures reply { (text : List ℕ) → line.now ≡ kept_of text
+            → IfOk result (λ reply. reply ≡ (answer_to_line self.old text).reply) }
+        ensures state { (text : List ℕ) → line.now ≡ kept_of text
+            → OnOk result (self.new ≡ (answer_to_line self.old text).state) }
+        ensures on_drum { IfOk result FitsDrum }
+    {
+        if line.is_longer() {
+            return Ok(Reply::Refused(Refusal::TooLong));
+        }
+        let line = line.front();
+        match command_of(line) {
+            Some(command) => self.perform_command(&command, text_behind(line)),
+            None => Ok(Reply::Refused(Refusal::Form)),
+        }
     }
 }
 
@@ -297,15 +305,10 @@ impl<A: Allocator + Copy> Answers<A> for Laboratory<A> {
     ghost language = { script_language };
 
     fn answer(&mut self, line: &Bytes, reply: &mut Vec<u8, A>) -> Result<(), AllocError> {
-        let front = line.front();
-        if line.has_no_word() || is_comment(front) {
+        if is_passed_over(line) {
             return Ok(());
         }
-        let answer = if line.is_longer() {
-            Reply::Refused(Refusal::TooLong)
-        } else {
-            answer_short(self, front)?
-        };
+        let answer = self.answer_line(line)?;
         push_reply(self.alloc, reply, &self.machine, &answer)
     }
 

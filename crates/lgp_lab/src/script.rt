@@ -14,6 +14,7 @@ use std::alloc::Allocator;
 
 /// Runs a script: reads commands to the reader's end and writes the reply to each; answers how many replies begin with a
 /// question mark.
+#[tactic(auto, unfolding(crate::specs::Script::script_replies))]
 pub fn run_script<A: Allocator + Copy, R: Feed, W: Sink>(
     alloc: A,
     reader: &mut R,
