@@ -1,5 +1,5 @@
 -- Lines answered one after another, and what stands written of their replies.
-use Rattle.std.proofs.Common.{◌≡◌, ℕ, ◌+◌, ◌-◌, ◌^◌, ◌≤◌, Bool, true, false, cond, min, Option, Some, None, IfErr, IfSome, OnOk, Result, List, [], ◌∷◌, ◌++◌, length, take, count_by, refl, sym, ap, ◌∙◌, eqb, append_assoc, length-append, zero-add, arith}
+use Rattle.std.proofs.Common.{◌≡◌, ℕ, ◌+◌, ◌≤◌, Bool, true, false, cond, min, Option, Some, None, IfSome, List, [], ◌∷◌, ◌++◌, length, take, count_by, refl, sym, ap, ◌∙◌, eqb, append_assoc, length-append, zero-add, arith}
 use Rattle.std.specs.List.{concat}
 use Rattle.std.specs.Io.KnownBytes.{Appends, Consumes, IsAtEnd}
 use Rattle.std.specs.Str.Lines.{lines, strip_carriage_return}
@@ -7,7 +7,7 @@ use Rattle.std.proofs.lemmas.List.{append-nil, take-append-le}
 use Rattle.std.proofs.Math.Seq.{take-append-add}
 use Rattle.std.proofs.lemmas.List.Folds.{concat-append}
 use Rattle.std.proofs.lemmas.List.Sums.{sum_by-append}
-use Rattle.lgp_lab.specs.Language.{HasCause, HasReadPart, HasWrittenBytes, HasWrittenReplies, Language, StandsWritten, complete_lines, count_limit, is_question, question_count, replies_to, state_after, text_replies}
+use Rattle.lgp_lab.specs.Language.{HasCause, Language, StandsWritten, complete_lines, count_limit, is_question, question_count, replies_to, state_after, text_replies}
 use Rattle.lgp_lab.specs.LineInside.{Open, kept_of, open_of, open_push}
 use Rattle.lgp_lab.specs.StreamInside.{HasAnswered, HasRead, HasStopped, HasStoppedIn, HasTaken, HasWritten, IsCut}
 use Rattle.lgp_lab.specs.declared.stream.LabFault.{LabFault}

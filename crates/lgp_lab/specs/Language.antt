@@ -1,6 +1,6 @@
 -- Part of the public promise: what a language of lines is, the replies to a text in it, and what stands written of them where
 -- the text was not answered to its end.
-use Rattle.std.specs.Prelude.{◌≡◌, ℕ, ◌-◌, ◌^◌, ◌≤◌, ◌==◌, Bool, true, min, List, [], ◌∷◌, ◌++◌, length, take, count_by, slice_index, codes, Option, Some, ⊤}
+use Rattle.std.specs.Prelude.{◌≡◌, ℕ, ◌-◌, ◌^◌, ◌≤◌, ◌==◌, Bool, true, min, List, [], ◌∷◌, ◌++◌, length, take, count_by, slice_index, Option, Some, ⊤}
 use Rattle.std.specs.List.{concat}
 use Rattle.std.specs.Io.KnownBytes.{Appends, Consumes}
 use Rattle.std.specs.Str.Lines.{lines}

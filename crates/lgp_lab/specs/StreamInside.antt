@@ -1,9 +1,9 @@
 -- Serves proofs only: how far a text has been answered while its bytes come in one after another.
-use Rattle.std.specs.Prelude.{◌≡◌, ℕ, min, Bool, false, List, [], ◌∷◌, ◌++◌, length, count_by, Option}
+use Rattle.std.specs.Prelude.{◌≡◌, ℕ, min, false, List, ◌++◌, length, count_by, Option}
 use Rattle.std.specs.List.{AllByRecursion, concat}
 use Rattle.std.specs.Io.KnownBytes.{Appends, Consumes}
 use Rattle.std.specs.Str.Lines.{lines}
-use Rattle.lgp_lab.specs.Language.{Language, HasWrittenBytes, HasWrittenReplies, complete_lines, count_limit, is_line_feed, question_count, replies_to, state_after, text_replies}
+use Rattle.lgp_lab.specs.Language.{Language, HasWrittenBytes, HasWrittenReplies, count_limit, is_line_feed, question_count, replies_to, state_after, text_replies}
 use Rattle.lgp_lab.specs.LineInside.{Open, open_of}
 use Rattle.lgp_lab.specs.declared.stream.LabFault.{LabFault}
 use Rattle.lgp_lab.specs.declared.stream.LabFault.TheVariants.{Read, Write, Memory}

@@ -1,8 +1,9 @@
 //! The LGP-30 laboratory: scripts.
 #![tactic(auto)]
 
-pub use feed::{Failed, Feed, FeedOf, Sink, SinkOf};
+pub use feed::{Failed, Feed, FeedOf};
 pub use script::run_script;
+pub use sink::{Sink, SinkOf};
 pub use stream::LabFault;
 
 mod command;
@@ -12,6 +13,7 @@ mod limits;
 mod line;
 mod reply;
 mod script;
+mod sink;
 mod stream;
 #[cfg(test)]
 mod tests;

@@ -7,8 +7,9 @@ ghost use Rattle.lgp_word.specs.Drum.{blank_words};
 ghost use Rattle.lgp_lab.specs.Language.{HasCause, StandsWritten};
 ghost use Rattle.lgp_lab.specs.Script.{script_faults, script_language, script_text};
 
-use crate::feed::{Feed, Sink};
+use crate::feed::Feed;
 use crate::laboratory::Laboratory;
+use crate::sink::Sink;
 use crate::stream::{LabFault, run_text};
 use std::alloc::Allocator;
 

@@ -8,8 +8,9 @@ ghost use Rattle.lgp_lab.specs.Language.{HasCause, Language, StandsWritten, is_q
 ghost use Rattle.lgp_lab.specs.LineInside.{kept_of};
 ghost use Rattle.lgp_lab.specs.StreamInside.{HasAnswered, HasRead, HasStopped, HasStoppedIn, HasTaken, HasWritten};
 
-use crate::feed::{Feed, Sink};
+use crate::feed::Feed;
 use crate::line::{Bytes, Line};
+use crate::sink::Sink;
 use std::alloc::{AllocError, Allocator};
 use std::mem;
 use thiserror::Error;

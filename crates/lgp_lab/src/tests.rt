@@ -1,6 +1,4 @@
-use crate::feed::{Feed, FeedOf, Sink, SinkOf};
-use crate::script::run_script;
-use crate::stream::LabFault;
+use crate::{Feed, FeedOf, LabFault, Sink, SinkOf, run_script};
 use linked_list_allocator::LocalHeap;
 use std::alloc::{AllocError, Allocator, Global};
 use std::io;

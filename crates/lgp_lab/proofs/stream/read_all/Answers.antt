@@ -1,4 +1,4 @@
-use Rattle.std.proofs.Common.{◌≡◌, ◌++◌, Err, rules, arith}
+use Rattle.std.proofs.Common.{◌≡◌, Err, rules, arith}
 use Rattle.lgp_lab.proofs.KnownLemmas.{Consumes-kept, Consumes-trans}
 use Rattle.lgp_lab.proofs.StreamLemmas.{HasCause-writer, HasRead-more, HasRead-none, HasRead-still, StandsWritten-read, StandsWritten-stopped}
 use Rattle.lgp_lab.proofs.stream.read_all.Goals as goal

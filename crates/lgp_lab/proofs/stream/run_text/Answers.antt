@@ -1,6 +1,4 @@
-use Rattle.std.proofs.Common.{◌≡◌, Err, IfSome, refl, rules}
-use Rattle.lgp_lab.specs.StreamInside.{HasWritten}
-use Rattle.lgp_lab.specs.Language.{text_replies}
+use Rattle.std.proofs.Common.{◌≡◌, Err, refl, rules}
 use Rattle.lgp_lab.proofs.StreamLemmas.{HasCause-writer, HasTaken-none, HasWritten-faults, HasWritten-sent, StandsWritten-end}
 use Rattle.lgp_lab.proofs.stream.run_text.Goals as goal
 

@@ -1,4 +1,4 @@
-use Rattle.std.proofs.Common.{◌≡◌, ◌∙◌, ap, eqb, false, length, rules, sym, true}
+use Rattle.std.proofs.Common.{◌≡◌, ◌∙◌, ap, eqb, false, length, sym, true}
 use Rattle.lgp_lab.specs.LineInside.{is_unbegun, kept_of, whole}
 use Rattle.lgp_lab.proofs.LineLemmas.{is_unbegun-open_of, whole-open_of}
 use Rattle.lgp_lab.proofs.StreamLemmas.{HasAnswered-none, lines-last}

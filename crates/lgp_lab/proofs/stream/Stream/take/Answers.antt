@@ -1,4 +1,4 @@
-use Rattle.std.proofs.Common.{◌≡◌, ◌∙◌, ap, false, rules, arith, eqb, []}
+use Rattle.std.proofs.Common.{◌≡◌, ◌∙◌, ap, false, arith, eqb, []}
 use Rattle.std.specs.Str.Lines.{strip_carriage_return}
 use Rattle.std.proofs.lemmas.Bool.Decides.{nat_tests}
 use Rattle.std.proofs.lemmas.Result.{IfErr-weaker, on_ok_weaker}
