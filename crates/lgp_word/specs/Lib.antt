@@ -3,3 +3,4 @@ pub mod Address
 pub mod Order
 pub mod Digits
 pub mod Drum
+pub mod Decimal

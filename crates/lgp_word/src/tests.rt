@@ -132,3 +132,27 @@ fn address_parts_are_replaced(rt: HostRuntime) -> Result<(), Fail> {
     );
     Ok(())
 }
+
+#[test]
+fn decimals_have_so_many_digits(rt: HostRuntime) {
+    for (text, most, number) in [
+        (b"0".as_slice(), 1, 0),
+        (b"007", 4, 7),
+        (b"1048576", 7, 1_048_576),
+        (b"4294967296", 10, 4_294_967_296),
+        (b"999999999999999999", 18, 999_999_999_999_999_999),
+    ] {
+        assert_eq!(rt; read_decimal(text, most), Some(number));
+    }
+    for (text, most) in [
+        (b"".as_slice(), 18),
+        (b"5", 0),
+        (b"12345", 4),
+        (b"12a", 4),
+        (b"-1", 4),
+        (b" 1", 4),
+        (b"/0:", 4),
+    ] {
+        assert_eq!(rt; read_decimal(text, most), None);
+    }
+}
