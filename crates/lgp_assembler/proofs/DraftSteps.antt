@@ -28,11 +28,11 @@ use Rattle.lgp_assembler.proofs.Rows.{fault_stands}
 
 -- ---- where no row holds
 
-abbrev AllFail : List (Bool × FaultKind) → Type 0
+abbrev pub AllFail : List (Bool × FaultKind) → Type 0
 AllFail [] = Unit {0}
 AllFail (row ∷ more) = (row.0 ≡ false) × AllFail more
 
-none_fails : (all : List (Bool × FaultKind)) → first_kind all ≡ None → AllFail all
+pub none_fails : (all : List (Bool × FaultKind)) → first_kind all ≡ None → AllFail all
 none_fails [] none = tt
 none_fails (row ∷ more) none = ⊎_elim
     (λ yes. absurd (none-some row.1 (sym none ∙ cond-true row.0 (Some row.1) (first_kind more) yes)))
@@ -195,11 +195,11 @@ symbol_is (Some label) place true before has_operation live fresh = absurd (true
 
 -- ---- one line more
 
-append_none : {A : Type 0} (xs ys : List A) → xs ++ ys ≡ [] → (xs ≡ []) × (ys ≡ [])
+pub append_none : {A : Type 0} (xs ys : List A) → xs ++ ys ≡ [] → (xs ≡ []) × (ys ≡ [])
 append_none [] ys e = (refl, e)
 append_none (x ∷ xs) ys e = absurd (cc)
 
-list_none : (number : ℕ) (kind : Option FaultKind) → option_to_list (option_map (numbered_fault number) kind) ≡ [] → kind ≡ None
+pub list_none : (number : ℕ) (kind : Option FaultKind) → option_to_list (option_map (numbered_fault number) kind) ≡ [] → kind ≡ None
 list_none number None e = refl
 list_none number (Some kind) e = absurd (cc)
 

@@ -6,3 +6,4 @@ pub mod Rows
 pub mod DraftSteps
 pub mod Assembled
 pub mod PlaceLaws
+pub mod LineCells

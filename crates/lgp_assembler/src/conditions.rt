@@ -9,6 +9,7 @@ use crate::line_fields::Fields;
 use crate::name_table::Names;
 use crate::operands::{Meaning, OperandFault, is_name, meaning_of};
 use crate::operations::Operation;
+use crate::output::LOADER_PLACES;
 use crate::passes::{Scan, makes_word};
 use crate::refusal::FaultKind;
 use std::alloc::Allocator;
@@ -81,11 +82,11 @@ fn is_outside(meaning: &Result<Meaning, OperandFault>) -> bool
     matches!(meaning, Err(OperandFault::Outside))
 }
 
-/// Whether a place is one of the ten of the loader.
+/// Whether a place is one of the loader's.
 fn is_loaders(place: u64) -> bool
     ensures { result ≡ is_loaders place }
 {
-    (4032..=4041).contains(&place)
+    LOADER_PLACES.contains(&place)
 }
 
 /// What the operands of a line stand for.

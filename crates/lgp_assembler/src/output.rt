@@ -5,6 +5,10 @@ use arrayvec::ArrayVec;
 use lgp_word::{Address, Word};
 use std::alloc::{Allocator, Global};
 use std::marker::Model;
+use std::ops::Range;
+
+/// The places of the loader, 6300 to 6309, which no program may take.
+pub const LOADER_PLACES: Range<u64> = 4032..4042;
 
 /// A name: one to eight bytes of a source. Clauses see their list.
 #[derive(Drop)]

@@ -60,6 +60,25 @@ fn the_head_reads_the_sector_below_it(rt: HostRuntime) -> Result<(), Fail> {
 }
 
 #[test]
+fn a_track_lies_as_it_passes_the_head(rt: HostRuntime) -> Result<(), Fail> {
+    let mut drum = Drum::new(rt.alloc())?;
+    drum.put(at(b"0001")?, word(0x000e_00cc)?);
+    drum.put(at(b"0050")?, word(6)?);
+    drum.put(at(b"0150")?, word(8)?);
+    let track = drum.track(0);
+    assert_eq!(rt; track.len(), 64);
+    for (position, read) in track.iter().enumerate() {
+        let expected = match position {
+            2 => word(6)?,
+            9 => word(0x000e_00cc)?,
+            _ => Word::default(),
+        };
+        assert_eq!(rt; *read, expected, "at {position}");
+    }
+    Ok(())
+}
+
+#[test]
 fn a_copy_has_the_same_words(rt: HostRuntime) -> Result<(), Fail> {
     let mut drum = Drum::new(rt.alloc())?;
     drum.put(at(b"0100")?, word(4)?);

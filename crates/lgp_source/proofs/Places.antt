@@ -85,7 +85,7 @@ past_run place (b ∷ rest) = ⊎_elim
     (λ visible. after_visible place b rest visible ∙ past_run (place + 1) rest ∙ at_suc place b rest (position_or_len is_blank rest) (position_or_len is_blank (b ∷ rest)) (run_more b rest visible))
     (cases_Bool (is_blank b))
 
-past_token : (place b : ℕ) (rest : List ℕ) → is_blank b ≡ false
+pub past_token : (place b : ℕ) (rest : List ℕ) → is_blank b ≡ false
     → tokens_from place true (b ∷ rest) ≡ token_at place (b ∷ rest) ∷ tokens_from (place + position_or_len is_blank (b ∷ rest)) true (drop (position_or_len is_blank (b ∷ rest)) (b ∷ rest))
 past_token place b rest e =
     at_token place b rest e ∙ ap (λ t. token_at place (b ∷ rest) ∷ t) (past_run (place + 1) rest ∙ at_suc place b rest (position_or_len is_blank rest) (position_or_len is_blank (b ∷ rest)) (run_more b rest e))

@@ -1,5 +1,5 @@
--- The console (Operations Manual, "The control panel"): what each action does. When an action is live is this project's own choice; a
--- dead action changes nothing.
+-- Part of the public promise. The console (Operations Manual, "The control panel"): what each action does. When an action is
+-- live is this project's own choice; a dead action changes nothing.
 use Rattle.std.specs.Prelude.{ℕ, ◌&&◌, Bool, true, false, not, if◌then◌else◌}
 use Rattle.lgp_word.specs.Word.{stored}
 use Rattle.lgp_flexo.specs.Code.{is_stop, is_skipped}

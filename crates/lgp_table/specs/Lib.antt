@@ -5,6 +5,7 @@ pub mod Activity
 pub mod Console
 pub mod Interleaving
 pub mod Worked
+pub mod PassedCodes
 pub use Rattle.lgp_flexo.specs.Code
 pub use Rattle.lgp_flexo.specs.Input
 pub use Rattle.lgp_flexo.specs.Tape

@@ -1,3 +1,5 @@
+//! What the operator does, and what happens to the machine.
+
 use crate::panel::{Mode, Which};
 use lgp_flexo::Code;
 

@@ -5,7 +5,8 @@ ghost use Rattle.lgp_flexo.specs.Code.{is_skipped};
 ghost use Rattle.lgp_flexo.specs.Input.{accumulator_after_all};
 ghost use Rattle.lgp_word.specs.declared.order.Op.{Op};
 ghost use Rattle.lgp_table.specs.Activity.{cost, next};
-ghost use Rattle.lgp_table.specs.Interleaving.{Configuration, after_action, at_boundary, after_press, after_word_time};
+ghost use Rattle.lgp_table.specs.Interleaving.{Configuration, after_action, after_press, after_word_time, at_boundary, is_boundary, latch_limit};
+ghost use Rattle.lgp_table.specs.PassedCodes.{without_passed};
 ghost use Rattle.lgp_table.specs.Rows.{row};
 ghost use Rattle.lgp_table.specs.State.{Core, State, word_at};
 ghost use Rattle.lgp_table.specs.declared.panel.Panel.{Panel};
@@ -50,11 +51,29 @@ pub fn skipped_codes()
 
 /// What is pressed within an activity waits for its end, where all that is kept acts in order; with 16 kept a press is lost.
 pub fn kept_actions()
-    ensures kept { (now : Configuration) → (first second : Action) → now.elapsed ≡ 1 → now.kept ≡ first ∷ []
-        → after_press now second ≡ record now { kept = first ∷ second ∷ [] } }
-    ensures full { (now : Configuration) → (action : Action) → now.elapsed ≡ 1 → length now.kept ≡ 16 → after_press now action ≡ now }
-    ensures at_once { (s : State) → (action : Action) → after_press (at_boundary s) action ≡ at_boundary (after_action s action) }
-    ensures in_order { (now : Configuration) → (first second : Action) → now.elapsed + 1 ≡ cost now.state
-        → now.kept ≡ first ∷ second ∷ [] → after_word_time now ≡ at_boundary (after_action (after_action (next now.state) first) second) }
-    ensures not_yet { (now : Configuration) → now.elapsed + 1 < cost now.state → after_word_time now ≡ record now { elapsed = now.elapsed + 1 } }
+    ensures kept { (now : Configuration) → (first second : Action) → is_boundary now ≡ false
+        → now.kept ≡ first ∷ [] → after_press now second
+        ≡ record now { kept = first ∷ second ∷ [] } }
+    ensures full { (now : Configuration) → (action : Action) → is_boundary now ≡ false
+        → length now.kept ≡ latch_limit → after_press now action ≡ now }
+    ensures at_once { (s : State) → (action : Action)
+        → after_press (at_boundary s) action ≡ at_boundary (after_action s action) }
+    ensures in_order { (now : Configuration) → (first second : Action)
+        → now.elapsed + 1 ≡ cost now.state → now.kept ≡ first ∷ second ∷ []
+        → after_word_time now
+        ≡ at_boundary (after_action (after_action (next now.state) first) second) }
+    ensures not_yet { (now : Configuration) → now.elapsed + 1 < cost now.state
+        → after_word_time now ≡ record now { elapsed = now.elapsed + 1 } }
+{}
+
+/// The codes that have passed the reader change no cost, no order and no action: states that differ in them alone go on to states
+/// that differ in them alone.
+#[tactic(auto, using(crate::proofs::PassedCodes::without_passed_codes))]
+pub fn passed_codes()
+    ensures cost { (s : State) → cost (without_passed s) ≡ cost s }
+    ensures next { (s : State)
+        → without_passed (next (without_passed s)) ≡ without_passed (next s) }
+    ensures action { (s : State) → (action : Action)
+        → without_passed (after_action (without_passed s) action)
+        ≡ without_passed (after_action s action) }
 {}

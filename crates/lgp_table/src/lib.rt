@@ -2,9 +2,9 @@
 //! against. Words, addresses, orders and codes are those of the crates below.
 #![tactic(auto)]
 
-pub mod action;
+mod action;
 pub mod laws;
-pub mod panel;
+mod panel;
 pub mod worked;
 
 pub use action::{Action, Event};

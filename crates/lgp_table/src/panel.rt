@@ -1,3 +1,5 @@
+//! Registers, status, mode and switches.
+
 ghost use Rattle.std.specs.Prelude.{◌≡◌};
 ghost use Rattle.lgp_table.specs.Activity.{resume, status_after, status_at_end};
 ghost use Rattle.lgp_table.specs.Console.{is_at_rest, is_halted, is_waiting};

@@ -1,4 +1,6 @@
-use crate::laws::{costs, dead_actions, kept_actions, other_words, skipped_codes, waits};
+use crate::laws::{
+    costs, dead_actions, kept_actions, other_words, passed_codes, skipped_codes, waits,
+};
 use crate::worked::{
     input, keys_in_manual, load, overflow, print, stop, store, stored_addresses, sum, test,
     two_waits,
@@ -69,6 +71,7 @@ fn laws_and_worked_orders_do_nothing(_rt: HostRuntime) {
     other_words();
     skipped_codes();
     kept_actions();
+    passed_codes();
     load();
     sum();
     overflow();

@@ -1,0 +1,14 @@
+-- Serves proofs only. How the drum's cells stand in memory: track after track, on each track in the order in which the sectors pass
+-- the head.
+use Rattle.std.specs.Prelude.{ℕ, ◌+◌, ◌*◌, List, map, slice_index}
+use Rattle.std.specs.List.{range_with_len}
+use Rattle.lgp_word.specs.Address.{sector_of, track_of}
+use Rattle.lgp_word.specs.Drum.{position_of}
+
+-- where the cell of an address stands
+abbrev pub place_of : ℕ → ℕ
+place_of address = 64 * track_of address + position_of (sector_of address)
+
+-- the words of the cells, by address
+unfoldable pub by_address : List ℕ → List ℕ
+by_address cells = map (λ address. slice_index cells (place_of address)) (range_with_len 0 4096)
