@@ -95,4 +95,6 @@ answer_to s (commands.Turn times) text = answer_to_turn s times
 answer_to s (commands.Orders limit) text = answer_to_orders s limit
 answer_to s commands.Panel text = record { reply = replies.Panel; state = s }
 answer_to s (commands.Words address count) text = record { reply = replies.Words address count; state = s }
+answer_to s (commands.Show address count) text = record { reply = replies.Show address count; state = s }
 answer_to s commands.Printed text = record { reply = replies.Printed; state = s }
+answer_to s commands.Dump text = record { reply = replies.Dump; state = s }

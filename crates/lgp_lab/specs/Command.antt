@@ -1,10 +1,9 @@
 -- Part of the public promise: the script language, what a line asks for.
-use Rattle.std.specs.Prelude.{ℕ, ◌+◌, ◌*◌, ◌-◌, ◌&&◌, Bool, true, false, if◌then◌else◌, nat_le, nat_lt, Option, Some, None, List, length, drop, codes, fold}
-use Rattle.std.specs.List.{list_all}
+use Rattle.std.specs.Prelude.{ℕ, ◌+◌, ◌&&◌, Bool, true, false, if◌then◌else◌, nat_le, nat_lt, Option, Some, None, List, drop, codes}
 use Rattle.std.specs.Str.{bytes_eq}
-use Rattle.std.specs.Char.{is_ascii_digit}
+use Rattle.lgp_word.specs.Decimal.{decimal_number}
 use Rattle.lgp_word.specs.Digits.{address_text, word_at}
-use Rattle.lgp_lab.specs.Limits.{digit_limit, shown_limit}
+use Rattle.lgp_lab.specs.Limits.{digit_limit, drum_size, shown_limit}
 use Rattle.lgp_lab.specs.Line.{behind_word, first_word, has_no_word}
 use Rattle.lgp_lab.specs.declared.command.Command.{Command}
 use Rattle.lgp_lab.specs.declared.command.Command.TheVariants as commands
@@ -13,14 +12,9 @@ use Rattle.lgp_table.specs.declared.action.Action.TheVariants as actions
 use Rattle.lgp_table.specs.declared.panel.Mode.TheVariants.{Normal, OneOperation, Manual}
 use Rattle.lgp_table.specs.declared.panel.Which.TheVariants.{B32, B16, B8, B4}
 
--- the number that decimal digits stand for
-abbrev pub value_of : List ℕ → ℕ
-value_of digits = fold (λ number digit. 10 * number + (digit - 48)) 0 digits
-
 -- a number: 1 to 10 decimal digits
 unfoldable pub number_at : List ℕ → Option ℕ
-number_at text =
-    if nat_lt 0 (length text) && nat_le (length text) digit_limit && list_all is_ascii_digit text then Some (value_of text) else None
+number_at text = decimal_number digit_limit text
 
 -- the action of a name without and with a position
 unfoldable pub plain_action : List ℕ → Option Action
@@ -89,16 +83,24 @@ abbrev pub orders_by : Option ℕ → Option Command
 orders_by None = None
 orders_by (Some limit) = Some (commands.Orders limit)
 
--- 1 to 64 words from an address, none past 6363
-abbrev pub words_by : Option ℕ → Option ℕ → Option Command
-words_by (Some address) (Some count) =
-    if nat_lt 0 count && nat_le count shown_limit && nat_le (address + count) 4096 then Some (commands.Words address count) else None
-words_by _ _ = None
+-- an address and how many words from it on: 1 to 64, none past 6363
+abbrev pub span_by : Option ℕ → Option ℕ → Option (ℕ × ℕ)
+span_by (Some address) (Some count) =
+    if nat_lt 0 count && nat_le count shown_limit && nat_le (address + count) drum_size then Some (address, count) else None
+span_by _ _ = None
 
-unfoldable pub words_command : List ℕ → Option Command
-words_command operands =
+unfoldable pub span_of : List ℕ → Option (ℕ × ℕ)
+span_of operands =
     if has_no_word (behind_word (behind_word operands))
-    then words_by (address_text (first_word operands)) (number_at (first_word (behind_word operands))) else None
+    then span_by (address_text (first_word operands)) (number_at (first_word (behind_word operands))) else None
+
+abbrev pub words_by : Option (ℕ × ℕ) → Option Command
+words_by None = None
+words_by (Some span) = Some (commands.Words span.0 span.1)
+
+abbrev pub show_by : Option (ℕ × ℕ) → Option Command
+show_by None = None
+show_by (Some span) = Some (commands.Show span.0 span.1)
 
 -- a command that takes no operand
 abbrev pub lone : Command → List ℕ → Option Command
@@ -113,9 +115,11 @@ command_by name operands =
     else (if bytes_eq name (codes "turn") then turn_by (lone_number operands)
     else (if bytes_eq name (codes "orders") then orders_by (lone_number operands)
     else (if bytes_eq name (codes "panel") then lone commands.Panel operands
-    else (if bytes_eq name (codes "words") then words_command operands
+    else (if bytes_eq name (codes "words") then words_by (span_of operands)
+    else (if bytes_eq name (codes "show") then show_by (span_of operands)
     else (if bytes_eq name (codes "printed") then lone commands.Printed operands
-    else None))))))))
+    else (if bytes_eq name (codes "dump") then lone commands.Dump operands
+    else None))))))))))
 
 -- what a line asks for; None where it is in no command's form
 unfoldable pub command_of : List ℕ → Option Command

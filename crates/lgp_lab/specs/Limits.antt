@@ -10,3 +10,7 @@ digit_limit = 10
 
 abbrev pub shown_limit : ℕ
 shown_limit = 64
+
+-- how many words the drum has
+abbrev pub drum_size : ℕ
+drum_size = 4096

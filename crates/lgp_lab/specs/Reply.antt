@@ -1,8 +1,10 @@
 -- Part of the public promise: the script language, how a reply is written.
-use Rattle.std.specs.Prelude.{ℕ, zero, suc, ◌+◌, Bool, if◌then◌else◌, List, [], ◌∷◌, ◌++◌, length, codes, decimal}
+use Rattle.std.specs.Prelude.{ℕ, zero, suc, ◌+◌, ◌==◌, Bool, not, if◌then◌else◌, List, [], ◌∷◌, ◌++◌, length, count_by, codes, decimal}
 use Rattle.std.specs.Str.{byte}
 use Rattle.lgp_word.specs.Digits.{address_digits, digits_of}
 use Rattle.lgp_flexo.specs.TapeText.{written_tape}
+use Rattle.lgp_listing.specs.Disassembly.{disassembly}
+use Rattle.lgp_listing.specs.Dump.{cell_line, dump_of}
 use Rattle.lgp_table.specs.State.{State, word_at}
 use Rattle.lgp_table.specs.declared.panel.Switches.{Switches}
 use Rattle.lgp_table.specs.declared.panel.Status.{Status}
@@ -66,13 +68,25 @@ clock_text clock = codes " clock " ++ (decimal clock ++ codes "\n")
 unfoldable pub panel_text : Look → ℕ → List ℕ
 panel_text look left = registers_text look ++ (console_text look ++ (tape_text look left ++ clock_text look.clock))
 
--- a word's line, and the lines of so many words from an address on
+-- the line of a word by its digits, and by its disassembly
 unfoldable pub word_line : ℕ → ℕ → List ℕ
-word_line address word = written_address address ++ (32 ∷ (digits_of word ++ (10 ∷ [])))
+word_line address word = cell_line address word
 
-abbrev pub words_text : State → ℕ → ℕ → List ℕ
-words_text s address zero = []
-words_text s address (suc count) = words_text s address count ++ word_line (address + count) (word_at s.core (address + count))
+unfoldable pub shown_line : ℕ → ℕ → List ℕ
+shown_line address word = written_address address ++ (codes " " ++ (disassembly word ++ codes "\n"))
+
+-- the lines of so many words from an address on
+abbrev pub lines_text : (ℕ → ℕ → List ℕ) → State → ℕ → ℕ → List ℕ
+lines_text line s address zero = []
+lines_text line s address (suc count) =
+    lines_text line s address count ++ line (address + count) (word_at s.core (address + count))
+
+-- how many words are not zero, and the dump of the words, which has a line for each of them
+abbrev pub is_used : ℕ → Bool
+is_used word = not (word == 0)
+
+unfoldable pub dump_text : List ℕ → List ℕ
+dump_text words = codes "dump " ++ (decimal (count_by is_used words) ++ (codes "\n" ++ dump_of words))
 
 unfoldable pub printed_text : List ℕ → List ℕ
 printed_text [] = codes "printed 0\n"
@@ -112,6 +126,8 @@ reply_text s (replies.Typed live dead) = typed_text live dead
 reply_text s (replies.Clock clock) = stopped_clock_text clock
 reply_text s (replies.Orders done status) = orders_text done status
 reply_text s replies.Panel = panel_text (look_of s) (length s.core.tape.left)
-reply_text s (replies.Words address count) = words_text s address count
+reply_text s (replies.Words address count) = lines_text word_line s address count
+reply_text s (replies.Show address count) = lines_text shown_line s address count
 reply_text s replies.Printed = printed_text s.printed
+reply_text s replies.Dump = dump_text s.core.words
 reply_text s (replies.Refused refusal) = refusal_text refusal

@@ -1,16 +1,15 @@
 //! What a line of a script asks for.
 
-ghost use Rattle.std.specs.Prelude.{◌≡◌, ◌==◌, ◌<◌, ◌≤◌, IfSome, IsTrue, length};
-ghost use Rattle.std.specs.Char.{is_ascii_digit};
-ghost use Rattle.std.specs.List.{list_all, position};
+ghost use Rattle.std.specs.Prelude.{◌≡◌, ◌+◌, ◌≤◌, IfSome, length};
+ghost use Rattle.std.specs.List.{position};
 ghost use Rattle.lgp_lab.specs.LaboratoryInside.{AsksOnDrum};
-ghost use Rattle.lgp_lab.specs.Command.{command_of, lone, lone_number, number_at, plain_action, position_named, press_command, put_command, switch_action, text_behind, value_of, words_command};
-ghost use Rattle.lgp_lab.specs.Limits.{digit_limit};
+ghost use Rattle.lgp_lab.specs.Command.{command_of, lone, lone_number, number_at, plain_action, position_named, press_command, put_command, span_of, switch_action, text_behind};
+ghost use Rattle.lgp_lab.specs.Limits.{drum_size};
 ghost use Rattle.lgp_lab.specs.Line.{behind_word, first_word, has_no_word, is_space, is_visible};
 
-use crate::limits::{DIGIT_LIMIT, SHOWN_LIMIT};
+use crate::limits::{DIGIT_LIMIT, DRUM_SIZE, SHOWN_LIMIT};
 use lgp_table::{Action, Mode, Which};
-use lgp_word::{Address, Word, read_digits};
+use lgp_word::{Address, Word, read_decimal, read_digits};
 
 /// What a line asks for. The text of `Mount` and `Type` is the rest of the line.
 #[derive(Clone, Copy, Debug, PartialEq, Eq)]
@@ -26,7 +25,11 @@ pub enum Command {
     Panel,
     /// So many words, from an address on.
     Words(Address, u64),
+    /// The same words, each by its disassembly.
+    Show(Address, u64),
     Printed,
+    /// All words that are not zero.
+    Dump,
 }
 
 /// The place of a text's first byte that is no space.
@@ -70,36 +73,12 @@ fn has_no_word(text: &[u8]) -> bool
     text.iter().all(|byte| *byte == b' ')
 }
 
-/// Whether all bytes are decimal digits.
-fn is_decimal(text: &[u8]) -> bool
-    ensures { result ≡ list_all is_ascii_digit text.now }
-{
-    text.iter().all(|byte| byte.is_ascii_digit())
-}
-
-/// The number that at most 10 decimal digits stand for.
-fn value_of(digits: &[u8]) -> u64
-    requires few { length digits.now ≤ digit_limit }
-    requires decimal { IsTrue (list_all is_ascii_digit digits.now) }
-    ensures value { result ≡ value_of digits.now }
-{
-    let mut number = 0;
-    for digit in digits {
-        number = 10 * number + u64::from(*digit - b'0');
-    }
-    number
-}
-
 /// The number that 1 to 10 decimal digits stand for.
 #[tactic(auto, unfolding(crate::specs::Command::number_at))]
 fn number_at(text: &[u8]) -> Option<u64>
-    ensures value { result ≡ number_at text.now }
+    ensures { result ≡ number_at text.now }
 {
-    if !text.is_empty() && text.len() <= DIGIT_LIMIT && is_decimal(text) {
-        Some(value_of(text))
-    } else {
-        None
-    }
+    read_decimal(text, DIGIT_LIMIT)
 }
 
 /// The action of a name without a position.
@@ -222,11 +201,11 @@ fn lone_number(operands: &[u8]) -> Option<u64>
     }
 }
 
-/// The operands of `words`.
-#[tactic(auto, unfolding(crate::specs::Command::words_command))]
-fn words_command(operands: &[u8]) -> Option<Command>
-    ensures value { result ≡ words_command operands.now }
-    ensures on_drum { IfSome result AsksOnDrum }
+/// An address, and how many words from it on.
+#[tactic(auto, unfolding(crate::specs::Command::span_of))]
+fn span_of(operands: &[u8]) -> Option<(Address, u64)>
+    ensures value { result ≡ span_of operands.now }
+    ensures on_drum { IfSome result (λ span. span.0 + span.1 ≤ drum_size) }
 {
     let first = split_word(operands);
     let second = split_word(first.behind);
@@ -235,8 +214,11 @@ fn words_command(operands: &[u8]) -> Option<Command>
     }
     match (Address::parse(first.word), number_at(second.word)) {
         (Some(address), Some(count)) => {
-            if count > 0 && count <= SHOWN_LIMIT && u64::from(address.number()) + count <= 4096 {
-                Some(Command::Words(address, count))
+            if count > 0
+                && count <= SHOWN_LIMIT
+                && u64::from(address.number()) + count <= DRUM_SIZE
+            {
+                Some((address, count))
             } else {
                 None
             }
@@ -286,9 +268,19 @@ pub fn command_of(line: &[u8]) -> Option<Command>
     } else if word == b"panel".as_slice() {
         lone(Command::Panel, behind)
     } else if word == b"words".as_slice() {
-        words_command(behind)
+        match span_of(behind) {
+            Some((address, count)) => Some(Command::Words(address, count)),
+            None => None,
+        }
+    } else if word == b"show".as_slice() {
+        match span_of(behind) {
+            Some((address, count)) => Some(Command::Show(address, count)),
+            None => None,
+        }
     } else if word == b"printed".as_slice() {
         lone(Command::Printed, behind)
+    } else if word == b"dump".as_slice() {
+        lone(Command::Dump, behind)
     } else {
         None
     }

@@ -173,7 +173,9 @@ impl<A: Allocator + Copy> Laboratory<A> {
             Command::Orders(limit) => self.orders(limit),
             Command::Panel => Ok(Reply::Panel),
             Command::Words(address, count) => Ok(Reply::Words(address, count)),
+            Command::Show(address, count) => Ok(Reply::Show(address, count)),
             Command::Printed => Ok(Reply::Printed),
+            Command::Dump => Ok(Reply::Dump),
         }
     }
 }
