@@ -6,3 +6,4 @@ pub mod AnswerLemmas
 pub mod TapeLemmas
 pub mod PlaceLemmas
 pub mod KeptLemmas
+pub mod UsedLemmas

@@ -69,8 +69,8 @@ unfoldable pub panel_text : Look → ℕ → List ℕ
 panel_text look left = registers_text look ++ (console_text look ++ (tape_text look left ++ clock_text look.clock))
 
 -- the line of a word by its digits, and by its disassembly
-unfoldable pub word_line : ℕ → ℕ → List ℕ
-word_line address word = cell_line address word
+unfoldable pub digits_line : ℕ → ℕ → List ℕ
+digits_line address word = cell_line address word
 
 unfoldable pub shown_line : ℕ → ℕ → List ℕ
 shown_line address word = written_address address ++ (codes " " ++ (disassembly word ++ codes "\n"))
@@ -126,7 +126,7 @@ reply_text s (replies.Typed live dead) = typed_text live dead
 reply_text s (replies.Clock clock) = stopped_clock_text clock
 reply_text s (replies.Orders done status) = orders_text done status
 reply_text s replies.Panel = panel_text (look_of s) (length s.core.tape.left)
-reply_text s (replies.Words address count) = lines_text word_line s address count
+reply_text s (replies.Words address count) = lines_text digits_line s address count
 reply_text s (replies.Show address count) = lines_text shown_line s address count
 reply_text s replies.Printed = printed_text s.printed
 reply_text s replies.Dump = dump_text s.core.words

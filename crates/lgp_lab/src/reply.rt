@@ -1,13 +1,13 @@
 //! The replies of the script language, and how they are written.
 
-ghost use Rattle.std.specs.Prelude.{◌≡◌, ◌∷◌, ◌++◌, ◌+◌, ◌<◌, ◌≤◌, [], IfOk, IsTrue, count_by, length, codes, decimal};
+ghost use Rattle.std.specs.Prelude.{◌≡◌, ◌∷◌, ◌++◌, ◌+◌, ◌<◌, ◌≤◌, [], if◌then◌else◌, IfOk, IsTrue, OnOk, count_by, length, codes, decimal};
 ghost use Rattle.lgp_table.specs.State.{State};
 ghost use Rattle.lgp_table.specs.Interleaving.{is_boundary};
 ghost use Rattle.lgp_machine.specs.Look.{look_of};
-ghost use Rattle.lgp_listing.specs.Dump.{dump_of};
+ghost use Rattle.lgp_listing.specs.Dump.{dump_of, word_line};
 ghost use Rattle.lgp_lab.specs.LaboratoryInside.{FitsDrum};
 ghost use Rattle.lgp_lab.specs.Limits.{drum_size};
-ghost use Rattle.lgp_lab.specs.Reply.{bad_sign_text, clock_text, count_text, orders_text, stopped_clock_text, tape_text, typed_text, word_line, written_address, mode_text, on_text, panel_text, printed_text, refusal_text, console_text, registers_text, reply_text, status_text, switch_text, switches_text, shown_line, lines_text, dump_text, is_used};
+ghost use Rattle.lgp_lab.specs.Reply.{bad_sign_text, clock_text, count_text, orders_text, stopped_clock_text, tape_text, typed_text, digits_line, written_address, mode_text, on_text, panel_text, printed_text, refusal_text, console_text, registers_text, reply_text, status_text, switch_text, switches_text, shown_line, lines_text, dump_text, is_used};
 
 use crate::limits::DRUM_SIZE;
 use itoa::Buffer;
@@ -223,13 +223,13 @@ fn push_panel<A: Allocator>(text: &mut Vec<u8, A>, look: &Look, left: u64) -> Re
 }
 
 /// Appends a word's line.
-#[tactic(auto, unfolding(crate::specs::Reply::word_line, crate::specs::Reply::written_address))]
+#[tactic(auto, unfolding(crate::specs::Reply::digits_line, crate::specs::Reply::written_address))]
 fn push_word<A: Allocator>(
     text: &mut Vec<u8, A>,
     address: Address,
     word: Word,
 ) -> Result<(), AllocError>
-    ensures { IfOk result (λ _. text.new.items ≡ text.old.items ++ word_line address word) }
+    ensures { IfOk result (λ _. text.new.items ≡ text.old.items ++ digits_line address word) }
 {
     push_address(text, address)?;
     text.push(b' ')?;
@@ -247,7 +247,7 @@ fn push_words<A: Allocator>(
 ) -> Result<(), AllocError>
     requires { address + count ≤ drum_size }
     ensures { IfOk result (λ _. text.new.items
-        ≡ text.old.items ++ lines_text word_line machine.now.state address count) }
+        ≡ text.old.items ++ lines_text digits_line machine.now.state address count) }
 {
     let first = u64::from(address.number());
     for place in 0..count {
@@ -303,27 +303,39 @@ struct WordLines<A: Allocator> {
     text: Vec<u8, A>,
 }
 
+impl<A: Allocator> WordLines<A> {
+    /// Adds a word's line, if the word is not zero.
+    #[tactic(auto, unfolding(crate::specs::Reply::digits_line))]
+    fn add(&mut self, address: Address, word: Word) -> Result<(), AllocError>
+        requires { self.old.count < drum_size }
+        ensures text { OnOk result (self.new.text.items ≡ self.old.text.items ++ word_line address word) }
+        ensures count { OnOk result (self.new.count
+            ≡ self.old.count + (if is_used word then 1 else 0)) }
+    {
+        if word.get() != 0 {
+            push_word(&mut self.text, address, word)?;
+            self.count += 1;
+        }
+        Ok(())
+    }
+}
+
 /// The lines of all words that are not zero.
-fn used_words<A: Allocator + Copy>(
-    alloc: A,
-    machine: &Machine<A>,
-) -> Result<WordLines<A>, AllocError>
+fn used_words<A: Allocator>(alloc: A, machine: &Machine<A>) -> Result<WordLines<A>, AllocError>
     ensures count { IfOk result (λ lines. lines.count ≡ count_by is_used machine.now.state.core.words) }
     ensures text { IfOk result (λ lines. lines.text.items ≡ dump_of machine.now.state.core.words) }
 {
-    let mut count = 0;
-    let mut text = Vec::new(alloc);
+    let mut lines = WordLines {
+        count: 0,
+        text: Vec::new(alloc),
+    };
     for number in 0..DRUM_SIZE {
         let Some(address) = Address::new(number as u16) else {
             unreachable!();
         };
-        let word = machine.word(address);
-        if word.get() != 0 {
-            push_word(&mut text, address, word)?;
-            count += 1;
-        }
+        lines.add(address, machine.word(address))?;
     }
-    Ok(WordLines { count, text })
+    Ok(lines)
 }
 
 /// Appends the dump of the drum.

@@ -9,7 +9,7 @@ invariant-loop-number g l =
     let words = l.machine.state.core.words in
     record {
       size : 0 < l.number → length words ≡ drum_size;
-      text : l.text.items ++ dump_from l.number (drop l.number words) ≡ dump_of words;
-      count : l.count + count_by is_used (drop l.number words) ≡ count_by is_used words;
-      small : l.count ≤ l.number;
+      text : l.lines.text.items ++ dump_from l.number (drop l.number words) ≡ dump_of words;
+      count : l.lines.count + count_by is_used (drop l.number words) ≡ count_by is_used words;
+      small : l.lines.count ≤ l.number;
     }
