@@ -160,8 +160,10 @@ impl<A: Allocator + Copy> Laboratory<A> {
     fn perform_command(&mut self, command: &Command, text: &[u8]) -> Result<Reply, AllocError>
         requires short { length text.now ≤ line_limit }
         requires on_drum { AsksOnDrum command.now }
-        ensures reply { IfOk result (λ reply. reply ≡ (answer_to self.old command.now text.now).reply) }
-        ensures state { IfOk result (λ _. self.new ≡ (answer_to self.old command.now text.now).state) }
+        ensures reply { IfOk result (λ reply. reply
+            ≡ (answer_to self.old command.now text.now).reply) }
+        ensures state { IfOk result (λ _. self.new
+            ≡ (answer_to self.old command.now text.now).state) }
         ensures on_drum { IfOk result FitsDrum }
     {
         match *command {
@@ -218,7 +220,8 @@ struct Run {
 fn perform<A: Allocator>(machine: &mut Machine<A>, limit: u64) -> Result<Run, AllocError>
     requires { IsAtBoundary machine.old }
     ensures done { IfOk result (λ run. run.done ≡ (performed limit machine.old.state).done) }
-    ensures stopped { IfOk result (λ run. run.stopped ≡ (performed limit machine.old.state).stopped) }
+    ensures stopped { IfOk result (λ run. run.stopped
+        ≡ (performed limit machine.old.state).stopped) }
     ensures machine { IfOk result (λ _. machine.new
         ≡ at_boundary (performed limit machine.old.state).state) }
     ensures boundary { IsAtBoundary machine.new }
@@ -254,9 +257,11 @@ fn read_codes<A: Allocator + Copy>(
     text: &[u8],
 ) -> Result<Result<Vec<Code, A>, u64>, AllocError>
     requires { length text.now ≤ line_limit }
-    ensures codes { IfOk result (λ read. IfOk read (λ codes. codes_of_text text.now ≡ Ok codes.items)) }
+    ensures codes { IfOk result (λ read. IfOk read (λ codes.
+        codes_of_text text.now ≡ Ok codes.items)) }
     ensures few { IfOk result (λ read. IfOk read (λ codes. vec_len codes ≤ 1048576)) }
-    ensures bad_place { IfOk result (λ read. IfErr read (λ place. codes_of_text text.now ≡ Err place)) }
+    ensures bad_place { IfOk result (λ read. IfErr read (λ place.
+        codes_of_text text.now ≡ Err place)) }
 {
     match read_tape_text(alloc, text) {
         Ok(codes) => Ok(Ok(codes)),

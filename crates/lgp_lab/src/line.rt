@@ -1,6 +1,7 @@
 //! The line of a script that is open.
 
 ghost use Rattle.std.specs.Prelude.{◌≡◌, ◌≤◌, [], false, length};
+ghost use Rattle.lgp_lab.specs.Limits.{line_limit};
 ghost use Rattle.lgp_lab.specs.LineInside.{Kept, Open, is_unbegun, kept_of, kept_push, open_of, open_push, whole};
 
 use crate::limits::LINE_LIMIT;
@@ -20,7 +21,11 @@ impl Model for Bytes {
 
     ghost Value = { Kept };
 
-    ghost view = { λ bytes. record { front = bytes.front.items; longer = bytes.longer; blank = bytes.blank } };
+    ghost view = { λ bytes. record {
+        front = bytes.front.items;
+        longer = bytes.longer;
+        blank = bytes.blank;
+    } };
 }
 
 impl Bytes {
@@ -51,7 +56,7 @@ impl Bytes {
     /// The front, at most 4,096 bytes.
     pub fn front(&self) -> &[u8]
         ensures front { result.now ≡ self.now.front }
-        ensures short { length result.now ≤ 4096 }
+        ensures short { length result.now ≤ line_limit }
     {
         self.front.as_slice()
     }

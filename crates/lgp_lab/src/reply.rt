@@ -308,7 +308,8 @@ impl<A: Allocator> WordLines<A> {
     #[tactic(auto, unfolding(crate::specs::Reply::digits_line))]
     fn add(&mut self, address: Address, word: Word) -> Result<(), AllocError>
         requires { self.old.count < drum_size }
-        ensures text { OnOk result (self.new.text.items ≡ self.old.text.items ++ word_line address word) }
+        ensures text { OnOk result (self.new.text.items
+            ≡ self.old.text.items ++ word_line address word) }
         ensures count { OnOk result (self.new.count
             ≡ self.old.count + (if is_used word then 1 else 0)) }
     {
@@ -322,7 +323,8 @@ impl<A: Allocator> WordLines<A> {
 
 /// The lines of all words that are not zero.
 fn used_words<A: Allocator>(alloc: A, machine: &Machine<A>) -> Result<WordLines<A>, AllocError>
-    ensures count { IfOk result (λ lines. lines.count ≡ count_by is_used machine.now.state.core.words) }
+    ensures count { IfOk result (λ lines. lines.count
+        ≡ count_by is_used machine.now.state.core.words) }
     ensures text { IfOk result (λ lines. lines.text.items ≡ dump_of machine.now.state.core.words) }
 {
     let mut lines = WordLines {
@@ -387,7 +389,8 @@ pub fn push_reply<A: Allocator + Copy>(
 ) -> Result<(), AllocError>
     requires boundary { IsTrue (is_boundary machine.now) }
     requires words { FitsDrum reply.now }
-    ensures { IfOk result (λ _. text.new.items ≡ text.old.items ++ reply_text machine.now.state reply.now) }
+    ensures { IfOk result (λ _. text.new.items
+        ≡ text.old.items ++ reply_text machine.now.state reply.now) }
 {
     match *reply {
         Reply::Done => text.extend_from_slice(b"ok\n"),
@@ -462,7 +465,8 @@ fn push_orders<A: Allocator>(
 fn push_look<A: Allocator>(text: &mut Vec<u8, A>, machine: &Machine<A>) -> Result<(), AllocError>
     requires { IsTrue (is_boundary machine.now) }
     ensures { IfOk result (λ _. text.new.items
-        ≡ text.old.items ++ panel_text (look_of machine.now.state) (length machine.now.state.core.tape.left)) }
+        ≡ text.old.items ++ panel_text (look_of machine.now.state)
+        (length machine.now.state.core.tape.left)) }
 {
     let (Some(look), Some(left)) = (machine.look(), machine.tape_left()) else {
         unreachable!();

@@ -28,7 +28,8 @@ pub fn run_script<A: Allocator + Copy, R: Feed, W: Sink>(
         Appends (W.contents writer.old) (W.contents writer.new) (script_text script))) }
     ensures faults { IfOk result (λ faults. IfSome (R.remaining reader.old) (λ script.
         faults ≡ script_faults script)) }
-    ensures cause { IfErr result (λ fault. HasCause fault (R.failed reader.new) (W.failed writer.new)) }
+    ensures cause { IfErr result (λ fault.
+        HasCause fault (R.failed reader.new) (W.failed writer.new)) }
     ensures stands { IfErr result (λ fault. IfSome (R.remaining reader.old) (λ script.
         StandsWritten script_language (opening blank_words) fault script
         (R.remaining reader.new) (W.contents writer.old) (W.contents writer.new))) }

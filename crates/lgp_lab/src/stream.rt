@@ -43,7 +43,8 @@ pub trait Answers<A: Allocator>: Drop {
 
     /// Answers the text's end.
     fn close(&mut self, reply: &mut Vec<u8, A>) -> Result<(), AllocError>
-        ensures reply { OnOk result (reply.new.items ≡ reply.old.items ++ language.closing self.old) };
+        ensures reply { OnOk result (reply.new.items
+            ≡ reply.old.items ++ language.closing self.old) };
 }
 
 /// Whether a reply begins with a question mark.
@@ -93,10 +94,12 @@ impl Tally {
     fn deliver<W: Sink>(&mut self, writer: &mut W, reply: &[u8]) -> Result<(), LabFault>
         ensures written { (w₀ : Option (List ℕ)) (replies : List (List ℕ))
             → HasWritten w₀ (W.contents writer.old) replies self.old
-            → OnOk result (HasWritten w₀ (W.contents writer.new) (replies ++ reply.now ∷ []) self.new) }
+            → OnOk result (HasWritten w₀ (W.contents writer.new)
+            (replies ++ reply.now ∷ []) self.new) }
         ensures stopped { (w₀ : Option (List ℕ)) (replies : List (List ℕ))
             → HasWritten w₀ (W.contents writer.old) replies self.old
-            → IfErr result (λ fault. HasStopped fault w₀ (W.contents writer.new) (replies ++ reply.now ∷ [])) }
+            → IfErr result (λ fault. HasStopped fault w₀ (W.contents writer.new)
+            (replies ++ reply.now ∷ [])) }
         ensures cause { IfErr result (λ fault. HasCause fault false (W.failed writer.new)) }
     {
         self.questions = self.questions.saturating_add(u64::from(is_question(reply)));
@@ -123,12 +126,14 @@ impl<A: Allocator + Copy, L: Answers<A>> Stream<A, L> {
     /// Answers a line that has ended, and writes its reply.
     fn finish<W: Sink>(&mut self, line: &Bytes, writer: &mut W) -> Result<(), LabFault>
         ensures answered { (s : L) (w₀ : Option (List ℕ)) (lines : List (List ℕ)) (text : List ℕ)
-            → HasAnswered L.language s w₀ (W.contents writer.old) lines self.old.answers self.old.tally
+            → HasAnswered L.language s w₀ (W.contents writer.old) lines
+            self.old.answers self.old.tally
             → line.now ≡ kept_of text
             → OnOk result (HasAnswered L.language s w₀ (W.contents writer.new)
             (lines ++ text ∷ []) self.new.answers self.new.tally) }
         ensures stopped { (s : L) (w₀ : Option (List ℕ)) (lines : List (List ℕ)) (text : List ℕ)
-            → HasAnswered L.language s w₀ (W.contents writer.old) lines self.old.answers self.old.tally
+            → HasAnswered L.language s w₀ (W.contents writer.old) lines
+            self.old.answers self.old.tally
             → line.now ≡ kept_of text
             → IfErr result (λ fault. HasStopped fault w₀ (W.contents writer.new)
             (replies_to L.language s (lines ++ text ∷ []))) }
@@ -145,11 +150,13 @@ impl<A: Allocator + Copy, L: Answers<A>> Stream<A, L> {
     /// One byte more.
     fn take<W: Sink>(&mut self, byte: u8, writer: &mut W) -> Result<(), LabFault>
         ensures taken { (s : L) (w₀ : Option (List ℕ)) (bytes : List ℕ)
-            → HasTaken L.language s w₀ (W.contents writer.old) bytes self.old.answers self.old.line self.old.tally
+            → HasTaken L.language s w₀ (W.contents writer.old) bytes
+            self.old.answers self.old.line self.old.tally
             → OnOk result (HasTaken L.language s w₀ (W.contents writer.new) (bytes ++ byte ∷ [])
             self.new.answers self.new.line self.new.tally) }
         ensures stopped { (s : L) (w₀ : Option (List ℕ)) (bytes : List ℕ)
-            → HasTaken L.language s w₀ (W.contents writer.old) bytes self.old.answers self.old.line self.old.tally
+            → HasTaken L.language s w₀ (W.contents writer.old) bytes
+            self.old.answers self.old.line self.old.tally
             → IfErr result (λ fault. HasStoppedIn L.language s fault w₀ (W.contents writer.new)
             (bytes ++ byte ∷ [])) }
         ensures cause { IfErr result (λ fault. HasCause fault false (W.failed writer.new)) }
@@ -165,11 +172,13 @@ impl<A: Allocator + Copy, L: Answers<A>> Stream<A, L> {
     /// More bytes.
     fn take_all<W: Sink>(&mut self, bytes: &[u8], writer: &mut W) -> Result<(), LabFault>
         ensures taken { (s : L) (w₀ : Option (List ℕ)) (before : List ℕ)
-            → HasTaken L.language s w₀ (W.contents writer.old) before self.old.answers self.old.line self.old.tally
+            → HasTaken L.language s w₀ (W.contents writer.old) before
+            self.old.answers self.old.line self.old.tally
             → OnOk result (HasTaken L.language s w₀ (W.contents writer.new) (before ++ bytes.now)
             self.new.answers self.new.line self.new.tally) }
         ensures stopped { (s : L) (w₀ : Option (List ℕ)) (before : List ℕ)
-            → HasTaken L.language s w₀ (W.contents writer.old) before self.old.answers self.old.line self.old.tally
+            → HasTaken L.language s w₀ (W.contents writer.old) before
+            self.old.answers self.old.line self.old.tally
             → IfErr result (λ fault. HasStoppedIn L.language s fault w₀ (W.contents writer.new)
             (before ++ bytes.now)) }
         ensures cause { IfErr result (λ fault. HasCause fault false (W.failed writer.new)) }
@@ -183,11 +192,13 @@ impl<A: Allocator + Copy, L: Answers<A>> Stream<A, L> {
     /// Answers what is left behind the last line feed: a line, if there is anything.
     fn finish_last<W: Sink>(&mut self, writer: &mut W) -> Result<(), LabFault>
         ensures answered { (s : L) (w₀ : Option (List ℕ)) (bytes : List ℕ)
-            → HasTaken L.language s w₀ (W.contents writer.old) bytes self.old.answers self.old.line self.old.tally
+            → HasTaken L.language s w₀ (W.contents writer.old) bytes
+            self.old.answers self.old.line self.old.tally
             → OnOk result (HasAnswered L.language s w₀ (W.contents writer.new) (lines bytes)
             self.new.answers self.new.tally) }
         ensures stopped { (s : L) (w₀ : Option (List ℕ)) (bytes : List ℕ)
-            → HasTaken L.language s w₀ (W.contents writer.old) bytes self.old.answers self.old.line self.old.tally
+            → HasTaken L.language s w₀ (W.contents writer.old) bytes
+            self.old.answers self.old.line self.old.tally
             → IfErr result (λ fault. HasStopped fault w₀ (W.contents writer.new)
             (replies_to L.language s (lines bytes))) }
         ensures cause { IfErr result (λ fault. HasCause fault false (W.failed writer.new)) }
@@ -202,10 +213,13 @@ impl<A: Allocator + Copy, L: Answers<A>> Stream<A, L> {
     /// The text's end: answers what is left, and the end itself.
     fn end<W: Sink>(&mut self, writer: &mut W) -> Result<(), LabFault>
         ensures written { (s : L) (w₀ : Option (List ℕ)) (bytes : List ℕ)
-            → HasTaken L.language s w₀ (W.contents writer.old) bytes self.old.answers self.old.line self.old.tally
-            → OnOk result (HasWritten w₀ (W.contents writer.new) (text_replies L.language s bytes) self.new.tally) }
+            → HasTaken L.language s w₀ (W.contents writer.old) bytes
+            self.old.answers self.old.line self.old.tally
+            → OnOk result (HasWritten w₀ (W.contents writer.new)
+            (text_replies L.language s bytes) self.new.tally) }
         ensures stopped { (s : L) (w₀ : Option (List ℕ)) (bytes : List ℕ)
-            → HasTaken L.language s w₀ (W.contents writer.old) bytes self.old.answers self.old.line self.old.tally
+            → HasTaken L.language s w₀ (W.contents writer.old) bytes
+            self.old.answers self.old.line self.old.tally
             → IfErr result (λ fault. HasStopped fault w₀ (W.contents writer.new)
             (text_replies L.language s bytes)) }
         ensures cause { IfErr result (λ fault. HasCause fault false (W.failed writer.new)) }
@@ -219,6 +233,9 @@ impl<A: Allocator + Copy, L: Answers<A>> Stream<A, L> {
     }
 }
 
+/// How many bytes one read asks for.
+const CHUNK: usize = 4096;
+
 /// Reads to the reader's end.
 fn read_all<A: Allocator + Copy, L: Answers<A>, R: Feed, W: Sink>(
     stream: &mut Stream<A, L>,
@@ -226,17 +243,22 @@ fn read_all<A: Allocator + Copy, L: Answers<A>, R: Feed, W: Sink>(
     writer: &mut W,
 ) -> Result<(), LabFault>
     ensures read { OnOk result (IsAtEnd (R.remaining reader.new)) }
-    ensures taken { (s : L) → HasTaken L.language s (W.contents writer.old) (W.contents writer.old) []
+    ensures taken { (s : L)
+        → HasTaken L.language s (W.contents writer.old) (W.contents writer.old) []
         stream.old.answers stream.old.line stream.old.tally
         → OnOk result (HasRead L.language s (R.remaining reader.old) (R.remaining reader.new)
-        (W.contents writer.old) (W.contents writer.new) stream.new.answers stream.new.line stream.new.tally) }
-    ensures stands { (s : L) → HasTaken L.language s (W.contents writer.old) (W.contents writer.old) []
+        (W.contents writer.old) (W.contents writer.new)
+        stream.new.answers stream.new.line stream.new.tally) }
+    ensures stands { (s : L)
+        → HasTaken L.language s (W.contents writer.old) (W.contents writer.old) []
         stream.old.answers stream.old.line stream.old.tally
-        → IfErr result (λ fault. IfSome (R.remaining reader.old) (λ text. StandsWritten L.language s fault text
+        → IfErr result (λ fault. IfSome (R.remaining reader.old) (λ text.
+        StandsWritten L.language s fault text
         (R.remaining reader.new) (W.contents writer.old) (W.contents writer.new))) }
-    ensures cause { IfErr result (λ fault. HasCause fault (R.failed reader.new) (W.failed writer.new)) }
+    ensures cause { IfErr result (λ fault.
+        HasCause fault (R.failed reader.new) (W.failed writer.new)) }
 {
-    let mut chunk = [0; 4096];
+    let mut chunk = [0; CHUNK];
     'reads: loop {
         let Ok(count) = reader.read(&mut chunk) else {
             return Err(LabFault::Read);
@@ -258,10 +280,12 @@ pub fn run_text<A: Allocator + Copy, L: Answers<A>, R: Feed, W: Sink>(
 ) -> Result<u64, LabFault>
     ensures read { OnOk result (IsAtEnd (R.remaining reader.new)) }
     ensures text { OnOk result (IfSome (R.remaining reader.old) (λ text.
-        Appends (W.contents writer.old) (W.contents writer.new) (concat (text_replies L.language answers text)))) }
+        Appends (W.contents writer.old) (W.contents writer.new)
+        (concat (text_replies L.language answers text)))) }
     ensures faults { IfOk result (λ faults. IfSome (R.remaining reader.old) (λ text.
         faults ≡ question_count (text_replies L.language answers text))) }
-    ensures cause { IfErr result (λ fault. HasCause fault (R.failed reader.new) (W.failed writer.new)) }
+    ensures cause { IfErr result (λ fault.
+        HasCause fault (R.failed reader.new) (W.failed writer.new)) }
     ensures stands { IfErr result (λ fault. IfSome (R.remaining reader.old) (λ text.
         StandsWritten L.language answers fault text
         (R.remaining reader.new) (W.contents writer.old) (W.contents writer.new))) }
