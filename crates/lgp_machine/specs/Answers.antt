@@ -1,5 +1,5 @@
--- What the machine answers to a press, and when it refuses a word time.
-use Rattle.std.specs.Prelude.{◌≡◌, ℕ, ◌+◌, ◌^◌, ◌<◌, ◌==◌, ◌&&◌, Bool, true, if◌then◌else◌, nat_lt, length, is_some, Result, Ok, Err, IsTrue}
+-- Part of the public promise. What the machine answers to a press, and when it refuses a word time.
+use Rattle.std.specs.Prelude.{◌≡◌, ◌≢◌, ℕ, ◌+◌, ◌^◌, ◌==◌, ◌&&◌, Bool, if◌then◌else◌, nat_lt, length, is_some, Result, Ok, Err, IsTrue}
 use Rattle.lgp_table.specs.Activity.{cost, print_of}
 use Rattle.lgp_table.specs.Console.{is_live}
 use Rattle.lgp_table.specs.Interleaving.{Configuration, is_boundary, latch_limit}
@@ -13,7 +13,7 @@ use Rattle.lgp_machine.specs.declared.fault.TurnFault.TheVariants.{ClockEnd, Mem
 
 -- no word time begins at this clock
 abbrev pub clock_end : ℕ
-clock_end = 4611686018427387904
+clock_end = 2 ^ 62
 
 -- the present clock
 abbrev pub clock_of : Configuration → ℕ
@@ -29,7 +29,7 @@ answer_to_press now action =
     if is_boundary now then (if is_live now.state.core.panel action then Ok Live else Ok Dead)
     else (if nat_lt (length now.kept) latch_limit then Ok Kept else Err Full)
 
--- why a word time may be refused
+-- why a word time may be refused; at the clock's end for no other cause
 abbrev pub RefusedFor : TurnFault → Configuration → Type 0
 RefusedFor ClockEnd now = clock_of now ≡ clock_end
-RefusedFor Memory now = IsTrue (prints_now now)
+RefusedFor Memory now = IsTrue (prints_now now) × (clock_of now ≢ clock_end)

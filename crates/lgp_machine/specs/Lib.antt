@@ -1,5 +1,6 @@
 pub mod Look
 pub mod Answers
+pub mod Marks
 pub use Rattle.lgp_table.specs.State
 pub use Rattle.lgp_table.specs.Activity
 pub use Rattle.lgp_table.specs.Console

@@ -1,4 +1,4 @@
--- What shows at an order boundary.
+-- Part of the public promise. What shows at an order boundary.
 use Rattle.std.specs.Prelude.{if◌then◌else◌, Option, Some, None}
 use Rattle.lgp_table.specs.State.{State}
 use Rattle.lgp_table.specs.Interleaving.{Configuration, is_boundary}

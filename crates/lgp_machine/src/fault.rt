@@ -62,7 +62,7 @@ pub enum RestFault {
 /// Why a tape is refused.
 #[derive(Clone, Copy, Debug, PartialEq, Eq, Error)]
 pub enum MountFault {
-    #[error("the drum is moving")]
+    #[error("the machine is not at rest")]
     Moving,
     #[error("the tape has more than 1048576 codes")]
     TooLong,
@@ -71,6 +71,6 @@ pub enum MountFault {
 /// Why a word is not put on the drum.
 #[derive(Clone, Copy, Debug, PartialEq, Eq, Error)]
 pub enum PutFault {
-    #[error("the drum is moving")]
+    #[error("the machine is not at rest")]
     Moving,
 }

@@ -1,3 +1,5 @@
+//! What shows at an order boundary.
+
 use lgp_table::{Mode, Status, Switches};
 use lgp_word::{Address, Word};
 

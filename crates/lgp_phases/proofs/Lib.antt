@@ -1,2 +1,4 @@
 pub mod Bounds
 pub mod Rest
+pub mod DecodedLemmas
+pub mod ShortLemmas

@@ -1,16 +1,20 @@
-//! The LGP-30's processor: one activity, from an order boundary to the next, word time by word time.
+//! The LGP-30's processor: one activity, from an order boundary to the next, word time by word time or in one call.
 #![tactic(auto)]
 
-mod finish;
-pub mod forecast;
-pub mod outcome;
-mod perform;
-pub mod phase;
-pub mod processor;
+mod activity;
+mod decoded;
+pub mod laws;
+mod orders;
+mod outcome;
+mod phase;
+mod processor;
+mod short_order;
+mod times;
 
-pub use forecast::ahead;
 pub use outcome::{Ahead, Outcome, Progress};
 pub use processor::Processor;
+pub use short_order::ShortOrder;
+pub use times::ahead;
 
 #[cfg(test)]
 mod tests;

@@ -1,14 +1,15 @@
 //! The phases of an activity.
 
-ghost use Rattle.std.specs.Prelude.{◌≡◌, ◌≢◌, ◌+◌, ◌*◌, ◌%◌, ◌^◌, ◌<◌, ◌≤◌, ◌↔◌, if◌then◌else◌, IsNone, IfSome, IsTrue, false, ◌==◌};
+ghost use Rattle.std.specs.Prelude.{◌≡◌, ℕ, ◌≢◌, ◌+◌, ◌*◌, ◌%◌, ◌^◌, ◌<◌, ◌≤◌, ◌↔◌, if◌then◌else◌, IsNone, IfSome, IsTrue, false, ◌==◌};
 ghost use Rattle.lgp_word.specs.Address.{sector_of};
 ghost use Rattle.lgp_word.specs.Drum.{position_of, position_under_head};
 ghost use Rattle.lgp_word.specs.Order.{address_at, op_at};
 ghost use Rattle.lgp_table.specs.State.{core_of};
 ghost use Rattle.lgp_table.specs.Wait.{wait};
-ghost use Rattle.lgp_phases.specs.Latch.{remaining};
+ghost use Rattle.lgp_phases.specs.ProcessorInside.{remaining};
 ghost use Rattle.lgp_table.specs.Activity.{act_time, cost_at, rest_time, seek_time};
 
+use crate::times::act_time;
 use lgp_drum::Drum;
 use lgp_reader::Reader;
 use lgp_table::{Panel, Status};
@@ -42,50 +43,11 @@ fn is_under_head(sector: u16, clock: u64) -> bool
 
 /// Whether an order waits for the sector of its address.
 #[tactic(auto, unfolding(lgp_table::specs::Activity::seek_time))]
-fn seeks(op: Op, address: Address, clock: u64) -> bool
-    ensures time { seek_time op address clock ≡ (if result then wait (sector_of address) clock else 1) }
-    ensures later { seek_time op address (clock + 1) ≡ (if result then wait (sector_of address) (clock + 1) else 1) }
+fn seeks(op: Op) -> bool
+    ensures { (address clock : ℕ)
+        → seek_time op address clock ≡ (if result then wait (sector_of address) clock else 1) }
 {
-    let _clock = clock;
-    let _address = address.sector();
     !matches!(op, Op::Z | Op::I | Op::P | Op::U | Op::T)
-}
-
-/// How many word times pass until the sector has been read, from so many word times after this clock.
-pub fn wait(sector: u16, clock: u64, after: u64) -> u64
-    requires sector { sector < 64 }
-    requires after { after < 2 ^ 32 }
-    ensures wait { result ≡ wait sector (clock + after) }
-    ensures range { result ≤ 64 }
-{
-    1 + (9 * u64::from(sector) + 63 * (clock % 64 + after + 1)) % 64
-}
-
-/// The word times of an order's third phase, from so many word times after this clock.
-#[tactic(auto, unfolding(lgp_table::specs::Activity::seek_time))]
-pub fn seek_time(op: Op, address: Address, clock: u64, after: u64) -> u64
-    requires { after < 2 ^ 32 }
-    ensures time { result ≡ seek_time op address (clock + after) }
-    ensures range { result ≤ 64 }
-{
-    match op {
-        Op::Z | Op::I | Op::P | Op::U | Op::T => 1,
-        _ => wait(address.sector(), clock, after),
-    }
-}
-
-/// The word times of an order's last phase.
-#[tactic(auto, unfolding(lgp_table::specs::Activity::act_time))]
-pub fn act_time<A: Allocator>(op: Op, address: Address, reader: &Reader<A>) -> u64
-    ensures time { result ≡ act_time op address reader.now }
-    ensures short { result ≤ 402653185 }
-{
-    match op {
-        Op::M | Op::N | Op::D => 65,
-        Op::P if address.track() != 0 => 385,
-        Op::I => 1 + 384 * reader.passing() as u64,
-        _ => 1,
-    }
 }
 
 /// The phase in which the activity begins that the panel asks for.
@@ -122,8 +84,10 @@ pub fn next_phase<A: Allocator>(
 ) -> Option<Phase>
     requires begun { phase.now ≢ Phase.Idle }
     requires more { 0 < remaining phase.now (core_of panel.now drum.now reader.now) clock }
-    ensures last { IsNone result ↔ (remaining phase.now (core_of panel.now drum.now reader.now) clock ≡ 1) }
-    ensures time { IfSome result (λ next. remaining next (core_of panel.now drum.now reader.now) (clock + 1) + 1
+    ensures last { IsNone result
+        ↔ (remaining phase.now (core_of panel.now drum.now reader.now) clock ≡ 1) }
+    ensures time { IfSome result (λ next.
+        remaining next (core_of panel.now drum.now reader.now) (clock + 1) + 1
         ≡ remaining phase.now (core_of panel.now drum.now reader.now) clock) }
     ensures begun { IfSome result (λ next. next ≢ Phase.Idle) }
 {
@@ -140,7 +104,7 @@ pub fn next_phase<A: Allocator>(
         Phase::Decode(word) => Some(Phase::Seek(word)),
         Phase::Seek(word) => {
             let (_, op, address) = parts(word);
-            if seeks(op, address, clock) && !is_under_head(address.sector(), clock) {
+            if seeks(op) && !is_under_head(address.sector(), clock) {
                 Some(Phase::Seek(word))
             } else {
                 Some(Phase::Act(act_time(op, address, reader)))

@@ -1,20 +1,19 @@
-//! What an activity will cost and print.
+//! Times: waits, what the phases of an order take, and what an activity will cost and print.
 
-ghost use Rattle.std.specs.Prelude.{◌≡◌, ◌+◌, ◌^◌, ◌<◌};
+ghost use Rattle.std.specs.Prelude.{◌≡◌, ◌+◌, ◌^◌, ◌<◌, ◌≤◌};
 ghost use Rattle.lgp_word.specs.Address.{sector_of};
 ghost use Rattle.lgp_flexo.specs.Tape.{Tape};
 ghost use Rattle.lgp_table.specs.State.{Core, core_of};
 ghost use Rattle.lgp_table.specs.Rows.{effect_of};
 ghost use Rattle.lgp_table.specs.Wait.{wait};
-ghost use Rattle.lgp_table.specs.Activity.{cost_at, print_of, rest_time};
+ghost use Rattle.lgp_table.specs.Activity.{act_time, cost_at, print_of, rest_time, seek_time};
 
 use crate::outcome::Ahead;
-use crate::phase::{act_time, seek_time, wait};
 use lgp_drum::Drum;
 use lgp_flexo::Code;
 use lgp_reader::Reader;
 use lgp_table::{Panel, Status};
-use lgp_word::{Op, Word, parts};
+use lgp_word::{Address, Op, Word, parts};
 use std::alloc::Allocator;
 
 /// What the activity will cost and print that begins with these registers, drum and reader at this clock.
@@ -26,6 +25,43 @@ pub fn ahead<A: Allocator>(panel: &Panel, drum: &Drum<A>, reader: &Reader<A>, cl
     Ahead {
         cost: cost(panel, drum, reader, clock),
         prints: prints(panel, drum),
+    }
+}
+
+/// How many word times pass until the sector has been read, from so many word times after this clock.
+pub fn wait(sector: u16, clock: u64, after: u64) -> u64
+    requires sector { sector < 64 }
+    requires after { after < 2 ^ 32 }
+    ensures wait { result ≡ wait sector (clock + after) }
+    ensures range { result ≤ 64 }
+{
+    1 + (9 * u64::from(sector) + 63 * (clock % 64 + after + 1)) % 64
+}
+
+/// The word times of an order's third phase, from so many word times after this clock.
+#[tactic(auto, unfolding(lgp_table::specs::Activity::seek_time))]
+pub fn seek_time(op: Op, address: Address, clock: u64, after: u64) -> u64
+    requires { after < 2 ^ 32 }
+    ensures time { result ≡ seek_time op address (clock + after) }
+    ensures range { result ≤ 64 }
+{
+    match op {
+        Op::Z | Op::I | Op::P | Op::U | Op::T => 1,
+        _ => wait(address.sector(), clock, after),
+    }
+}
+
+/// The word times of an order's last phase.
+#[tactic(auto, unfolding(lgp_table::specs::Activity::act_time))]
+pub fn act_time<A: Allocator>(op: Op, address: Address, reader: &Reader<A>) -> u64
+    ensures time { result ≡ act_time op address reader.now }
+    ensures short { result ≤ 402653185 }
+{
+    match op {
+        Op::M | Op::N | Op::D => 65,
+        Op::P if address.track() != 0 => 385,
+        Op::I => 1 + 384 * reader.passing() as u64,
+        _ => 1,
     }
 }
 
