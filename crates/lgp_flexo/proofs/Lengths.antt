@@ -3,7 +3,7 @@ use Rattle.std.proofs.Common.{ℕ, suc, ◌+◌, ◌≤◌, ◌==◌, ◌&&◌, 
 use Rattle.std.specs.Option.{option_map}
 use Rattle.std.specs.Str.{byte}
 use Rattle.lgp_flexo.specs.Code.{code_at}
-use Rattle.lgp_flexo.specs.TapeText.{code_of_group, codes_of_sign, codes_of_text, is_line_end, joined, lone, text_from}
+use Rattle.lgp_flexo.specs.TapeText.{code_of_group, codes_of_sign, codes_of_text, is_line_end, joined, single, text_from}
 
 IsShort : Result (List ℕ) ℕ → ℕ → Type 0
 IsShort r n = IfOk r (λ codes. length codes ≤ n)
@@ -12,15 +12,15 @@ IsShort r n = IfOk r (λ codes. length codes ≤ n)
 abbrev One : Option (List ℕ) → Type 0
 One piece = IfSome piece (λ codes. length codes ≤ 1)
 
-One-lone : (o : Option ℕ) → One (option_map lone o)
-One-lone None = tt
-One-lone (Some code) = omega arith
+One-single : (o : Option ℕ) → One (option_map single o)
+One-single None = tt
+One-single (Some code) = omega arith
 
 One-codes_of_sign : (sign : ℕ) → One (codes_of_sign sign)
 One-codes_of_sign sign = by_end (is_line_end sign) where
-  by_end : (b : Bool) → One (cond b (Some []) (option_map lone (code_at sign)))
+  by_end : (b : Bool) → One (cond b (Some []) (option_map single (code_at sign)))
   by_end true = omega arith
-  by_end false = One-lone (code_at sign)
+  by_end false = One-single (code_at sign)
 
 longer : (r : Result (List ℕ) ℕ) (m n : ℕ) → m ≤ n → IsShort r m → IsShort r n
 unfolding IsShort
@@ -49,8 +49,8 @@ text_from-short place (a ∷ []) = joined-short place (codes_of_sign a) (text_fr
 text_from-short place (a ∷ b ∷ []) = joined-short place (codes_of_sign a) (text_from (place + 1) (b ∷ [])) 1 (One-codes_of_sign a) (text_from-short (place + 1) (b ∷ []))
 text_from-short place (a ∷ b ∷ c ∷ []) = joined-short place (codes_of_sign a) (text_from (place + 1) (b ∷ c ∷ [])) 2 (One-codes_of_sign a) (text_from-short (place + 1) (b ∷ c ∷ []))
 text_from-short place (a ∷ b ∷ c ∷ d ∷ rest) =
-    either-short ((a == byte "[") && (d == byte "]")) place (length rest) (option_map lone (code_of_group b c)) (codes_of_sign a) (text_from (place + 4) rest) (text_from (place + 1) (b ∷ c ∷ d ∷ rest))
-    (One-lone (code_of_group b c)) (One-codes_of_sign a) (text_from-short (place + 4) rest) (text_from-short (place + 1) (b ∷ c ∷ d ∷ rest))
+    either-short ((a == byte "[") && (d == byte "]")) place (length rest) (option_map single (code_of_group b c)) (codes_of_sign a) (text_from (place + 4) rest) (text_from (place + 1) (b ∷ c ∷ d ∷ rest))
+    (One-single (code_of_group b c)) (One-codes_of_sign a) (text_from-short (place + 4) rest) (text_from-short (place + 1) (b ∷ c ∷ d ∷ rest))
 
 pub codes_of_text-short : (text : List ℕ) → IfOk (codes_of_text text) (λ codes. length codes ≤ length text)
 unfolding IsShort

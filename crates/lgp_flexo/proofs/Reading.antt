@@ -4,7 +4,7 @@ use Rattle.std.specs.Option.{option_map}
 use Rattle.std.specs.Str.{byte}
 use Rattle.std.proofs.Math.ListN.{drop_of_length-le}
 use Rattle.std.proofs.lemmas.List.{drop-drop, take_rest}
-use Rattle.lgp_flexo.specs.TapeText.{before, code_of_group, codes_of_sign, joined, lone, text_from}
+use Rattle.lgp_flexo.specs.TapeText.{before, code_of_group, codes_of_sign, joined, single, text_from}
 use Rattle.lgp_flexo.specs.PiecesInside.{first_codes, piece_length, rest_from}
 
 -- this many codes in front of what follows
@@ -27,8 +27,8 @@ text_from-piece place (a ∷ b ∷ []) some = refl
 text_from-piece place (a ∷ b ∷ c ∷ []) some = refl
 text_from-piece place (a ∷ b ∷ c ∷ d ∷ rest) some = by_group ((a == byte "[") && (d == byte "]")) where
   by_group : (t : Bool)
-      → cond t (joined place (option_map lone (code_of_group b c)) (text_from (place + 4) rest)) (joined place (codes_of_sign a) (text_from (place + 1) (b ∷ c ∷ d ∷ rest)))
-      ≡ joined place (cond t (option_map lone (code_of_group b c)) (codes_of_sign a)) (text_from (place + cond t 4 1) (drop (cond t 4 1) (a ∷ b ∷ c ∷ d ∷ rest)))
+      → cond t (joined place (option_map single (code_of_group b c)) (text_from (place + 4) rest)) (joined place (codes_of_sign a) (text_from (place + 1) (b ∷ c ∷ d ∷ rest)))
+      ≡ joined place (cond t (option_map single (code_of_group b c)) (codes_of_sign a)) (text_from (place + cond t 4 1) (drop (cond t 4 1) (a ∷ b ∷ c ∷ d ∷ rest)))
   by_group true = refl
   by_group false = refl
 

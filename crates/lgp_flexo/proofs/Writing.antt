@@ -5,7 +5,7 @@ use Rattle.std.proofs.lemmas.Bool.{cases_lt, eqb-true, false≢true, not-true}
 use Rattle.std.specs.Option.{option_map}
 use Rattle.lgp_flexo.proofs.Reading.{before-before}
 use Rattle.lgp_flexo.specs.Code.{sign_at, code_at}
-use Rattle.lgp_flexo.specs.TapeText.{before, code_of_group, codes_of_sign, codes_of_text, joined, lone, sign_or_group, text_from, written_code}
+use Rattle.lgp_flexo.specs.TapeText.{before, code_of_group, codes_of_sign, codes_of_text, joined, single, sign_or_group, text_from, written_code}
 use Rattle.lgp_word.specs.Decimal.{decimal_digit, decimal_number, decimal_of, is_decimal}
 
 -- a test of each number below one
@@ -66,7 +66,7 @@ text_from-sign place sign (a ∷ b ∷ []) no_bracket = refl
 text_from-sign place sign (a ∷ b ∷ c ∷ rest) no_bracket = rw no_bracket refl
 
 codes_of_sign-written : (code sign : ℕ) → ((eqb sign 10) || (eqb sign 13)) ≡ false → is_piece code (code_at sign) ≡ true → codes_of_sign sign ≡ Some (code ∷ [])
-codes_of_sign-written code sign no_line one = rw no_line (ap (option_map lone) (found-code code (code_at sign) one))
+codes_of_sign-written code sign no_line one = rw no_line (ap (option_map single) (found-code code (code_at sign) one))
 
 -- a text reads back: with more behind it, it stands for these codes in front of what that stands for
 abbrev pub ReadsBack : List ℕ → List ℕ → Type 0
@@ -82,7 +82,7 @@ ReadsBack-piece code (Some sign) small h = λ following place.
     text_from-sign place sign following (not-true bracket tests.0)
     ∙ ap (λ p. joined place p (text_from (place + 1) following)) (codes_of_sign-written code sign (not-true line tests.1) parts.1)
 ReadsBack-piece code None small h = λ following place.
-    ap (λ p. joined place (option_map lone p) (text_from (place + 4) following)) (group-written code small)
+    ap (λ p. joined place (option_map single p) (text_from (place + 4) following)) (group-written code small)
 
 -- nothing reads back as nothing
 before-nothing : (place : ℕ) (following : List ℕ) → text_from place following ≡ before [] (text_from place following)

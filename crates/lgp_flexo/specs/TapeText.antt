@@ -35,15 +35,15 @@ abbrev pub code_of_group : ℕ → ℕ → Option ℕ
 code_of_group tens units = option_and_then code_of_number (decimal_number 2 (tens ∷ units ∷ []))
 
 -- a code as the codes of a piece of text
-abbrev pub lone : ℕ → List ℕ
-lone code = code ∷ []
+abbrev pub single : ℕ → List ℕ
+single code = code ∷ []
 
 -- what a sign by itself stands for: nothing at a line's end (a line feed or a carriage return), else its code
 abbrev pub is_line_end : ℕ → Bool
 is_line_end sign = (sign == 10) || (sign == 13)
 
 abbrev pub codes_of_sign : ℕ → Option (List ℕ)
-codes_of_sign sign = if is_line_end sign then Some [] else option_map lone (code_at sign)
+codes_of_sign sign = if is_line_end sign then Some [] else option_map single (code_at sign)
 
 -- these codes in front of what follows
 abbrev pub before : List ℕ → Result (List ℕ) ℕ → Result (List ℕ) ℕ
@@ -60,7 +60,7 @@ joined place (Some codes) following = before codes following
 unfoldable pub text_from : ℕ → List ℕ → Result (List ℕ) ℕ
 text_from place (sign ∷ tens ∷ units ∷ close ∷ bytes) =
     if (sign == byte "[") && (close == byte "]")
-    then joined place (option_map lone (code_of_group tens units)) (text_from (place + 4) bytes)
+    then joined place (option_map single (code_of_group tens units)) (text_from (place + 4) bytes)
     else joined place (codes_of_sign sign) (text_from (place + 1) (tens ∷ units ∷ close ∷ bytes))
 text_from place (sign ∷ bytes) = joined place (codes_of_sign sign) (text_from (place + 1) bytes)
 text_from place [] = Ok []

@@ -6,8 +6,8 @@ use Rattle.std.specs.List.{list_all}
 use Rattle.std.specs.Str.{byte}
 
 -- so many digits stand for a number of 64 bits
-abbrev pub digit_limit : ℕ
-digit_limit = 18
+abbrev pub readable_digits : ℕ
+readable_digits = 18
 
 -- the digit of a value from 0 to 9, and the value of a digit
 abbrev pub decimal_digit : ℕ → ℕ
