@@ -15,7 +15,7 @@ pub struct Names<'a, A: Allocator> {
 
 impl<'a, A: Allocator> Model for Names<'a, A> {
     ghost use Rattle.std.specs.Prelude.{List, ℕ};
-    ghost use Rattle.lgp_assembler.specs.NameTable.{names_seen};
+    ghost use Rattle.lgp_assembler.specs.NameTableInside.{names_seen};
 
     ghost Value = { List (List ℕ × ℕ) };
 
