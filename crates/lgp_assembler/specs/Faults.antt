@@ -1,4 +1,4 @@
--- The faults of a source: this project's own choice.
+-- Part of the public promise: the faults of a source. This project's own choice.
 use Rattle.std.specs.Prelude.{ℕ, ◌+◌, ◌&&◌, ◌||◌, not, nat_lt, Bool, true, false, if◌then◌else◌, find, List, [], ◌∷◌, ◌++◌, length, Option, None, Some, Result, Ok, Err, is_some, is_none, option_map, option_to_list}
 use Rattle.std.specs.Str.{bytes_eq}
 use Rattle.std.specs.Map.{lookup}

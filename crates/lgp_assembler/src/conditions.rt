@@ -111,7 +111,8 @@ fn first_kind(rows: &[(bool, FaultKind)]) -> Option<FaultKind>
     rows.iter().find(|row| row.0).map(|row| row.1)
 }
 
-/// The fault of the line that comes, by its place, whether that is taken, and what its operands stand for.
+/// The fault of the line that comes, by its place, whether that is taken, and what its operands stand
+/// for.
 pub fn fault_of<'a, A: Allocator>(
     scan: &Scan<'a, A>,
     fields: &Fields<'a>,
@@ -120,7 +121,8 @@ pub fn fault_of<'a, A: Allocator>(
     meaning: &Result<Meaning, OperandFault>,
 ) -> Option<FaultKind>
     ensures { let line = fields_seen fields.now in
-        result ≡ spec.first_kind (spec.rows line meaning.now place scan.now.ended scan.now.names is_taken) }
+        result ≡ spec.first_kind
+        (spec.rows line meaning.now place scan.now.ended scan.now.names is_taken) }
 {
     let has_word = fields.has_word();
     first_kind(&[

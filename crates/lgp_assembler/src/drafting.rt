@@ -23,8 +23,8 @@ use lgp_source::Lines;
 use lgp_word::{Address, Word};
 use std::alloc::{AllocError, Allocator};
 
-/// What the lines so far have given: their faults, and while there are none their words, their start and
-/// their names.
+/// What the lines so far have given: their faults, and while there are none their words, their start
+/// and their names.
 #[derive(Drop)]
 pub struct Draft<A: Allocator> {
     /// For each place of the drum whether a word lies there.
@@ -104,21 +104,26 @@ impl<A: Allocator> Draft<A> {
     ) -> Result<(), AllocError>
         ensures taken { OnOk result (self.new.taken.items ≡ (if has_word (fields_seen fields.now)
             then slice_set self.old.taken.items place true else self.old.taken.items)) }
-        ensures faults { let line = fields_seen fields.now in let meaning = line_meaning names.now place line in
-            let kind = kept_fault line meaning place scan.now.ended scan.now.names self.old.taken.items in
-            OnOk result (self.new.faults.items
-            ≡ self.old.faults.items ++ option_to_list (option_map (numbered_fault line.number) kind)) }
+        ensures faults { let line = fields_seen fields.now in
+            let meaning = line_meaning names.now place line in
+            let taken = self.old.taken.items in
+            let kind = kept_fault line meaning place scan.now.ended scan.now.names taken in
+            let more = option_to_list (option_map (numbered_fault line.number) kind) in
+            OnOk result (self.new.faults.items ≡ self.old.faults.items ++ more) }
         ensures cells { let meaning = line_meaning names.now place (fields_seen fields.now) in
+            let more = option_to_list (spec.cell_at place meaning) in
             OnOk result (self.new.faults.items ≡ [] → CellFits place meaning
-            → self.new.cells.items ≡ self.old.cells.items ++ option_to_list (spec.cell_at place meaning)) }
+            → self.new.cells.items ≡ self.old.cells.items ++ more) }
         ensures words { let meaning = line_meaning names.now place (fields_seen fields.now) in
             OnOk result (self.new.faults.items ≡ [] → IfCell meaning IsWord) }
         ensures start { let meaning = line_meaning names.now place (fields_seen fields.now) in
+            let start = spec.start_at fields.now.operation meaning in
             OnOk result (self.new.faults.items ≡ []
-            → self.new.start ≡ option_or self.old.start (spec.start_at fields.now.operation meaning)) }
+            → self.new.start ≡ option_or self.old.start start) }
         ensures symbols { let label = option_copied fields.now.label in
+            let more = option_to_list (symbol_at label place) in
             OnOk result (self.new.faults.items ≡ [] → SymbolFits label place
-            → self.new.symbols.items ≡ self.old.symbols.items ++ option_to_list (symbol_at label place)) }
+            → self.new.symbols.items ≡ self.old.symbols.items ++ more) }
     {
         let meaning = line_meaning(names, place, fields);
         let is_taken = is_marked(&self.taken, place);

@@ -54,7 +54,8 @@ fn image_or_faults<A: Allocator>(draft: Draft<A>) -> Result<Image<A>, AssembleEr
       symbols = draft.symbols.items;
     }) }
     ensures faultless { OnOk result (draft.faults.items ≡ []) }
-    ensures faults { IfErr result (λ error. IfFaults error (λ faults. faults ≡ draft.faults.items)) }
+    ensures faults { IfErr result (λ error.
+        IfFaults error (λ faults. faults ≡ draft.faults.items)) }
     ensures faulty { IfErr result (λ error. IfFaults error (λ faults. faults ≢ [])) }
 {
     let Draft {
@@ -75,7 +76,8 @@ fn image_or_faults<A: Allocator>(draft: Draft<A>) -> Result<Image<A>, AssembleEr
 pub fn assemble<A: Allocator + Copy>(alloc: A, source: &[u8]) -> Result<Image<A>, AssembleError<A>>
     ensures image { IfOk result (λ image. image ≡ image_of source.now) }
     ensures faultless { OnOk result (faults_of source.now ≡ []) }
-    ensures faults { IfErr result (λ error. IfFaults error (λ faults. faults ≡ faults_of source.now)) }
+    ensures faults { IfErr result (λ error.
+        IfFaults error (λ faults. faults ≡ faults_of source.now)) }
     ensures faulty { IfErr result (λ error. IfFaults error (λ faults. faults ≢ [])) }
 {
     let scan = scan_source(alloc, source)?;

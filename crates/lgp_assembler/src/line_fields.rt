@@ -29,7 +29,8 @@ pub struct Fields<'a> {
 
 /// The text of a token.
 fn token_text<'a>(token: Option<Token<'a>>) -> Option<&'a [u8]>
-    ensures { option_copied result ≡ option_map spec.token_text (option_map token_seen token.entry) }
+    ensures { option_copied result
+        ≡ option_map spec.token_text (option_map token_seen token.entry) }
 {
     match token {
         Some(token) => Some(token.text),
@@ -102,8 +103,8 @@ impl<'a> Fields<'a> {
     }
 }
 
-/// Whether a line's operation makes a word: an order, `-t`, `word`, `frac` or `int`, whatever else is
-/// wrong with the line. In a source without a fault these are the lines that have a cell.
+/// Whether a line's operation makes a word: an order, `-t`, `word`, `frac` or `int`, whatever else
+/// is wrong with the line. In a source without a fault these are the lines that have a cell.
 pub fn has_word(line: &Line) -> bool
     ensures { result ≡ places.has_word (spec.fields_of (line_seen line.now)) }
 {

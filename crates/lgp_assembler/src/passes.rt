@@ -43,8 +43,8 @@ fn add_label<'a, A: Allocator + Clone>(
     place: u64,
     ended: bool,
 ) -> Result<(), AllocError>
-    ensures { OnOk result (names.new
-        ≡ names.old ++ option_to_list (spec.new_label (option_copied label.entry) place ended names.old)) }
+    ensures { let new = spec.new_label (option_copied label.entry) place ended names.old in
+        OnOk result (names.new ≡ names.old ++ option_to_list new) }
 {
     let Some(label) = label else {
         return Ok(());
@@ -74,9 +74,11 @@ impl<'a, A: Allocator + Clone> Scan<'a, A> {
         requires place { place + 1 < 2 ^ 64 }
         requires lines { self.old.lines + 1 < 2 ^ 64 }
         ensures lines { OnOk result (self.new.lines ≡ self.old.lines + 1) }
-        ensures names { let label = spec.new_label (option_copied fields.now.label) place self.old.ended self.old.names in
-            OnOk result (self.new.names ≡ self.old.names ++ option_to_list label) }
-        ensures place { OnOk result (self.new.place ≡ place + spec.word_count (fields_seen fields.now)) }
+        ensures names { let label = option_copied fields.now.label in
+            let new = spec.new_label label place self.old.ended self.old.names in
+            OnOk result (self.new.names ≡ self.old.names ++ option_to_list new) }
+        ensures place { let words = spec.word_count (fields_seen fields.now) in
+            OnOk result (self.new.place ≡ place + words) }
         ensures ended { OnOk result
             (self.new.ended ≡ (spec.is_end fields.now.operation || self.old.ended)) }
     {
@@ -109,7 +111,8 @@ pub fn scan_source<'a, A: Allocator + Copy>(
     alloc: A,
     source: &'a [u8],
 ) -> Result<Scan<'a, A>, AllocError>
-    ensures stands { IfOk result (λ scan. Stands scan.lines scan.place scan.ended scan.names (all_lines source.now)) }
+    ensures stands { IfOk result (λ scan.
+        Stands scan.lines scan.place scan.ended scan.names (all_lines source.now)) }
     ensures few { IfOk result (λ scan. scan.lines < 2 ^ 63) }
 {
     let mut scan = Scan::new(alloc);
