@@ -194,7 +194,7 @@ fn stop_length(codes: &[Code]) -> usize
     ensures within { result ≤ length codes.now }
 {
     for (place, code) in codes.iter().enumerate() {
-        if code.number() == 32 {
+        if *code == Code::STOP {
             return place + 1;
         }
     }
@@ -212,7 +212,7 @@ fn pass_codes<A: Allocator>(reader: &mut Reader<A>, six_bit: bool, mut accumulat
     } }
 {
     while let Some(code) = reader.pass() {
-        if code.number() == 32 {
+        if code == Code::STOP {
             return Input {
                 accumulator,
                 done: true,

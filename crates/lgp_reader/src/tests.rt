@@ -1,6 +1,7 @@
 use crate::{Input, Reader};
 use lgp_flexo::{Code, TAPE_LIMIT, read_tape_text};
 use linked_list_allocator::LocalHeap;
+use std::alloc::Allocator;
 use std::test::Fail;
 
 #[test]
@@ -106,5 +107,46 @@ fn a_refused_copy_changes_nothing(rt: HostRuntime) -> Result<(), Fail> {
     assert!(rt; copy.is_on());
     assert_eq!(rt; copy.pass(), Code::new(10));
     assert_eq!(rt; reader.left().len(), 1);
+    Ok(())
+}
+
+/// How many codes have passed and how many are left.
+fn counts<A: Allocator>(reader: &Reader<A>) -> (usize, usize) {
+    (reader.passed().len(), reader.left().len())
+}
+
+#[test]
+fn a_tape_goes_back(rt: HostRuntime) -> Result<(), Fail> {
+    let mut reader = Reader::new(rt.alloc());
+    assert!(rt; reader.mount(read_tape_text(rt.alloc(), b"12'3")?).is_ok());
+    assert_eq!(rt; counts(&reader), (0, 4));
+    reader.start();
+    reader.pass_input(false, 0);
+    assert_eq!(rt; counts(&reader), (3, 1));
+    assert_eq!(rt; reader.passed()[0].number(), 6);
+    assert!(rt; !reader.back_up(4));
+    assert_eq!(rt; counts(&reader), (3, 1));
+    assert!(rt; reader.back_up(2));
+    assert_eq!(rt; counts(&reader), (1, 3));
+    assert_eq!(rt; reader.pass(), Code::new(10));
+    let copy = reader.copy()?;
+    assert_eq!(rt; counts(&copy), (2, 2));
+    assert!(rt; reader.mount(read_tape_text(rt.alloc(), b"ab")?).is_ok());
+    assert_eq!(rt; counts(&reader), (0, 2));
+    Ok(())
+}
+
+#[test]
+fn a_tape_is_set_within_itself(rt: HostRuntime) -> Result<(), Fail> {
+    let mut reader = Reader::new(rt.alloc());
+    reader.start();
+    let tape = read_tape_text(rt.alloc(), b"12'3")?;
+    if tape.len() != 4 {
+        return Err(Fail::from("not four codes"));
+    }
+    reader.set(tape, 3);
+    assert_eq!(rt; counts(&reader), (3, 1));
+    assert!(rt; reader.is_on());
+    assert_eq!(rt; reader.pass(), Code::new(14));
     Ok(())
 }
