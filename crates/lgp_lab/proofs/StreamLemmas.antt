@@ -157,8 +157,8 @@ pub HasAnswered-none : {S : Type 0} (language : Language S) (s : S) (w₀ w : Op
     → (taken : HasTaken language s w₀ w bytes state line tally) → eqb (length taken.piece) 0 ≡ true → HasAnswered language s w₀ w (lines bytes) state tally
 HasAnswered-none language s w₀ w bytes state line tally taken none =
     let all : lines bytes ≡ taken.complete =
-        IsCut-lines bytes taken.complete taken.piece taken.is_cut
-        ∙ (ap (λ (empty : Bool). taken.complete ++ cond empty [] (taken.piece ∷ [])) none ∙ append-nil taken.complete) in
+    IsCut-lines bytes taken.complete taken.piece taken.is_cut
+    ∙ (ap (λ (empty : Bool). taken.complete ++ cond empty [] (taken.piece ∷ [])) none ∙ append-nil taken.complete) in
     rw all taken.answered
 
 pub lines-last : {S : Type 0} (language : Language S) (s : S) (w₀ w : Option (List ℕ)) (bytes : List ℕ) (state : S) (line : Open) (tally : Tally)

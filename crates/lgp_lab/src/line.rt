@@ -22,9 +22,9 @@ impl Model for Bytes {
     ghost Value = { Kept };
 
     ghost view = { λ bytes. record {
-        front = bytes.front.items;
-        longer = bytes.longer;
-        blank = bytes.blank;
+      front = bytes.front.items;
+      longer = bytes.longer;
+      blank = bytes.blank;
     } };
 }
 

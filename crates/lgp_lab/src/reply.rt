@@ -23,7 +23,7 @@ use std::alloc::{AllocError, Allocator};
 pub enum Refusal {
     /// There is no such command, or its operands are not in form.
     Form,
-    /// A put or a mount while the drum is moving.
+    /// A put or a mount while the machine is not at rest.
     Moving,
     /// Word times at rest while the machine is at work.
     AtWork,

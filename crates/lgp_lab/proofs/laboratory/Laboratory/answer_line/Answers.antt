@@ -34,7 +34,7 @@ returns-in-Some-clause-reply g c = λ text kept.
     let some : command_of c.args.line.now.front ≡ Some c.in-Some.command = search rules in
     let behind : c.text_behind.result.now ≡ text_behind c.args.line.now.front = search rules in
     let same : answer_to c.args.self.now c.in-Some.command c.text_behind.result.now ≡ answer_to_line c.args.self.now text =
-        rw behind (sym (answer_some c.args.self.now c.args.line.now text c.in-Some.command kept short some)) in
+    rw behind (sym (answer_some c.args.self.now c.args.line.now text c.in-Some.command kept short some)) in
     IfOk-weaker c.perform_command.result
     (λ reply. reply ≡ (answer_to c.args.self.now c.in-Some.command c.text_behind.result.now).reply)
     (λ reply. reply ≡ (answer_to_line c.args.self.now text).reply) (λ reply is. is ∙ ap (λ (answer : Answer). answer.reply) same) c.perform_command.ensures.reply
@@ -45,5 +45,5 @@ returns-in-Some-clause-state g c = λ text kept.
     let some : command_of c.args.line.now.front ≡ Some c.in-Some.command = search rules in
     let behind : c.text_behind.result.now ≡ text_behind c.args.line.now.front = search rules in
     let same : answer_to c.args.self.now c.in-Some.command c.text_behind.result.now ≡ answer_to_line c.args.self.now text =
-        rw behind (sym (answer_some c.args.self.now c.args.line.now text c.in-Some.command kept short some)) in
+    rw behind (sym (answer_some c.args.self.now c.args.line.now text c.in-Some.command kept short some)) in
     on_ok_weaker c.perform_command.result (λ is. is ∙ ap (λ (answer : Answer). answer.state) same) c.perform_command.ensures.state

@@ -21,8 +21,8 @@ returns-clause-reply g c = λ text kept.
     let other : is_passed_over text ≡ false = sym (c.is_passed_over.ensures text kept) ∙ c.if-is_passed_over.false in
     let state : c.self.inside.machine.state ≡ (answer_to_line c.args.self.now text).state = c.self.view_is ∙ c.in_ok-answer.ensures.state text kept in
     let written : reply_text c.self.inside.machine.state c.in_ok-answer.answer ≡ reply_to_line c.args.self.now text =
-        ap (λ s. reply_text s c.in_ok-answer.answer) state
-        ∙ (ap (reply_text (answer_to_line c.args.self.now text).state) (c.in_ok-answer.ensures.reply text kept) ∙ sym (reply_answered c.args.self.now text other)) in
+    ap (λ s. reply_text s c.in_ok-answer.answer) state
+    ∙ (ap (reply_text (answer_to_line c.args.self.now text).state) (c.in_ok-answer.ensures.reply text kept) ∙ sym (reply_answered c.args.self.now text other)) in
     on_ok_weaker c.push_reply.result (λ is. is ∙ ap (λ more. c.args.reply.now.items ++ more) written) c.push_reply.ensures
 
 pub returns-clause-after : goal.returns-clause-after
