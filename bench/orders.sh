@@ -16,7 +16,7 @@ small='0000 000100j8
 0003 000f0000
 0051 00000002'
 
-# 26 words: a count, an address that is stored into a later order, a return address, masks, a product's two halves, a test.
+# 26 words: a count, an address that is stored into a later order, a return address, masks, a product, a test.
 large='0000 000100j8
 0001 000q00jj
 0002 000j00j8
@@ -32,7 +32,7 @@ large='0000 000100j8
 0012 000700q4
 0013 000j00q8
 0014 000q00jj
-0015 000600q4
+0015 000900k4
 0016 000j00qj
 0017 000900k4
 0018 000w00jj
