@@ -89,7 +89,7 @@ place_small : (line : LineFields) (place : ℕ) → place ≤ 4096 → place_by 
 place_small line place within =
     or_place_small (org_address line.operation line.first) place (org_small line.operation line.first) within
 
-word_within : (line : LineFields) (place : ℕ) → (has_word line && nat_lt 4095 place) ≡ false → has_word line ≡ true → place < 4096
+pub word_within : (line : LineFields) (place : ℕ) → (has_word line && nat_lt 4095 place) ≡ false → has_word line ≡ true → place < 4096
 word_within line place e word = ⊎_elim
     (λ below. below)
     (λ above. absurd (true≢false (sym (and_from (has_word line) (nat_lt 4095 place) word (lt-ltb 4095 place (omega arith))) ∙ e)))
@@ -130,7 +130,7 @@ meaning_fits names here place Org (Some text) second small = place_fits place _
 meaning_fits names here place End None second small = tt
 meaning_fits names here place End (Some text) second small = place_fits place _
 
-line_fits : (operation : Option Operation) (names : List (List ℕ × ℕ)) (here place : ℕ) (line : LineFields) → (option_makes_word operation ≡ true → place < 4096) → CellFits place (meaning_by operation names here line)
+pub line_fits : (operation : Option Operation) (names : List (List ℕ × ℕ)) (here place : ℕ) (line : LineFields) → (option_makes_word operation ≡ true → place < 4096) → CellFits place (meaning_by operation names here line)
 line_fits None names here place line small = tt
 line_fits (Some operation) names here place line small = meaning_fits names here place operation line.first line.second small
 

@@ -1,5 +1,5 @@
 -- Serves proofs only: what the assembler keeps of the lines that it has passed, the nearest first.
-use Rattle.std.specs.Prelude.{◌≡◌, ℕ, ◌<◌, ◌≤◌, Bool, false, List, length, slice_index_or}
+use Rattle.std.specs.Prelude.{◌≡◌, ℕ, ◌<◌, ◌≤◌, Bool, false, List, length, slice_index_or, ◌+◌, ◌∷◌, if◌then◌else◌}
 use Rattle.std.specs.Prelude.{[], Option, None, Some, Result, Ok}
 use Rattle.lgp_assembler.specs.declared.operands.Meaning.{Meaning}
 use Rattle.lgp_assembler.specs.declared.operands.Meaning.TheVariants.{Cell}
@@ -22,6 +22,11 @@ pub record Stands (lines place : ℕ) (ended : Bool) (names : List (List ℕ × 
 pub record AreMarks (taken : List Bool) (earlier : List LineFields) : Type 0 where
   pub length_is : length taken ≡ 4096
   pub marks_are : (p : ℕ) → p < 4096 → slice_index_or taken p false ≡ is_taken p earlier
+
+-- how many places are marked
+abbrev pub marked_count : List Bool → ℕ
+marked_count [] = 0
+marked_count (mark ∷ taken) = (if mark then 1 else 0) + marked_count taken
 
 -- the fault of the line that comes, by what is kept of the lines before it
 abbrev pub kept_fault : LineFields → Result Meaning OperandFault → ℕ → Bool → List (List ℕ × ℕ) → List Bool → Option FaultKind

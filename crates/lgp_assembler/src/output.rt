@@ -56,6 +56,7 @@ pub struct Image<A: Allocator = Global> {
 }
 
 impl<A: Allocator> Model for Image<A> {
+    ghost use Rattle.std.specs.Prelude.{◌≤◌, length};
     ghost use Rattle.lgp_assembler.specs.Parts.{ImageParts, AreProgramCells};
 
     ghost Value = { ImageParts };
@@ -66,7 +67,8 @@ impl<A: Allocator> Model for Image<A> {
       symbols = image.symbols.items;
     } };
 
-    ghost invariant = { λ image. AreProgramCells image.cells.items };
+    ghost invariant = { λ image.
+        AreProgramCells image.cells.items × (length image.cells.items ≤ 4096) };
 }
 
 impl<A: Allocator> Image<A> {
@@ -75,7 +77,8 @@ impl<A: Allocator> Image<A> {
         start: Option<Address>,
         symbols: Vec<(Name, u16), A>,
     ) -> Image<A>
-        requires { AreProgramCells cells.items }
+        requires program { AreProgramCells cells.items }
+        requires few { length cells.items ≤ 4096 }
         ensures { result ≡ record { cells = cells.items; start = start; symbols = symbols.items } }
     {
         Image {
@@ -86,10 +89,11 @@ impl<A: Allocator> Image<A> {
     }
 
     /// The words of the program with their addresses, in order of the source's lines. None lies at
-    /// one of the loader's places.
+    /// one of the loader's places, and there are at most 4096.
     pub fn cells(&self) -> &[(Address, Word)]
         ensures value { result.now ≡ self.now.cells }
         ensures program { AreProgramCells self.now.cells }
+        ensures few { length self.now.cells ≤ 4096 }
     {
         self.cells.as_slice()
     }
