@@ -12,10 +12,13 @@ use std::ops::Range;
 /// The places of the loader, 6300 to 6309, which no program may take.
 pub const LOADER_PLACES: Range<u64> = 4032..4042;
 
+/// The greatest number of bytes of a name.
+pub const NAME_LIMIT: usize = 8;
+
 /// A name: one to eight bytes of a source. Clauses see their list.
 #[derive(Drop)]
 pub struct Name {
-    bytes: ArrayVec<u8, 8>,
+    bytes: ArrayVec<u8, NAME_LIMIT>,
 }
 
 impl Model for Name {
@@ -29,7 +32,7 @@ impl Model for Name {
 impl Name {
     /// The name of a text; `None` where the text has more than eight bytes.
     pub(crate) fn new(text: &[u8]) -> Option<Name>
-        ensures fits { IsSome result ↔ (length text.now ≤ 8) }
+        ensures fits { IsSome result ↔ (length text.now ≤ NAME_LIMIT) }
         ensures value { IfSome result (λ name. name ≡ text.now) }
     {
         let mut bytes = ArrayVec::new();
