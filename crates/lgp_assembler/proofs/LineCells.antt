@@ -128,7 +128,7 @@ module _ (names : List (List ℕ × ℕ)) (place : ℕ) where
   line_makes None line e = absurd (true≢false (sym e))
   line_makes (Some operation) line e = makes operation line.first line.second e
 
-  line_makes_none : (operation : Option Operation) (line : LineFields) → option_makes_word operation ≡ false → IsNoWord (meaning_by operation names place line)
+  pub line_makes_none : (operation : Option Operation) (line : LineFields) → option_makes_word operation ≡ false → IsNoWord (meaning_by operation names place line)
   line_makes_none None line e = tt
   line_makes_none (Some operation) line e = makes_none operation line.first line.second e
 
@@ -142,7 +142,7 @@ there place (Err Misformed) is formed known within = absurd (true≢false formed
 there place (Err Unknown) is formed known within = absurd (true≢false known)
 there place (Err Outside) is formed known within = absurd (true≢false within)
 
-missing : (place : ℕ) (r : Result Meaning OperandFault) → IsNoWord r → cell_at place r ≡ None
+pub missing : (place : ℕ) (r : Result Meaning OperandFault) → IsNoWord r → cell_at place r ≡ None
 missing place (Ok (Cell word)) is = absurd is
 missing place (Ok (Place address)) is = refl
 missing place (Ok Nothing) is = refl

@@ -49,7 +49,7 @@ pub fn skipped_codes()
     ensures tape { (six_bit : Bool) → (accumulator code : ℕ) → (codes : List ℕ)
         → is_skipped code ≡ true
         → accumulator_after_all six_bit accumulator (code ∷ codes)
-            ≡ accumulator_after_all six_bit accumulator codes }
+        ≡ accumulator_after_all six_bit accumulator codes }
     ensures key { (panel : Panel) → (code : ℕ)
         → is_skipped code ≡ true → is_live panel (Action.Key code) ≡ false }
 {}
