@@ -87,8 +87,10 @@ fn take_key(panel: &mut Panel, code: Code)
 /// Does what an action does, and answers whether it was live.
 pub fn act<A: Allocator>(panel: &mut Panel, reader: &mut Reader<A>, action: Action) -> bool
     ensures live { result ≡ is_live panel.old action }
-    ensures panel { panel.new ≡ (desk_after (record { panel = panel.old; tape = reader.old }) action).panel }
-    ensures tape { reader.new ≡ (desk_after (record { panel = panel.old; tape = reader.old }) action).tape }
+    ensures panel { panel.new
+        ≡ (desk_after (record { panel = panel.old; tape = reader.old }) action).panel }
+    ensures tape { reader.new
+        ≡ (desk_after (record { panel = panel.old; tape = reader.old }) action).tape }
 {
     if !is_live(panel, &action) {
         return false;

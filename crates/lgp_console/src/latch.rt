@@ -1,18 +1,19 @@
 //! The latch.
 
 ghost use Rattle.std.specs.Prelude.{◌≡◌, ◌<◌, ◌≤◌, ◌↔◌, List, [], ◌∷◌, ◌++◌, length, IsTrue, IfSome, IfNone, None, false};
+ghost use Rattle.lgp_table.specs.Interleaving.{latch_limit};
 
 use arrayvec::ArrayVec;
 use lgp_table::Action;
 use std::marker::Model;
 
 /// How many actions the latch keeps.
-pub const LATCH_LIMIT: usize = 16;
+const LATCH_LIMIT: usize = 16;
 
 /// The actions that are kept until the present order ends, oldest first. Clauses see their list.
 #[derive(Drop)]
 pub struct Latch {
-    kept: ArrayVec<Action, 16>,
+    kept: ArrayVec<Action, LATCH_LIMIT>,
 }
 
 impl Model for Latch {
@@ -36,9 +37,10 @@ impl Latch {
 
     /// Keeps an action behind the others; false, and nothing changes, only with 16 kept.
     pub fn keep(&mut self, action: Action) -> bool
-        ensures room { IsTrue result ↔ (length self.old < 16) }
+        ensures room { IsTrue result ↔ (length self.old < latch_limit) }
         ensures kept { IsTrue result → self.new ≡ self.old ++ action ∷ [] }
-        ensures full { result ≡ false → (self.new ≡ self.old) × (length self.old ≡ 16) }
+        ensures full { result ≡ false
+            → (self.new ≡ self.old) × (length self.old ≡ latch_limit) }
     {
         self.kept.try_push(action).is_ok()
     }
@@ -70,7 +72,7 @@ impl Latch {
     /// How many actions are kept, at most 16.
     pub fn len(&self) -> usize
         ensures length { result ≡ length self.now }
-        ensures limit { result ≤ 16 }
+        ensures limit { result ≤ latch_limit }
     {
         self.kept.len()
     }

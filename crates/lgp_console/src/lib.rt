@@ -1,8 +1,8 @@
 //! The LGP-30's console: what each action does, and the latch that keeps actions until an order ends.
 #![tactic(auto)]
 
-pub mod desk;
-pub mod latch;
+mod desk;
+mod latch;
 
 pub use desk::{act, is_live};
 pub use latch::Latch;

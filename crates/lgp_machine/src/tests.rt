@@ -1,3 +1,7 @@
+//! The machine by its calls.
+
+mod marks;
+
 use crate::laws::an_activity;
 use crate::{
     Look, Machine, MountFault, OrderFault, PlayFault, PressFault, Pressed, PutFault, RestFault,
@@ -175,6 +179,15 @@ fn sixteen_actions() -> [Action; 16] {
     actions
 }
 
+/// The same and a press more, for which there is no place: it would leave BREAK POINT 4 up.
+fn seventeen_actions() -> [Action; 17] {
+    let mut actions = [Action::BreakPoint(Which::B4, true); 17];
+    actions[0] = Action::BreakPoint(Which::B4, false);
+    actions[15] = Action::Mode(Mode::OneOperation);
+    actions[16] = Action::BreakPoint(Which::B4, false);
+    actions
+}
+
 /// So many codes.
 fn codes<A: Allocator>(alloc: A, count: usize) -> Result<Vec<Code, A>, AllocError> {
     vec![in alloc; Code::STOP; count]
@@ -324,9 +337,25 @@ fn events_of<A: Allocator>(
 #[test]
 fn a_play_is_the_same_turns_and_presses(rt: HostRuntime) -> Result<(), Fail> {
     let mut machine = with_order(rt.alloc(), TRANSFER)?;
-    let events = events_of(rt.alloc(), &sixteen_actions(), 66)?;
+    let events = events_of(rt.alloc(), &seventeen_actions(), 66)?;
     assert_eq!(rt; play(&mut machine, events.as_slice()), Ok(()));
     assert_eq!(rt; look(&machine), shown_after_sixteen());
+    Ok(())
+}
+
+#[test]
+fn a_play_stops_at_the_clocks_end(rt: HostRuntime) -> Result<(), Fail> {
+    let heap = LocalHeap::new(rt.alloc(), 262144)?;
+    let mut machine = with_order(&heap, PRINT)?;
+    rest(&mut machine, CLOCK_END - 2)?;
+    let events = events_of(rt.alloc(), &[], 2)?;
+    let filler = filler(&heap)?;
+    let stopped = PlayFault {
+        done: 3,
+        fault: TurnFault::ClockEnd,
+    };
+    assert_eq!(rt; play(&mut machine, events.as_slice()), Err(stopped));
+    drop(filler);
     Ok(())
 }
 
@@ -402,14 +431,19 @@ fn a_tape_above_the_limit_is_handed_back(rt: HostRuntime) -> Result<(), Fail> {
     Ok(())
 }
 
+/// All the room that a heap has left, in one block, but for so many bytes.
+fn filler_beside(heap: &LocalHeap, room: usize) -> Result<Vec<u8, &LocalHeap>, AllocError> {
+    Vec::with_capacity(heap, heap.free().saturating_sub(room))
+}
+
 /// All the room that a heap has left, in one block.
 fn filler(heap: &LocalHeap) -> Result<Vec<u8, &LocalHeap>, AllocError> {
-    Vec::with_capacity(heap, heap.free())
+    filler_beside(heap, 0)
 }
 
 #[test]
 fn a_code_without_room_is_not_printed(rt: HostRuntime) -> Result<(), Fail> {
-    let heap = LocalHeap::new(rt.alloc(), 65536)?;
+    let heap = LocalHeap::new(rt.alloc(), 262144)?;
     let mut machine = started(&heap, PRINT)?;
     let filler = filler(&heap)?;
     let before = look(&machine);
@@ -426,7 +460,7 @@ fn a_code_without_room_is_not_printed(rt: HostRuntime) -> Result<(), Fail> {
 
 #[test]
 fn a_copy_has_what_is_printed(rt: HostRuntime) -> Result<(), Fail> {
-    let heap = LocalHeap::new(rt.alloc(), 65536)?;
+    let heap = LocalHeap::new(rt.alloc(), 262144)?;
     let mut machine = started(&heap, PRINT)?;
     next_order(&mut machine)?;
     let filler = filler(&heap)?;
@@ -440,7 +474,7 @@ fn a_copy_has_what_is_printed(rt: HostRuntime) -> Result<(), Fail> {
 
 #[test]
 fn a_play_stops_where_there_is_no_room(rt: HostRuntime) -> Result<(), Fail> {
-    let heap = LocalHeap::new(rt.alloc(), 65536)?;
+    let heap = LocalHeap::new(rt.alloc(), 262144)?;
     let mut machine = with_order(&heap, PRINT)?;
     let events = events_of(rt.alloc(), &[], 450)?;
     let filler = filler(&heap)?;

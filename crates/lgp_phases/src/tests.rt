@@ -1,11 +1,11 @@
-//! Worked orders, each by its word times and in one call.
+//! Worked orders, each by its word times, in one call, and as a short order where it is one.
 
 mod bench;
 
-use crate::phase::{act_time, seek_time, wait};
+use crate::laws::decoded_words;
+use crate::times::{act_time, seek_time, wait};
 use crate::{Outcome, Processor, Progress};
-use bench::{Bench, CASE, Case, END, End, UP, at, perform, perform_both};
-use lgp_drum::Drum;
+use bench::{Bench, CASE, Case, END, End, UP, Way, at, perform, perform_all};
 use lgp_flexo::Code;
 use lgp_reader::Reader;
 use lgp_table::{Cause, Mode, Status, Switches};
@@ -57,13 +57,13 @@ const SUM: Case = Case {
 
 #[test]
 fn a_sum_is_stored(rt: HostRuntime) -> Result<(), Fail> {
-    perform_both(&rt, rt.alloc(), &SUM)
+    perform_all(&rt, rt.alloc(), &SUM)
 }
 
 #[test]
 fn a_sum_is_stored_over_a_small_heap(rt: HostRuntime) -> Result<(), Fail> {
-    let heap = LocalHeap::new(rt.alloc(), 65536)?;
-    perform_both(&rt, &heap, &SUM)
+    let heap = LocalHeap::new(rt.alloc(), 262144)?;
+    perform_all(&rt, &heap, &SUM)
 }
 
 /// Two loads that wait long.
@@ -92,7 +92,7 @@ const WAITS: [Case; 2] = [
 #[test]
 fn orders_wait_for_their_sectors(rt: HostRuntime) -> Result<(), Fail> {
     for case in &WAITS {
-        perform_both(&rt, rt.alloc(), case)?;
+        perform_all(&rt, rt.alloc(), case)?;
     }
     for (sector, clock, after, read) in [(1, 67, 0, 73), (1, 129, 0, 137), (1, 60, 69, 137)] {
         assert_eq!(rt; clock + after + wait(sector, clock, after), read);
@@ -151,7 +151,7 @@ const OVERFLOW: Case = Case {
 
 #[test]
 fn an_overflow_halts(rt: HostRuntime) -> Result<(), Fail> {
-    perform_both(&rt, rt.alloc(), &OVERFLOW)
+    perform_all(&rt, rt.alloc(), &OVERFLOW)
 }
 
 /// An address that is stored into a later order.
@@ -229,7 +229,7 @@ const REPLACED: Case = Case {
 #[test]
 fn orders_are_changed_before_they_are_read(rt: HostRuntime) -> Result<(), Fail> {
     for case in &[ADDRESS, REPLACED] {
-        perform_both(&rt, rt.alloc(), case)?;
+        perform_all(&rt, rt.alloc(), case)?;
     }
     Ok(())
 }
@@ -283,7 +283,7 @@ const RETURNS: [Case; 2] = [
 #[test]
 fn return_addresses_are_stored(rt: HostRuntime) -> Result<(), Fail> {
     for case in &RETURNS {
-        perform_both(&rt, rt.alloc(), case)?;
+        perform_all(&rt, rt.alloc(), case)?;
     }
     Ok(())
 }
@@ -308,7 +308,7 @@ fn a_break_point_is_passed(rt: HostRuntime) -> Result<(), Fail> {
             ends: &ends,
             ..BREAK_POINT
         };
-        perform_both(&rt, rt.alloc(), &case)?;
+        perform_all(&rt, rt.alloc(), &case)?;
     }
     Ok(())
 }
@@ -339,7 +339,7 @@ fn arithmetic_takes_a_revolution_more(rt: HostRuntime) -> Result<(), Fail> {
             }],
             ..CASE
         };
-        perform_both(&rt, rt.alloc(), &case)?;
+        perform_all(&rt, rt.alloc(), &case)?;
     }
     Ok(())
 }
@@ -371,7 +371,7 @@ fn a_test_transfers_by_sign_or_switch(rt: HostRuntime) -> Result<(), Fail> {
             }],
             ..CASE
         };
-        perform_both(&rt, rt.alloc(), &case)?;
+        perform_all(&rt, rt.alloc(), &case)?;
     }
     Ok(())
 }
@@ -390,7 +390,7 @@ const PRINT: Case = Case {
 
 #[test]
 fn a_code_is_printed(rt: HostRuntime) -> Result<(), Fail> {
-    perform_both(&rt, rt.alloc(), &PRINT)
+    perform_all(&rt, rt.alloc(), &PRINT)
 }
 
 #[test]
@@ -450,7 +450,7 @@ fn an_input_passes_codes(rt: HostRuntime) -> Result<(), Fail> {
             ends: &[started, done],
             ..INPUT
         };
-        perform_both(&rt, rt.alloc(), &case)?;
+        perform_all(&rt, rt.alloc(), &case)?;
     }
     Ok(())
 }
@@ -493,7 +493,7 @@ fn a_tape_is_read_from_the_console(rt: HostRuntime) -> Result<(), Fail> {
             }],
             ..CASE
         };
-        perform_both(&rt, rt.alloc(), &case)?;
+        perform_all(&rt, rt.alloc(), &case)?;
     }
     Ok(())
 }
@@ -516,7 +516,7 @@ const EXECUTED: Case = Case {
 
 #[test]
 fn the_register_is_executed(rt: HostRuntime) -> Result<(), Fail> {
-    perform_both(&rt, rt.alloc(), &EXECUTED)
+    perform_all(&rt, rt.alloc(), &EXECUTED)
 }
 
 #[test]
@@ -533,33 +533,44 @@ fn at_rest_the_clock_goes_on(rt: HostRuntime) -> Result<(), Fail> {
             ends: &[end],
             ..CASE
         };
-        perform_both(&rt, rt.alloc(), &case)?;
+        perform_all(&rt, rt.alloc(), &case)?;
     }
     Ok(())
 }
 
+/// What is decoded at 0000 and at 0001 after two orders and after four, of which the second has stored the third at 0001.
 #[test]
-fn a_machine_is_at_rest_or_at_work(rt: HostRuntime) -> Result<(), Fail> {
-    for (status, rest) in [
-        (Status::Halted(Cause::Stop), true),
-        (Status::Waiting, true),
-        (Status::Going, false),
-        (Status::Executing, false),
-        (Status::Reading, false),
-    ] {
-        let bench = Bench::new(rt.alloc(), &Case { status, ..CASE })?;
-        assert_eq!(rt; bench.is_at_rest(), rest, "{status:?}");
+fn orders_are_kept_decoded(rt: HostRuntime) -> Result<(), Fail> {
+    for way in [Way::WordTimes, Way::OneCall, Way::Short] {
+        let mut bench = Bench::new(rt.alloc(), &REPLACED)?;
+        assert_eq!(rt; bench.decoded(b"0000")?, None);
+        bench.activity(way)?;
+        bench.activity(way)?;
+        assert_eq!(rt; bench.decoded(b"0000")?, Some((false, Op::B, at(b"0050")?)), "{way:?}");
+        assert_eq!(rt; bench.decoded(b"0001")?, None, "{way:?}");
+        bench.activity(way)?;
+        bench.activity(way)?;
+        bench.copy()?;
+        assert_eq!(rt; bench.decoded(b"0001")?, Some((false, Op::U, at(b"0000")?)), "{way:?}");
+        bench.clear();
+        assert_eq!(rt; bench.decoded(b"0000")?, None, "{way:?}");
+        assert_eq!(rt; bench.decoded(b"0001")?, None, "{way:?}");
     }
+    decoded_words();
     Ok(())
 }
 
 #[test]
-fn a_full_heap_refuses_a_drum_and_no_processor(rt: HostRuntime) -> Result<(), Fail> {
-    let heap = LocalHeap::new(rt.alloc(), 65536)?;
+fn a_full_heap_refuses_a_processor(rt: HostRuntime) -> Result<(), Fail> {
+    let heap = LocalHeap::new(rt.alloc(), 262144)?;
     let filler: Vec<u8, &LocalHeap> = Vec::with_capacity(&heap, heap.free())?;
-    assert!(rt; Drum::new(&heap).is_err());
-    let processor = Processor::new(&heap)?;
-    assert!(rt; processor.copy()?.is_idle());
+    assert!(rt; Processor::new(&heap).is_err());
     drop(filler);
-    perform(&rt, &heap, &SUM, false)
+    let processor = Processor::new(&heap)?;
+    let filler: Vec<u8, &LocalHeap> = Vec::with_capacity(&heap, heap.free())?;
+    assert!(rt; processor.copy().is_err());
+    assert!(rt; processor.is_idle());
+    drop(filler);
+    assert!(rt; processor.copy()?.is_idle());
+    Ok(())
 }

@@ -37,7 +37,8 @@ impl<A: Allocator> Model for Reader<A> {
 
     ghost view = { λ reader. tape_at reader.on reader.codes.items reader.passed };
 
-    ghost invariant = { λ reader. (reader.passed ≤ vec_len reader.codes) × (vec_len reader.codes ≤ tape_limit) };
+    ghost invariant = { λ reader.
+        (reader.passed ≤ vec_len reader.codes) × (vec_len reader.codes ≤ tape_limit) };
 }
 
 impl<A: Allocator + Copy> Reader<A> {
@@ -194,7 +195,7 @@ fn stop_length(codes: &[Code]) -> usize
     ensures within { result ≤ length codes.now }
 {
     for (place, code) in codes.iter().enumerate() {
-        if code.number() == 32 {
+        if *code == Code::STOP {
             return place + 1;
         }
     }
@@ -212,7 +213,7 @@ fn pass_codes<A: Allocator>(reader: &mut Reader<A>, six_bit: bool, mut accumulat
     } }
 {
     while let Some(code) = reader.pass() {
-        if code.number() == 32 {
+        if code == Code::STOP {
             return Input {
                 accumulator,
                 done: true,

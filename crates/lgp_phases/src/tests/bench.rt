@@ -5,11 +5,22 @@ use lgp_drum::Drum;
 use lgp_flexo::{Code, read_tape_text};
 use lgp_reader::Reader;
 use lgp_table::{Mode, Panel, Status, Switches};
-use lgp_word::{Address, Word, read_digits, write_digits};
+use lgp_word::{Address, Op, Word, read_digits, write_digits};
 use std::alloc::Allocator;
 use std::marker::Model;
 use std::process::Abort;
 use std::test::Fail;
+
+/// How an activity is performed.
+#[derive(Clone, Copy, Debug, PartialEq, Eq)]
+pub enum Way {
+    /// By its word times.
+    WordTimes,
+    /// In one call.
+    OneCall,
+    /// As a short order where it is one, else in one call.
+    Short,
+}
 
 /// A word on the drum: its address and its digits.
 pub type Cell = ([u8; 4], [u8; 8]);
@@ -132,13 +143,16 @@ pub struct Bench<A: Allocator> {
 impl<A: Allocator> Model for Bench<A> {
     ghost use Rattle.std.specs.Prelude.{ℕ};
     ghost use Rattle.lgp_table.specs.State.{core_of};
-    ghost use Rattle.lgp_phases.specs.Latch.{IsWithin};
+    ghost use Rattle.lgp_phases.specs.Decoded.{AreWordsOf};
+    ghost use Rattle.lgp_phases.specs.ProcessorInside.{IsWithin};
 
     ghost Value = { ℕ };
 
     ghost view = { λ bench. bench.clock };
 
-    ghost invariant = { λ bench. IsWithin bench.processor (core_of bench.panel bench.drum bench.reader) bench.clock };
+    ghost invariant = { λ bench.
+        IsWithin bench.processor (core_of bench.panel bench.drum bench.reader) bench.clock
+        × AreWordsOf bench.processor.decoded bench.drum };
 }
 
 impl<A: Allocator + Copy> Bench<A> {
@@ -156,34 +170,9 @@ impl<A: Allocator + Copy> Bench<A> {
             clock: 0,
         })
     }
+}
 
-    /// The activity that begins here in one call, by a processor of its own.
-    fn at_once(&mut self, alloc: A) -> Result<Outcome, Fail> {
-        let mut processor = Processor::new(alloc)?;
-        let outcome = processor.activity(
-            &mut self.panel,
-            &mut self.drum,
-            &mut self.reader,
-            self.clock,
-        );
-        processor.clear();
-        self.processor = processor;
-        self.clock = self
-            .clock
-            .checked_add(outcome.cost)
-            .ok_or("the clock ends")?;
-        Ok(outcome)
-    }
-
-    /// One activity, in one call or by its word times.
-    fn activity(&mut self, alloc: A, in_one_call: bool) -> Result<Outcome, Fail> {
-        if in_one_call {
-            self.at_once(alloc)
-        } else {
-            Ok(self.order().ok_or("not as foretold")?)
-        }
-    }
-
+impl<A: Allocator + Copy> Bench<A> {
     /// Goes on with a copy of the processor.
     pub fn copy(&mut self) -> Result<(), Fail> {
         self.processor = self.processor.copy()?;
@@ -192,6 +181,60 @@ impl<A: Allocator + Copy> Bench<A> {
 }
 
 impl<A: Allocator> Bench<A> {
+    /// The activity that begins here in one call.
+    fn at_once(&mut self) -> Option<Outcome> {
+        if !self.processor.is_idle() {
+            return None;
+        }
+        let outcome = self.processor.activity(
+            &mut self.panel,
+            &mut self.drum,
+            &mut self.reader,
+            self.clock,
+        );
+        self.clock = self.clock.checked_add(outcome.cost)?;
+        Some(outcome)
+    }
+
+    /// The short order that begins here, or else the activity in one call.
+    fn short(&mut self) -> Option<Outcome> {
+        if !self.processor.is_idle() {
+            return None;
+        }
+        let Some(short) = self.processor.short_order(&self.panel, self.clock) else {
+            return self.at_once();
+        };
+        let cost = short.cost;
+        self.processor
+            .perform_short(&mut self.panel, &mut self.drum, &short);
+        self.clock = self.clock.checked_add(cost)?;
+        Some(Outcome {
+            cost,
+            status: self.panel.status,
+            printed: None,
+        })
+    }
+
+    /// One activity.
+    pub fn activity(&mut self, way: Way) -> Result<Outcome, Fail> {
+        let outcome = match way {
+            Way::WordTimes => self.order(),
+            Way::OneCall => self.at_once(),
+            Way::Short => self.short(),
+        };
+        Ok(outcome.ok_or("not as foretold")?)
+    }
+
+    /// The parts of the word that is kept decoded at an address.
+    pub fn decoded(&self, text: &[u8; 4]) -> Result<Option<(bool, Op, Address)>, Fail> {
+        Ok(self.processor.decoded(at(text)?))
+    }
+
+    /// Forgets what is decoded.
+    pub fn clear(&mut self) {
+        self.processor.clear();
+    }
+
     /// What the activity that begins here will cost and print.
     fn ahead(&self) -> Ahead {
         ahead(&self.panel, &self.drum, &self.reader, self.clock)
@@ -201,12 +244,6 @@ impl<A: Allocator> Bench<A> {
     pub fn prints_next(&self) -> bool {
         self.processor
             .prints_next(&self.panel, &self.drum, &self.reader, self.clock)
-    }
-
-    /// Whether the machine is at rest.
-    pub fn is_at_rest(&self) -> bool {
-        self.processor
-            .is_at_rest(&self.panel, &self.drum, &self.reader, self.clock)
     }
 
     /// One word time; none at the last clock.
@@ -271,17 +308,16 @@ impl<A: Allocator> Bench<A> {
     }
 }
 
-/// Performs activities, in one call each or by their word times, and compares how the machine stands.
-fn perform_to<A: Allocator + Copy>(
+/// Performs activities and compares how the machine stands after each.
+fn perform_to<A: Allocator>(
     rt: &impl Abort,
-    alloc: A,
     bench: &mut Bench<A>,
     ends: &[End],
-    in_one_call: bool,
+    way: Way,
 ) -> Result<(), Fail> {
     for end in ends {
-        let outcome = bench.activity(alloc, in_one_call)?;
-        assert_eq!(rt; bench.end(&outcome), *end);
+        let outcome = bench.activity(way)?;
+        assert_eq!(rt; bench.end(&outcome), *end, "{way:?}");
     }
     Ok(())
 }
@@ -291,20 +327,22 @@ pub fn perform<A: Allocator + Copy>(
     rt: &impl Abort,
     alloc: A,
     case: &Case,
-    in_one_call: bool,
+    way: Way,
 ) -> Result<(), Fail> {
     let mut bench = Bench::new(alloc, case)?;
-    perform_to(rt, alloc, &mut bench, case.ends, in_one_call)?;
+    perform_to(rt, &mut bench, case.ends, way)?;
     assert!(rt; bench.holds(case.stored)?);
     Ok(())
 }
 
-/// Performs the activities of a case both ways.
-pub fn perform_both<A: Allocator + Copy>(
+/// Performs the activities of a case in each way.
+pub fn perform_all<A: Allocator + Copy>(
     rt: &impl Abort,
     alloc: A,
     case: &Case,
 ) -> Result<(), Fail> {
-    perform(rt, alloc, case, false)?;
-    perform(rt, alloc, case, true)
+    for way in [Way::WordTimes, Way::OneCall, Way::Short] {
+        perform(rt, alloc, case, way)?;
+    }
+    Ok(())
 }
