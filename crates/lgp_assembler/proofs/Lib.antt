@@ -6,3 +6,5 @@ pub mod Rows
 pub mod DraftSteps
 pub mod Assembled
 pub mod PlaceLaws
+pub mod LineCells
+pub mod Counted

@@ -1,6 +1,7 @@
--- What a source assembles to: this project's own choice. That the loader has ten places is too.
-use Rattle.std.specs.Prelude.{◌≡◌, ℕ, ◌<◌, ◌&&◌, nat_le, Bool, false, List, [], ◌∷◌, Option}
+-- Part of the public promise: what an image is, and which places the loader keeps. This project's own choice.
+use Rattle.std.specs.Prelude.{◌≡◌, ℕ, ◌<◌, ◌&&◌, nat_le, nat_lt, Bool, false, List, [], ◌∷◌, Option}
 use Rattle.lgp_word.specs.Word.{IsWord}
+use Rattle.lgp_assembler.specs.declared.output.TheConstants.{LOADER_PLACES}
 
 -- the words with their places in order of the lines, the start, and the names with their values in order of the lines
 pub record ImageParts : Type 0 where
@@ -8,9 +9,9 @@ pub record ImageParts : Type 0 where
   pub start : Option ℕ
   pub symbols : List (List ℕ × ℕ)
 
--- the ten places of the loader, 6300 to 6309
+-- the places of the loader
 abbrev pub is_loaders : ℕ → Bool
-is_loaders place = nat_le 4032 place && nat_le place 4041
+is_loaders place = nat_le LOADER_PLACES.start place && nat_lt place LOADER_PLACES.end
 
 -- a cell of a program: a word on the drum, at no place of the loader
 abbrev pub IsProgramCell : ℕ × ℕ → Type 0

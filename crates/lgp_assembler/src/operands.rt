@@ -1,3 +1,5 @@
+//! What operands stand for.
+
 ghost use Rattle.std.specs.Prelude.{◌≡◌, ◌+◌, ◌-◌, ◌*◌, ◌≤◌, ◌<◌, ◌^◌, length, take, drop, IsTrue, IfOk, IfSome, true};
 ghost use Rattle.std.specs.Char.{is_ascii_digit};
 ghost use Rattle.std.specs.List.{list_all, position, position_or_len};
@@ -7,6 +9,7 @@ ghost use Rattle.lgp_assembler.specs.Operands as spec;
 
 use crate::name_table::Names;
 use crate::operations::Operation;
+use crate::output::NAME_LIMIT;
 use lgp_flexo::code_of;
 use lgp_fraction::{Fraction, FractionFault};
 use lgp_word::{Address, Op, Order, Word, encode, read_digits};
@@ -63,7 +66,7 @@ pub fn is_name(text: &[u8]) -> bool
     if text.is_empty() {
         return false;
     }
-    text[0].is_ascii_lowercase() && are_name_bytes(text) && text.len() <= 8
+    text[0].is_ascii_lowercase() && are_name_bytes(text) && text.len() <= NAME_LIMIT
 }
 
 /// Whether all bytes of a text are decimal digits.
@@ -334,7 +337,8 @@ pub fn meaning_of<A: Allocator>(
     first: Option<&[u8]>,
     second: Option<&[u8]>,
 ) -> Result<Meaning, OperandFault>
-    ensures { result ≡ spec.meaning names.now place operation (option_copied first.entry) (option_copied second.entry) }
+    ensures { result ≡ spec.meaning names.now place operation
+        (option_copied first.entry) (option_copied second.entry) }
 {
     match (operation, first, second) {
         (Operation::Order(op), None, _) => cell_of_order(false, op, in_range(0)),

@@ -1,6 +1,10 @@
+//! Tests of the assembler.
+
 use crate::{
-    AssembleError, FaultKind, Image, Name, assemble, names_are_first_places, places_count_from_orgs,
+    AssembleError, FaultKind, Image, LOADER_PLACES, Name, assemble, has_word,
+    names_are_first_places, places_count_from_orgs,
 };
+use lgp_source::Lines;
 use lgp_word::{Address, Word, read_digits};
 use linked_list_allocator::LocalHeap;
 use std::alloc::{Allocator, Global};
@@ -171,6 +175,24 @@ fn a_name_after_the_end_is_none(rt: HostRuntime) {
 }
 
 #[test]
+fn lines_that_make_words(rt: HostRuntime) {
+    let mut lines = Lines::new(b"a z 1 2 3\n org 0100\nlabel\n end\n");
+    for wanted in [true, false, false, false] {
+        let line = lines.next().expect(&rt, "a line");
+        assert_eq!(rt; has_word(&line), wanted, "line {}", line.number);
+    }
+}
+
+#[test]
+fn places_that_the_loader_keeps(rt: HostRuntime) -> Result<(), Fail> {
+    let first = Address::parse(b"6300").ok_or("an address")?;
+    let last = Address::parse(b"6309").ok_or("an address")?;
+    assert_eq!(rt; LOADER_PLACES.start, u64::from(first.number()));
+    assert_eq!(rt; LOADER_PLACES.end, u64::from(last.number()) + 1);
+    Ok(())
+}
+
+#[test]
 fn kinds_print_their_names(rt: HostRuntime) -> Result<(), Fail> {
     let kind = FaultKind::MissingOperand;
     let text = format!(in rt.alloc(); "line 7 {kind}")?;
@@ -184,7 +206,8 @@ fn is_refused(heap: &LocalHeap, taken: usize, source: &[u8]) -> Result<bool, Fai
     Ok(matches!(assemble(heap, source), Err(AssembleError::Memory)))
 }
 
-/// How often an assembly is refused, while less and less of the heap is taken, before it gives an answer.
+/// How often an assembly is refused, while less and less of the heap is taken, before it gives an
+/// answer.
 fn refusals(rt: &impl Abort, heap: &LocalHeap, source: &[u8]) -> Result<usize, Fail> {
     let before = heap.used();
     for step in 0..1024usize {

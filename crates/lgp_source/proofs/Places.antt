@@ -5,7 +5,8 @@ use Rattle.std.proofs.lemmas.Bool.{cases_Bool, cases_lt, cond-true, cond-false, 
 use Rattle.std.proofs.lemmas.List.{take_rest, get_or-drop, drop-drop, drop_all, drop_more}
 use Rattle.std.proofs.lemmas.List.Sums.{prefix_len-le-length, passes_at_first}
 use Rattle.std.proofs.lemmas.Option.{cond_some, none-some}
-use Rattle.lgp_source.specs.Source.{SourceToken, is_blank, is_visible, tokens_from, token_at}
+use Rattle.lgp_source.specs.CuttingInside.{is_visible}
+use Rattle.lgp_source.specs.Source.{SourceToken, is_blank, tokens_from, token_at}
 
 -- ---- std's two words for a first place
 
@@ -85,7 +86,7 @@ past_run place (b ∷ rest) = ⊎_elim
     (λ visible. after_visible place b rest visible ∙ past_run (place + 1) rest ∙ at_suc place b rest (position_or_len is_blank rest) (position_or_len is_blank (b ∷ rest)) (run_more b rest visible))
     (cases_Bool (is_blank b))
 
-past_token : (place b : ℕ) (rest : List ℕ) → is_blank b ≡ false
+pub past_token : (place b : ℕ) (rest : List ℕ) → is_blank b ≡ false
     → tokens_from place true (b ∷ rest) ≡ token_at place (b ∷ rest) ∷ tokens_from (place + position_or_len is_blank (b ∷ rest)) true (drop (position_or_len is_blank (b ∷ rest)) (b ∷ rest))
 past_token place b rest e =
     at_token place b rest e ∙ ap (λ t. token_at place (b ∷ rest) ∷ t) (past_run (place + 1) rest ∙ at_suc place b rest (position_or_len is_blank rest) (position_or_len is_blank (b ∷ rest)) (run_more b rest e))

@@ -46,7 +46,7 @@ number_of-four_digits before number rest small =
     rw (digit_value-digit_byte (number / 4096 % 16) a, digit_value-digit_byte (number / 256 % 16) b, digit_value-digit_byte (number / 16 % 16) c, digit_value-digit_byte (number % 16) d, sum) refl
 
 -- what a chain of two options that succeeds has in between
-between : (o : Option ℕ) (f : ℕ → Option ℕ) (n : ℕ) → option_and_then f o ≡ Some n → (v : ℕ) × (o ≡ Some v) × (f v ≡ Some n)
+pub between : (o : Option ℕ) (f : ℕ → Option ℕ) (n : ℕ) → option_and_then f o ≡ Some n → (v : ℕ) × (o ≡ Some v) × (f v ≡ Some n)
 between None f n e = cc
 between (Some v) f n e = (v, refl, e)
 
@@ -93,7 +93,7 @@ word_at-digits_of word h =
     rw (length-digits_of word, number_of-digits_of word h.0, even) refl
 
 -- what is read as eight digits is their number's
-digits_of-number_of : (text : List ℕ) (number : ℕ) → length text ≡ 8 → number_of 0 text ≡ Some number → (number < 2 ^ 32) × (digits_of number ≡ text)
+pub digits_of-number_of : (text : List ℕ) (number : ℕ) → length text ≡ 8 → number_of 0 text ≡ Some number → (number < 2 ^ 32) × (digits_of number ≡ text)
 unfolding digits_of
 digits_of-number_of (a ∷ b ∷ c ∷ d ∷ e ∷ f ∷ g ∷ h ∷ []) number long read =
     let first = four_digits-number_of 0 a b c d (e ∷ f ∷ g ∷ h ∷ []) number read in
@@ -113,7 +113,7 @@ digits_of-number_of (a ∷ b ∷ c ∷ d ∷ e ∷ f ∷ g ∷ []) number long r
 digits_of-number_of (a ∷ b ∷ c ∷ d ∷ e ∷ f ∷ g ∷ h ∷ i ∷ rest) number long read = absurd (omega arith)
 
 -- an option that is kept by a test, and passed it
-kept : (b : Bool) (o : Option ℕ) (word : ℕ) → cond b o None ≡ Some word → (b ≡ true) × (o ≡ Some word)
+pub kept : (b : Bool) (o : Option ℕ) (word : ℕ) → cond b o None ≡ Some word → (b ≡ true) × (o ≡ Some word)
 kept true o word e = (refl, e)
 kept false o word e = cc
 

@@ -1,0 +1,161 @@
+-- The law on the first fault of a text.
+use Rattle.std.proofs.Common.{◌≡◌, ◌+◌, ◌++◌, ◌⊎◌, ℕ, List, [], ◌∷◌, length, Some, None, refl, sym, ap, ◌∙◌, arith, inl, inr, ⊎_elim}
+use Rattle.std.proofs.lemmas.Option.{none-some}
+use Rattle.bstr.specs.Text.{lines_of}
+use Rattle.lgp_listing.specs.declared.reading.DumpFault.TheVariants.{Form, Order}
+use Rattle.lgp_listing.specs.Dump.{cell_in, fault_from}
+use Rattle.lgp_listing.specs.Laws.{IsLineOf, AreSound, FirstFaultsAreFirst}
+use Rattle.lgp_listing.proofs.Cells.{cell_in-cell_line, cell_line-cell_in}
+use Rattle.lgp_listing.proofs.FaultSteps.{at_form, at_order, onward, IsBelow, cases_line}
+
+-- where no line is faulty, all are sound
+pub sound_from : (number least : ℕ) (lines : List (List ℕ)) → fault_from number least lines ≡ None → AreSound least lines
+sound_from number least [] e = tt
+sound_from number least (line ∷ rest) e = ⊎_elim
+    (λ none. absurd (none-some (Form number) (sym e ∙ at_form line rest number least none)))
+    (⊎_elim
+    (λ low. absurd (none-some (Order number) (sym e ∙ at_order line rest number least low.cell low.read low.below)))
+    (λ high. (
+      high.cell.0,
+      high.cell.1,
+      cell_line-cell_in line high.cell high.read,
+      high.above,
+      sound_from (number + 1) (high.cell.0 + 1) rest (sym (onward line rest number least high.cell high.read high.above) ∙ e),
+    )))
+    (cases_line line least)
+
+-- ---- a fault of form
+
+record IsFormFrom (number least : ℕ) (lines : List (List ℕ)) (told : ℕ) : Type 0 where
+  before : List (List ℕ)
+  line : List ℕ
+  behind : List (List ℕ)
+  lines_are : lines ≡ before ++ line ∷ behind
+  told_is : told ≡ number + length before
+  sound : AreSound least before
+  misformed : cell_in line ≡ None
+
+form_from : (number least : ℕ) (lines : List (List ℕ)) (told : ℕ) → fault_from number least lines ≡ Some (Form told) → IsFormFrom number least lines told
+unfolding fault_from
+form_from number least [] told e = absurd (none-some (Form told) e)
+form_from number least (line ∷ rest) told e = ⊎_elim
+    (λ none.
+    let same : Some (Form told) ≡ Some (Form number) = sym e ∙ at_form line rest number least none in
+    let is : told ≡ number = cc (same) in
+    record { before = []; line = line; behind = rest; lines_are = refl; told_is = omega arith; sound = tt; misformed = none })
+    (⊎_elim
+    (λ low. (let same : Some (Form told) ≡ Some (Order number) = sym e ∙ at_order line rest number least low.cell low.read low.below in cc (same)))
+    (λ high.
+    let more = form_from (number + 1) (high.cell.0 + 1) rest told (sym (onward line rest number least high.cell high.read high.above) ∙ e) in
+    record {
+      before = line ∷ more.before;
+      line = more.line;
+      behind = more.behind;
+      lines_are = ap (λ t. line ∷ t) more.lines_are;
+      told_is = omega (arith, more.told_is);
+      sound = (high.cell.0, high.cell.1, cell_line-cell_in line high.cell high.read, high.above, more.sound);
+      misformed = more.misformed;
+    }))
+    (cases_line line least)
+
+-- ---- a fault of order
+
+-- the first line's address is too low
+record IsLowAtOnce (number least : ℕ) (lines : List (List ℕ)) (told : ℕ) : Type 0 where
+  line : List ℕ
+  behind : List (List ℕ)
+  lines_are : lines ≡ line ∷ behind
+  told_is : told ≡ number
+  low : IsBelow line least
+
+-- or that of a later one is
+record IsLowLater (number least : ℕ) (lines : List (List ℕ)) (told : ℕ) : Type 0 where
+  before : List (List ℕ)
+  last : List ℕ
+  line : List ℕ
+  behind : List (List ℕ)
+  lines_are : lines ≡ before ++ last ∷ line ∷ behind
+  told_is : told ≡ number + length before + 1
+  sound : AreSound least (before ++ last ∷ [])
+  cell : ℕ × ℕ
+  last_is : cell_in last ≡ Some cell
+  low : IsBelow line (cell.0 + 1)
+
+order_from : (number least : ℕ) (lines : List (List ℕ)) (told : ℕ) → fault_from number least lines ≡ Some (Order told)
+    → IsLowAtOnce number least lines told ⊎ IsLowLater number least lines told
+unfolding fault_from
+order_from number least [] told e = absurd (none-some (Order told) e)
+order_from number least (line ∷ rest) told e = ⊎_elim
+    (λ none. (let same : Some (Order told) ≡ Some (Form number) = sym e ∙ at_form line rest number least none in cc (same)))
+    (⊎_elim
+    (λ low.
+    let same : Some (Order told) ≡ Some (Order number) = sym e ∙ at_order line rest number least low.cell low.read low.below in
+    inl (record { line = line; behind = rest; lines_are = refl; told_is = cc (same); low = low }))
+    (λ high. ⊎_elim
+    (λ once. inr (record {
+      before = [];
+      last = line;
+      line = once.line;
+      behind = once.behind;
+      lines_are = ap (λ t. line ∷ t) once.lines_are;
+      told_is = omega (arith, once.told_is);
+      sound = (high.cell.0, high.cell.1, cell_line-cell_in line high.cell high.read, high.above, tt);
+      cell = high.cell;
+      last_is = high.read;
+      low = once.low;
+    }))
+    (λ later. inr (record {
+      before = line ∷ later.before;
+      last = later.last;
+      line = later.line;
+      behind = later.behind;
+      lines_are = ap (λ t. line ∷ t) later.lines_are;
+      told_is = omega (arith, later.told_is);
+      sound = (high.cell.0, high.cell.1, cell_line-cell_in line high.cell high.read, high.above, later.sound);
+      cell = later.cell;
+      last_is = later.last_is;
+      low = later.low;
+    }))
+    (order_from (number + 1) (high.cell.0 + 1) rest told (sym (onward line rest number least high.cell high.read high.above) ∙ e))))
+    (cases_line line least)
+
+-- a line that is not read is no line of a word
+no_line : (line : List ℕ) → cell_in line ≡ None → (address word : ℕ) → IsLineOf address word line → ⊥
+no_line line none address word is =
+    none-some (address, word) (sym none ∙ ap cell_in is.line_is ∙ cell_in-cell_line address word is.address_is is.word_is is.some)
+
+pub faults_law : FirstFaultsAreFirst
+faults_law = record {
+  form = λ text number e. (let at = form_from 1 0 (lines_of text) number e in record {
+    before = at.before;
+    line = at.line;
+    behind = at.behind;
+    lines_are = at.lines_are;
+    number_is = omega (arith, at.told_is);
+    sound = at.sound;
+    misformed = no_line at.line at.misformed;
+  });
+  order = λ text number e. ⊎_elim
+      (λ once. absurd (omega (arith, once.low.below)))
+      (λ at.
+      let last = cell_line-cell_in at.last at.cell at.last_is in
+      let line = cell_line-cell_in at.line at.low.cell at.low.read in
+      record {
+        before = at.before;
+        last = at.last;
+        line = at.line;
+        behind = at.behind;
+        lines_are = at.lines_are;
+        number_is = omega (arith, at.told_is);
+        sound = at.sound;
+        last_address = at.cell.0;
+        last_word = at.cell.1;
+        last_is = last;
+        address = at.low.cell.0;
+        word = at.low.cell.1;
+        line_is = line;
+        not_above = omega (arith, at.low.below);
+      })
+      (order_from 1 0 (lines_of text) number e);
+  none = λ text e. sound_from 1 0 (lines_of text) e;
+}

@@ -1,0 +1,33 @@
+use Rattle.std.proofs.Common.{◌+◌, length, sym, ap, arith, ◌∙◌}
+use Rattle.lgp_listing.specs.Dump.{fault_from}
+use Rattle.lgp_listing.proofs.FaultSteps.{at_form, at_order, onward}
+use Rattle.lgp_listing.proofs.reading.first_fault.Goals as goal
+
+pub returns-in_default : goal.returns-in_default
+returns-in_default c =
+    let number = c.loop-line.number + 1 in
+    sym (at_form c.in-Some.line.now c.next.new.self number c.loop-line.least (sym c.cell_in.ensures ∙ c.in_default.is))
+    ∙ ap (fault_from number c.loop-line.least) (sym c.in-Some.ensures.steps) ∙ c.loop-line.invariant.fault
+
+pub returns-then-address-least : goal.returns-then-address-least
+returns-then-address-least c =
+    let number = c.loop-line.number + 1 in
+    sym (at_order c.in-Some.line.now c.next.new.self number c.loop-line.least c.in-Some-cell_in.cell (sym c.cell_in.ensures ∙ c.in-Some-cell_in.is) (omega arith))
+    ∙ ap (fault_from number c.loop-line.least) (sym c.in-Some.ensures.steps) ∙ c.loop-line.invariant.fault
+
+pub loop-line-preserved : goal.loop-line-preserved
+loop-line-preserved c =
+    let number = c.loop-line.number + 1 in
+    let cell = c.in-Some-cell_in.cell in
+    record {
+      can = tt;
+      finite = tt;
+      few = omega (arith, ap length c.in-Some.ensures.steps, c.loop-line.invariant.few);
+      fault = ap (λ a. fault_from (number + 1) (a + 1) c.next.new.self) c.number-address.ensures.value
+          ∙ sym (onward c.in-Some.line.now c.next.new.self number c.loop-line.least cell (sym c.cell_in.ensures ∙ c.in-Some-cell_in.is) (omega arith))
+          ∙ ap (fault_from number c.loop-line.least) (sym c.in-Some.ensures.steps) ∙ c.loop-line.invariant.fault;
+    }
+
+pub returns : goal.returns
+unfolding fault_from
+returns c = ap (fault_from (c.loop-line.number + 1) c.loop-line.least) (sym c.in-None.ensures.steps.0) ∙ c.loop-line.invariant.fault

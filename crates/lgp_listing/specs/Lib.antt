@@ -1,0 +1,4 @@
+pub mod Disassembly
+pub mod Listing
+pub mod Dump
+pub mod Laws

@@ -1,0 +1,142 @@
+-- Lines of graphic bytes without a `;`: how they are cut, and what two words with spaces before them are as tokens.
+use Rattle.std.proofs.Common.{◌≡◌, ◌≢◌, ◌≤◌, ◌+◌, ◌++◌, ◌&&◌, ◌||◌, ◌==◌, ℕ, suc, Bool, true, false, not, cond, nat_le, nat_lt, List, [], ◌∷◌, length, take, drop, Some, None, refl, sym, ap, ◌∙◌, arith}
+use Rattle.std.specs.List.{position_or_len, position}
+use Rattle.std.proofs.lemmas.Bool.{cond-false, ne_eqb, le-leb, le-ltb, and_from}
+use Rattle.std.proofs.lemmas.List.{append-nil, take_at, drop_at}
+use Rattle.lgp_source.specs.Source.{SourceToken, SourceLine, before_pieces, pieces, text_of, is_blank, is_bad, code_from, before_comment, tokens_from, tokens_of, statement_of, line_of, line_by, line_with}
+use Rattle.lgp_source.proofs.Places.{run_more, run_none, past_token}
+
+-- a byte from the space to `~`, but no `;`
+abbrev pub IsPlain : ℕ → Type 0
+IsPlain b = (32 ≤ b) × (b ≤ 126) × (b ≢ 59)
+
+abbrev pub ArePlain : List ℕ → Type 0
+ArePlain [] = Unit {0}
+ArePlain (b ∷ bytes) = IsPlain b × ArePlain bytes
+
+-- and no space
+abbrev pub AreVisible : List ℕ → Type 0
+AreVisible [] = Unit {0}
+AreVisible (b ∷ bytes) = (IsPlain b × (b ≢ 32)) × AreVisible bytes
+
+pub plain_visible : (bytes : List ℕ) → AreVisible bytes → ArePlain bytes
+plain_visible [] all = tt
+plain_visible (b ∷ bytes) all = (all.0.0, plain_visible bytes all.1)
+
+pub plain_append : (one other : List ℕ) → ArePlain one → ArePlain other → ArePlain (one ++ other)
+plain_append [] other all more = more
+plain_append (b ∷ one) other all more = (all.0, plain_append one other all.1 more)
+
+-- ---- cutting
+
+-- a line ends at the line feed behind it
+pub piece_first : (line rest : List ℕ) → ArePlain line → pieces (line ++ 10 ∷ rest) ≡ line ∷ pieces rest
+piece_first [] rest all = refl
+piece_first (b ∷ line) rest all =
+    let other : b ≢ 10 = λ e. absurd (omega arith) in
+    cond-false (b == 10) ([] ∷ pieces (line ++ 10 ∷ rest)) (before_pieces b (pieces (line ++ 10 ∷ rest))) (ne_eqb b 10 other)
+    ∙ ap (before_pieces b) (piece_first line rest all.1)
+
+-- and keeps all its bytes
+pub text_whole : (line : List ℕ) → ArePlain line → text_of line ≡ line
+text_whole [] all = refl
+text_whole (b ∷ []) all =
+    let other : b ≢ 13 = λ e. absurd (omega arith) in
+    cond-false (b == 13) [] (b ∷ []) (ne_eqb b 13 other)
+text_whole (b ∷ c ∷ rest) all = ap (λ t. b ∷ t) (text_whole (c ∷ rest) all.1)
+
+good_byte : (b : ℕ) → IsPlain b → is_bad b ≡ false
+good_byte b plain =
+    let other : (b == 9) ≡ false = ne_eqb b 9 (λ e. absurd (omega arith)) in
+    let within : (nat_le 32 b && nat_le b 126) ≡ true = and_from (nat_le 32 b) (nat_le b 126) (le-leb 32 b plain.0) (le-leb b 126 plain.1) in
+    ap (λ t. not (t || (nat_le 32 b && nat_le b 126))) other ∙ ap not within
+
+good_len : (line : List ℕ) → ArePlain line → position_or_len is_bad line ≡ length line
+good_len [] all = refl
+good_len (b ∷ line) all =
+    ap (λ t. cond (not t) (1 + position_or_len is_bad line) 0) (good_byte b all.0) ∙ ap (λ n. 1 + n) (good_len line all.1) ∙ omega arith
+
+pub no_bad_byte : (line : List ℕ) → ArePlain line → position is_bad line ≡ None
+no_bad_byte line all =
+    let size = length line in
+    ap (λ n. cond (nat_lt n size) (Some n) None) (good_len line all)
+    ∙ cond-false (nat_lt size size) (Some size) None (le-ltb size size (omega arith))
+
+no_comment_from : (fresh : Bool) (line : List ℕ) → ArePlain line → code_from fresh line ≡ line
+no_comment_from fresh [] all = refl
+no_comment_from fresh (b ∷ line) all =
+    cond-false (fresh && b == 59) [] (b ∷ code_from (is_blank b) line) (ap (λ t. fresh && t) (ne_eqb b 59 all.0.2) ∙ neither fresh)
+    ∙ ap (λ t. b ∷ t) (no_comment_from (is_blank b) line all.1)
+  where
+    neither : (fresh : Bool) → (fresh && false) ≡ false
+    neither true = refl
+    neither false = refl
+
+pub no_comment : (line : List ℕ) → ArePlain line → before_comment line ≡ line
+no_comment line all = no_comment_from true line all
+
+-- ---- tokens
+
+visible_byte : (b : ℕ) → IsPlain b × (b ≢ 32) → is_blank b ≡ false
+visible_byte b all =
+    let tab : (b == 9) ≡ false = ne_eqb b 9 (λ e. absurd (omega arith)) in
+    ap (λ t. t || b == 9) (ne_eqb b 32 all.1) ∙ tab
+
+-- nothing comes, or a blank
+abbrev pub BeginsBlank : List ℕ → Type 0
+BeginsBlank [] = Unit {0}
+BeginsBlank (b ∷ rest) = is_blank b ≡ true
+
+run_len : (word rest : List ℕ) → AreVisible word → BeginsBlank rest → position_or_len is_blank (word ++ rest) ≡ length word
+run_len [] [] all blank = refl
+run_len [] (b ∷ rest) all blank = run_none b rest blank
+run_len (b ∷ word) rest all blank = run_more b (word ++ rest) (visible_byte b all.0) ∙ ap suc (run_len word rest all.1 blank)
+
+token_of : ℕ → List ℕ → SourceToken
+token_of place word = record { text = word; first = place; past = place + length word }
+
+-- a word before a blank is a token
+token_first : (place b : ℕ) (word rest : List ℕ) → AreVisible (b ∷ word) → BeginsBlank rest
+    → tokens_from place true ((b ∷ word) ++ rest) ≡ token_of place (b ∷ word) ∷ tokens_from (place + length (b ∷ word)) true rest
+unfolding token_of
+token_first place b word rest all blank =
+    let whole = b ∷ word in
+    let n = position_or_len is_blank (whole ++ rest) in
+    let len : n ≡ length whole = run_len whole rest all blank in
+    past_token place b (word ++ rest) (visible_byte b all.0)
+    ∙ ap (λ k. record { text = take k (whole ++ rest); first = place; past = place + k } ∷ tokens_from (place + k) true (drop k (whole ++ rest))) len
+    ∙ ap (λ t. record { text = t; first = place; past = place + length whole } ∷ tokens_from (place + length whole) true (drop (length whole) (whole ++ rest))) (take_at whole rest (length whole) refl)
+    ∙ ap (λ t. token_of place whole ∷ tokens_from (place + length whole) true t) (drop_at whole rest (length whole) refl)
+
+-- the line of an operation and an operand, each behind a space
+pub record IsStatement (line : SourceLine) (number : ℕ) (text name operand : List ℕ) : Type 0 where
+  pub first : SourceToken
+  pub second : SourceToken
+  pub name_is : first.text ≡ name
+  pub operand_is : second.text ≡ operand
+  pub line_is : line ≡ record { number = number; text = text; label = None; operation = Some first; operands = Some second ∷ None ∷ []; bad_byte = None; extra = false }
+
+pub statement_line : (number n o : ℕ) (name operand : List ℕ) → AreVisible (n ∷ name) → AreVisible (o ∷ operand)
+    → let text = 32 ∷ ((n ∷ name) ++ 32 ∷ (o ∷ operand)) in IsStatement (line_of number text) number text (n ∷ name) (o ∷ operand)
+unfolding token_of
+statement_line number n o name operand is_name is_operand =
+    let text = 32 ∷ ((n ∷ name) ++ 32 ∷ (o ∷ operand)) in
+    let plain : ArePlain text = (
+      (omega arith, omega arith, λ e. absurd (omega arith)),
+      plain_append (n ∷ name) (32 ∷ (o ∷ operand)) (plain_visible (n ∷ name) is_name)
+          ((omega arith, omega arith, λ e. absurd (omega arith)), plain_visible (o ∷ operand) is_operand),
+    ) in
+    let behind = 1 + length (n ∷ name) in
+    let tokens : tokens_of text ≡ token_of 1 (n ∷ name) ∷ token_of (behind + 1) (o ∷ operand) ∷ [] =
+    ap (tokens_from 0 true) (no_comment text plain)
+    ∙ token_first 1 n name (32 ∷ (o ∷ operand)) is_name refl
+    ∙ ap (λ t. token_of 1 (n ∷ name) ∷ t) (ap (tokens_from (behind + 1) true) (sym (append-nil (o ∷ operand)))
+    ∙ token_first (behind + 1) o operand [] is_operand tt) in
+    record {
+      first = token_of 1 (n ∷ name);
+      second = token_of (behind + 1) (o ∷ operand);
+      name_is = refl;
+      operand_is = refl;
+      line_is = ap (line_by number text) (no_bad_byte text plain)
+          ∙ ap (λ ts. line_with number text ts (statement_of ts)) tokens;
+    }
