@@ -23,8 +23,8 @@ use Rattle.lgp_assembler.specs.Fields.{LineFields}
 use Rattle.lgp_assembler.specs.Places.{option_makes_word, has_word, word_count, org_address, next_place, place_by, place_of, has_ended, new_label, names_of}
 use Rattle.lgp_assembler.specs.Faults.{says_something, is_bad_label, is_label_again, line_meaning, meaning_by, rows, first_kind, numbered_fault, faults_in}
 use Rattle.lgp_assembler.specs.Image.{cell_at, cells_in, start_at, start_in}
-use Rattle.lgp_assembler.specs.Scan.{IfCell, Stands, scan_fault, CellFits, SymbolFits, symbol_at, IsDraftOf}
-use Rattle.lgp_assembler.proofs.Rows.{fault_stands}
+use Rattle.lgp_assembler.specs.ScanInside.{IfCell, Stands, AreMarks, kept_fault, CellFits, SymbolFits, symbol_at, IsDraftOf}
+use Rattle.lgp_assembler.proofs.Rows.{kind_here, kind_behind, fault_stands}
 
 -- ---- where no row holds
 
@@ -35,8 +35,8 @@ AllFail (row ∷ more) = (row.0 ≡ false) × AllFail more
 pub none_fails : (all : List (Bool × FaultKind)) → first_kind all ≡ None → AllFail all
 none_fails [] none = tt
 none_fails (row ∷ more) none = ⊎_elim
-    (λ yes. absurd (none-some row.1 (sym none ∙ cond-true row.0 (Some row.1) (first_kind more) yes)))
-    (λ fails. (fails, none_fails more (sym (cond-false row.0 (Some row.1) (first_kind more) fails) ∙ none)))
+    (λ yes. absurd (none-some row.1 (sym none ∙ kind_here row.0 row.1 more yes)))
+    (λ fails. (fails, none_fails more (sym (kind_behind row.0 row.1 more fails) ∙ none)))
     (cases_Bool row.0)
 
 -- the rows that an image needs
@@ -47,9 +47,9 @@ record Clear (line : LineFields) (place : ℕ) (ended : Bool) (before : List (Li
   within : (has_word line && nat_lt 4095 place) ≡ false
   free : (has_word line && is_loaders place) ≡ false
 
-clear_rows : (names : List (List ℕ × ℕ)) (line : LineFields) (place : ℕ) (ended : Bool) (before : List (List ℕ × ℕ)) (taken : Bool) → first_kind (rows names line place ended before taken) ≡ None → Clear line place ended before
-clear_rows names line place ended before taken none =
-    let all = none_fails (rows names line place ended before taken) none in
+clear_rows : (line : LineFields) (meaning : Result Meaning OperandFault) (place : ℕ) (ended : Bool) (before : List (List ℕ × ℕ)) (taken : Bool) → first_kind (rows line meaning place ended before taken) ≡ None → Clear line place ended before
+clear_rows line meaning place ended before taken none =
+    let all = none_fails (rows line meaning place ended before taken) none in
     record {
       live = all.1.0;
       label = all.1.1.1.0;
@@ -203,29 +203,29 @@ pub list_none : (number : ℕ) (kind : Option FaultKind) → option_to_list (opt
 list_none number None e = refl
 list_none number (Some kind) e = absurd (cc)
 
-pub draft_step : (names : List (List ℕ × ℕ)) (line : LineFields) (place : ℕ) (ended : Bool) (before : List (List ℕ × ℕ)) (taken : List Bool) (earlier : List LineFields)
+pub draft_step : (names : List (List ℕ × ℕ)) (line : LineFields) (lines place : ℕ) (ended : Bool) (before : List (List ℕ × ℕ)) (taken : List Bool) (earlier : List LineFields)
     → (faults faults' : List Fault) (cells cells' : List (ℕ × ℕ)) (start start' : Option ℕ) (symbols symbols' : List (List ℕ × ℕ))
-    → Stands place ended before taken earlier → IsDraftOf names faults cells start symbols earlier
-    → faults' ≡ faults ++ option_to_list (option_map (numbered_fault line.number) (scan_fault names line place ended before taken))
-    → (faults' ≡ [] → CellFits (place_by line place) (line_meaning names (place_by line place) line) → cells' ≡ cells ++ option_to_list (cell_at (place_by line place) (line_meaning names (place_by line place) line)))
-    → (faults' ≡ [] → start' ≡ option_or start (start_at line.operation (line_meaning names (place_by line place) line)))
-    → (faults' ≡ [] → SymbolFits line.label (place_by line place) → symbols' ≡ symbols ++ option_to_list (symbol_at line.label (place_by line place)))
-    → (faults' ≡ [] → IfCell (line_meaning names (place_by line place) line) IsWord)
+    → (here : ℕ) → here ≡ place_by line place → Stands lines place ended before earlier → AreMarks taken earlier → IsDraftOf names faults cells start symbols earlier
+    → faults' ≡ faults ++ option_to_list (option_map (numbered_fault line.number) (kept_fault line (line_meaning names here line) here ended before taken))
+    → (faults' ≡ [] → CellFits here (line_meaning names here line) → cells' ≡ cells ++ option_to_list (cell_at here (line_meaning names here line)))
+    → (faults' ≡ [] → start' ≡ option_or start (start_at line.operation (line_meaning names here line)))
+    → (faults' ≡ [] → SymbolFits line.label here → symbols' ≡ symbols ++ option_to_list (symbol_at line.label here))
+    → (faults' ≡ [] → IfCell (line_meaning names here line) IsWord)
     → IsDraftOf names faults' cells' start' symbols' (line ∷ earlier)
 unfolding faults_in cells_in start_in names_of next_place
-draft_step names line place ended before taken earlier faults faults' cells cells' start start' symbols symbols' s d faults_e cells_e start_e symbols_e word_e =
-    let here = place_by line place in
-    let here_is : here ≡ place_of line earlier = ap (place_by line) s.place_is in
-    let kind = scan_fault names line place ended before taken in
+draft_step names line lines place ended before taken earlier faults faults' cells cells' start start' symbols symbols' here at s marks d faults_e cells_e start_e symbols_e word_e =
+    let here_is : here ≡ place_of line earlier = at ∙ ap (place_by line) s.place_is in
+    let kind = kept_fault line (line_meaning names here line) here ended before taken in
     let told = numbered_fault line.number in
     record {
       faults_are = faults_e ∙ ap (λ fs. fs ++ option_to_list (option_map told kind)) d.faults_are
-          ∙ ap (λ k. faults_in names earlier ++ option_to_list (option_map told k)) (fault_stands names line place ended before taken earlier s);
+          ∙ ap (λ h. faults_in names earlier ++ option_to_list (option_map told (kept_fault line (line_meaning names h line) h ended before taken))) at
+          ∙ ap (λ k. faults_in names earlier ++ option_to_list (option_map told k)) (fault_stands names line lines place ended before taken earlier s marks);
       image = λ none.
           let both = append_none faults (option_to_list (option_map told kind)) (sym faults_e ∙ none) in
-          let clear = clear_rows names line here ended before (slice_index_or taken here false) (list_none line.number kind both.1) in
+          let clear = clear_rows line (line_meaning names here line) here ended before (slice_index_or taken here false) (list_none line.number kind both.1) in
           let image = d.image both.0 in
-          let small : here ≤ 4096 = place_small line place (subst (λ p. p ≤ 4096) (sym s.place_is) image.within) in
+          let small : here ≤ 4096 = subst (λ h. h ≤ 4096) (sym at) (place_small line place (subst (λ p. p ≤ 4096) (sym s.place_is) image.within)) in
           let word_small : has_word line ≡ true → here < 4096 = word_within line here clear.within in
           let fits : CellFits here (line_meaning names here line) = line_fits line.operation names here here line word_small in
           record {

@@ -19,7 +19,7 @@ use Rattle.lgp_assembler.specs.Operations.{makes_word}
 use Rattle.lgp_assembler.specs.Operands.{cell_of_order, printing, sign_operand, order_operand, address_operand, scaled_word, integer_word, is_decimal, decimal, unsigned_part, cell_of_fraction, cell_or, place_or, meaning}
 use Rattle.lgp_assembler.specs.Fields.{LineFields}
 use Rattle.lgp_assembler.specs.Places.{option_makes_word, has_word, place_of, has_ended, names_of, is_taken}
-use Rattle.lgp_assembler.specs.Faults.{is_misformed, is_unknown, is_outside, line_meaning, meaning_by, rows, fault_of, faults_in}
+use Rattle.lgp_assembler.specs.Faults.{is_misformed, is_unknown, is_out_of_range, line_meaning, meaning_by, rows, fault_of, faults_in}
 use Rattle.lgp_assembler.specs.Image.{cell_at, cells_in, passed}
 use Rattle.lgp_assembler.proofs.DraftSteps.{none_fails, append_none, list_none}
 
@@ -134,7 +134,7 @@ module _ (names : List (List ℕ × ℕ)) (place : ℕ) where
 
 -- ---- a line without a fault
 
-there : (place : ℕ) (r : Result Meaning OperandFault) → IsWordOrFault r → is_misformed r ≡ false → is_unknown r ≡ false → is_outside r ≡ false → is_some (cell_at place r) ≡ true
+there : (place : ℕ) (r : Result Meaning OperandFault) → IsWordOrFault r → is_misformed r ≡ false → is_unknown r ≡ false → is_out_of_range r ≡ false → is_some (cell_at place r) ≡ true
 there place (Ok (Cell word)) is formed known within = refl
 there place (Ok (Place address)) is formed known within = absurd is
 there place (Ok Nothing) is formed known within = absurd is
@@ -157,7 +157,7 @@ module _ (names : List (List ℕ × ℕ)) (earlier : List LineFields) (line : Li
   unfolding fault_of
   cell_there word =
       let place = place_of line earlier in
-      let fails = none_fails (rows names line place (has_ended earlier) (names_of earlier) (is_taken place earlier)) faultless in
+      let fails = none_fails (rows line (line_meaning names place line) place (has_ended earlier) (names_of earlier) (is_taken place earlier)) faultless in
       there place (line_meaning names place line) (line_makes names place line.operation line word)
       fails.1.1.1.1.1.1.1.0 fails.1.1.1.1.1.1.1.1.0 fails.1.1.1.1.1.1.1.1.1.0
 

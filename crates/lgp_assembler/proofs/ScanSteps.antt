@@ -1,10 +1,10 @@
 -- One line more in a scan.
-use Rattle.std.proofs.Common.{◌≡◌, ◌≢◌, ◌<◌, ◌+◌, ◌&&◌, ◌||◌, ◌==◌, ◌++◌, ℕ, zero, suc, Bool, true, false, List, ◌∷◌, length, slice_index_or, slice_set, replicate, unwrap_or, option_to_list, if◌then◌else◌, refl, sym, ap, ◌∙◌, arith, ⊎_elim, length-set}
+use Rattle.std.proofs.Common.{◌≡◌, ◌≢◌, ◌<◌, ◌≤◌, ◌+◌, ◌&&◌, ◌||◌, ◌==◌, ◌++◌, ℕ, zero, suc, Bool, true, false, List, ◌∷◌, length, slice_index_or, slice_set, replicate, option_to_list, if◌then◌else◌, refl, sym, ap, ◌∙◌, arith, ⊎_elim, length-set}
 use Rattle.std.proofs.lemmas.Bool.{cases_eq, eq-eqb, ne_eqb}
 use Rattle.std.proofs.lemmas.List.{get_or-set_same, get_or-set_other}
 use Rattle.lgp_assembler.specs.Fields.{LineFields}
-use Rattle.lgp_assembler.specs.Places.{option_makes_word, org_address, next_place, place_of, is_end, has_ended, new_label, names_of, is_taken}
-use Rattle.lgp_assembler.specs.Scan.{Stands}
+use Rattle.lgp_assembler.specs.Places.{has_word, word_count, next_place, place_by, place_of, is_end, has_ended, new_label, names_of, is_taken}
+use Rattle.lgp_assembler.specs.ScanInside.{Stands, AreMarks}
 
 pub clear_marks : (marks : List Bool) (n p : ℕ) → marks ≡ replicate n false → slice_index_or marks p false ≡ false
 clear_marks marks n p e = ap (λ m. slice_index_or m p false) e ∙ blank n p
@@ -31,27 +31,46 @@ size_kept : (has_one : Bool) (here : ℕ) (taken : List Bool) → length (if has
 size_kept false here taken = refl
 size_kept true here taken = length-set taken here true
 
-pub stands_step : (place : ℕ) (ended : Bool) (names : List (List ℕ × ℕ)) (taken : List Bool) (earlier : List LineFields) (line : LineFields) (place' : ℕ) (ended' : Bool) (names' : List (List ℕ × ℕ)) (taken' : List Bool)
-    → Stands place ended names taken earlier
-    → names' ≡ names ++ option_to_list (new_label line.label (unwrap_or (org_address line.operation line.first) place) ended names)
-    → taken' ≡ (if option_makes_word line.operation then slice_set taken (unwrap_or (org_address line.operation line.first) place) true else taken)
-    → place' ≡ unwrap_or (org_address line.operation line.first) place + (if option_makes_word line.operation then 1 else 0)
+pub marks_step : (taken taken' : List Bool) (earlier : List LineFields) (line : LineFields) → AreMarks taken earlier
+    → taken' ≡ (if has_word line then slice_set taken (place_of line earlier) true else taken) → AreMarks taken' (line ∷ earlier)
+unfolding is_taken
+marks_step taken taken' earlier line marks e = record {
+  length_is = ap length e ∙ size_kept (has_word line) (place_of line earlier) taken ∙ marks.length_is;
+  marks_are = λ p small.
+      let within : p < length taken = omega (arith, marks.length_is) in
+      ap (λ t. slice_index_or t p false) e ∙ marked (has_word line) (place_of line earlier) p taken (is_taken p earlier) within (marks.marks_are p small);
+}
+
+pub stands_step : (lines place : ℕ) (ended : Bool) (names : List (List ℕ × ℕ)) (earlier : List LineFields) (line : LineFields) (lines' place' : ℕ) (ended' : Bool) (names' : List (List ℕ × ℕ))
+    → Stands lines place ended names earlier
+    → lines' ≡ lines + 1
+    → names' ≡ names ++ option_to_list (new_label line.label (place_by line place) ended names)
+    → place' ≡ place_by line place + word_count line
     → ended' ≡ (is_end line.operation || ended)
-    → Stands place' ended' names' taken' (line ∷ earlier)
-unfolding next_place has_ended names_of is_taken
-stands_step place ended names taken earlier line place' ended' names' taken' s names_e taken_e place_e ended_e =
-    let here = unwrap_or (org_address line.operation line.first) place in
-    let here_is : here ≡ place_of line earlier = ap (unwrap_or (org_address line.operation line.first)) s.place_is in
-    let makes = option_makes_word line.operation in
+    → Stands lines' place' ended' names' (line ∷ earlier)
+unfolding next_place has_ended names_of
+stands_step lines place ended names earlier line lines' place' ended' names' s lines_e names_e place_e ended_e =
+    let here_is : place_by line place ≡ place_of line earlier = ap (place_by line) s.place_is in
     record {
-      place_is = place_e ∙ ap (λ h. h + (if makes then 1 else 0)) here_is;
+      lines_are = omega (arith, s.lines_are);
+      place_is = place_e ∙ ap (λ h. h + word_count line) here_is;
       ended_is = ended_e ∙ ap (λ b. is_end line.operation || b) s.ended_is;
       names_are = names_e ∙ ap (λ h. names ++ option_to_list (new_label line.label h ended names)) here_is
           ∙ ap (λ b. names ++ option_to_list (new_label line.label (place_of line earlier) b names)) s.ended_is
           ∙ ap (λ ns. ns ++ option_to_list (new_label line.label (place_of line earlier) (has_ended earlier) ns)) s.names_are;
-      length_is = ap length taken_e ∙ size_kept makes here taken ∙ s.length_is;
-      marks_are = λ p small.
-          let within : p < length taken = omega (arith, s.length_is) in
-          ap (λ t. slice_index_or t p false) taken_e ∙ marked makes here p taken (is_taken p earlier) within (s.marks_are p small)
-          ∙ ap (λ h. (makes && h == p) || is_taken p earlier) here_is;
     }
+
+-- what a pass adds, in the place of the line
+pub names_at : (line : LineFields) (here place : ℕ) (ended : Bool) (names : List (List ℕ × ℕ)) → here ≡ place_by line place
+    → names ++ option_to_list (new_label line.label here ended names) ≡ names ++ option_to_list (new_label line.label (place_by line place) ended names)
+names_at line here place ended names e = ap (λ h. names ++ option_to_list (new_label line.label h ended names)) e
+
+pub place_at : (line : LineFields) (here place : ℕ) → here ≡ place_by line place → here + word_count line ≡ place_by line place + word_count line
+place_at line here place e = ap (λ h. h + word_count line) e
+
+pub word_count_small : (line : LineFields) → word_count line ≤ 1
+word_count_small line = pick (has_word line)
+  where
+    pick : (b : Bool) → (if b then 1 else 0) ≤ 1
+    pick true = omega arith
+    pick false = omega arith

@@ -1,4 +1,4 @@
--- The refusals of an assembly: this project's own choice.
+-- Part of the public promise: the refusals of an assembly. This project's own choice.
 use Rattle.std.specs.Prelude.{List}
 use Rattle.lgp_assembler.specs.declared.refusal.Fault.{Fault}
 use Rattle.lgp_assembler.specs.declared.refusal.AssembleError.{AssembleError}

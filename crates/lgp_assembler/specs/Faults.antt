@@ -1,5 +1,5 @@
--- The faults of a source: this project's own choice.
-use Rattle.std.specs.Prelude.{ℕ, ◌+◌, ◌&&◌, ◌||◌, not, nat_lt, Bool, true, false, if◌then◌else◌, List, [], ◌∷◌, ◌++◌, length, Option, None, Some, Result, Ok, Err, is_some, is_none, option_map, option_to_list}
+-- Part of the public promise: the faults of a source. This project's own choice.
+use Rattle.std.specs.Prelude.{ℕ, ◌+◌, ◌&&◌, ◌||◌, not, nat_lt, Bool, true, false, if◌then◌else◌, find, List, [], ◌∷◌, ◌++◌, length, Option, None, Some, Result, Ok, Err, is_some, is_none, option_map, option_to_list}
 use Rattle.std.specs.Str.{bytes_eq}
 use Rattle.std.specs.Map.{lookup}
 use Rattle.lgp_assembler.specs.declared.operations.Operation.{Operation}
@@ -49,9 +49,9 @@ abbrev pub is_unknown : Result Meaning OperandFault → Bool
 is_unknown (Err Unknown) = true
 is_unknown _ = false
 
-abbrev pub is_outside : Result Meaning OperandFault → Bool
-is_outside (Err Outside) = true
-is_outside _ = false
+abbrev pub is_out_of_range : Result Meaning OperandFault → Bool
+is_out_of_range (Err Outside) = true
+is_out_of_range _ = false
 
 -- what the operands of a line stand for
 abbrev pub meaning_by : Option Operation → List (List ℕ × ℕ) → ℕ → LineFields → Result Meaning OperandFault
@@ -61,11 +61,12 @@ meaning_by (Some operation) names place line = meaning names place operation lin
 abbrev pub line_meaning : List (List ℕ × ℕ) → ℕ → LineFields → Result Meaning OperandFault
 line_meaning names place line = meaning_by line.operation names place line
 
--- ---- the table: the conditions in order, each with its kind. `names` are those of the whole source, `place` is the line's, `ended`
--- says that the end line stands before it, `before` are the names of the lines before it, and `taken` says that a word of theirs lies at its place
+-- ---- the table: the conditions in order, each with its kind. `meaning` is what the line's operands stand for and `place` is its
+-- place, `ended` says that the end line stands before it, `before` are the names of the lines before it, and `taken` says that a
+-- word of theirs lies at its place
 
-abbrev pub rows : List (List ℕ × ℕ) → LineFields → ℕ → Bool → List (List ℕ × ℕ) → Bool → List (Bool × FaultKind)
-rows names line place ended before taken =
+abbrev pub rows : LineFields → Result Meaning OperandFault → ℕ → Bool → List (List ℕ × ℕ) → Bool → List (Bool × FaultKind)
+rows line meaning place ended before taken =
     (line.is_bad, BadByte)
     ∷ (ended && says_something line, AfterEnd)
     ∷ (nat_lt (takes_at_most line.operation) line.count, Extra)
@@ -73,24 +74,24 @@ rows names line place ended before taken =
     ∷ (is_label_again line.label before, LabelTwice)
     ∷ (line.has_operation && is_none line.operation, UnknownOrder)
     ∷ (nat_lt line.count (needs_at_least line.operation), MissingOperand)
-    ∷ (is_misformed (line_meaning names place line), BadOperand)
-    ∷ (is_unknown (line_meaning names place line), UnknownName)
-    ∷ (is_outside (line_meaning names place line), OutOfRange)
+    ∷ (is_misformed meaning, BadOperand)
+    ∷ (is_unknown meaning, UnknownName)
+    ∷ (is_out_of_range meaning, OutOfRange)
     ∷ (has_word line && nat_lt 4095 place, PastEnd)
     ∷ (has_word line && is_loaders place, InLoader)
     ∷ (has_word line && taken, PlaceTaken)
     ∷ []
 
--- the first that holds
+-- the kind of the first row whose condition holds
 abbrev pub first_kind : List (Bool × FaultKind) → Option FaultKind
-first_kind [] = None
-first_kind (row ∷ rows) = if row.0 then Some row.1 else first_kind rows
+first_kind rows = option_map (λ row. row.1) (find (λ row. row.0) rows)
 
 -- the fault of a line after those before it
 unfoldable pub fault_of : List (List ℕ × ℕ) → LineFields → List LineFields → Option FaultKind
 fault_of names line earlier =
     let place = place_of line earlier in
-    first_kind (rows names line place (has_ended earlier) (names_of earlier) (is_taken place earlier))
+    first_kind
+    (rows line (line_meaning names place line) place (has_ended earlier) (names_of earlier) (is_taken place earlier))
 
 abbrev pub numbered_fault : ℕ → FaultKind → Fault
 numbered_fault number kind = record { line = number; kind = kind }

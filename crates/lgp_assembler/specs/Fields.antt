@@ -1,4 +1,4 @@
--- A line as the assembler sees it: this project's own choice.
+-- Part of the public promise: a line as the assembler sees it. This project's own choice.
 use Rattle.std.specs.Prelude.{ℕ, Bool, if◌then◌else◌, List, Option, None, is_some, option_map, option_and_then, slice_index_or}
 use Rattle.lgp_source.specs.Source.{SourceLine, SourceToken}
 use Rattle.lgp_assembler.specs.declared.operations.Operation.{Operation}

@@ -1,4 +1,4 @@
--- What a source assembles to, and its faults: this project's own choice.
+-- Part of the public promise: what a source assembles to, and its faults. This project's own choice.
 use Rattle.std.specs.Prelude.{ℕ, List, [], ◌∷◌, ◌++◌, map, fold, Option, None, Some, Result, Ok, option_to_list}
 use Rattle.std.specs.Option.{option_or}
 use Rattle.lgp_source.specs.Source.{lines_of}

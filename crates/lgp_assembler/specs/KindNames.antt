@@ -1,4 +1,4 @@
--- The names of the kinds of faults: this project's own choice.
+-- Part of the public promise: the names of the kinds of faults. This project's own choice.
 use Rattle.std.specs.Prelude.{ℕ, List, codes}
 use Rattle.lgp_assembler.specs.declared.refusal.FaultKind.{FaultKind}
 use Rattle.lgp_assembler.specs.declared.refusal.FaultKind.TheVariants.{BadByte, AfterEnd, Extra, BadLabel, LabelTwice, UnknownOrder, MissingOperand, BadOperand, UnknownName, OutOfRange, PastEnd, InLoader, PlaceTaken, NoEnd}

@@ -1,4 +1,5 @@
--- What places and names are, in the words of the source language, which is this project's own. The lines are here in the order of the source.
+-- Part of the public promise: what places and names are, in the words of the source language. The lines are here in the order of
+-- the source.
 use Rattle.std.specs.Prelude.{◌≡◌, ◌⊎◌, ℕ, ◌+◌, true, false, List, [], ◌∷◌, ◌++◌, Option, None, Some}
 use Rattle.std.specs.Str.{bytes_eq}
 use Rattle.std.specs.Map.{lookup}

@@ -1,13 +1,13 @@
 pub mod Parts
 pub mod Operations
 pub mod Operands
-pub mod NameTable
+pub mod NameTableInside
 pub mod Fields
-pub mod FieldsSeen
+pub mod FieldsSeenInside
 pub mod Places
 pub mod Faults
 pub mod Image
-pub mod Scan
+pub mod ScanInside
 pub mod KindNames
 pub mod Answers
 pub mod Laws

@@ -1,4 +1,4 @@
--- What operands stand for: this project's own choice.
+-- Part of the public promise: what operands stand for. This project's own choice.
 use Rattle.std.specs.Prelude.{ℕ, ◌+◌, ◌-◌, ◌*◌, ◌%◌, ◌^◌, ◌==◌, ◌&&◌, ◌||◌, nat_le, nat_lt, Bool, true, false, if◌then◌else◌, List, length, take, drop, fold, codes, slice_index, Option, None, Some, Result, Ok, Err, ok_or, ℤ, pos, ◌*ℤ◌}
 use Rattle.std.specs.Str.{bytes_eq}
 use Rattle.std.specs.Char.{is_ascii_digit, is_ascii_lowercase}

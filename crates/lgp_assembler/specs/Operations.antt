@@ -1,4 +1,4 @@
--- The operations of the source language, and how many operands each takes: this project's own choice. The order letters
+-- Part of the public promise: the operations of the source language, and how many operands each takes. This project's own choice; the order letters
 -- are those of the Programming Manual.
 use Rattle.std.specs.Prelude.{ℕ, ◌==◌, Bool, true, false, if◌then◌else◌, List, length, codes, slice_index, Option, None, Some, option_map}
 use Rattle.std.specs.Str.{bytes_eq}

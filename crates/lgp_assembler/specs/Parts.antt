@@ -1,4 +1,4 @@
--- What a source assembles to: this project's own choice. That the loader has ten places is too.
+-- Part of the public promise: what an image is, and which places the loader keeps. This project's own choice.
 use Rattle.std.specs.Prelude.{◌≡◌, ℕ, ◌<◌, ◌&&◌, nat_le, nat_lt, Bool, false, List, [], ◌∷◌, Option}
 use Rattle.lgp_word.specs.Word.{IsWord}
 use Rattle.lgp_assembler.specs.declared.output.TheConstants.{LOADER_PLACES}

@@ -1,4 +1,5 @@
--- Places and names. Each definition goes over the lines before a line, the nearest first. This project's own choice.
+-- Part of the public promise: places and names. Each definition goes over the lines before a line, the nearest first. This project's
+-- own choice.
 use Rattle.std.specs.Prelude.{ℕ, ◌+◌, ◌==◌, ◌&&◌, ◌||◌, Bool, true, false, if◌then◌else◌, List, [], ◌∷◌, ◌++◌, Option, None, Some, is_some, unwrap_or, option_and_then, option_to_list}
 use Rattle.std.specs.Str.{bytes_eq}
 use Rattle.std.specs.Map.{lookup}

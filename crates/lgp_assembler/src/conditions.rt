@@ -1,16 +1,17 @@
+//! The conditions of the table of faults.
+
 ghost use Rattle.std.specs.Prelude.{◌≡◌};
 ghost use Rattle.std.specs.Option.{option_copied};
 ghost use Rattle.lgp_assembler.specs.Faults as spec;
 ghost use Rattle.lgp_assembler.specs.Parts.{is_loaders};
-ghost use Rattle.lgp_assembler.specs.Scan.{scan_fault};
-ghost use Rattle.lgp_assembler.specs.FieldsSeen.{fields_seen};
+ghost use Rattle.lgp_assembler.specs.FieldsSeenInside.{fields_seen};
 
 use crate::line_fields::Fields;
 use crate::name_table::Names;
 use crate::operands::{Meaning, OperandFault, is_name, meaning_of};
 use crate::operations::Operation;
 use crate::output::LOADER_PLACES;
-use crate::passes::{Scan, makes_word};
+use crate::passes::Scan;
 use crate::refusal::FaultKind;
 use std::alloc::Allocator;
 
@@ -76,8 +77,8 @@ fn is_unknown(meaning: &Result<Meaning, OperandFault>) -> bool
 }
 
 /// Whether operands stand for a value that does not fit.
-fn is_outside(meaning: &Result<Meaning, OperandFault>) -> bool
-    ensures { result ≡ spec.is_outside meaning.now }
+fn is_out_of_range(meaning: &Result<Meaning, OperandFault>) -> bool
+    ensures { result ≡ spec.is_out_of_range meaning.now }
 {
     matches!(meaning, Err(OperandFault::Outside))
 }
@@ -107,25 +108,23 @@ pub fn line_meaning<A: Allocator>(
 fn first_kind(rows: &[(bool, FaultKind)]) -> Option<FaultKind>
     ensures { result ≡ spec.first_kind rows.now }
 {
-    for (holds, kind) in rows {
-        if *holds {
-            return Some(*kind);
-        }
-    }
-    None
+    rows.iter().find(|row| row.0).map(|row| row.1)
 }
 
-/// The fault of the line that comes, with the names of the whole source.
+/// The fault of the line that comes, by its place, whether that is taken, and what its operands stand
+/// for.
 pub fn fault_of<'a, A: Allocator>(
-    names: &Names<'a, A>,
     scan: &Scan<'a, A>,
     fields: &Fields<'a>,
+    place: u64,
+    is_taken: bool,
+    meaning: &Result<Meaning, OperandFault>,
 ) -> Option<FaultKind>
-    ensures { result ≡ scan_fault names.now (fields_seen fields.now) scan.now.place scan.now.ended scan.now.names scan.now.taken.items }
+    ensures { let line = fields_seen fields.now in
+        result ≡ spec.first_kind
+        (spec.rows line meaning.now place scan.now.ended scan.now.names is_taken) }
 {
-    let place = scan.place_of(fields);
-    let meaning = line_meaning(names, place, fields);
-    let has_word = makes_word(fields.operation);
+    let has_word = fields.has_word();
     first_kind(&[
         (fields.is_bad, FaultKind::BadByte),
         (scan.ended && says_something(fields), FaultKind::AfterEnd),
@@ -146,11 +145,11 @@ pub fn fault_of<'a, A: Allocator>(
             fields.count < needs_at_least(fields.operation),
             FaultKind::MissingOperand,
         ),
-        (is_misformed(&meaning), FaultKind::BadOperand),
-        (is_unknown(&meaning), FaultKind::UnknownName),
-        (is_outside(&meaning), FaultKind::OutOfRange),
+        (is_misformed(meaning), FaultKind::BadOperand),
+        (is_unknown(meaning), FaultKind::UnknownName),
+        (is_out_of_range(meaning), FaultKind::OutOfRange),
         (has_word && place > 4095, FaultKind::PastEnd),
         (has_word && is_loaders(place), FaultKind::InLoader),
-        (has_word && scan.is_taken(place), FaultKind::PlaceTaken),
+        (has_word && is_taken, FaultKind::PlaceTaken),
     ])
 }

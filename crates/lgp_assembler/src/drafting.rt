@@ -1,15 +1,18 @@
-ghost use Rattle.std.specs.Prelude.{◌≡◌, ◌++◌, [], None, IfOk, OnOk, option_to_list, option_map};
+//! The pass over a source for its words and its faults.
+
+ghost use Rattle.std.specs.Prelude.{◌≡◌, ◌++◌, [], None, true, IfOk, OnOk, option_to_list, option_map, slice_set, if◌then◌else◌};
 ghost use Rattle.std.specs.Option.{option_copied, option_or};
 ghost use Rattle.lgp_word.specs.Word.{IsWord};
 ghost use Rattle.lgp_assembler.specs.Faults.{numbered_fault, line_meaning};
-ghost use Rattle.lgp_assembler.specs.FieldsSeen.{fields_seen};
+ghost use Rattle.lgp_assembler.specs.FieldsSeenInside.{fields_seen};
 ghost use Rattle.lgp_assembler.specs.Image as spec;
 ghost use Rattle.lgp_assembler.specs.Image.{all_lines};
-ghost use Rattle.lgp_assembler.specs.Places.{place_by};
-ghost use Rattle.lgp_assembler.specs.Scan.{scan_fault, CellFits, IfCell, SymbolFits, symbol_at, IsDraftOf};
+ghost use Rattle.lgp_assembler.specs.Places.{has_word, place_by};
+ghost use Rattle.lgp_assembler.specs.ScanInside.{AreMarks, kept_fault, CellFits, IfCell, SymbolFits, symbol_at, IsDraftOf};
 
 use crate::conditions::{fault_of, line_meaning};
 use crate::line_fields::{Fields, fields_of};
+use crate::marks::{is_marked, mark, no_marks};
 use crate::name_table::Names;
 use crate::operands::{Meaning, OperandFault, in_range};
 use crate::operations::Operation;
@@ -20,9 +23,12 @@ use lgp_source::Lines;
 use lgp_word::{Address, Word};
 use std::alloc::{AllocError, Allocator};
 
-/// What the lines so far have given: their faults, and while there are none their words, their start and their names.
+/// What the lines so far have given: their faults, and while there are none their words, their start
+/// and their names.
 #[derive(Drop)]
 pub struct Draft<A: Allocator> {
+    /// For each place of the drum whether a word lies there.
+    pub taken: Vec<bool, A>,
     pub faults: Vec<Fault, A>,
     pub cells: Vec<(Address, Word), A>,
     pub start: Option<Address>,
@@ -35,7 +41,8 @@ fn add_cell<A: Allocator>(
     place: u64,
     meaning: &Result<Meaning, OperandFault>,
 ) -> Result<(), AllocError>
-    ensures cells { OnOk result (CellFits place meaning.now → cells.new.items ≡ cells.old.items ++ option_to_list (spec.cell_at place meaning.now)) }
+    ensures cells { OnOk result (CellFits place meaning.now
+        → cells.new.items ≡ cells.old.items ++ option_to_list (spec.cell_at place meaning.now)) }
     ensures word { IfCell meaning.now IsWord }
 {
     let Ok(Meaning::Cell(word)) = meaning else {
@@ -57,8 +64,8 @@ fn add_symbol<A: Allocator>(
     label: Option<&[u8]>,
     place: u64,
 ) -> Result<(), AllocError>
-    ensures { OnOk result (SymbolFits (option_copied label.entry) place
-        → symbols.new.items ≡ symbols.old.items ++ option_to_list (symbol_at (option_copied label.entry) place)) }
+    ensures { let label = option_copied label.entry in OnOk result (SymbolFits label place
+        → symbols.new.items ≡ symbols.old.items ++ option_to_list (symbol_at label place)) }
 {
     let Some(label) = label else {
         return Ok(());
@@ -87,28 +94,43 @@ fn start_at(
 }
 
 impl<A: Allocator> Draft<A> {
-    /// Adds what the line that comes gives, with the names of the whole source.
+    /// Adds what the line that comes gives in its place, with the names of the whole source.
     pub fn add<'a>(
         &mut self,
         names: &Names<'a, A>,
         scan: &Scan<'a, A>,
         fields: &Fields<'a>,
+        place: u64,
     ) -> Result<(), AllocError>
-        ensures faults { OnOk result (self.new.faults.items ≡ self.old.faults.items ++ option_to_list (option_map (numbered_fault fields.now.number)
-            (scan_fault names.now (fields_seen fields.now) scan.now.place scan.now.ended scan.now.names scan.now.taken.items))) }
-        ensures cells { let place = place_by (fields_seen fields.now) scan.now.place in
-            OnOk result (self.new.faults.items ≡ [] → CellFits place (line_meaning names.now place (fields_seen fields.now))
-            → self.new.cells.items ≡ self.old.cells.items ++ option_to_list (spec.cell_at place (line_meaning names.now place (fields_seen fields.now)))) }
-        ensures words { let place = place_by (fields_seen fields.now) scan.now.place in
-            OnOk result (self.new.faults.items ≡ [] → IfCell (line_meaning names.now place (fields_seen fields.now)) IsWord) }
-        ensures start { let place = place_by (fields_seen fields.now) scan.now.place in
+        ensures taken { OnOk result (self.new.taken.items ≡ (if has_word (fields_seen fields.now)
+            then slice_set self.old.taken.items place true else self.old.taken.items)) }
+        ensures faults { let line = fields_seen fields.now in
+            let meaning = line_meaning names.now place line in
+            let taken = self.old.taken.items in
+            let kind = kept_fault line meaning place scan.now.ended scan.now.names taken in
+            let more = option_to_list (option_map (numbered_fault line.number) kind) in
+            OnOk result (self.new.faults.items ≡ self.old.faults.items ++ more) }
+        ensures cells { let meaning = line_meaning names.now place (fields_seen fields.now) in
+            let more = option_to_list (spec.cell_at place meaning) in
+            OnOk result (self.new.faults.items ≡ [] → CellFits place meaning
+            → self.new.cells.items ≡ self.old.cells.items ++ more) }
+        ensures words { let meaning = line_meaning names.now place (fields_seen fields.now) in
+            OnOk result (self.new.faults.items ≡ [] → IfCell meaning IsWord) }
+        ensures start { let meaning = line_meaning names.now place (fields_seen fields.now) in
+            let start = spec.start_at fields.now.operation meaning in
             OnOk result (self.new.faults.items ≡ []
-            → self.new.start ≡ option_or self.old.start (spec.start_at fields.now.operation (line_meaning names.now place (fields_seen fields.now)))) }
-        ensures symbols { let place = place_by (fields_seen fields.now) scan.now.place in
-            OnOk result (self.new.faults.items ≡ [] → SymbolFits (option_copied fields.now.label) place
-            → self.new.symbols.items ≡ self.old.symbols.items ++ option_to_list (symbol_at (option_copied fields.now.label) place)) }
+            → self.new.start ≡ option_or self.old.start start) }
+        ensures symbols { let label = option_copied fields.now.label in
+            let more = option_to_list (symbol_at label place) in
+            OnOk result (self.new.faults.items ≡ [] → SymbolFits label place
+            → self.new.symbols.items ≡ self.old.symbols.items ++ more) }
     {
-        if let Some(kind) = fault_of(names, scan, fields) {
+        let meaning = line_meaning(names, place, fields);
+        let is_taken = is_marked(&self.taken, place);
+        if fields.has_word() {
+            mark(&mut self.taken, place);
+        }
+        if let Some(kind) = fault_of(scan, fields, place, is_taken, &meaning) {
             self.faults.push(Fault {
                 line: fields.number,
                 kind,
@@ -118,8 +140,6 @@ impl<A: Allocator> Draft<A> {
         if !self.faults.is_empty() {
             return Ok(());
         }
-        let place = scan.place_of(fields);
-        let meaning = line_meaning(names, place, fields);
         add_cell(&mut self.cells, place, &meaning)?;
         add_symbol(&mut self.symbols, fields.label, place)?;
         if self.start.is_none() {
@@ -131,18 +151,20 @@ impl<A: Allocator> Draft<A> {
 
 impl<A: Allocator + Copy> Draft<A> {
     /// Nothing yet.
-    pub fn new(alloc: A) -> Draft<A>
-        ensures faults { result.faults.items ≡ [] }
-        ensures cells { result.cells.items ≡ [] }
-        ensures start { result.start ≡ None }
-        ensures symbols { result.symbols.items ≡ [] }
+    pub fn new(alloc: A) -> Result<Draft<A>, AllocError>
+        ensures taken { IfOk result (λ draft. AreMarks draft.taken.items []) }
+        ensures faults { IfOk result (λ draft. draft.faults.items ≡ []) }
+        ensures cells { IfOk result (λ draft. draft.cells.items ≡ []) }
+        ensures start { IfOk result (λ draft. draft.start ≡ None) }
+        ensures symbols { IfOk result (λ draft. draft.symbols.items ≡ []) }
     {
-        Draft {
+        Ok(Draft {
+            taken: no_marks(alloc)?,
             faults: Vec::new(alloc),
             cells: Vec::new(alloc),
             start: None,
             symbols: Vec::new(alloc),
-        }
+        })
     }
 }
 
@@ -152,14 +174,17 @@ pub fn draft_source<'a, A: Allocator + Copy>(
     source: &'a [u8],
     names: &Names<'a, A>,
 ) -> Result<Draft<A>, AllocError>
-    ensures { IfOk result (λ draft. IsDraftOf names.now draft.faults.items draft.cells.items draft.start draft.symbols.items (all_lines source.now)) }
+    ensures { let lines = all_lines source.now in
+        IfOk result (λ draft. IsDraftOf
+        names.now draft.faults.items draft.cells.items draft.start draft.symbols.items lines) }
 {
-    let mut scan = Scan::new(alloc)?;
-    let mut draft = Draft::new(alloc);
+    let mut scan = Scan::new(alloc);
+    let mut draft = Draft::new(alloc)?;
     for line in Lines::new(source) {
         let fields = fields_of(&line);
-        draft.add(names, &scan, &fields)?;
-        scan.pass(&fields)?;
+        let place = scan.place_of(&fields);
+        draft.add(names, &scan, &fields, place)?;
+        scan.pass(&fields, place)?;
     }
     Ok(draft)
 }

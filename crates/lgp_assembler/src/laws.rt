@@ -1,3 +1,5 @@
+//! Laws, for readers and proofs: functions that do nothing, and whose contracts are the laws.
+
 ghost use Rattle.lgp_assembler.specs.Laws.{PlacesCountFromOrgs, NamesAreFirstPlaces};
 
 /// A law, for readers and proofs: the place of an `org` line with an address is that address. The
@@ -8,8 +10,8 @@ pub fn places_count_from_orgs()
     ensures { PlacesCountFromOrgs }
 {}
 
-/// A law, for readers and proofs: a name's value is the place of the first line with that label that
-/// is not after the end line, and a name that no such line has as its label has no value.
+/// A law, for readers and proofs: a name's value is the place of the first line with that label
+/// that is not after the end line, and a name that no such line has as its label has no value.
 #[tactic(auto, using(crate::proofs::PlaceLaws::names_law))]
 pub fn names_are_first_places()
     ensures { NamesAreFirstPlaces }

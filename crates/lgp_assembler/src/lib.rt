@@ -1,8 +1,7 @@
 //! The assembler: a source's words, or its faults.
 #![tactic(auto)]
 
-ghost use Rattle.std.specs.Prelude.{◌≡◌, ◌≢◌, ◌+◌, ◌++◌, ◌<◌, ◌^◌, [], ◌∷◌, IfOk, OnOk, IfErr, length, if◌then◌else◌};
-ghost use Rattle.lgp_source.specs.Source.{lines_of};
+ghost use Rattle.std.specs.Prelude.{◌≡◌, ◌≢◌, ◌+◌, ◌++◌, ◌<◌, ◌^◌, [], ◌∷◌, IfOk, OnOk, IfErr};
 ghost use Rattle.lgp_assembler.specs.Answers.{IfFaults};
 ghost use Rattle.lgp_assembler.specs.Faults.{end_fault};
 ghost use Rattle.lgp_assembler.specs.Image.{faults_of, image_of};
@@ -10,7 +9,6 @@ ghost use Rattle.lgp_assembler.specs.Parts.{AreProgramCells};
 
 use drafting::{Draft, draft_source};
 pub use laws::{names_are_first_places, places_count_from_orgs};
-use lgp_source::Lines;
 pub use line_fields::has_word;
 pub use output::{Image, LOADER_PLACES, Name};
 use passes::scan_source;
@@ -21,6 +19,7 @@ mod conditions;
 mod drafting;
 mod laws;
 mod line_fields;
+mod marks;
 mod name_table;
 mod operands;
 mod operations;
@@ -28,25 +27,18 @@ mod output;
 mod passes;
 mod refusal;
 
-/// How many lines a source has.
-fn line_count(source: &[u8]) -> u64
-    ensures count { result ≡ length (lines_of source.now) }
-    ensures bound { result < 2 ^ 63 }
-{
-    Lines::new(source).count() as u64
-}
-
-/// Adds the fault of a source that has not ended.
+/// Adds the fault of a source of so many lines that has not ended.
 fn add_missing_end<A: Allocator>(
     faults: &mut Vec<Fault, A>,
     ended: bool,
-    source: &[u8],
+    lines: u64,
 ) -> Result<(), AllocError>
-    ensures { OnOk result (faults.new.items ≡ faults.old.items ++ end_fault ended (length (lines_of source.now))) }
+    requires { lines + 1 < 2 ^ 64 }
+    ensures { OnOk result (faults.new.items ≡ faults.old.items ++ end_fault ended lines) }
 {
     if !ended {
         faults.push(Fault {
-            line: line_count(source) + 1,
+            line: lines + 1,
             kind: FaultKind::NoEnd,
         })?;
     }
@@ -56,9 +48,14 @@ fn add_missing_end<A: Allocator>(
 /// The image of a draft without faults, or else its faults.
 fn image_or_faults<A: Allocator>(draft: Draft<A>) -> Result<Image<A>, AssembleError<A>>
     requires { draft.faults.items ≡ [] → AreProgramCells draft.cells.items }
-    ensures image { IfOk result (λ image. image ≡ record { cells = draft.cells.items; start = draft.start; symbols = draft.symbols.items }) }
+    ensures image { IfOk result (λ image. image ≡ record {
+      cells = draft.cells.items;
+      start = draft.start;
+      symbols = draft.symbols.items;
+    }) }
     ensures faultless { OnOk result (draft.faults.items ≡ []) }
-    ensures faults { IfErr result (λ error. IfFaults error (λ faults. faults ≡ draft.faults.items)) }
+    ensures faults { IfErr result (λ error.
+        IfFaults error (λ faults. faults ≡ draft.faults.items)) }
     ensures faulty { IfErr result (λ error. IfFaults error (λ faults. faults ≢ [])) }
 {
     let Draft {
@@ -66,6 +63,7 @@ fn image_or_faults<A: Allocator>(draft: Draft<A>) -> Result<Image<A>, AssembleEr
         cells,
         start,
         symbols,
+        ..
     } = draft;
     if !faults.is_empty() {
         return Err(AssembleError::Faults(FaultList::new(faults)));
@@ -78,12 +76,13 @@ fn image_or_faults<A: Allocator>(draft: Draft<A>) -> Result<Image<A>, AssembleEr
 pub fn assemble<A: Allocator + Copy>(alloc: A, source: &[u8]) -> Result<Image<A>, AssembleError<A>>
     ensures image { IfOk result (λ image. image ≡ image_of source.now) }
     ensures faultless { OnOk result (faults_of source.now ≡ []) }
-    ensures faults { IfErr result (λ error. IfFaults error (λ faults. faults ≡ faults_of source.now)) }
+    ensures faults { IfErr result (λ error.
+        IfFaults error (λ faults. faults ≡ faults_of source.now)) }
     ensures faulty { IfErr result (λ error. IfFaults error (λ faults. faults ≢ [])) }
 {
     let scan = scan_source(alloc, source)?;
     let mut draft = draft_source(alloc, source, &scan.names)?;
-    add_missing_end(&mut draft.faults, scan.ended, source)?;
+    add_missing_end(&mut draft.faults, scan.ended, scan.lines)?;
     image_or_faults(draft)
 }
 

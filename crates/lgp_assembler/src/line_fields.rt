@@ -1,8 +1,10 @@
+//! A line as the assembler sees it.
+
 ghost use Rattle.std.specs.Prelude.{◌≡◌, ◌<◌};
 ghost use Rattle.std.specs.Option.{option_copied, option_map};
 ghost use Rattle.lgp_source.specs.Seen.{line_seen, token_seen};
 ghost use Rattle.lgp_assembler.specs.Fields as spec;
-ghost use Rattle.lgp_assembler.specs.FieldsSeen.{fields_seen};
+ghost use Rattle.lgp_assembler.specs.FieldsSeenInside.{fields_seen};
 ghost use Rattle.lgp_assembler.specs.Places as places;
 
 use crate::operations::{Operation, operation_of};
@@ -27,7 +29,8 @@ pub struct Fields<'a> {
 
 /// The text of a token.
 fn token_text<'a>(token: Option<Token<'a>>) -> Option<&'a [u8]>
-    ensures { option_copied result ≡ option_map spec.token_text (option_map token_seen token.entry) }
+    ensures { option_copied result
+        ≡ option_map spec.token_text (option_map token_seen token.entry) }
 {
     match token {
         Some(token) => Some(token.text),
@@ -88,14 +91,22 @@ pub fn fields_of<'a>(line: &Line<'a>) -> Fields<'a>
     }
 }
 
-/// Whether a line's operation makes a word: an order, `-t`, `word`, `frac` or `int`, whatever else is
-/// wrong with the line. In a source without a fault these are the lines that have a cell.
-#[tactic(auto, unfolding(crate::specs::Fields::fields_of))]
+impl<'a> Fields<'a> {
+    /// Whether the line's operation makes a word, whatever else is wrong with the line.
+    pub fn has_word(&self) -> bool
+        ensures { result ≡ places.has_word (fields_seen self.now) }
+    {
+        match self.operation {
+            Some(operation) => operation.makes_word(),
+            None => false,
+        }
+    }
+}
+
+/// Whether a line's operation makes a word: an order, `-t`, `word`, `frac` or `int`, whatever else
+/// is wrong with the line. In a source without a fault these are the lines that have a cell.
 pub fn has_word(line: &Line) -> bool
     ensures { result ≡ places.has_word (spec.fields_of (line_seen line.now)) }
 {
-    match token_operation(line.operation) {
-        Some(operation) => operation.makes_word(),
-        None => false,
-    }
+    fields_of(line).has_word()
 }

@@ -1,3 +1,5 @@
+//! The names of a source with their values.
+
 ghost use Rattle.std.specs.Prelude.{◌≡◌, ◌++◌, [], ◌∷◌, None, OnOk, OnErr};
 ghost use Rattle.std.specs.Str.{bytes_eq};
 ghost use Rattle.std.specs.Map.{lookup};
@@ -15,7 +17,7 @@ pub struct Names<'a, A: Allocator> {
 
 impl<'a, A: Allocator> Model for Names<'a, A> {
     ghost use Rattle.std.specs.Prelude.{List, ℕ};
-    ghost use Rattle.lgp_assembler.specs.NameTable.{names_seen};
+    ghost use Rattle.lgp_assembler.specs.NameTableInside.{names_seen};
 
     ghost Value = { List (List ℕ × ℕ) };
 

@@ -1,3 +1,5 @@
+//! What operands stand for.
+
 ghost use Rattle.std.specs.Prelude.{◌≡◌, ◌+◌, ◌-◌, ◌*◌, ◌≤◌, ◌<◌, ◌^◌, length, take, drop, IsTrue, IfOk, IfSome, true};
 ghost use Rattle.std.specs.Char.{is_ascii_digit};
 ghost use Rattle.std.specs.List.{list_all, position, position_or_len};
@@ -334,7 +336,8 @@ pub fn meaning_of<A: Allocator>(
     first: Option<&[u8]>,
     second: Option<&[u8]>,
 ) -> Result<Meaning, OperandFault>
-    ensures { result ≡ spec.meaning names.now place operation (option_copied first.entry) (option_copied second.entry) }
+    ensures { result ≡ spec.meaning names.now place operation
+        (option_copied first.entry) (option_copied second.entry) }
 {
     match (operation, first, second) {
         (Operation::Order(op), None, _) => cell_of_order(false, op, in_range(0)),

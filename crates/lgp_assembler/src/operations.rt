@@ -1,3 +1,5 @@
+//! The operations of the source language.
+
 ghost use Rattle.std.specs.Prelude.{◌≡◌};
 ghost use Rattle.lgp_assembler.specs.Operations as spec;
 

@@ -1,3 +1,5 @@
+//! What a source assembles to.
+
 ghost use Rattle.std.specs.Prelude.{◌≡◌, ◌≤◌, ◌↔◌, ◌++◌, length, IsSome, IfSome};
 ghost use Rattle.lgp_assembler.specs.Parts.{AreProgramCells};
 
@@ -58,7 +60,11 @@ impl<A: Allocator> Model for Image<A> {
 
     ghost Value = { ImageParts };
 
-    ghost view = { λ image. record { cells = image.cells.items; start = image.start; symbols = image.symbols.items } };
+    ghost view = { λ image. record {
+      cells = image.cells.items;
+      start = image.start;
+      symbols = image.symbols.items;
+    } };
 
     ghost invariant = { λ image. AreProgramCells image.cells.items };
 }
@@ -79,8 +85,8 @@ impl<A: Allocator> Image<A> {
         }
     }
 
-    /// The words of the program with their addresses, in order of the source's lines. None lies at one of
-    /// the ten places of the loader, 6300 to 6309.
+    /// The words of the program with their addresses, in order of the source's lines. None lies at
+    /// one of the loader's places.
     pub fn cells(&self) -> &[(Address, Word)]
         ensures value { result.now ≡ self.now.cells }
         ensures program { AreProgramCells self.now.cells }

@@ -1,9 +1,11 @@
-ghost use Rattle.std.specs.Prelude.{◌≡◌, ◌+◌, ◌<◌, ◌≤◌, ◌^◌, ◌++◌, false, true, slice_index_or, slice_set, unwrap_or, option_to_list, if◌then◌else◌, OnOk, IfOk, [], ◌∷◌, ◌||◌, length, max, map, ℕ};
+//! The pass over a source for its names.
+
+ghost use Rattle.std.specs.Prelude.{◌≡◌, ◌+◌, ◌<◌, ◌≤◌, ◌^◌, ◌++◌, false, unwrap_or, option_to_list, if◌then◌else◌, OnOk, IfOk, [], ◌||◌, max};
 ghost use Rattle.std.specs.Option.{option_copied};
 ghost use Rattle.lgp_assembler.specs.Places as spec;
-ghost use Rattle.lgp_assembler.specs.FieldsSeen.{fields_seen};
+ghost use Rattle.lgp_assembler.specs.FieldsSeenInside.{fields_seen};
 ghost use Rattle.lgp_assembler.specs.Image.{all_lines};
-ghost use Rattle.lgp_assembler.specs.Scan.{Stands};
+ghost use Rattle.lgp_assembler.specs.ScanInside.{Stands};
 
 use crate::line_fields::{Fields, fields_of};
 use crate::name_table::Names;
@@ -15,23 +17,13 @@ use std::alloc::{AllocError, Allocator};
 /// What the lines so far say of the line that comes.
 #[derive(Drop)]
 pub struct Scan<'a, A: Allocator> {
+    /// How many lines there are so far.
+    pub lines: u64,
     /// The place of a line that is no `org`.
     pub place: u64,
     /// Whether the end line has been passed.
     pub ended: bool,
     pub names: Names<'a, A>,
-    /// For each place of the drum whether a word lies there.
-    pub taken: Vec<bool, A>,
-}
-
-/// Whether an operation makes a word.
-pub fn makes_word(operation: Option<Operation>) -> bool
-    ensures { result ≡ spec.option_makes_word operation }
-{
-    match operation {
-        Some(operation) => operation.makes_word(),
-        None => false,
-    }
 }
 
 /// The address that an `org` with an address names.
@@ -51,8 +43,8 @@ fn add_label<'a, A: Allocator + Clone>(
     place: u64,
     ended: bool,
 ) -> Result<(), AllocError>
-    ensures { OnOk result (names.new
-        ≡ names.old ++ option_to_list (spec.new_label (option_copied label.entry) place ended names.old)) }
+    ensures { let new = spec.new_label (option_copied label.entry) place ended names.old in
+        OnOk result (names.new ≡ names.old ++ option_to_list new) }
 {
     let Some(label) = label else {
         return Ok(());
@@ -61,24 +53,6 @@ fn add_label<'a, A: Allocator + Clone>(
         return Ok(());
     }
     names.add(label, place)
-}
-
-/// Marks a place of the drum.
-fn mark(taken: &mut [bool], place: u64)
-    ensures { taken.new ≡ slice_set taken.old place true }
-{
-    let place = place as usize;
-    if place < taken.len() {
-        taken[place] = true;
-    }
-}
-
-/// A mark for each place of the drum, none of them set.
-fn no_marks<A: Allocator>(alloc: A) -> Result<Vec<bool, A>, AllocError>
-    ensures size { IfOk result (λ marks. length marks.items ≡ 4096) }
-    ensures clear { IfOk result (λ marks. (p : ℕ) → slice_index_or marks.items p false ≡ false) }
-{
-    vec![in alloc; false; 4096]
 }
 
 impl<'a, A: Allocator> Scan<'a, A> {
@@ -92,34 +66,25 @@ impl<'a, A: Allocator> Scan<'a, A> {
             None => self.place,
         }
     }
-
-    /// Whether a word of an earlier line lies at a place.
-    pub fn is_taken(&self, place: u64) -> bool
-        ensures { result ≡ slice_index_or self.now.taken.items place false }
-    {
-        let place = place as usize;
-        place < self.taken.len() && self.taken[place]
-    }
 }
 
 impl<'a, A: Allocator + Clone> Scan<'a, A> {
-    /// Passes a line.
-    pub fn pass(&mut self, fields: &Fields<'a>) -> Result<(), AllocError>
-        requires { self.old.place + 1 < 2 ^ 64 }
-        ensures room { OnOk result (self.new.place ≤ max self.old.place 4095 + 1) }
-        ensures names { let place = spec.place_by (fields_seen fields.now) self.old.place in OnOk result (self.new.names ≡ self.old.names ++ option_to_list (spec.new_label (option_copied fields.now.label) place self.old.ended self.old.names)) }
-        ensures taken { let place = spec.place_by (fields_seen fields.now) self.old.place in OnOk result (self.new.taken.items
-            ≡ (if spec.option_makes_word fields.now.operation then slice_set self.old.taken.items place true else self.old.taken.items)) }
-        ensures place { let place = spec.place_by (fields_seen fields.now) self.old.place in OnOk result (self.new.place ≡ place + (if spec.option_makes_word fields.now.operation then 1 else 0)) }
-        ensures ended { OnOk result (self.new.ended ≡ (spec.is_end fields.now.operation || self.old.ended)) }
+    /// Passes a line, which has its place.
+    pub fn pass(&mut self, fields: &Fields<'a>, place: u64) -> Result<(), AllocError>
+        requires place { place + 1 < 2 ^ 64 }
+        requires lines { self.old.lines + 1 < 2 ^ 64 }
+        ensures lines { OnOk result (self.new.lines ≡ self.old.lines + 1) }
+        ensures names { let label = option_copied fields.now.label in
+            let new = spec.new_label label place self.old.ended self.old.names in
+            OnOk result (self.new.names ≡ self.old.names ++ option_to_list new) }
+        ensures place { let words = spec.word_count (fields_seen fields.now) in
+            OnOk result (self.new.place ≡ place + words) }
+        ensures ended { OnOk result
+            (self.new.ended ≡ (spec.is_end fields.now.operation || self.old.ended)) }
     {
-        let place = self.place_of(fields);
         add_label(&mut self.names, fields.label, place, self.ended)?;
-        self.place = place;
-        if makes_word(fields.operation) {
-            mark(&mut self.taken, place);
-            self.place = place + 1;
-        }
+        self.lines += 1;
+        self.place = if fields.has_word() { place + 1 } else { place };
         if matches!(fields.operation, Some(Operation::End)) {
             self.ended = true;
         }
@@ -129,15 +94,15 @@ impl<'a, A: Allocator + Clone> Scan<'a, A> {
 
 impl<'a, A: Allocator + Copy> Scan<'a, A> {
     /// A scan before the first line.
-    pub fn new(alloc: A) -> Result<Scan<'a, A>, AllocError>
-        ensures { IfOk result (λ scan. Stands scan.place scan.ended scan.names scan.taken.items []) }
+    pub fn new(alloc: A) -> Scan<'a, A>
+        ensures { Stands result.lines result.place result.ended result.names [] }
     {
-        Ok(Scan {
+        Scan {
+            lines: 0,
             place: 0,
             ended: false,
             names: Names::new(alloc),
-            taken: no_marks(alloc)?,
-        })
+        }
     }
 }
 
@@ -146,11 +111,15 @@ pub fn scan_source<'a, A: Allocator + Copy>(
     alloc: A,
     source: &'a [u8],
 ) -> Result<Scan<'a, A>, AllocError>
-    ensures { IfOk result (λ scan. Stands scan.place scan.ended scan.names scan.taken.items (all_lines source.now)) }
+    ensures stands { IfOk result (λ scan.
+        Stands scan.lines scan.place scan.ended scan.names (all_lines source.now)) }
+    ensures few { IfOk result (λ scan. scan.lines < 2 ^ 63) }
 {
-    let mut scan = Scan::new(alloc)?;
+    let mut scan = Scan::new(alloc);
     for line in Lines::new(source) {
-        scan.pass(&fields_of(&line))?;
+        let fields = fields_of(&line);
+        let place = scan.place_of(&fields);
+        scan.pass(&fields, place)?;
     }
     Ok(scan)
 }

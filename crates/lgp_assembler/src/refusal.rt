@@ -1,3 +1,5 @@
+//! Why a source does not assemble.
+
 ghost use Rattle.std.specs.Prelude.{◌≡◌};
 ghost use Rattle.lgp_assembler.specs.KindNames as spec;
 

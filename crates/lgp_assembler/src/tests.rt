@@ -1,3 +1,5 @@
+//! Tests of the assembler.
+
 use crate::{
     AssembleError, FaultKind, Image, Name, assemble, names_are_first_places, places_count_from_orgs,
 };
@@ -184,7 +186,8 @@ fn is_refused(heap: &LocalHeap, taken: usize, source: &[u8]) -> Result<bool, Fai
     Ok(matches!(assemble(heap, source), Err(AssembleError::Memory)))
 }
 
-/// How often an assembly is refused, while less and less of the heap is taken, before it gives an answer.
+/// How often an assembly is refused, while less and less of the heap is taken, before it gives an
+/// answer.
 fn refusals(rt: &impl Abort, heap: &LocalHeap, source: &[u8]) -> Result<usize, Fail> {
     let before = heap.used();
     for step in 0..1024usize {

@@ -27,8 +27,8 @@ fn add_word<A: Allocator>(
     Ok(())
 }
 
-/// The dump of a drum: for each word that is not zero, in order of addresses, a line of its address, a
-/// space and its eight digits. `read_dump` reads it back.
+/// The dump of a drum: for each word that is not zero, in order of addresses, a line of its address,
+/// a space and its eight digits. `read_dump` reads it back.
 pub fn dump<A: Allocator, B: Allocator>(alloc: A, drum: &Drum<B>) -> Result<Vec<u8, A>, AllocError>
     ensures text { IfOk result (λ text. text.items ≡ spec.dump_of drum.now) }
     ensures drum { OnOk result (spec.IsDrum drum.now) }

@@ -2,16 +2,16 @@
 
 ghost use Rattle.lgp_listing.specs.Laws.{EachWordAssembles, FirstFaultsAreFirst};
 
-/// A law, for readers and proofs: a source of one space and the disassembly of a word, and then of a
-/// line ` end`, has no fault and exactly that word, at 0000. It holds for every word.
+/// A law, for readers and proofs: a source of one space and the disassembly of a word, and then of
+/// a line ` end`, has no fault and exactly that word, at 0000. It holds for every word.
 pub fn each_word_assembles()
     ensures { EachWordAssembles }
 {}
 
-/// A law, for readers and proofs: all lines before the first fault of a dump are in form, with addresses
-/// that go up, and so are all lines of a text without a fault. A line that is a fault of form is no
-/// line of a dump. A line that is a fault of order is one, but its address is not above that of the
-/// line before it.
+/// A law, for readers and proofs: all lines before the first fault of a dump are in form, with
+/// addresses that go up, and so are all lines of a text without a fault. A line that is a fault of
+/// form is no line of a dump. A line that is a fault of order is one, but its address is not above
+/// that of the line before it.
 #[tactic(auto, using(crate::proofs::FaultLaws::faults_law))]
 pub fn first_faults_are_first()
     ensures { FirstFaultsAreFirst }

@@ -42,12 +42,13 @@ fn add_line<A: Allocator>(
     Ok(())
 }
 
-/// The listing of a source that has no fault: before each line that makes a word stand its place and
-/// the word's digits, before any other 14 spaces. The refusals are those of `assemble`.
+/// The listing of a source that has no fault: before each line that makes a word stand its place
+/// and the word's digits, before any other 14 spaces. The refusals are those of `assemble`.
 pub fn listing<A: Allocator + Copy>(alloc: A, source: &[u8]) -> Result<Vec<u8, A>, AssembleError<A>>
     ensures text { IfOk result (λ text. text.items ≡ spec.listing_of source.now) }
     ensures faultless { OnOk result (faults_of source.now ≡ []) }
-    ensures faults { IfErr result (λ error. IfFaults error (λ faults. faults ≡ faults_of source.now)) }
+    ensures faults { IfErr result (λ error.
+        IfFaults error (λ faults. faults ≡ faults_of source.now)) }
     ensures faulty { IfErr result (λ error. IfFaults error (λ faults. faults ≢ [])) }
 {
     let image = assemble(alloc, source)?;

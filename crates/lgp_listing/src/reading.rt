@@ -13,8 +13,8 @@ use thiserror::Error;
 /// Why a text is no drum's dump. Lines are counted from 1.
 #[derive(Clone, Copy, Debug, PartialEq, Eq, Error)]
 pub enum DumpFault {
-    /// The line of this number is not an address, a space, the eight digits of a word that is not zero,
-    /// and a line feed.
+    /// The line of this number is not an address, a space, the eight digits of a word that is not
+    /// zero, and a line feed.
     #[error("line {0} is no line of a dump")]
     Form(u64),
     /// The address of the line of this number is not above that of the line before it.
@@ -84,8 +84,8 @@ fn put_lines<A: Allocator>(drum: &mut Drum<A>, text: &[u8])
     }
 }
 
-/// The drum whose dump a text is. Else `Form` or `Order` of the first faulty line, and of a line that is
-/// both, `Form`; `Memory` only where no line is faulty.
+/// The drum whose dump a text is. Else `Form` or `Order` of the first faulty line; the form is asked
+/// first. `Memory` only where no line is faulty.
 pub fn read_dump<A: Allocator + Copy>(alloc: A, text: &[u8]) -> Result<Drum<A>, DumpFault>
     ensures drum { IfOk result (λ drum. spec.dump_of drum ≡ text.now) }
     ensures words { IfOk result (λ drum. spec.IsDrum drum) }

@@ -1,3 +1,5 @@
+//! Tests of disassembly, listing and dumps.
+
 use crate::{
     DumpFault, disassemble, dump, each_word_assembles, first_faults_are_first, listing, read_dump,
 };
@@ -110,7 +112,8 @@ fn small_drum<A: Allocator + Copy>(alloc: A) -> Result<Drum<A>, Fail> {
     Ok(drum)
 }
 
-/// Which of the three texts are refused for want of memory while so many bytes of the heap are taken.
+/// Which of listing, dump and its reading are refused for want of memory while so many bytes of the
+/// heap are taken.
 fn refused(heap: &LocalHeap, taken: usize, drum: &Drum) -> Result<[bool; 3], Fail> {
     let _filler: Vec<u8, &LocalHeap> = Vec::with_capacity(heap, taken)?;
     Ok([

@@ -5,7 +5,8 @@ use Rattle.std.proofs.lemmas.Bool.{cases_Bool, cases_lt, cond-true, cond-false, 
 use Rattle.std.proofs.lemmas.List.{take_rest, get_or-drop, drop-drop, drop_all, drop_more}
 use Rattle.std.proofs.lemmas.List.Sums.{prefix_len-le-length, passes_at_first}
 use Rattle.std.proofs.lemmas.Option.{cond_some, none-some}
-use Rattle.lgp_source.specs.Source.{SourceToken, is_blank, is_visible, tokens_from, token_at}
+use Rattle.lgp_source.specs.CuttingInside.{is_visible}
+use Rattle.lgp_source.specs.Source.{SourceToken, is_blank, tokens_from, token_at}
 
 -- ---- std's two words for a first place
 

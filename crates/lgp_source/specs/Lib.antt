@@ -1,3 +1,4 @@
 pub mod Source
 pub mod Seen
 pub mod Runs
+pub mod CuttingInside

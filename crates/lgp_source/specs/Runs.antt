@@ -1,4 +1,5 @@
--- What comments and tokens are, in the words of the source language, which is this project's own: a `;` at the line's start or after a blank begins a comment, and a token is a longest run without blanks before it.
+-- Part of the public promise: what comments and tokens are, in the words of the source language. A `;` at the line's start or after
+-- a blank begins a comment, and a token is a longest run without blanks before it.
 use Rattle.std.specs.Prelude.{◌≡◌, ◌⊎◌, ℕ, ◌+◌, ◌-◌, ◌<◌, ◌≤◌, ◌==◌, ◌&&◌, ◌||◌, Bool, true, false, List, [], ◌∷◌, length, take, drop, slice_index}
 use Rattle.lgp_source.specs.Source.{SourceToken, is_blank}
 

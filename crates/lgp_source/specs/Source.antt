@@ -1,4 +1,4 @@
--- Lines and tokens of the source language: this project's own choice.
+-- Part of the public promise: lines and tokens of the source language, which is this project's own choice.
 use Rattle.std.specs.Prelude.{ℕ, ◌+◌, Bool, true, false, not, ◌==◌, ◌&&◌, ◌||◌, nat_le, nat_lt, if◌then◌else◌, List, [], ◌∷◌, length, Option, Some, None, slice_get, position}
 use Rattle.std.specs.List.{position_or_len, before_first}
 
@@ -57,10 +57,6 @@ code_from fresh (b ∷ rest) = if fresh && b == 59 then [] else b ∷ code_from 
 
 abbrev pub before_comment : List ℕ → List ℕ
 before_comment text = code_from true text
-
--- a byte that is no blank
-abbrev pub is_visible : ℕ → Bool
-is_visible b = not (is_blank b)
 
 -- the token that begins at a place, where `code` is what stands from there on: it goes on to the next blank
 abbrev pub token_at : ℕ → List ℕ → SourceToken

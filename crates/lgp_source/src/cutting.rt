@@ -1,7 +1,10 @@
+//! How a source is cut: comments, tokens and lines.
+
 ghost use Rattle.std.specs.Prelude.{◌≡◌, ◌≤◌, ◌<◌, IsTrue, length, take, drop, slice_index, Some, None, List, position};
 ghost use Rattle.std.specs.List.{position_or_len};
 ghost use Rattle.std.specs.Iterator.{YieldsFirstBy, item_count};
 ghost use Rattle.lgp_source.specs.Source as source;
+ghost use Rattle.lgp_source.specs.CuttingInside.{is_visible};
 ghost use Rattle.lgp_source.specs.Seen.{token_seen, line_seen};
 
 use crate::parts::{Line, Token};
@@ -74,7 +77,7 @@ impl<'a> Model for Tokens<'a> {
 
 /// The place of the first byte that is no blank.
 fn visible_place(code: &[u8]) -> Option<usize>
-    ensures { result ≡ position source.is_visible code.now }
+    ensures { result ≡ position is_visible code.now }
 {
     code.iter().position(|byte| !is_blank(*byte))
 }

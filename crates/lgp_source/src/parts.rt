@@ -1,3 +1,5 @@
+//! Lines and tokens, borrowed from a source.
+
 /// A token of a line: its bytes, and its span in the line's text.
 #[derive(Clone, Copy, Debug)]
 pub struct Token<'a> {

@@ -1,3 +1,5 @@
+//! Tests of lines and tokens.
+
 use crate::{Line, Lines, Token, tokens_are_longest_runs};
 use std::process::Abort;
 

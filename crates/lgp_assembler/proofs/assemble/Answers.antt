@@ -10,8 +10,8 @@ returns g c =
     let scan = c.in_ok-scan.scan in
     let draft = c.in_ok-draft.draft in
     let last = c.in_ok-add_missing_end.ensures in
-    let told = faults_told source scan.place scan.ended scan.names scan.taken.items draft.faults.items draft.cells.items draft.start draft.symbols.items c.in_ok-scan.ensures c.in_ok-draft.ensures in
-    let made = image_made source scan.place scan.ended scan.names scan.taken.items draft.faults.items draft.cells.items draft.start draft.symbols.items c.in_ok-scan.ensures c.in_ok-draft.ensures in
+    let told = faults_told source scan.lines scan.place scan.ended scan.names draft.faults.items draft.cells.items draft.start draft.symbols.items c.in_ok-scan.ensures.stands c.in_ok-draft.ensures in
+    let made = image_made source scan.lines scan.place scan.ended scan.names draft.faults.items draft.cells.items draft.start draft.symbols.items c.in_ok-scan.ensures.stands c.in_ok-draft.ensures in
     let r = c.image_or_faults.result in
     let answer = c.image_or_faults.ensures in
     let parts : ImageParts = record { cells = draft.cells.items; start = draft.start; symbols = draft.symbols.items } in

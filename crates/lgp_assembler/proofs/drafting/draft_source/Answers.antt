@@ -1,13 +1,13 @@
-use Rattle.std.proofs.Common.{[], ◌∷◌, length, map, arith, sym, ap, subst, ◌∙◌}
+use Rattle.std.proofs.Common.{[], ◌∷◌, true, if◌then◌else◌, slice_set, length, map, arith, sym, ap, subst, ◌∙◌}
 use Rattle.lgp_source.specs.Seen.{line_seen}
 use Rattle.lgp_assembler.specs.Fields.{fields_of}
-use Rattle.lgp_assembler.specs.FieldsSeen.{fields_seen}
-use Rattle.lgp_assembler.specs.Places.{next_place, names_of}
+use Rattle.lgp_assembler.specs.FieldsSeenInside.{fields_seen}
+use Rattle.lgp_assembler.specs.Places.{has_word, next_place, place_by, names_of}
 use Rattle.lgp_assembler.specs.Parts.{AreProgramCells}
 use Rattle.lgp_assembler.specs.Faults.{faults_in}
 use Rattle.lgp_assembler.specs.Image.{all_lines, passed, cells_in, start_in}
-use Rattle.lgp_assembler.specs.Scan.{Stands, IsDraftOf}
-use Rattle.lgp_assembler.proofs.ScanSteps.{stands_step}
+use Rattle.lgp_assembler.specs.ScanInside.{Stands, AreMarks, IsDraftOf}
+use Rattle.lgp_assembler.proofs.ScanSteps.{marks_step, stands_step, names_at, place_at, word_count_small}
 use Rattle.lgp_assembler.proofs.DraftSteps.{draft_step}
 use Rattle.lgp_assembler.proofs.drafting.draft_source.Goals as goal
 
@@ -18,18 +18,19 @@ loop-line-init g c =
     record {
       can = tt;
       finite = tt;
-      few = omega (arith, ap length same, c.new-line-items.ensures.len);
-      room = omega (arith, ap length same, c.new-line-items.ensures.len, c.in_ok-scan.ensures.place_is);
+      few = omega (arith, ap length same, c.new-line-items.ensures.len, c.new-scan.ensures.lines_are);
+      room = omega (arith, ap length same, c.new-line-items.ensures.len, c.new-scan.ensures.place_is);
       earlier = [];
-      stands = c.in_ok-scan.ensures;
+      stands = c.new-scan.ensures;
+      marks = c.in_ok-draft.ensures.taken;
       draft = record {
-        faults_are = c.new-draft.ensures.faults;
+        faults_are = c.in_ok-draft.ensures.faults;
         image = λ _. record {
-          cells_are = c.new-draft.ensures.cells;
-          start_is = c.new-draft.ensures.start;
-          symbols_are = c.new-draft.ensures.symbols;
+          cells_are = c.in_ok-draft.ensures.cells;
+          start_is = c.in_ok-draft.ensures.start;
+          symbols_are = c.in_ok-draft.ensures.symbols;
           within = omega arith;
-          program = subst AreProgramCells (sym c.new-draft.ensures.cells) tt;
+          program = subst AreProgramCells (sym c.in_ok-draft.ensures.cells) tt;
         };
       };
       rest = ap (λ lines. passed [] (map fields_of lines)) (same ∙ c.new-line-items.ensures.lines);
@@ -41,19 +42,29 @@ loop-line-preserved g c =
     let step = c.in-Some.ensures.steps in
     let now = c.in_ok-pass.ensures in
     let added = c.in_ok-add.ensures in
-    let fields = fields_seen c.fields_of-fields.result in
+    let names = c.args.names.now in
+    let line = fields_seen c.fields_of-fields.result in
     let draft = c.add.new.self in
+    let old = c.loop-line.draft in
     let scan = c.pass.new.self in
+    let place_is = c.place_of-place.ensures.value in
     record {
       can = tt;
       finite = tt;
-      few = omega (arith, ap length step);
-      room = omega (arith, ap length step, now.room);
+      few = omega (arith, ap length step, now.lines);
+      room = omega (arith, ap length step, now.place, word_count_small line);
       earlier = fields_of (line_seen c.in-Some.line) ∷ before.earlier;
-      stands = subst (λ f. Stands scan.place scan.ended scan.names scan.taken.items (f ∷ before.earlier)) c.fields_of-fields.ensures
-          (stands_step _ _ _ _ before.earlier fields _ _ _ _ before.stands now.names now.taken now.place now.ended);
-      draft = subst (λ f. IsDraftOf c.args.names.now draft.faults.items draft.cells.items draft.start draft.symbols.items (f ∷ before.earlier)) c.fields_of-fields.ensures
-          (draft_step c.args.names.now fields _ _ _ _ before.earlier _ _ _ _ _ _ _ _ before.stands before.draft added.faults added.cells added.start added.symbols added.words);
+      stands = subst (λ f. Stands scan.lines scan.place scan.ended scan.names (f ∷ before.earlier)) c.fields_of-fields.ensures
+          (stands_step _ _ _ _ before.earlier line _ _ _ _ before.stands now.lines
+          (now.names ∙ names_at line c.place_of-place.result c.loop-line.scan.place c.loop-line.scan.ended c.loop-line.scan.names place_is)
+          (now.place ∙ place_at line c.place_of-place.result c.loop-line.scan.place place_is) now.ended);
+      marks = subst (λ f. AreMarks draft.taken.items (f ∷ before.earlier)) c.fields_of-fields.ensures
+          (marks_step old.taken.items draft.taken.items before.earlier line before.marks
+          (added.taken ∙ ap (λ h. if has_word line then slice_set old.taken.items h true else old.taken.items) (place_is ∙ ap (place_by line) before.stands.place_is)));
+      draft = subst (λ f. IsDraftOf names draft.faults.items draft.cells.items draft.start draft.symbols.items (f ∷ before.earlier)) c.fields_of-fields.ensures
+          (draft_step names line c.loop-line.scan.lines c.loop-line.scan.place c.loop-line.scan.ended c.loop-line.scan.names old.taken.items before.earlier
+          old.faults.items draft.faults.items old.cells.items draft.cells.items old.start draft.start old.symbols.items draft.symbols.items
+          c.place_of-place.result place_is before.stands before.marks before.draft added.faults added.cells added.start added.symbols added.words);
       rest = ap (λ lines. passed before.earlier (map fields_of lines)) (sym step) ∙ before.rest;
     }
 

@@ -1,11 +1,11 @@
 use Rattle.std.proofs.Common.{[], ◌∷◌, length, map, arith, sym, ap, subst, ◌∙◌}
 use Rattle.lgp_source.specs.Seen.{line_seen}
 use Rattle.lgp_assembler.specs.Fields.{fields_of}
-use Rattle.lgp_assembler.specs.FieldsSeen.{fields_seen}
+use Rattle.lgp_assembler.specs.FieldsSeenInside.{fields_seen}
 use Rattle.lgp_assembler.specs.Places.{next_place}
 use Rattle.lgp_assembler.specs.Image.{all_lines, passed}
-use Rattle.lgp_assembler.specs.Scan.{Stands}
-use Rattle.lgp_assembler.proofs.ScanSteps.{stands_step}
+use Rattle.lgp_assembler.specs.ScanInside.{Stands}
+use Rattle.lgp_assembler.proofs.ScanSteps.{stands_step, names_at, place_at, word_count_small}
 use Rattle.lgp_assembler.proofs.passes.scan_source.Goals as goal
 
 pub loop-line-init : goal.loop-line-init
@@ -15,10 +15,10 @@ loop-line-init g c =
     record {
       can = tt;
       finite = tt;
-      few = omega (arith, ap length same, c.new-line-items.ensures.len);
-      room = omega (arith, ap length same, c.new-line-items.ensures.len, c.in_ok-scan.ensures.place_is);
+      few = omega (arith, ap length same, c.new-line-items.ensures.len, c.new-scan.ensures.lines_are);
+      room = omega (arith, ap length same, c.new-line-items.ensures.len, c.new-scan.ensures.place_is);
       earlier = [];
-      stands = c.in_ok-scan.ensures;
+      stands = c.new-scan.ensures;
       rest = ap (λ lines. passed [] (map fields_of lines)) (same ∙ c.new-line-items.ensures.lines);
     }
 
@@ -27,20 +27,24 @@ loop-line-preserved g c =
     let before = c.loop-line.invariant in
     let step = c.in-Some.ensures.steps in
     let now = c.in_ok-pass.ensures in
+    let scan = c.pass.new.self in
+    let line = fields_seen c.fields_of-fields.result in
     record {
       can = tt;
       finite = tt;
-      few = omega (arith, ap length step);
-      room = omega (arith, ap length step, now.room);
+      few = omega (arith, ap length step, now.lines);
+      room = omega (arith, ap length step, now.place, word_count_small line);
       earlier = fields_of (line_seen c.in-Some.line) ∷ before.earlier;
-      stands = subst (λ f. Stands c.pass.new.self.place c.pass.new.self.ended c.pass.new.self.names c.pass.new.self.taken.items (f ∷ before.earlier)) c.fields_of.ensures
-          (stands_step _ _ _ _ before.earlier (fields_seen c.fields_of.result) _ _ _ _ before.stands now.names now.taken now.place now.ended);
+      stands = subst (λ f. Stands scan.lines scan.place scan.ended scan.names (f ∷ before.earlier)) c.fields_of-fields.ensures
+          (stands_step _ _ _ _ before.earlier line _ _ _ _ before.stands now.lines
+          (now.names ∙ names_at line c.place_of-place.result c.loop-line.scan.place c.loop-line.scan.ended c.loop-line.scan.names c.place_of-place.ensures.value)
+          (now.place ∙ place_at line c.place_of-place.result c.loop-line.scan.place c.place_of-place.ensures.value) now.ended);
       rest = ap (λ lines. passed before.earlier (map fields_of lines)) (sym step) ∙ before.rest;
     }
 
-pub returns : goal.returns
-returns g c =
+pub returns-clause-stands : goal.returns-clause-stands
+returns-clause-stands g c =
     let done = c.loop-line.invariant in
     let scan = c.loop-line.scan in
     let all = ap (λ lines. passed done.earlier (map fields_of lines)) (sym c.in-None.ensures.steps.0) ∙ done.rest in
-    subst (Stands scan.place scan.ended scan.names scan.taken.items) all done.stands
+    subst (Stands scan.lines scan.place scan.ended scan.names) all done.stands

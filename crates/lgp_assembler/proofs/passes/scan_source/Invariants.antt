@@ -1,16 +1,16 @@
-use Rattle.std.proofs.Common.{◌≡◌, ◌+◌, ◌≤◌, ◌^◌, List, length, map}
+use Rattle.std.proofs.Common.{◌≡◌, ◌+◌, ◌≤◌, ◌<◌, ◌^◌, List, length, map}
 use Rattle.lgp_assembler.specs.Fields.{LineFields, fields_of}
 use Rattle.lgp_assembler.specs.Image.{all_lines, passed}
-use Rattle.lgp_assembler.specs.Scan.{Stands}
+use Rattle.lgp_assembler.specs.ScanInside.{Stands}
 use Rattle.lgp_assembler.proofs.passes.scan_source.Given as goal
 
 abbrev pub invariant-loop-line : goal.invariant-loop-line
 invariant-loop-line g l = record {
   can : (goal.iterator-loop-line g).can_next l.line-iterator;
   finite : (goal.iterator-loop-line g).is_finite l.line-iterator;
-  few : length l.line-iterator ≤ 2 ^ 63;
+  few : l.scan.lines + length l.line-iterator < 2 ^ 63;
   room : l.scan.place + length l.line-iterator ≤ 2 ^ 63 + 4096;
   earlier : List LineFields;
-  stands : Stands l.scan.place l.scan.ended l.scan.names l.scan.taken.items earlier;
+  stands : Stands l.scan.lines l.scan.place l.scan.ended l.scan.names earlier;
   rest : passed earlier (map fields_of l.line-iterator) ≡ all_lines l.source;
 }

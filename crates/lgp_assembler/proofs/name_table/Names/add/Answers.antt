@@ -1,7 +1,7 @@
 use Rattle.std.proofs.Common.{◌≡◌, ◌++◌, ◌∷◌, [], None, ap, ◌∙◌}
 use Rattle.std.specs.Str.{bytes_eq}
 use Rattle.std.specs.Map.{lookup}
-use Rattle.lgp_assembler.specs.NameTable.{names_seen}
+use Rattle.lgp_assembler.specs.NameTableInside.{names_seen}
 use Rattle.lgp_assembler.proofs.NameLookups.{insert_seen}
 use Rattle.lgp_assembler.proofs.name_table.Names.add.Goals as goal
 

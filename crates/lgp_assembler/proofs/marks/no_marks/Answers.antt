@@ -1,7 +1,7 @@
 use Rattle.std.proofs.Common.{◌≡◌, ℕ, false, slice_index_or}
 use Rattle.std.proofs.lemmas.Result.{IfOk-weaker}
 use Rattle.lgp_assembler.proofs.ScanSteps.{clear_marks}
-use Rattle.lgp_assembler.proofs.passes.no_marks.Goals as goal
+use Rattle.lgp_assembler.proofs.marks.no_marks.Goals as goal
 
 pub returns-clause-clear : goal.returns-clause-clear
 returns-clause-clear g c =

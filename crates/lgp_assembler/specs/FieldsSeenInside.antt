@@ -1,4 +1,4 @@
--- This project's own: the fields that the program's values show: those values borrow the source.
+-- Serves proofs only: the fields that the program's values show, which borrow the source.
 use Rattle.std.specs.Option.{option_copied}
 use Rattle.lgp_assembler.specs.Fields.{LineFields}
 use Rattle.lgp_assembler.specs.declared.line_fields.Fields.{Fields}

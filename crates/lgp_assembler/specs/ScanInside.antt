@@ -1,4 +1,4 @@
--- Where the assembler stands in a source, this project's own: what a scan keeps is what the definitions say of the lines that it has passed, the nearest first.
+-- Serves proofs only: what the assembler keeps of the lines that it has passed, the nearest first.
 use Rattle.std.specs.Prelude.{◌≡◌, ℕ, ◌<◌, ◌≤◌, Bool, false, List, length, slice_index_or}
 use Rattle.std.specs.Prelude.{[], Option, None, Some, Result, Ok}
 use Rattle.lgp_assembler.specs.declared.operands.Meaning.{Meaning}
@@ -10,19 +10,23 @@ use Rattle.lgp_assembler.specs.Fields.{LineFields}
 use Rattle.lgp_assembler.specs.Parts.{AreProgramCells}
 use Rattle.lgp_assembler.specs.Faults.{rows, first_kind, faults_in}
 use Rattle.lgp_assembler.specs.Image.{cells_in, start_in}
-use Rattle.lgp_assembler.specs.Places.{place_by, next_place, has_ended, names_of, is_taken}
+use Rattle.lgp_assembler.specs.Places.{next_place, has_ended, names_of, is_taken}
 
-pub record Stands (place : ℕ) (ended : Bool) (names : List (List ℕ × ℕ)) (taken : List Bool) (earlier : List LineFields) : Type 0 where
+pub record Stands (lines place : ℕ) (ended : Bool) (names : List (List ℕ × ℕ)) (earlier : List LineFields) : Type 0 where
+  pub lines_are : lines ≡ length earlier
   pub place_is : place ≡ next_place earlier
   pub ended_is : ended ≡ has_ended earlier
   pub names_are : names ≡ names_of earlier
+
+-- the places of the drum that are marked are those at which words of the lines lie
+pub record AreMarks (taken : List Bool) (earlier : List LineFields) : Type 0 where
   pub length_is : length taken ≡ 4096
   pub marks_are : (p : ℕ) → p < 4096 → slice_index_or taken p false ≡ is_taken p earlier
 
--- the fault of the line that comes, by what a scan keeps
-abbrev pub scan_fault : List (List ℕ × ℕ) → LineFields → ℕ → Bool → List (List ℕ × ℕ) → List Bool → Option FaultKind
-scan_fault names line place ended before taken =
-    first_kind (rows names line (place_by line place) ended before (slice_index_or taken (place_by line place) false))
+-- the fault of the line that comes, by what is kept of the lines before it
+abbrev pub kept_fault : LineFields → Result Meaning OperandFault → ℕ → Bool → List (List ℕ × ℕ) → List Bool → Option FaultKind
+kept_fault line meaning place ended before taken =
+    first_kind (rows line meaning place ended before (slice_index_or taken place false))
 
 -- a word lies on the drum
 abbrev pub CellFits : ℕ → Result Meaning OperandFault → Type 0

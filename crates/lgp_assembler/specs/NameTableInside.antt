@@ -1,4 +1,4 @@
--- This project's own: the names that a map of borrowed texts shows.
+-- Serves proofs only: the names that a map of borrowed texts shows.
 use Rattle.std.specs.Prelude.{ℕ, List, map}
 use Rattle.std.specs.Borrow.{Bor}
 

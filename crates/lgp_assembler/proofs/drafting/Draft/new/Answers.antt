@@ -1,0 +1,9 @@
+use Rattle.lgp_assembler.specs.Places.{is_taken}
+use Rattle.lgp_assembler.proofs.drafting.Draft.new.Goals as goal
+
+pub returns-clause-taken : goal.returns-clause-taken
+unfolding is_taken
+returns-clause-taken g c = record {
+  length_is = c.in_ok-no_marks.ensures.size;
+  marks_are = λ p _. c.in_ok-no_marks.ensures.clear p;
+}
