@@ -1,16 +1,24 @@
--- Part of the public promise: decimal numbers, as scripts, sources and fractions write them: one decimal digit or more, and at most so many.
+-- Part of the public promise: decimal numbers, as scripts, sources and fractions write them. Such a number has one decimal digit
+-- or more, and at most so many.
 use Rattle.std.specs.Prelude.{ℕ, ◌+◌, ◌-◌, ◌*◌, ◌&&◌, Bool, if◌then◌else◌, nat_le, Option, Some, None, List, length, fold}
 use Rattle.std.specs.Char.{is_ascii_digit}
 use Rattle.std.specs.List.{list_all}
 use Rattle.std.specs.Str.{byte}
 
 -- so many digits stand for a number of 64 bits
-abbrev pub digit_limit : ℕ
-digit_limit = 18
+abbrev pub readable_digits : ℕ
+readable_digits = 18
+
+-- the digit of a value from 0 to 9, and the value of a digit
+abbrev pub decimal_digit : ℕ → ℕ
+decimal_digit value = byte "0" + value
+
+abbrev pub decimal_value : ℕ → ℕ
+decimal_value digit = digit - byte "0"
 
 -- a number with one more digit behind it
 abbrev pub with_digit : ℕ → ℕ → ℕ
-with_digit number digit = 10 * number + (digit - byte "0")
+with_digit number digit = 10 * number + decimal_value digit
 
 -- the number that decimal digits stand for
 unfoldable pub decimal_of : List ℕ → ℕ

@@ -3,7 +3,7 @@
 ghost use Rattle.std.specs.Prelude.{◌≡◌, ◌^◌, ◌<◌, ◌≤◌, length, IfSome, IsTrue, true};
 ghost use Rattle.std.specs.Char.{is_ascii_digit};
 ghost use Rattle.std.specs.List.{list_all};
-ghost use Rattle.lgp_word.specs.Decimal.{decimal_number, decimal_of, digit_limit, is_decimal};
+ghost use Rattle.lgp_word.specs.Decimal.{decimal_number, decimal_of, readable_digits, is_decimal};
 
 /// The text is one decimal digit or more, and at most so many.
 #[tactic(auto, unfolding(crate::specs::Decimal::is_decimal))]
@@ -25,7 +25,7 @@ fn are_digits(text: &[u8]) -> bool
 /// The number that at most 18 decimal digits stand for.
 #[tactic(auto, using(crate::proofs::DecimalLemmas::room, crate::proofs::DecimalLemmas::one_digit_more), unfolding(crate::specs::Decimal::decimal_of))]
 fn decimal_of(digits: &[u8]) -> u64
-    requires short { length digits.now ≤ digit_limit }
+    requires short { length digits.now ≤ readable_digits }
     requires digits { list_all is_ascii_digit digits.now ≡ true }
     ensures value { result ≡ decimal_of digits.now }
     ensures size { result < 10 ^ length digits.now }
@@ -41,9 +41,11 @@ fn decimal_of(digits: &[u8]) -> u64
 /// digit. Zeros in front count as digits. `most` is at most 18.
 #[tactic(auto, unfolding(crate::specs::Decimal::decimal_number))]
 pub fn read_decimal(text: &[u8], most: usize) -> Option<u64>
-    requires { most ≤ digit_limit }
+    requires { most ≤ readable_digits }
     ensures value { result ≡ decimal_number most text.now }
     ensures below { IfSome result (λ number. number < 10 ^ most) }
+    ensures digits { IfSome result (λ number.
+        (length text.now ≤ most) × (number < 10 ^ length text.now)) }
 {
     if is_decimal(most, text) {
         Some(decimal_of(text))

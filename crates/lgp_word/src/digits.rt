@@ -1,3 +1,5 @@
+//! Words as eight digits of base 16.
+
 ghost use Rattle.std.specs.Prelude.{◌≡◌, ℕ, ◌+◌, ◌*◌, ◌/◌, ◌%◌, ◌^◌, ◌<◌, ◌≤◌, length, Some, IfSome};
 ghost use Rattle.lgp_word.specs.Word.{IsWord};
 ghost use Rattle.lgp_word.specs.Digits.{digit_byte, digit_value, digits_of, four_digits, number_of, word_at};
@@ -5,7 +7,7 @@ ghost use Rattle.lgp_word.specs.Digits.{digit_byte, digit_value, digits_of, four
 use crate::word::Word;
 
 /// The digits of base 16 in order of their values.
-const DIGITS: [u8; 16] = *b"0123456789fgjkqw";
+pub const DIGITS: [u8; 16] = *b"0123456789fgjkqw";
 
 /// The digit of a value below 16.
 #[tactic(auto, unfolding(crate::specs::Digits::digit_byte))]
@@ -89,7 +91,8 @@ fn word_at(text: &[u8]) -> Option<Word>
 /// The word of a text: `None` where the text is not exactly eight digits of an even number.
 pub fn read_digits(text: &[u8]) -> Option<Word>
     ensures value { result ≡ word_at text.now }
-    ensures reads_written { (word : ℕ) → IsWord word → text.now ≡ digits_of word → result ≡ Some word }
+    ensures reads_written { (word : ℕ)
+        → IsWord word → text.now ≡ digits_of word → result ≡ Some word }
     ensures written_so { IfSome result (λ word. digits_of word ≡ text.now) }
 {
     word_at(text)

@@ -1,3 +1,5 @@
+//! Words, addresses, orders and decimal numbers on values from outside.
+
 use super::*;
 use std::test::Fail;
 
@@ -110,6 +112,7 @@ fn letters_name_orders(rt: HostRuntime) -> Result<(), Fail> {
         assert_eq!(rt; op.letter(), letter);
         assert_eq!(rt; Op::of_letter(letter), Some(op));
         assert_eq!(rt; op as u8, number);
+        assert_eq!(rt; LETTERS[usize::from(number)], letter);
     }
     assert_eq!(rt; Op::of_letter(b'Z'), None);
     assert_eq!(rt; Op::of_letter(b'f'), None);
