@@ -4,7 +4,7 @@ use Rattle.std.proofs.lemmas.Bool.{true≢false}
 use Rattle.std.proofs.lemmas.List.{append_assoc, append-nil}
 use Rattle.lgp_word.specs.declared.order.Op.{Op}
 use Rattle.lgp_word.specs.declared.order.Op.TheVariants.{Z, B, Y, R, I, D, N, M, P, E, U, T, H, C, A, S}
-use Rattle.lgp_word.specs.Digits.{word_at}
+use Rattle.lgp_word.specs.Digits.{word_of_digits}
 use Rattle.lgp_flexo.specs.Code.{code_at}
 use Rattle.lgp_fraction.specs.declared.fraction.FractionFault.{FractionFault}
 use Rattle.lgp_fraction.specs.declared.fraction.FractionFault.TheVariants.{Form, OutOfRange}
@@ -103,7 +103,7 @@ module _ (names : List (List ℕ × ℕ)) (place : ℕ) where
   makes MinusT None second e = tt
   makes MinusT (Some text) second e = operand_gives names place true T text
   makes Word None second e = tt
-  makes Word (Some text) second e = word_gives (word_at text)
+  makes Word (Some text) second e = word_gives (word_of_digits text)
   makes Frac None second e = tt
   makes Frac (Some text) second e = fraction_gives (decimal_fraction text)
   makes Int None second e = tt

@@ -1,12 +1,12 @@
 -- What is written reads back.
-use Rattle.std.proofs.Common.{◌≡◌, ℕ, zero, suc, ◌+◌, ◌/◌, ◌%◌, ◌<◌, ◌≤◌, Bool, true, false, not, cond, ◌&&◌, ◌||◌, eqb, List, [], ◌∷◌, ◌++◌, length, get_or, take, Option, Some, None, Ok, refl, ap, sym, subst, ◌∙◌, ⊎_elim, arith, append_assoc, length-append}
+use Rattle.std.proofs.Common.{◌≡◌, ℕ, zero, suc, ◌+◌, ◌/◌, ◌%◌, ◌<◌, ◌≤◌, Bool, true, false, not, ◌&&◌, ◌||◌, eqb, List, [], ◌∷◌, ◌++◌, length, get_or, take, Option, Some, None, Result, Ok, Err, refl, ap, sym, subst, ◌∙◌, ⊎_elim, arith, append_assoc, length-append}
 use Rattle.std.proofs.lemmas.List.{append-nil, take_more}
 use Rattle.std.proofs.lemmas.Bool.{cases_lt, eqb-true, false≢true, not-true}
-use Rattle.std.proofs.lemmas.Bool.Decides.{nat_tests}
 use Rattle.std.specs.Option.{option_map}
 use Rattle.lgp_flexo.proofs.Reading.{before-before}
 use Rattle.lgp_flexo.specs.Code.{sign_at, code_at}
-use Rattle.lgp_flexo.specs.TapeText.{text_from, piece_at, bytes_behind, before, joined, group_at, codes_of_text, written_code, sign_or_group, code_of_digits}
+use Rattle.lgp_flexo.specs.TapeText.{before, code_of_group, codes_of_sign, codes_of_text, joined, single, sign_or_group, text_from, written_code}
+use Rattle.lgp_word.specs.Decimal.{decimal_digit, decimal_number, decimal_of, is_decimal}
 
 -- a test of each number below one
 abbrev pub all_below : (ℕ → Bool) → ℕ → Bool
@@ -39,47 +39,63 @@ pub all_read_back : all_below (λ code. reads_back code (sign_at code)) 64 ≡ t
 unfolding sign_at code_at
 all_read_back = refl
 
-code_of_digits-written : (code : ℕ) → code < 64 → code_of_digits (48 + code / 10) (48 + code % 10) ≡ Some code
-code_of_digits-written code h = grind (arith, nat_tests)
-
 found-code : (code : ℕ) (found : Option ℕ) → is_piece code found ≡ true → found ≡ Some code
 found-code code (Some found) h = ap Some (eqb-true found code h)
 found-code code None h = absurd (false≢true h)
 
-last_choice : (X : Type 0) (first second : Bool) (x y z : X) → first ≡ false → second ≡ false → cond first x (cond second y z) ≡ z
-last_choice X false false x y z f g = refl
-last_choice X false true x y z f g = absurd (false≢true (sym g))
-last_choice X true second x y z f g = absurd (false≢true (sym f))
+-- the code of its group, seen group by group
+abbrev pub group_reads_back : ℕ → Bool
+group_reads_back code = is_piece code (code_of_group (decimal_digit (code / 10)) (decimal_digit (code % 10)))
 
-piece_at-sign : (code sign : ℕ) (following : List ℕ) → reads_back code (Some sign) ≡ true → (piece_at sign following ≡ Some (code ∷ [])) × (bytes_behind sign ≡ 0)
-piece_at-sign code sign following h =
+pub all_groups_read_back : all_below group_reads_back 64 ≡ true
+unfolding decimal_number is_decimal decimal_of
+all_groups_read_back = refl
+
+group-written : (code : ℕ) → code < 64 → code_of_group (decimal_digit (code / 10)) (decimal_digit (code % 10)) ≡ Some code
+group-written code h =
+    found-code code (code_of_group (decimal_digit (code / 10)) (decimal_digit (code % 10)))
+    (all_below-at group_reads_back 64 code all_groups_read_back h)
+
+-- a sign that is not [ is a piece by itself
+text_from-sign : (place sign : ℕ) (following : List ℕ) → eqb sign 91 ≡ false
+    → text_from place (sign ∷ following) ≡ joined place (codes_of_sign sign) (text_from (place + 1) following)
+unfolding text_from
+text_from-sign place sign [] no_bracket = refl
+text_from-sign place sign (a ∷ []) no_bracket = refl
+text_from-sign place sign (a ∷ b ∷ []) no_bracket = refl
+text_from-sign place sign (a ∷ b ∷ c ∷ rest) no_bracket = rw no_bracket refl
+
+codes_of_sign-written : (code sign : ℕ) → ((eqb sign 10) || (eqb sign 13)) ≡ false → is_piece code (code_at sign) ≡ true → codes_of_sign sign ≡ Some (code ∷ [])
+codes_of_sign-written code sign no_line one = rw no_line (ap (option_map single) (found-code code (code_at sign) one))
+
+-- a text reads back: with more behind it, it stands for these codes in front of what that stands for
+abbrev pub ReadsBack : List ℕ → List ℕ → Type 0
+ReadsBack text codes = (following : List ℕ) (place : ℕ) → text_from place (text ++ following) ≡ before codes (text_from (place + length text) following)
+
+ReadsBack-piece : (code : ℕ) (sign : Option ℕ) → code < 64 → reads_back code sign ≡ true → ReadsBack (sign_or_group sign code) (code ∷ [])
+unfolding text_from
+ReadsBack-piece code (Some sign) small h = λ following place.
     let bracket = eqb sign 91 in
     let line = (eqb sign 10) || (eqb sign 13) in
     let parts = both (not bracket && not line) (is_piece code (code_at sign)) h in
     let tests = both (not bracket) (not line) parts.0 in
-    let no_bracket = not-true bracket tests.0 in
-    let no_line = not-true line tests.1 in
-    let group = option_map (λ (c : ℕ). c ∷ []) (group_at following) in
-    let one = option_map (λ (c : ℕ). c ∷ []) (code_at sign) in (
-      last_choice (Option (List ℕ)) bracket line group (Some []) one no_bracket no_line
-          ∙ ap (option_map (λ (c : ℕ). c ∷ [])) (found-code code (code_at sign) parts.1),
-      ap (λ b. cond b 3 0) no_bracket,
-    )
-
--- a text reads back: with more behind it, it stands for these codes in front of what that stands for
-abbrev pub ReadsBack : List ℕ → List ℕ → Type 0
-ReadsBack text codes = (following : List ℕ) (place : ℕ) → text_from place 0 (text ++ following) ≡ before codes (text_from (place + length text) 0 following)
-
-ReadsBack-piece : (code : ℕ) (sign : Option ℕ) → code < 64 → reads_back code sign ≡ true → ReadsBack (sign_or_group sign code) (code ∷ [])
-ReadsBack-piece code (Some sign) small h = λ following place.
-    let piece = piece_at-sign code sign following h in
-    ap (λ p. joined place p (text_from (place + 1) (bytes_behind sign) following)) piece.0
-    ∙ ap (λ n. before (code ∷ []) (text_from (place + 1) n following)) piece.1
+    text_from-sign place sign following (not-true bracket tests.0)
+    ∙ ap (λ p. joined place p (text_from (place + 1) following)) (codes_of_sign-written code sign (not-true line tests.1) parts.1)
 ReadsBack-piece code None small h = λ following place.
-    let past : ℕ = ((place + 1) + 1) + 1 + 1 in
-    let e : past ≡ place + 4 = omega arith in
-    ap (λ p. joined place (option_map (λ (c : ℕ). c ∷ []) p) (text_from past 0 following)) (code_of_digits-written code small)
-    ∙ ap (λ n. before (code ∷ []) (text_from n 0 following)) e
+    ap (λ p. joined place (option_map single p) (text_from (place + 4) following)) (group-written code small)
+
+-- nothing reads back as nothing
+before-nothing : (place : ℕ) (following : List ℕ) → text_from place following ≡ before [] (text_from place following)
+before-nothing place following = by_reading (text_from place following) where
+  by_reading : (r : Result (List ℕ) ℕ) → r ≡ before [] r
+  by_reading (Ok codes) = refl
+  by_reading (Err bad) = refl
+
+pub ReadsBack-nothing : (text : List ℕ) → text ≡ [] → ReadsBack text []
+ReadsBack-nothing text empty = subst (λ (t : List ℕ). ReadsBack t []) (sym empty)
+    (λ following place.
+    let e : place ≡ place + 0 = omega arith in
+    before-nothing place following ∙ ap (λ n. before [] (text_from n following)) e)
 
 -- each code reads back as it is written
 pub ReadsBack-code : (code : ℕ) → code ≤ 63 → ReadsBack (written_code code) (code ∷ [])
@@ -91,14 +107,15 @@ ReadsBack-code code small =
 pub ReadsBack-append : (text more codes behind : List ℕ) → ReadsBack text codes → ReadsBack more behind → ReadsBack (text ++ more) (codes ++ behind)
 ReadsBack-append text more codes behind first second = λ following place.
     let e : (place + length text) + length more ≡ place + length (text ++ more) = omega (arith, length-append text more) in
-    ap (text_from place 0) (append_assoc text more following)
+    ap (text_from place) (append_assoc text more following)
     ∙ first (more ++ following) place
     ∙ ap (before codes) (second following (place + length text))
-    ∙ before-before codes behind (text_from ((place + length text) + length more) 0 following)
-    ∙ ap (λ n. before (codes ++ behind) (text_from n 0 following)) e
+    ∙ before-before codes behind (text_from ((place + length text) + length more) following)
+    ∙ ap (λ n. before (codes ++ behind) (text_from n following)) e
 
 -- with nothing behind it
 pub ReadsBack-whole : (text codes : List ℕ) → ReadsBack text codes → codes_of_text text ≡ Ok codes
+unfolding text_from
 ReadsBack-whole text codes h =
     ap codes_of_text (sym (append-nil text)) ∙ h [] 0 ∙ ap Ok (append-nil codes)
 

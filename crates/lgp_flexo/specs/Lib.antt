@@ -1,5 +1,5 @@
 pub mod Code
 pub mod Input
 pub mod TapeText
-pub mod Pieces
+pub mod PiecesInside
 pub mod Tape

@@ -4,7 +4,11 @@ ghost use Rattle.std.specs.Prelude.{◌≡◌, ◌==◌, ◌<◌, ◌≤◌, ◌
 ghost use Rattle.lgp_flexo.specs.Code.{IsCode, sign_at, code_at, code_in_row, digit_at, is_skipped};
 ghost use Rattle.lgp_flexo.specs.Input.{accumulator_after};
 
+use lgp_word::{DIGITS, LETTERS};
 use std::marker::Model;
+
+/// The greatest number of a code.
+const GREATEST_CODE: u8 = 63;
 
 /// One row of holes of the tape: a number from 0 to 63.
 #[derive(Clone, Copy, Debug, PartialEq, Eq)]
@@ -23,25 +27,26 @@ impl Model for Code {
     ghost inverse = { λ number. record { 0 = number } };
 }
 
-/// The signs of the codes `4 * place + 1`.
-const ORDER_SIGNS: [u8; 16] = *b"zbyridnmpeuthcas";
-
-/// The signs of the codes `4 * place + 2`.
-const DIGIT_SIGNS: [u8; 16] = *b"0123456789fgjkqw";
-
-/// The signs of the codes `4 * place + 3`.
+/// The signs of the codes `4 * place + 3`. Those of `4 * place + 1` are the letters of the orders, those of `4 * place + 2`
+/// the digits.
 const OTHER_SIGNS: [u8; 10] = *b" -+;/.,vox";
 
 impl Code {
     /// The conditional stop, whose sign is `'`.
     pub const STOP: Code = Code(32);
 
+    /// The code of the digit 1.
+    const ONE: Code = Code(6);
+
+    /// Delete, with all holes punched.
+    const DELETE: Code = Code(GREATEST_CODE);
+
     /// The code of that number, `None` above 63.
     pub fn new(number: u8) -> Option<Code>
         ensures code { IsSome result ↔ IsCode number }
         ensures same { IfSome result (λ code. code ≡ number) }
     {
-        if number <= 63 {
+        if number <= GREATEST_CODE {
             Some(Code(number))
         } else {
             None
@@ -70,13 +75,13 @@ pub(crate) fn sign_byte(code: Code) -> Option<u8>
     ensures { result ≡ sign_at code }
 {
     let number = code.number();
-    if number == 32 {
+    if code == Code::STOP {
         return Some(b'\'');
     }
     let place = usize::from(number / 4);
     match number % 4 {
-        1 => sign_in_row(&ORDER_SIGNS, place),
-        2 => sign_in_row(&DIGIT_SIGNS, place),
+        1 => sign_in_row(&LETTERS, place),
+        2 => sign_in_row(&DIGITS, place),
         3 => sign_in_row(&OTHER_SIGNS, place),
         _ => None,
     }
@@ -113,10 +118,10 @@ pub fn code_of(sign: char) -> Option<Code>
     ensures { result ≡ code_at sign }
 {
     match sign {
-        'l' => Some(Code(6)),
+        'l' => Some(Code::ONE),
         '\'' => Some(Code::STOP),
-        _ => code_in_row(1, &ORDER_SIGNS, sign)
-            .or(code_in_row(2, &DIGIT_SIGNS, sign))
+        _ => code_in_row(1, &LETTERS, sign)
+            .or(code_in_row(2, &DIGITS, sign))
             .or(code_in_row(3, &OTHER_SIGNS, sign)),
     }
 }
@@ -137,8 +142,7 @@ pub fn digit_of(code: Code) -> Option<u8>
 pub fn skipped(code: Code) -> bool
     ensures { result ≡ is_skipped code }
 {
-    let number = code.number();
-    (number % 4 == 0 && number != 32) || number == 63
+    (code.number() % 4 == 0 && code != Code::STOP) || code == Code::DELETE
 }
 
 /// The accumulator after a code has entered: the code's first four bits, or all six where the switch 6 BIT INPUT is down.

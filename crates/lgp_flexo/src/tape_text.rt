@@ -1,11 +1,12 @@
 //! Tapes written as text.
 
-ghost use Rattle.std.specs.Prelude.{◌≡◌, ◌↔◌, ◌<◌, ◌≤◌, ◌++◌, ℕ, Ok, Err, IfSome, IfNone, IfOk, IsOkAnd, IsErrOf, length, vec_len, option_map, option_to_list};
+ghost use Rattle.std.specs.Prelude.{◌≡◌, ◌↔◌, ◌+◌, ◌<◌, ◌≤◌, ◌++◌, ℕ, Ok, Err, IfSome, IfNone, IfOk, IsOkAnd, IsErrOf, length, vec_len, option_map, option_to_list};
 ghost use Rattle.lgp_flexo.specs.Code.{IsCode};
-ghost use Rattle.lgp_flexo.specs.TapeText.{tape_limit, written_code, written_tape, code_of_digits, group_at, piece_at, bytes_behind, before, codes_of_text};
-ghost use Rattle.lgp_flexo.specs.Pieces.{rest_from, counted};
+ghost use Rattle.lgp_flexo.specs.TapeText.{before, code_of_group, codes_of_sign, codes_of_text, tape_limit, written_code, written_tape};
+ghost use Rattle.lgp_flexo.specs.PiecesInside.{counted, first_codes, piece_length, rest_from};
 
 use crate::code::{Code, code_of, sign_byte};
+use lgp_word::read_decimal;
 use std::alloc::{AllocError, Allocator};
 use thiserror::Error;
 
@@ -26,50 +27,50 @@ pub enum TextFault {
     Memory(AllocError),
 }
 
-/// The code that two decimal digits stand for.
-fn code_of_digits(tens: u8, units: u8) -> Option<Code>
-    ensures { result ≡ code_of_digits tens units }
+/// The code of a group of these two digits.
+fn code_of_group(tens: u8, units: u8) -> Option<Code>
+    ensures { result ≡ code_of_group tens units }
 {
-    if tens.is_ascii_digit() && units.is_ascii_digit() {
-        Code::new(10 * (tens - b'0') + (units - b'0'))
-    } else {
-        None
-    }
+    let number = read_decimal(&[tens, units], 2)?;
+    Code::new(number as u8)
 }
 
-/// The code of a group whose `[` stands just before the text.
-fn group_at(text: &[u8]) -> Option<Code>
-    ensures { result ≡ group_at text.now }
+/// What a sign by itself stands for: nothing at a line's end, else its code.
+fn code_of_sign(sign: u8) -> Option<Option<Code>>
+    ensures { option_map option_to_list result ≡ codes_of_sign sign }
 {
-    match text {
-        [tens, units, b']', ..] => code_of_digits(*tens, *units),
-        _ => None,
-    }
-}
-
-/// The piece that begins with this byte, `behind` being what follows.
-fn piece_at(byte: u8, behind: &[u8]) -> Option<Option<Code>>
-    ensures { option_map option_to_list result ≡ piece_at byte behind.now }
-{
-    match byte {
-        b'[' => group_at(behind).map(Some),
+    match sign {
         b'\n' | b'\r' => Some(None),
-        _ => code_of(char::from(byte)).map(Some),
+        _ => code_of(char::from(sign)).map(Some),
     }
 }
 
-/// How many bytes a piece that begins with this byte has behind it.
-fn bytes_behind(byte: u8) -> usize
-    ensures { result ≡ bytes_behind byte }
-{
-    if byte == b'[' { 3 } else { 0 }
-}
-
-/// A piece of a text, and the place past it.
+/// A piece of a text: what it stands for, and the place past it.
 #[derive(Drop)]
 struct Piece {
     code: Option<Code>,
     past: usize,
+}
+
+/// The first piece of a text.
+fn first_piece(text: &[u8]) -> Option<Piece>
+    requires { 0 < length text.now }
+    ensures codes { option_map (λ piece. option_to_list piece.code) result ≡ first_codes text.now }
+    ensures past { IfSome result (λ piece. piece.past ≡ piece_length text.now) }
+{
+    match text {
+        [b'[', tens, units, b']', ..] => {
+            let code = code_of_group(*tens, *units)?;
+            Some(Piece {
+                code: Some(code),
+                past: 4,
+            })
+        }
+        _ => {
+            let code = code_of_sign(text[0])?;
+            Some(Piece { code, past: 1 })
+        }
+    }
 }
 
 /// The piece that begins at a place of a text.
@@ -80,15 +81,15 @@ fn piece_from(text: &[u8], place: usize) -> Option<Piece>
         ≡ before (option_to_list piece.code) (rest_from text.now piece.past)) }
     ensures onward { IfSome result (λ piece. place < piece.past) }
 {
-    let byte = text[place];
-    let code = piece_at(byte, &text[place + 1..])?;
+    let piece = first_piece(&text[place..])?;
     Some(Piece {
-        code,
-        past: place + (1 + bytes_behind(byte)),
+        code: piece.code,
+        past: place + piece.past,
     })
 }
 
 /// How many codes a text stands for, or its first bad place.
+#[tactic(auto, using(crate::proofs::Reading::rest_from_end))]
 fn count_codes(text: &[u8]) -> Result<usize, usize>
     ensures { result ≡ counted (codes_of_text text.now) }
 {

@@ -1,3 +1,5 @@
+//! Codes and tape text on the table and on values from outside.
+
 use crate::{
     Code, TAPE_LIMIT, TextFault, code_of, digit_of, enter, read_tape_text, sign_of, skipped,
     write_tape_text,
@@ -116,32 +118,25 @@ fn tapes_are_read_and_written(rt: HostRuntime) -> Result<(), Fail> {
 }
 
 #[test]
-fn bad_texts_are_refused(rt: HostRuntime) -> Result<(), Fail> {
-    assert!(rt;
-        matches!(
-            read_tape_text(rt.alloc(), b"[6"),
-            Err(TextFault::BadSign(0))
-        )
-    );
-    assert!(rt;
-        matches!(
-            read_tape_text(rt.alloc(), b"[64]"),
-            Err(TextFault::BadSign(0))
-        )
-    );
-    assert!(rt;
-        matches!(
-            read_tape_text(rt.alloc(), b"12A"),
-            Err(TextFault::BadSign(2))
-        )
-    );
-    assert!(rt;
-        matches!(
-            read_tape_text(rt.alloc(), b"1[03]A_"),
-            Err(TextFault::BadSign(5))
-        )
-    );
-    Ok(())
+fn bad_texts_are_refused(rt: HostRuntime) {
+    for (text, place) in [
+        (b"[6".as_slice(), 0),
+        (b"[64]", 0),
+        (b"[0a]", 0),
+        (b"[[02]", 0),
+        (b"1[02", 1),
+        (b"12A", 2),
+        (b"1[03]A_", 5),
+        (b"\n[03]]", 5),
+    ] {
+        assert!(rt;
+            matches!(
+                read_tape_text(rt.alloc(), text),
+                Err(TextFault::BadSign(bad)) if bad == place
+            ),
+            "at {place}"
+        );
+    }
 }
 
 #[test]

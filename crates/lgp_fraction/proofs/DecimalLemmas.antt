@@ -1,12 +1,13 @@
 -- Powers of ten, and that a fraction's text is read back.
-use Rattle.std.proofs.Common.{◌≡◌, ℕ, ◌+◌, ◌-◌, ◌*◌, ◌/◌, ◌%◌, ◌<◌, ◌≤◌, ◌^◌, Bool, true, false, if◌then◌else◌, ◌==◌, ℤ, pos, negsuc, neg_ℤ, int_le, int_lt, unsigned_abs, ◌*ℤ◌, ⊎_elim, append-nil, lit<, List, [], ◌∷◌, ◌++◌, length, slice_index, Ok, arith, refl, sym, ap, ◌∙◌, codes, IsTrue}
+use Rattle.std.proofs.Common.{◌≡◌, ℕ, ◌+◌, ◌-◌, ◌*◌, ◌/◌, ◌%◌, ◌<◌, ◌≤◌, ◌^◌, Bool, true, false, if◌then◌else◌, ◌==◌, ℤ, pos, negsuc, neg_ℤ, int_le, int_lt, unsigned_abs, ◌*ℤ◌, ⊎_elim, append-nil, lit<, List, [], ◌∷◌, ◌++◌, length, slice_index, Ok, arith, fold, zero-add, refl, sym, ap, ◌∙◌, codes, IsTrue}
 use mathlib.Core.Bool.{xor}
 use Rattle.std.specs.Char.{is_ascii_digit}
+use Rattle.lgp_word.specs.Decimal.{decimal_of, is_decimal, with_digit}
 use Rattle.std.specs.Int.{is_negative}
 use Rattle.std.proofs.Math.Nat.{one-le-pow, pow-le-pow_right, div-lt_iff_lt-mul}
 use Rattle.std.proofs.lemmas.Bool.{and_parts, cases_Bool}
 use Rattle.std.proofs.lemmas.Int.{ints, unsigned_abs-mul}
-use Rattle.lgp_fraction.specs.Decimal.{decimal_fraction, decimal_number, decimal_text, decimal_value, digits_number, five_digits, is_decimal, is_fraction, places, places_text, ten_places}
+use Rattle.lgp_fraction.specs.Decimal.{decimal_fraction, decimal_text, five_digits, is_fraction, is_fraction_text, places, places_text, steps_of_text, ten_places, units_of}
 use Rattle.lgp_fraction.specs.Rounding.{nearest, nearest_size, with_sign}
 use Rattle.lgp_fraction.proofs.RoundingLemmas.{nearest-with_sign, not_negative, size-nearest}
 
@@ -29,10 +30,10 @@ is_digit number = grind arith
 abbrev text_of : Bool → ℕ → List ℕ
 text_of negative number = (if negative then 45 else 32) ∷ 46 ∷ (five_digits (number / 100000) ++ five_digits (number % 100000))
 
-is_decimal-text_of : (negative : Bool) (number : ℕ) → is_decimal (text_of negative number) ≡ true
-unfolding five_digits
-is_decimal-text_of true number = simp is_digit
-is_decimal-text_of false number = simp is_digit
+is_fraction_text-text_of : (negative : Bool) (number : ℕ) → is_fraction_text (text_of negative number) ≡ true
+unfolding five_digits is_decimal
+is_fraction_text-text_of true number = simp is_digit
+is_fraction_text-text_of false number = simp is_digit
 
 length-text_of : (negative : Bool) (number : ℕ) → length (places (text_of negative number)) ≡ 10
 unfolding five_digits
@@ -44,25 +45,28 @@ is_minus-text_of true number = refl
 is_minus-text_of false number = refl
 
 -- five digits are read as their number
-number-five_digits : (before number : ℕ) (rest : List ℕ) → number < 100000 → decimal_number before (five_digits number ++ rest) ≡ decimal_number (100000 * before + number) rest
+number-five_digits : (before number : ℕ) (rest : List ℕ) → number < 100000 → fold with_digit before (five_digits number ++ rest) ≡ fold with_digit (100000 * before + number) rest
 unfolding five_digits
 number-five_digits before number rest small =
     let sum : 10 * (10 * (10 * (10 * (10 * before + (48 + number / 10000 % 10 - 48)) + (48 + number / 1000 % 10 - 48)) + (48 + number / 100 % 10 - 48)) + (48 + number / 10 % 10 - 48)) + (48 + number % 10 - 48) ≡ 100000 * before + number = omega arith in
-    ap (λ n. decimal_number n rest) sum
+    ap (λ n. fold with_digit n rest) sum
 
-number-last_digits : (before number : ℕ) → number < 100000 → decimal_number before (five_digits number) ≡ 100000 * before + number
+number-last_digits : (before number : ℕ) → number < 100000 → fold with_digit before (five_digits number) ≡ 100000 * before + number
 number-last_digits before number small =
-    ap (decimal_number before) (sym (append-nil (five_digits number))) ∙ number-five_digits before number [] small
+    ap (fold with_digit before) (sym (append-nil (five_digits number))) ∙ number-five_digits before number [] small
 
-number-ten_digits : (number : ℕ) → number < 10 ^ 10 → decimal_number 0 (five_digits (number / 100000) ++ five_digits (number % 100000)) ≡ number
+number-ten_digits : (number : ℕ) → number < 10 ^ 10 → decimal_of (five_digits (number / 100000) ++ five_digits (number % 100000)) ≡ number
+unfolding decimal_of
 number-ten_digits number small =
     let sum : 100000 * (100000 * 0 + number / 100000) + number % 100000 ≡ number = omega arith in
     number-five_digits 0 (number / 100000) (five_digits (number % 100000)) (omega arith)
     ∙ (number-last_digits (100000 * 0 + number / 100000) (number % 100000) (omega arith) ∙ sum)
 
-digits_number-text_of : (negative : Bool) (number : ℕ) → number < 10 ^ 10 → digits_number (text_of negative number) ≡ number
-digits_number-text_of true number small = number-ten_digits number small
-digits_number-text_of false number small = number-ten_digits number small
+units_of-text_of : (negative : Bool) (number : ℕ) → number < 10 ^ 10 → units_of (text_of negative number) ≡ number
+units_of-text_of true number small =
+    zero-add (decimal_of (five_digits (number / 100000) ++ five_digits (number % 100000))) ∙ number-ten_digits number small
+units_of-text_of false number small =
+    zero-add (decimal_of (five_digits (number / 100000) ++ five_digits (number % 100000))) ∙ number-ten_digits number small
 
 -- a fraction above -1, rounded to ten digits and back
 comes_back : (size : ℕ) → size < 2 ^ 30 → nearest_size (nearest_size (size * 10 ^ 10) (2 ^ 30) * 2 ^ 30) (10 ^ 10) ≡ size
@@ -79,12 +83,12 @@ with_own_sign (negsuc n) = refl
 abbrev value_of : Bool → ℕ → ℕ → ℤ
 value_of negative number places = nearest (with_sign negative (number * 2 ^ 30)) (pos (10 ^ places))
 
-value-text_of : (negative : Bool) (number : ℕ) → number < 10 ^ 10 → decimal_value (text_of negative number) ≡ with_sign negative (nearest_size (number * 2 ^ 30) (10 ^ 10))
-unfolding decimal_value
+value-text_of : (negative : Bool) (number : ℕ) → number < 10 ^ 10 → steps_of_text (text_of negative number) ≡ with_sign negative (nearest_size (number * 2 ^ 30) (10 ^ 10))
+unfolding steps_of_text
 value-text_of negative number small =
     let text : List ℕ = text_of negative number in
-    ap (λ (minus : Bool). value_of minus (digits_number text) (length (places text))) (is_minus-text_of negative number)
-    ∙ (ap (λ (digits : ℕ). value_of negative digits (length (places text))) (digits_number-text_of negative number small)
+    ap (λ (minus : Bool). value_of minus (units_of text) (length (places text))) (is_minus-text_of negative number)
+    ∙ (ap (λ (digits : ℕ). value_of negative digits (length (places text))) (units_of-text_of negative number small)
     ∙ (ap (λ (count : ℕ). value_of negative number count) (length-text_of negative number)
     ∙ nearest-with_sign negative (number * 2 ^ 30) (10 ^ 10) (lit< tt)))
 
@@ -93,7 +97,7 @@ ten_places-size : (steps : ℤ) → ten_places steps ≡ nearest_size (unsigned_
 ten_places-size steps =
     size-nearest (steps *ℤ pos (10 ^ 10)) (pos (2 ^ 30)) ∙ ap (λ size. nearest_size size (2 ^ 30)) (unsigned_abs-mul steps (pos (10 ^ 10)))
 
-value-places_text : (steps : ℤ) → unsigned_abs steps < 2 ^ 30 → decimal_value (text_of (is_negative steps) (ten_places steps)) ≡ steps
+value-places_text : (steps : ℤ) → unsigned_abs steps < 2 ^ 30 → steps_of_text (text_of (is_negative steps) (ten_places steps)) ≡ steps
 value-places_text steps small =
     let few : ten_places steps < 10 ^ 10 = rw (ten_places-size steps) (below_ten_digits (unsigned_abs steps) small) in
     let size : nearest_size (ten_places steps * 2 ^ 30) (10 ^ 10) ≡ unsigned_abs steps = rw (ten_places-size steps) (comes_back (unsigned_abs steps) small) in
@@ -102,10 +106,10 @@ value-places_text steps small =
 above_minus_one : (steps : ℤ) → unsigned_abs steps < 2 ^ 30 → IsTrue (is_fraction steps) → decimal_fraction (places_text steps) ≡ Ok steps
 unfolding decimal_fraction places_text
 above_minus_one steps small fraction =
-    rw (is_decimal-text_of (is_negative steps) (ten_places steps), value-places_text steps small, fraction) refl
+    rw (is_fraction_text-text_of (is_negative steps) (ten_places steps), value-places_text steps small, fraction) refl
 
 minus_one : decimal_fraction (codes "-1.000000000") ≡ Ok (neg_ℤ (pos (2 ^ 30)))
-unfolding decimal_fraction decimal_value nearest xor
+unfolding decimal_fraction steps_of_text nearest xor is_decimal decimal_of
 minus_one = refl
 
 pub decimal_fraction-decimal_text : (steps : ℤ) → IsTrue (is_fraction steps) → decimal_fraction (decimal_text steps) ≡ Ok steps

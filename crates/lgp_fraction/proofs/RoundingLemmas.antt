@@ -5,7 +5,7 @@ use Rattle.std.specs.Int.{is_negative}
 use Rattle.std.proofs.Math.Nat.{div-mul-le_self, lt-div-mul-add, div-eq_of_lt, mul-le-mul_right, zero-mul}
 use Rattle.std.proofs.lemmas.Bool.{cases_lt}
 use Rattle.std.proofs.lemmas.Int.{ints, unsigned_abs-mul}
-use Rattle.lgp_fraction.specs.Rounding.{IsNearest, distance, nearest, nearest_size, with_sign}
+use Rattle.lgp_fraction.specs.Rounding.{IsNearest, deviation, nearest, nearest_size, with_sign}
 
 -- how far two sizes are apart
 abbrev apart : ℕ → ℕ → ℕ
@@ -60,7 +60,7 @@ pub not_negative : (n : ℕ) → is_negative (pos n) ≡ false
 not_negative n = grind (arith, ints)
 
 -- a quotient with the right sign is as far from the dividend as the sizes are
-with_sign_apart : (dividend divisor : ℤ) (size : ℕ) → distance dividend divisor (with_sign (xor (is_negative dividend) (is_negative divisor)) size) ≡ apart (unsigned_abs dividend) (size * unsigned_abs divisor)
+with_sign_apart : (dividend divisor : ℤ) (size : ℕ) → deviation dividend divisor (with_sign (xor (is_negative dividend) (is_negative divisor)) size) ≡ apart (unsigned_abs dividend) (size * unsigned_abs divisor)
 unfolding xor
 with_sign_apart (pos n) (pos d) size = rw (not_negative n, not_negative d) (positives_apart n (size * d))
 with_sign_apart (pos n) (negsuc d) size = rw not_negative (ap (λ z. unsigned_abs (pos n -ℤ z)) (negative_times_negative size d) ∙ positives_apart n (size * suc d))
@@ -82,10 +82,10 @@ nearest-is_nearest dividend divisor nonzero other =
     let high : 2 * n + d < q * (2 * d) + 2 * d = lt-div-mul-add {a = 2 * n + d} {b = 2 * d} (omega arith) in
     let sizes = nearest_of_sizes n d q (unsigned_abs other) low high in
     let number : ℤ = with_sign (xor (is_negative dividend) (is_negative divisor)) q in
-    let here : distance dividend divisor number ≡ apart n (q * d) = with_sign_apart dividend divisor q in
-    let there : apart n (unsigned_abs (other *ℤ divisor)) ≤ distance dividend divisor other = sizes_apart dividend (other *ℤ divisor) in
+    let here : deviation dividend divisor number ≡ apart n (q * d) = with_sign_apart dividend divisor q in
+    let there : apart n (unsigned_abs (other *ℤ divisor)) ≤ deviation dividend divisor other = sizes_apart dividend (other *ℤ divisor) in
     let product : unsigned_abs (other *ℤ divisor) ≡ unsigned_abs other * d = unsigned_abs-mul other divisor in
-    let away : apart n (unsigned_abs other * d) ≤ distance dividend divisor other = rw product at there in
+    let away : apart n (unsigned_abs other * d) ≤ deviation dividend divisor other = rw product at there in
     let size : unsigned_abs number ≡ q = size_of_with_sign (xor (is_negative dividend) (is_negative divisor)) q in
     (rw here (omega (arith, sizes.0, away)), λ near. rw size (sizes.1 (let near_too = rw here at near in omega (arith, near_too, away))))
 

@@ -1,4 +1,4 @@
--- Quotients to the nearest whole number, ties away from zero (this project's own choice).
+-- Part of the public promise: quotients to the nearest whole number, ties away from zero (this project's own choice).
 use Rattle.std.specs.Prelude.{ℕ, ◌+◌, ◌*◌, ◌/◌, ◌≤◌, Bool, if◌then◌else◌, ℤ, pos, neg_ℤ, ◌-ℤ◌, ◌*ℤ◌, unsigned_abs}
 use Rattle.std.specs.Int.{is_negative}
 use Rattle.std.specs.Bool.{xor}
@@ -17,12 +17,12 @@ nearest dividend divisor =
     with_sign (xor (is_negative dividend) (is_negative divisor)) (nearest_size (unsigned_abs dividend) (unsigned_abs divisor))
 
 -- how far a number is from a quotient, times the size of the divisor
-abbrev pub distance : ℤ → ℤ → ℤ → ℕ
-distance dividend divisor number = unsigned_abs (dividend -ℤ number *ℤ divisor)
+abbrev pub deviation : ℤ → ℤ → ℤ → ℕ
+deviation dividend divisor number = unsigned_abs (dividend -ℤ number *ℤ divisor)
 
 -- no other whole number is nearer to the quotient, and one that is as near is no further from zero
 abbrev pub IsNearest : ℤ → ℤ → ℤ → Type 0
 IsNearest dividend divisor number =
     (other : ℤ)
-    → (distance dividend divisor number ≤ distance dividend divisor other)
-    × (distance dividend divisor other ≤ distance dividend divisor number → unsigned_abs other ≤ unsigned_abs number)
+    → (deviation dividend divisor number ≤ deviation dividend divisor other)
+    × (deviation dividend divisor other ≤ deviation dividend divisor number → unsigned_abs other ≤ unsigned_abs number)

@@ -1,3 +1,5 @@
+//! The five arithmetic orders.
+
 ghost use Rattle.std.specs.Prelude.{◌≡◌, ◌^◌, ◌<◌, ◌≤◌, ◌<ℤ◌, ◌+ℤ◌, ◌-ℤ◌, ◌*ℤ◌, ◌↔◌, IsTrue, IsFalse, neg_ℤ, pos, unsigned_abs};
 ghost use Rattle.std.specs.Int.{int_div_euclid};
 ghost use Rattle.lgp_word.specs.Word.{signed};
@@ -19,7 +21,8 @@ pub struct Arith {
 #[inline]
 pub fn add(accumulator: u32, word: Word) -> Arith
     ensures value { result ≡ added accumulator word }
-    ensures exact { IsFalse result.overflow → signed result.accumulator ≡ signed accumulator +ℤ signed word }
+    ensures exact { IsFalse result.overflow
+        → signed result.accumulator ≡ signed accumulator +ℤ signed word }
 {
     let (sum, overflow) = accumulator
         .cast_signed()
@@ -35,7 +38,8 @@ pub fn add(accumulator: u32, word: Word) -> Arith
 #[inline]
 pub fn sub(accumulator: u32, word: Word) -> Arith
     ensures value { result ≡ subtracted accumulator word }
-    ensures exact { IsFalse result.overflow → signed result.accumulator ≡ signed accumulator -ℤ signed word }
+    ensures exact { IsFalse result.overflow
+        → signed result.accumulator ≡ signed accumulator -ℤ signed word }
 {
     let (difference, overflow) = accumulator
         .cast_signed()
@@ -50,8 +54,10 @@ pub fn sub(accumulator: u32, word: Word) -> Arith
 #[tactic(auto, unfolding(crate::specs::Arithmetic::multiplied_high))]
 pub fn mul_high(accumulator: u32, word: Word) -> Arith
     ensures value { result ≡ multiplied_high accumulator word }
-    ensures exact { IsFalse result.overflow → signed result.accumulator ≡ pos 2 *ℤ int_div_euclid (half accumulator *ℤ half word) (pos (2 ^ 30)) }
-    ensures exception { IsTrue result.overflow ↔ (half accumulator ≡ neg_ℤ (pos (2 ^ 30))) × (half word ≡ neg_ℤ (pos (2 ^ 30))) }
+    ensures exact { IsFalse result.overflow → signed result.accumulator
+        ≡ pos 2 *ℤ int_div_euclid (half accumulator *ℤ half word) (pos (2 ^ 30)) }
+    ensures exception { IsTrue result.overflow
+        ↔ (half accumulator ≡ neg_ℤ (pos (2 ^ 30))) × (half word ≡ neg_ℤ (pos (2 ^ 30))) }
 {
     let high = high_part(product(half(accumulator), half(word.get())));
     Arith {
@@ -63,7 +69,8 @@ pub fn mul_high(accumulator: u32, word: Word) -> Arith
 /// Order n: the last bits of the product of the accumulator and a word; no overflow.
 #[tactic(auto, unfolding(crate::specs::Arithmetic::multiplied_low))]
 pub fn mul_low(accumulator: u32, word: Word) -> Arith
-    ensures { result ≡ multiplied_low accumulator word }
+    ensures value { result ≡ multiplied_low accumulator word }
+    ensures no_overflow { IsFalse result.overflow }
 {
     Arith {
         accumulator: low_bits(4 * product(half(accumulator), half(word.get()))),
@@ -76,7 +83,8 @@ pub fn mul_low(accumulator: u32, word: Word) -> Arith
 #[tactic(auto, unfolding(crate::specs::Arithmetic::divided))]
 pub fn div(accumulator: u32, word: Word) -> Arith
     ensures value { result ≡ divided accumulator word }
-    ensures exact { IsFalse result.overflow → signed result.accumulator ≡ pos 2 *ℤ nearest (half accumulator *ℤ pos (2 ^ 30)) (half word) }
+    ensures exact { IsFalse result.overflow → signed result.accumulator
+        ≡ pos 2 *ℤ nearest (half accumulator *ℤ pos (2 ^ 30)) (half word) }
     ensures unchanged { IsTrue result.overflow → result.accumulator ≡ accumulator }
 {
     let dividend = half(accumulator);

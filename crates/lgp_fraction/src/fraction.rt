@@ -1,16 +1,20 @@
+//! Fractions, and their texts as decimals.
+
 ghost use Rattle.std.specs.Prelude.{◌≡◌, ℕ, ◌+◌, ◌-◌, ◌*◌, ◌/◌, ◌%◌, ◌^◌, ◌<◌, ◌≤◌, ◌↔◌, ◌==◌, ℤ, pos, neg_ℤ, ◌*ℤ◌, unsigned_abs, IsTrue, IsFalse, IfOk, length, drop, slice_index, Ok, Err, Some, None, if◌then◌else◌};
-ghost use Rattle.std.specs.Char.{is_ascii_digit};
-ghost use Rattle.std.specs.List.{list_all};
+ghost use Rattle.std.specs.Str.{byte};
 ghost use Rattle.lgp_word.specs.Word.{IsWord, signed};
 ghost use Rattle.lgp_fraction.specs.Arithmetic.{half, low_bits};
-ghost use Rattle.lgp_fraction.specs.Decimal.{are_places, decimal_fraction, decimal_number, decimal_text, decimal_value, five_digits, fraction_of, is_decimal, is_fraction, places, places_text, ten_places, without};
+ghost use Rattle.lgp_fraction.specs.Decimal.{decimal_fraction, decimal_text, five_digits, fraction_of, is_fraction, is_fraction_text, last_digit, most_places, places_text, steps_of_text, ten_places, without};
 ghost use Rattle.lgp_fraction.specs.Rounding.{nearest, with_sign};
 
 use crate::arithmetic::{half, low_bits};
 use crate::rounding::{nearest_size, with_sign};
-use lgp_word::Word;
+use lgp_word::{Word, read_decimal};
 use std::marker::Model;
 use thiserror::Error;
+
+/// The greatest number of digits past the point.
+const MOST_PLACES: usize = 12;
 
 /// A fraction from -1 up to just below 1, in steps of 2^-30. Clauses see its number of steps, -2^30 to 2^30 - 1.
 #[derive(Clone, Copy, Debug, PartialEq, Eq, Hash)]
@@ -64,11 +68,12 @@ impl Fraction {
     #[tactic(auto, unfolding(crate::specs::Decimal::decimal_fraction))]
     pub fn from_decimal(text: &[u8]) -> Result<Fraction, FractionFault>
         ensures value { result ≡ decimal_fraction text.now }
-        ensures form { result ≡ Err FractionFault.Form ↔ IsFalse (is_decimal text.now) }
-        ensures out_of_range { result ≡ Err FractionFault.OutOfRange ↔ IsTrue (is_decimal text.now) × IsFalse (is_fraction (decimal_value text.now)) }
-        ensures nearest { IfOk result (λ fraction. fraction ≡ decimal_value text.now) }
+        ensures form { result ≡ Err FractionFault.Form ↔ IsFalse (is_fraction_text text.now) }
+        ensures out_of_range { result ≡ Err FractionFault.OutOfRange
+            ↔ IsTrue (is_fraction_text text.now) × IsFalse (is_fraction (steps_of_text text.now)) }
+        ensures nearest { IfOk result (λ fraction. fraction ≡ steps_of_text text.now) }
     {
-        match decimal_value(text) {
+        match steps_of_text(text) {
             Some(steps) => Fraction::of_steps(steps),
             None => Err(FractionFault::Form),
         }
@@ -125,7 +130,7 @@ fn places_text(steps: i32) -> [u8; 12]
 
 /// How a sign is written.
 fn sign_byte(negative: bool) -> u8
-    ensures { result ≡ (if negative then 45 else 32) }
+    ensures { result ≡ (if negative then byte "-" else byte " ") }
 {
     if negative { b'-' } else { b' ' }
 }
@@ -146,25 +151,26 @@ fn five_digits(number: u32) -> [u8; 5]
     ensures { result ≡ five_digits number }
 {
     [
-        digit(number / 10_000),
-        digit(number / 1000),
-        digit(number / 100),
-        digit(number / 10),
-        digit(number),
+        last_digit(number / 10_000),
+        last_digit(number / 1000),
+        last_digit(number / 100),
+        last_digit(number / 10),
+        last_digit(number),
     ]
 }
 
 /// The last digit of a number.
-fn digit(number: u32) -> u8
-    ensures { result ≡ 48 + number % 10 }
+fn last_digit(number: u32) -> u8
+    ensures { result ≡ last_digit number }
 {
     b'0' + (number % 10) as u8
 }
 
 /// The number of steps nearest to what a text stands for; `None` where it has not the form of a decimal.
-#[tactic(auto, unfolding(crate::specs::Decimal::decimal_value))]
-fn decimal_value(text: &[u8]) -> Option<i64>
-    ensures { result ≡ (if is_decimal text.now then Some (decimal_value text.now) else None) }
+#[tactic(auto, unfolding(crate::specs::Decimal::steps_of_text, lgp_word::specs::Decimal::decimal_number))]
+fn steps_of_text(text: &[u8]) -> Option<i64>
+    ensures { result
+        ≡ (if is_fraction_text text.now then Some (steps_of_text text.now) else None) }
 {
     let unsigned = without(text, b'-', b' ');
     let behind_whole = without(unsigned, b'0', b'1');
@@ -172,33 +178,16 @@ fn decimal_value(text: &[u8]) -> Option<i64>
         return None;
     }
     let places = behind_first(behind_whole);
-    if !are_places(places) {
-        return None;
-    }
-    let units = decimal_number(begins(unsigned, b'1'), places);
-    Some(steps_of(begins(text, b'-'), units, places.len()))
-}
-
-/// One to twelve digits.
-fn are_places(digits: &[u8]) -> bool
-    ensures value { result ≡ are_places digits.now }
-    ensures short { IsTrue result → length digits.now ≤ 12 }
-    ensures digits { IsTrue result → IsTrue (list_all is_ascii_digit digits.now) }
-{
-    !digits.is_empty() && digits.len() <= 12 && are_digits(digits)
-}
-
-/// All bytes are decimal digits.
-fn are_digits(text: &[u8]) -> bool
-    ensures { result ≡ list_all is_ascii_digit text.now }
-{
-    text.iter().all(|byte| byte.is_ascii_digit())
+    let past_point = read_decimal(places, MOST_PLACES)?;
+    let unit = power_of_ten(places.len());
+    let whole = if begins(unsigned, b'1') { unit } else { 0 };
+    Some(steps_of(begins(text, b'-'), whole + past_point, places.len()))
 }
 
 /// The number of steps nearest to a number of units, of which 10^places are 1.
 fn steps_of(negative: bool, units: u64, places: usize) -> i64
     requires units { units < 2 * 10 ^ places }
-    requires places { places ≤ 12 }
+    requires places { places ≤ most_places }
     ensures { result ≡ nearest (with_sign negative (units * 2 ^ 30)) (pos (10 ^ places)) }
 {
     let size = nearest_size(
@@ -210,26 +199,12 @@ fn steps_of(negative: bool, units: u64, places: usize) -> i64
 
 /// A power of ten.
 fn power_of_ten(places: usize) -> u64
-    requires { places ≤ 12 }
+    requires { places ≤ most_places }
     ensures value { result ≡ 10 ^ places }
     ensures positive { 0 < result }
     ensures size { result ≤ 10 ^ 12 }
 {
     10u64.pow(places as u32)
-}
-
-/// The number that up to twelve digits stand for behind a digit 0 or 1.
-fn decimal_number(one: bool, digits: &[u8]) -> u64
-    requires short { length digits.now ≤ 12 }
-    requires digits { IsTrue (list_all is_ascii_digit digits.now) }
-    ensures value { result ≡ decimal_number (if one then 1 else 0) digits.now }
-    ensures size { result < 2 * 10 ^ length digits.now }
-{
-    let mut number = if one { 1 } else { 0 };
-    for digit in digits {
-        number = 10 * number + u64::from(*digit - b'0');
-    }
-    number
 }
 
 /// The text begins with this byte.

@@ -1,8 +1,8 @@
 //! The arithmetic of the Royal McBee LGP-30, and its fractions as decimals.
 #![tactic(auto)]
 
-pub mod arithmetic;
-pub mod fraction;
+mod arithmetic;
+mod fraction;
 pub mod rounding;
 
 pub use arithmetic::{Arith, add, div, mul_high, mul_low, sub};

@@ -1,3 +1,5 @@
+//! Quotients to the nearest whole number.
+
 ghost use Rattle.std.specs.Prelude.{◌≡◌, ℕ, ◌+◌, ◌*◌, ◌/◌, ◌^◌, ◌<◌, ℤ, unsigned_abs};
 ghost use Rattle.lgp_fraction.specs.Rounding.{IsNearest, nearest, nearest_size, with_sign};
 
@@ -8,7 +10,8 @@ pub(crate) fn nearest(dividend: i128, divisor: i128) -> i128
     requires divisor { unsigned_abs divisor < 2 ^ 100 }
     requires nonzero { 0 < unsigned_abs divisor }
     ensures value { result ≡ nearest dividend divisor }
-    ensures size { unsigned_abs result ≡ nearest_size (unsigned_abs dividend) (unsigned_abs divisor) }
+    ensures size { unsigned_abs result
+        ≡ nearest_size (unsigned_abs dividend) (unsigned_abs divisor) }
 {
     let size = nearest_size(dividend.unsigned_abs(), divisor.unsigned_abs());
     with_sign((dividend < 0) != (divisor < 0), size)
@@ -37,5 +40,6 @@ pub(crate) fn with_sign(negative: bool, size: u128) -> i128
 
 /// What nearest means: no other whole number is nearer, and one that is as near is no further from zero.
 pub fn nearest_is_nearest()
-    ensures { (dividend : ℤ) → (divisor : ℤ) → 0 < unsigned_abs divisor → IsNearest dividend divisor (nearest dividend divisor) }
+    ensures { (dividend : ℤ) → (divisor : ℤ) → 0 < unsigned_abs divisor
+        → IsNearest dividend divisor (nearest dividend divisor) }
 {}

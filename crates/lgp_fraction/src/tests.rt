@@ -1,3 +1,5 @@
+//! Arithmetic and decimals on values from outside.
+
 use super::*;
 use lgp_word::{Word, read_digits};
 use std::test::Fail;

@@ -1,7 +1,9 @@
+pub mod KnownLemmas
+pub mod LineLemmas
+pub mod CutLemmas
+pub mod StreamLemmas
 pub mod AnswerLemmas
 pub mod TapeLemmas
-pub mod ScriptLemmas
-pub mod LineLemmas
-pub mod KnownLemmas
-pub mod SessionLemmas
-pub mod StopLemmas
+pub mod PlaceLemmas
+pub mod KeptLemmas
+pub mod UsedLemmas

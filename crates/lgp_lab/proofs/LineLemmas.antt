@@ -1,14 +1,14 @@
 -- What is kept of a line, byte by byte.
-use Rattle.std.proofs.Common.{◌≡◌, ℕ, ◌+◌, ◌-◌, ◌<◌, ◌≤◌, ◌&&◌, ◌||◌, Bool, true, false, cond, List, [], ◌∷◌, ◌++◌, length, take, get_or, refl, sym, ap, ⊎_elim, ◌∙◌, arith, nat_le, nat_lt, length-append, eqb}
+use Rattle.std.proofs.Common.{◌≡◌, ℕ, ◌+◌, ◌-◌, ◌<◌, ◌≤◌, ◌&&◌, ◌||◌, Bool, true, false, not, cond, List, [], ◌∷◌, ◌++◌, length, take, get_or, refl, sym, ap, ⊎_elim, ◌∙◌, arith, nat_le, nat_lt, length-append, eqb}
 use Rattle.std.proofs.lemmas.Bool.Decides.{nat_tests}
-use Rattle.std.proofs.lemmas.List.{length-take-le, take-append-le, take_all, take_more}
+use Rattle.std.proofs.lemmas.List.{length-take, length-take-le, take-append-le, take_all, take_more}
 use Rattle.std.proofs.Math.Seq.{get_or-append_seam, take-append_seam, take-length}
 use Rattle.std.proofs.lemmas.Bool.{cases_lt, eqb-true}
 use Rattle.std.proofs.lemmas.List.Folds.{list_all-append}
 use Rattle.std.specs.List.{list_all}
-use Rattle.lgp_lab.specs.Command.{is_space}
-use Rattle.lgp_lab.specs.Script.{line_limit}
-use Rattle.lgp_lab.specs.Session.{Kept, Open, ends_with_return, kept_of, kept_push, open_of, open_push, whole}
+use Rattle.lgp_lab.specs.Line.{is_space}
+use Rattle.lgp_lab.specs.Limits.{line_limit}
+use Rattle.lgp_lab.specs.LineInside.{Kept, Open, ends_with_return, is_unbegun, kept_of, kept_push, open_of, open_push, whole}
 
 and-true : (b : Bool) → (b && true) ≡ b
 and-true true = refl
@@ -100,3 +100,18 @@ pub open_push-open_of : (line : List ℕ) (byte : ℕ) → open_push (open_of li
 open_push-open_of line byte =
     open_push-whole (open_of line) (kept_of line) (kept_of (line ++ byte ∷ [])) byte (whole-open_of line) (kept_push-kept_of line byte)
     ∙ open_of-push line byte
+
+-- an open line is unbegun where it has no byte
+unbegun-take : (limit : ℕ) (first : ℕ) (more : List ℕ) (ends : Bool) → 0 < limit → (not ends && eqb (length (take limit (cond ends (take (length (first ∷ more) - 1) (first ∷ more)) (first ∷ more)))) 0) ≡ false
+unbegun-take limit first more true some = refl
+unbegun-take limit first more false some =
+    let count = length-take limit (first ∷ more) in
+    let any : 0 < length (take limit (first ∷ more)) = omega (arith, count) in
+    grind (arith, nat_tests)
+
+pub is_unbegun-open_of : (line : List ℕ) → is_unbegun (open_of line) ≡ eqb (length line) 0
+unfolding open_of kept_of
+is_unbegun-open_of [] = refl
+is_unbegun-open_of (first ∷ more) =
+    let any : eqb (length (first ∷ more)) 0 ≡ false = grind (arith, nat_tests) in
+    rw any (unbegun-take line_limit first more (ends_with_return (first ∷ more)) (omega arith))

@@ -1,9 +1,10 @@
--- The script language (this project's own): what a line asks for. A line is words separated by spaces.
-use Rattle.std.specs.Prelude.{ℕ, ◌+◌, ◌*◌, ◌-◌, ◌==◌, ◌&&◌, Bool, true, false, not, if◌then◌else◌, nat_le, nat_lt, Option, Some, None, List, length, take, drop, codes, fold}
-use Rattle.std.specs.List.{list_all, prefix_len}
+-- Part of the public promise: the script language, what a line asks for.
+use Rattle.std.specs.Prelude.{ℕ, ◌+◌, ◌&&◌, Bool, true, false, if◌then◌else◌, nat_le, nat_lt, Option, Some, None, List, drop, codes}
 use Rattle.std.specs.Str.{bytes_eq}
-use Rattle.std.specs.Char.{is_ascii_digit}
-use Rattle.lgp_word.specs.Digits.{address_text, word_at}
+use Rattle.lgp_word.specs.Decimal.{decimal_number}
+use Rattle.lgp_word.specs.Digits.{address_text, word_of_digits}
+use Rattle.lgp_lab.specs.Limits.{digit_limit, drum_size, shown_limit}
+use Rattle.lgp_lab.specs.Line.{behind_word, first_word, has_no_word}
 use Rattle.lgp_lab.specs.declared.command.Command.{Command}
 use Rattle.lgp_lab.specs.declared.command.Command.TheVariants as commands
 use Rattle.lgp_table.specs.declared.action.Action.{Action}
@@ -11,35 +12,9 @@ use Rattle.lgp_table.specs.declared.action.Action.TheVariants as actions
 use Rattle.lgp_table.specs.declared.panel.Mode.TheVariants.{Normal, OneOperation, Manual}
 use Rattle.lgp_table.specs.declared.panel.Which.TheVariants.{B32, B16, B8, B4}
 
-abbrev pub is_space : ℕ → Bool
-is_space byte = byte == 32
-
-abbrev pub is_visible : ℕ → Bool
-is_visible byte = not (byte == 32)
-
--- a text from its first byte on that is no space
-unfoldable pub without_spaces : List ℕ → List ℕ
-without_spaces text = drop (prefix_len is_space text) text
-
--- the first word of a text, and what stands behind it
-unfoldable pub first_word : List ℕ → List ℕ
-first_word text = take (prefix_len is_visible (without_spaces text)) (without_spaces text)
-
-unfoldable pub behind_word : List ℕ → List ℕ
-behind_word text = drop (prefix_len is_visible (without_spaces text)) (without_spaces text)
-
--- no word is left
-unfoldable pub is_blank : List ℕ → Bool
-is_blank text = list_all is_space text
-
--- the number that decimal digits stand for
-abbrev pub value_of : List ℕ → ℕ
-value_of digits = fold (λ number digit. 10 * number + (digit - 48)) 0 digits
-
 -- a number: 1 to 10 decimal digits
 unfoldable pub number_at : List ℕ → Option ℕ
-number_at text =
-    if nat_lt 0 (length text) && nat_le (length text) 10 && list_all is_ascii_digit text then Some (value_of text) else None
+number_at text = decimal_number digit_limit text
 
 -- the action of a name without and with a position
 unfoldable pub plain_action : List ℕ → Option Action
@@ -81,24 +56,24 @@ abbrev pub put_by : Option ℕ → Option ℕ → Option Command
 put_by (Some address) (Some word) = Some (commands.Put address word)
 put_by _ _ = None
 
-unfoldable pub put_of : List ℕ → Option Command
-put_of operands =
-    if is_blank (behind_word (behind_word operands))
-    then put_by (address_text (first_word operands)) (word_at (first_word (behind_word operands))) else None
+unfoldable pub put_command : List ℕ → Option Command
+put_command operands =
+    if has_no_word (behind_word (behind_word operands))
+    then put_by (address_text (first_word operands)) (word_of_digits (first_word (behind_word operands))) else None
 
 abbrev pub press_by : Option Action → Option Command
 press_by None = None
 press_by (Some action) = Some (commands.Press action)
 
-unfoldable pub press_of : List ℕ → Option Command
-press_of operands =
-    if is_blank (behind_word operands) then press_by (plain_action (first_word operands))
-    else (if is_blank (behind_word (behind_word operands))
+unfoldable pub press_command : List ℕ → Option Command
+press_command operands =
+    if has_no_word (behind_word operands) then press_by (plain_action (first_word operands))
+    else (if has_no_word (behind_word (behind_word operands))
     then press_by (switch_in (first_word operands) (position_named (first_word (behind_word operands)))) else None)
 
 -- the number that is the only operand
-unfoldable pub count_of : List ℕ → Option ℕ
-count_of operands = if is_blank (behind_word operands) then number_at (first_word operands) else None
+unfoldable pub lone_number : List ℕ → Option ℕ
+lone_number operands = if has_no_word (behind_word operands) then number_at (first_word operands) else None
 
 abbrev pub turn_by : Option ℕ → Option Command
 turn_by None = None
@@ -108,33 +83,43 @@ abbrev pub orders_by : Option ℕ → Option Command
 orders_by None = None
 orders_by (Some limit) = Some (commands.Orders limit)
 
--- 1 to 64 words from an address, none past 6363
-abbrev pub words_by : Option ℕ → Option ℕ → Option Command
-words_by (Some address) (Some count) =
-    if nat_lt 0 count && nat_le count 64 && nat_le (address + count) 4096 then Some (commands.Words address count) else None
-words_by _ _ = None
+-- an address and how many words from it on: 1 to 64, none past 6363
+abbrev pub span_by : Option ℕ → Option ℕ → Option (ℕ × ℕ)
+span_by (Some address) (Some count) =
+    if nat_lt 0 count && nat_le count shown_limit && nat_le (address + count) drum_size then Some (address, count) else None
+span_by _ _ = None
 
-unfoldable pub words_of : List ℕ → Option Command
-words_of operands =
-    if is_blank (behind_word (behind_word operands))
-    then words_by (address_text (first_word operands)) (number_at (first_word (behind_word operands))) else None
+unfoldable pub span_of : List ℕ → Option (ℕ × ℕ)
+span_of operands =
+    if has_no_word (behind_word (behind_word operands))
+    then span_by (address_text (first_word operands)) (number_at (first_word (behind_word operands))) else None
+
+abbrev pub words_by : Option (ℕ × ℕ) → Option Command
+words_by None = None
+words_by (Some span) = Some (commands.Words span.0 span.1)
+
+abbrev pub show_by : Option (ℕ × ℕ) → Option Command
+show_by None = None
+show_by (Some span) = Some (commands.Show span.0 span.1)
 
 -- a command that takes no operand
 abbrev pub lone : Command → List ℕ → Option Command
-lone command operands = if is_blank operands then Some command else None
+lone command operands = if has_no_word operands then Some command else None
 
 abbrev pub command_by : List ℕ → List ℕ → Option Command
 command_by name operands =
-    if bytes_eq name (codes "put") then put_of operands
+    if bytes_eq name (codes "put") then put_command operands
     else (if bytes_eq name (codes "mount") then Some commands.Mount
-    else (if bytes_eq name (codes "press") then press_of operands
+    else (if bytes_eq name (codes "press") then press_command operands
     else (if bytes_eq name (codes "type") then Some commands.Type
-    else (if bytes_eq name (codes "turn") then turn_by (count_of operands)
-    else (if bytes_eq name (codes "orders") then orders_by (count_of operands)
+    else (if bytes_eq name (codes "turn") then turn_by (lone_number operands)
+    else (if bytes_eq name (codes "orders") then orders_by (lone_number operands)
     else (if bytes_eq name (codes "panel") then lone commands.Panel operands
-    else (if bytes_eq name (codes "words") then words_of operands
+    else (if bytes_eq name (codes "words") then words_by (span_of operands)
+    else (if bytes_eq name (codes "show") then show_by (span_of operands)
     else (if bytes_eq name (codes "printed") then lone commands.Printed operands
-    else None))))))))
+    else (if bytes_eq name (codes "dump") then lone commands.Dump operands
+    else None))))))))))
 
 -- what a line asks for; None where it is in no command's form
 unfoldable pub command_of : List ℕ → Option Command

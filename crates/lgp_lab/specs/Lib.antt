@@ -1,5 +1,10 @@
+pub mod Limits
+pub mod Line
 pub mod Command
+pub mod Answer
 pub mod Reply
+pub mod Language
 pub mod Script
-pub mod Session
-pub mod Stop
+pub mod LineInside
+pub mod StreamInside
+pub mod LaboratoryInside

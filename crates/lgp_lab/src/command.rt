@@ -1,13 +1,15 @@
 //! What a line of a script asks for.
 
-ghost use Rattle.std.specs.Prelude.{◌≡◌, ◌==◌, ◌<◌, ◌≤◌, IfSome, IsTrue, length};
-ghost use Rattle.std.specs.Char.{is_ascii_digit};
-ghost use Rattle.std.specs.List.{list_all, prefix_len};
-ghost use Rattle.lgp_lab.specs.Reply.{AsksOnDrum};
-ghost use Rattle.lgp_lab.specs.Command.{behind_word, command_of, count_of, first_word, is_blank, is_space, is_visible, lone, number_at, plain_action, position_named, press_of, put_of, switch_action, text_behind, value_of, words_of};
+ghost use Rattle.std.specs.Prelude.{◌≡◌, ◌+◌, ◌≤◌, IfSome, length};
+ghost use Rattle.std.specs.List.{position};
+ghost use Rattle.lgp_lab.specs.LaboratoryInside.{AsksOnDrum};
+ghost use Rattle.lgp_lab.specs.Command.{command_of, lone, lone_number, number_at, plain_action, position_named, press_command, put_command, span_of, switch_action, text_behind};
+ghost use Rattle.lgp_lab.specs.Limits.{drum_size};
+ghost use Rattle.lgp_lab.specs.Line.{behind_word, first_word, has_no_word, is_space, is_visible};
 
+use crate::limits::{DIGIT_LIMIT, DRUM_SIZE, SHOWN_LIMIT};
 use lgp_table::{Action, Mode, Which};
-use lgp_word::{Address, Word, read_digits};
+use lgp_word::{Address, Word, read_decimal, read_digits};
 
 /// What a line asks for. The text of `Mount` and `Type` is the rest of the line.
 #[derive(Clone, Copy, Debug, PartialEq, Eq)]
@@ -23,33 +25,25 @@ pub enum Command {
     Panel,
     /// So many words, from an address on.
     Words(Address, u64),
+    /// The same words, each by its disassembly.
+    Show(Address, u64),
     Printed,
+    /// All words that are not zero.
+    Dump,
 }
 
-/// How many spaces a text begins with.
-fn leading_spaces(text: &[u8]) -> usize
-    ensures count { result ≡ prefix_len is_space text.now }
-    ensures within { result ≤ length text.now }
+/// The place of a text's first byte that is no space.
+fn first_visible(text: &[u8]) -> Option<usize>
+    ensures { result ≡ position is_visible text.now }
 {
-    for (place, byte) in text.iter().enumerate() {
-        if *byte != b' ' {
-            return place;
-        }
-    }
-    text.len()
+    text.iter().position(|byte| *byte != b' ')
 }
 
-/// How many bytes stand before a text's first space.
-fn word_length(text: &[u8]) -> usize
-    ensures count { result ≡ prefix_len is_visible text.now }
-    ensures within { result ≤ length text.now }
+/// The place of a text's first space.
+fn first_space(text: &[u8]) -> Option<usize>
+    ensures { result ≡ position is_space text.now }
 {
-    for (place, byte) in text.iter().enumerate() {
-        if *byte == b' ' {
-            return place;
-        }
-    }
-    text.len()
+    text.iter().position(|byte| *byte == b' ')
 }
 
 /// A word and what stands behind it.
@@ -60,55 +54,31 @@ struct Split<'a> {
 }
 
 /// The first word of a text.
-#[tactic(auto, unfolding(crate::specs::Command::first_word, crate::specs::Command::behind_word, crate::specs::Command::without_spaces))]
+#[tactic(auto, using(crate::proofs::PlaceLemmas::places), unfolding(crate::specs::Line::first_word, crate::specs::Line::behind_word, crate::specs::Line::without_spaces))]
 fn split_word(text: &[u8]) -> Split<'_>
     ensures word { result.word.now ≡ first_word text.now }
     ensures behind { result.behind.now ≡ behind_word text.now }
     ensures shorter { length result.behind.now ≤ length text.now }
 {
-    let (_, text) = text.split_at(leading_spaces(text));
-    let (word, behind) = text.split_at(word_length(text));
+    let (_, text) = text.split_at(first_visible(text).unwrap_or(text.len()));
+    let (word, behind) = text.split_at(first_space(text).unwrap_or(text.len()));
     Split { word, behind }
 }
 
 /// Whether no word is left.
-#[tactic(auto, unfolding(crate::specs::Command::is_blank))]
-fn is_blank(text: &[u8]) -> bool
-    ensures { result ≡ is_blank text.now }
+#[tactic(auto, unfolding(crate::specs::Line::has_no_word))]
+fn has_no_word(text: &[u8]) -> bool
+    ensures { result ≡ has_no_word text.now }
 {
     text.iter().all(|byte| *byte == b' ')
-}
-
-/// Whether all bytes are decimal digits.
-fn is_decimal(text: &[u8]) -> bool
-    ensures { result ≡ list_all is_ascii_digit text.now }
-{
-    text.iter().all(|byte| byte.is_ascii_digit())
-}
-
-/// The number that at most 10 decimal digits stand for.
-fn value_of(digits: &[u8]) -> u64
-    requires few { length digits.now ≤ 10 }
-    requires decimal { IsTrue (list_all is_ascii_digit digits.now) }
-    ensures value { result ≡ value_of digits.now }
-{
-    let mut number = 0;
-    for digit in digits {
-        number = 10 * number + u64::from(*digit - b'0');
-    }
-    number
 }
 
 /// The number that 1 to 10 decimal digits stand for.
 #[tactic(auto, unfolding(crate::specs::Command::number_at))]
 fn number_at(text: &[u8]) -> Option<u64>
-    ensures value { result ≡ number_at text.now }
+    ensures { result ≡ number_at text.now }
 {
-    if !text.is_empty() && text.len() <= 10 && is_decimal(text) {
-        Some(value_of(text))
-    } else {
-        None
-    }
+    read_decimal(text, DIGIT_LIMIT)
 }
 
 /// The action of a name without a position.
@@ -176,14 +146,14 @@ fn position_named(name: &[u8]) -> Option<bool>
 }
 
 /// The operands of `put`.
-#[tactic(auto, unfolding(crate::specs::Command::put_of))]
-fn put_of(operands: &[u8]) -> Option<Command>
-    ensures value { result ≡ put_of operands.now }
+#[tactic(auto, unfolding(crate::specs::Command::put_command))]
+fn put_command(operands: &[u8]) -> Option<Command>
+    ensures value { result ≡ put_command operands.now }
     ensures on_drum { IfSome result AsksOnDrum }
 {
     let first = split_word(operands);
     let second = split_word(first.behind);
-    if !is_blank(second.behind) {
+    if !has_no_word(second.behind) {
         return None;
     }
     match (Address::parse(first.word), read_digits(second.word)) {
@@ -193,20 +163,20 @@ fn put_of(operands: &[u8]) -> Option<Command>
 }
 
 /// The operands of `press`.
-#[tactic(auto, unfolding(crate::specs::Command::press_of))]
-fn press_of(operands: &[u8]) -> Option<Command>
-    ensures value { result ≡ press_of operands.now }
+#[tactic(auto, unfolding(crate::specs::Command::press_command))]
+fn press_command(operands: &[u8]) -> Option<Command>
+    ensures value { result ≡ press_command operands.now }
     ensures on_drum { IfSome result AsksOnDrum }
 {
     let name = split_word(operands);
-    if is_blank(name.behind) {
+    if has_no_word(name.behind) {
         return match plain_action(name.word) {
             Some(action) => Some(Command::Press(action)),
             None => None,
         };
     }
     let position = split_word(name.behind);
-    if !is_blank(position.behind) {
+    if !has_no_word(position.behind) {
         return None;
     }
     match position_named(position.word) {
@@ -219,33 +189,36 @@ fn press_of(operands: &[u8]) -> Option<Command>
 }
 
 /// The number that is the only operand.
-#[tactic(auto, unfolding(crate::specs::Command::count_of))]
-fn count_of(operands: &[u8]) -> Option<u64>
-    ensures { result ≡ count_of operands.now }
+#[tactic(auto, unfolding(crate::specs::Command::lone_number))]
+fn lone_number(operands: &[u8]) -> Option<u64>
+    ensures { result ≡ lone_number operands.now }
 {
     let number = split_word(operands);
-    if is_blank(number.behind) {
+    if has_no_word(number.behind) {
         number_at(number.word)
     } else {
         None
     }
 }
 
-/// The operands of `words`.
-#[tactic(auto, unfolding(crate::specs::Command::words_of))]
-fn words_of(operands: &[u8]) -> Option<Command>
-    ensures value { result ≡ words_of operands.now }
-    ensures on_drum { IfSome result AsksOnDrum }
+/// An address, and how many words from it on.
+#[tactic(auto, unfolding(crate::specs::Command::span_of))]
+fn span_of(operands: &[u8]) -> Option<(Address, u64)>
+    ensures value { result ≡ span_of operands.now }
+    ensures on_drum { IfSome result (λ span. span.0 + span.1 ≤ drum_size) }
 {
     let first = split_word(operands);
     let second = split_word(first.behind);
-    if !is_blank(second.behind) {
+    if !has_no_word(second.behind) {
         return None;
     }
     match (Address::parse(first.word), number_at(second.word)) {
         (Some(address), Some(count)) => {
-            if count > 0 && count <= 64 && u64::from(address.number()) + count <= 4096 {
-                Some(Command::Words(address, count))
+            if count > 0
+                && count <= SHOWN_LIMIT
+                && u64::from(address.number()) + count <= DRUM_SIZE
+            {
+                Some((address, count))
             } else {
                 None
             }
@@ -260,7 +233,7 @@ fn lone(command: Command, operands: &[u8]) -> Option<Command>
     ensures value { result ≡ lone command operands.now }
     ensures on_drum { IfSome result AsksOnDrum }
 {
-    if is_blank(operands) {
+    if has_no_word(operands) {
         Some(command)
     } else {
         None
@@ -275,29 +248,39 @@ pub fn command_of(line: &[u8]) -> Option<Command>
 {
     let Split { word, behind } = split_word(line);
     if word == b"put".as_slice() {
-        put_of(behind)
+        put_command(behind)
     } else if word == b"mount".as_slice() {
         Some(Command::Mount)
     } else if word == b"press".as_slice() {
-        press_of(behind)
+        press_command(behind)
     } else if word == b"type".as_slice() {
         Some(Command::Type)
     } else if word == b"turn".as_slice() {
-        match count_of(behind) {
+        match lone_number(behind) {
             Some(times) => Some(Command::Turn(times)),
             None => None,
         }
     } else if word == b"orders".as_slice() {
-        match count_of(behind) {
+        match lone_number(behind) {
             Some(limit) => Some(Command::Orders(limit)),
             None => None,
         }
     } else if word == b"panel".as_slice() {
         lone(Command::Panel, behind)
     } else if word == b"words".as_slice() {
-        words_of(behind)
+        match span_of(behind) {
+            Some((address, count)) => Some(Command::Words(address, count)),
+            None => None,
+        }
+    } else if word == b"show".as_slice() {
+        match span_of(behind) {
+            Some((address, count)) => Some(Command::Show(address, count)),
+            None => None,
+        }
     } else if word == b"printed".as_slice() {
         lone(Command::Printed, behind)
+    } else if word == b"dump".as_slice() {
+        lone(Command::Dump, behind)
     } else {
         None
     }

@@ -1,11 +1,19 @@
 //! The LGP-30 laboratory: scripts.
 #![tactic(auto)]
 
-pub mod answer;
-pub mod command;
-pub mod feed;
-pub mod line;
-pub mod reply;
-pub mod script;
+pub use feed::{Failed, Feed, FeedOf};
+pub use script::run_script;
+pub use sink::{Sink, SinkOf};
+pub use stream::LabFault;
+
+mod command;
+mod feed;
+mod laboratory;
+mod limits;
+mod line;
+mod reply;
+mod script;
+mod sink;
+mod stream;
 #[cfg(test)]
 mod tests;

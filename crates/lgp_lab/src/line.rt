@@ -1,30 +1,36 @@
 //! The line of a script that is open.
 
 ghost use Rattle.std.specs.Prelude.{◌≡◌, ◌≤◌, [], false, length};
-ghost use Rattle.lgp_lab.specs.Session.{Kept, Open, kept_of, kept_push, open_of, open_push, whole};
+ghost use Rattle.lgp_lab.specs.Limits.{line_limit};
+ghost use Rattle.lgp_lab.specs.LineInside.{Kept, Open, is_unbegun, kept_of, kept_push, open_of, open_push, whole};
 
+use crate::limits::LINE_LIMIT;
 use arrayvec::ArrayVec;
 use std::marker::Model;
 
 /// What is kept of bytes of a line: their front, whether there are more, and whether all are spaces.
 #[derive(Drop)]
 pub struct Bytes {
-    front: ArrayVec<u8, 4096>,
+    front: ArrayVec<u8, LINE_LIMIT>,
     longer: bool,
     blank: bool,
 }
 
 impl Model for Bytes {
-    ghost use Rattle.lgp_lab.specs.Session.{Kept};
+    ghost use Rattle.lgp_lab.specs.LineInside.{Kept};
 
     ghost Value = { Kept };
 
-    ghost view = { λ bytes. record { front = bytes.front.items; longer = bytes.longer; blank = bytes.blank } };
+    ghost view = { λ bytes. record {
+      front = bytes.front.items;
+      longer = bytes.longer;
+      blank = bytes.blank;
+    } };
 }
 
 impl Bytes {
     /// No bytes.
-    #[tactic(auto, unfolding(crate::specs::Session::kept_of))]
+    #[tactic(auto, unfolding(crate::specs::LineInside::kept_of))]
     pub fn new() -> Bytes
         ensures { result ≡ kept_of [] }
     {
@@ -40,7 +46,7 @@ impl Bytes {
         ensures { self.new ≡ kept_push self.old byte }
     {
         self.blank = self.blank && byte == b' ';
-        if self.front.len() < 4096 {
+        if self.front.len() < LINE_LIMIT {
             self.front.push(byte);
         } else {
             self.longer = true;
@@ -50,7 +56,7 @@ impl Bytes {
     /// The front, at most 4,096 bytes.
     pub fn front(&self) -> &[u8]
         ensures front { result.now ≡ self.now.front }
-        ensures short { length result.now ≤ 4096 }
+        ensures short { length result.now ≤ line_limit }
     {
         self.front.as_slice()
     }
@@ -62,8 +68,8 @@ impl Bytes {
         self.longer
     }
 
-    /// Whether all bytes are spaces.
-    pub fn is_blank(&self) -> bool
+    /// Whether no word stands on the line: all bytes are spaces.
+    pub fn has_no_word(&self) -> bool
         ensures { result ≡ self.now.blank }
     {
         self.blank
@@ -78,7 +84,7 @@ pub struct Line {
 }
 
 impl Model for Line {
-    ghost use Rattle.lgp_lab.specs.Session.{Open};
+    ghost use Rattle.lgp_lab.specs.LineInside.{Open};
 
     ghost Value = { Open };
 
@@ -87,7 +93,7 @@ impl Model for Line {
 
 impl Line {
     /// A line that has just begun.
-    #[tactic(auto, unfolding(crate::specs::Session::open_of))]
+    #[tactic(auto, unfolding(crate::specs::LineInside::open_of))]
     pub fn new() -> Line
         ensures { result ≡ open_of [] }
     {
@@ -119,8 +125,15 @@ impl Line {
         }
     }
 
+    /// Whether no byte was taken yet.
+    pub fn is_unbegun(&self) -> bool
+        ensures { result ≡ is_unbegun self.now }
+    {
+        !self.held && self.bytes.front().is_empty()
+    }
+
     /// The bytes of a line that a line feed ends: without the carriage return before it.
-    pub fn ended(self) -> Bytes
+    pub fn complete(self) -> Bytes
         ensures { result ≡ self.kept }
     {
         self.bytes

@@ -1,13 +1,18 @@
 //! The replies of the script language, and how they are written.
 
-ghost use Rattle.std.specs.Prelude.{◌≡◌, ◌∷◌, ◌++◌, ◌+◌, ◌<◌, ◌≤◌, [], IfOk, IsTrue, length, codes, decimal};
+ghost use Rattle.std.specs.Prelude.{◌≡◌, ◌∷◌, ◌++◌, ◌+◌, ◌<◌, ◌≤◌, [], if◌then◌else◌, IfOk, IsTrue, OnOk, count_by, length, codes, decimal};
 ghost use Rattle.lgp_table.specs.State.{State};
 ghost use Rattle.lgp_table.specs.Interleaving.{is_boundary};
 ghost use Rattle.lgp_machine.specs.Look.{look_of};
-ghost use Rattle.lgp_lab.specs.Reply.{FitsDrum, bad_sign_text, clock_text, count_text, orders_text, stopped_clock_text, tape_text, typed_text, word_line, written_address, mode_text, on_text, panel_text, printed_text, refusal_text, console_text, registers_text, reply_text, status_text, switch_text, switches_text, words_text};
+ghost use Rattle.lgp_listing.specs.Dump.{dump_of, word_line};
+ghost use Rattle.lgp_lab.specs.LaboratoryInside.{FitsDrum};
+ghost use Rattle.lgp_lab.specs.Limits.{drum_size};
+ghost use Rattle.lgp_lab.specs.Reply.{bad_sign_text, clock_text, count_text, orders_text, stopped_clock_text, tape_text, typed_text, digits_line, written_address, mode_text, on_text, panel_text, printed_text, refusal_text, console_text, registers_text, reply_text, status_text, switch_text, switches_text, shown_line, lines_text, dump_text, is_used};
 
+use crate::limits::DRUM_SIZE;
 use itoa::Buffer;
 use lgp_flexo::{Code, write_tape_text};
+use lgp_listing::disassemble;
 use lgp_machine::{Look, Machine};
 use lgp_table::{Cause, Mode, Status, Switches};
 use lgp_word::{Address, Word, write_bits, write_digits};
@@ -18,7 +23,7 @@ use std::alloc::{AllocError, Allocator};
 pub enum Refusal {
     /// There is no such command, or its operands are not in form.
     Form,
-    /// A put or a mount while the drum is moving.
+    /// A put or a mount while the machine is not at rest.
     Moving,
     /// Word times at rest while the machine is at work.
     AtWork,
@@ -45,7 +50,10 @@ pub enum Reply {
     Orders(u64, Status),
     Panel,
     Words(Address, u64),
+    /// The same, each word by its disassembly.
+    Show(Address, u64),
     Printed,
+    Dump,
     Refused(Refusal),
 }
 
@@ -215,13 +223,13 @@ fn push_panel<A: Allocator>(text: &mut Vec<u8, A>, look: &Look, left: u64) -> Re
 }
 
 /// Appends a word's line.
-#[tactic(auto, unfolding(crate::specs::Reply::word_line))]
+#[tactic(auto, unfolding(crate::specs::Reply::digits_line, crate::specs::Reply::written_address))]
 fn push_word<A: Allocator>(
     text: &mut Vec<u8, A>,
     address: Address,
     word: Word,
 ) -> Result<(), AllocError>
-    ensures { IfOk result (λ _. text.new.items ≡ text.old.items ++ word_line address word) }
+    ensures { IfOk result (λ _. text.new.items ≡ text.old.items ++ digits_line address word) }
 {
     push_address(text, address)?;
     text.push(b' ')?;
@@ -237,8 +245,9 @@ fn push_words<A: Allocator>(
     address: Address,
     count: u64,
 ) -> Result<(), AllocError>
-    requires { address + count ≤ 4096 }
-    ensures { IfOk result (λ _. text.new.items ≡ text.old.items ++ words_text machine.now.state address count) }
+    requires { address + count ≤ drum_size }
+    ensures { IfOk result (λ _. text.new.items
+        ≡ text.old.items ++ lines_text digits_line machine.now.state address count) }
 {
     let first = u64::from(address.number());
     for place in 0..count {
@@ -247,6 +256,105 @@ fn push_words<A: Allocator>(
         };
         push_word(text, address, machine.word(address))?;
     }
+    Ok(())
+}
+
+/// Appends a word's line by its disassembly.
+#[tactic(auto, unfolding(crate::specs::Reply::shown_line))]
+fn push_shown_word<A: Allocator>(
+    text: &mut Vec<u8, A>,
+    address: Address,
+    word: Word,
+) -> Result<(), AllocError>
+    ensures { IfOk result (λ _. text.new.items ≡ text.old.items ++ shown_line address word) }
+{
+    push_address(text, address)?;
+    text.push(b' ')?;
+    text.extend_from_slice(&disassemble(word))?;
+    text.push(b'\n')?;
+    Ok(())
+}
+
+/// Appends so many words from an address on, each by its disassembly.
+fn push_shown<A: Allocator>(
+    text: &mut Vec<u8, A>,
+    machine: &Machine<A>,
+    address: Address,
+    count: u64,
+) -> Result<(), AllocError>
+    requires { address + count ≤ drum_size }
+    ensures { IfOk result (λ _. text.new.items
+        ≡ text.old.items ++ lines_text shown_line machine.now.state address count) }
+{
+    let first = u64::from(address.number());
+    for place in 0..count {
+        let Some(address) = Address::new((first + place) as u16) else {
+            unreachable!();
+        };
+        push_shown_word(text, address, machine.word(address))?;
+    }
+    Ok(())
+}
+
+/// Lines of words, and how many.
+#[derive(Drop)]
+struct WordLines<A: Allocator> {
+    count: u64,
+    text: Vec<u8, A>,
+}
+
+impl<A: Allocator> WordLines<A> {
+    /// Adds a word's line, if the word is not zero.
+    #[tactic(auto, unfolding(crate::specs::Reply::digits_line))]
+    fn add(&mut self, address: Address, word: Word) -> Result<(), AllocError>
+        requires { self.old.count < drum_size }
+        ensures text { OnOk result (self.new.text.items
+            ≡ self.old.text.items ++ word_line address word) }
+        ensures count { OnOk result (self.new.count
+            ≡ self.old.count + (if is_used word then 1 else 0)) }
+    {
+        if word.get() != 0 {
+            push_word(&mut self.text, address, word)?;
+            self.count += 1;
+        }
+        Ok(())
+    }
+}
+
+/// The lines of all words that are not zero.
+fn used_words<A: Allocator>(alloc: A, machine: &Machine<A>) -> Result<WordLines<A>, AllocError>
+    ensures count { IfOk result (λ lines. lines.count
+        ≡ count_by is_used machine.now.state.core.words) }
+    ensures text { IfOk result (λ lines. lines.text.items ≡ dump_of machine.now.state.core.words) }
+{
+    let mut lines = WordLines {
+        count: 0,
+        text: Vec::new(alloc),
+    };
+    for number in 0..DRUM_SIZE {
+        let Some(address) = Address::new(number as u16) else {
+            unreachable!();
+        };
+        lines.add(address, machine.word(address))?;
+    }
+    Ok(lines)
+}
+
+/// Appends the dump of the drum.
+#[tactic(auto, unfolding(crate::specs::Reply::dump_text))]
+fn push_dump<A: Allocator + Copy>(
+    alloc: A,
+    text: &mut Vec<u8, A>,
+    machine: &Machine<A>,
+) -> Result<(), AllocError>
+    ensures { IfOk result (λ _. text.new.items
+        ≡ text.old.items ++ dump_text machine.now.state.core.words) }
+{
+    let lines = used_words(alloc, machine)?;
+    text.extend_from_slice(b"dump ")?;
+    push_decimal(text, lines.count)?;
+    text.push(b'\n')?;
+    text.extend_from_slice(&lines.text)?;
     Ok(())
 }
 
@@ -281,7 +389,8 @@ pub fn push_reply<A: Allocator + Copy>(
 ) -> Result<(), AllocError>
     requires boundary { IsTrue (is_boundary machine.now) }
     requires words { FitsDrum reply.now }
-    ensures { IfOk result (λ _. text.new.items ≡ text.old.items ++ reply_text machine.now.state reply.now) }
+    ensures { IfOk result (λ _. text.new.items
+        ≡ text.old.items ++ reply_text machine.now.state reply.now) }
 {
     match *reply {
         Reply::Done => text.extend_from_slice(b"ok\n"),
@@ -293,7 +402,9 @@ pub fn push_reply<A: Allocator + Copy>(
         Reply::Orders(done, status) => push_orders(text, done, status),
         Reply::Panel => push_look(text, machine),
         Reply::Words(address, count) => push_words(text, machine, address, count),
+        Reply::Show(address, count) => push_shown(text, machine, address, count),
         Reply::Printed => push_printed(alloc, text, machine.printed()),
+        Reply::Dump => push_dump(alloc, text, machine),
         Reply::Refused(refusal) => push_refusal(text, refusal),
     }
 }
@@ -354,7 +465,8 @@ fn push_orders<A: Allocator>(
 fn push_look<A: Allocator>(text: &mut Vec<u8, A>, machine: &Machine<A>) -> Result<(), AllocError>
     requires { IsTrue (is_boundary machine.now) }
     ensures { IfOk result (λ _. text.new.items
-        ≡ text.old.items ++ panel_text (look_of machine.now.state) (length machine.now.state.core.tape.left)) }
+        ≡ text.old.items ++ panel_text (look_of machine.now.state)
+        (length machine.now.state.core.tape.left)) }
 {
     let (Some(look), Some(left)) = (machine.look(), machine.tape_left()) else {
         unreachable!();

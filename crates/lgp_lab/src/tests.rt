@@ -1,5 +1,6 @@
-use crate::feed::{Feed, FeedOf, Sink, SinkOf};
-use crate::script::{LabFault, run_script};
+use crate::{Feed, FeedOf, LabFault, Sink, SinkOf, run_script};
+use lgp_listing::read_dump;
+use lgp_word::Address;
 use linked_list_allocator::LocalHeap;
 use std::alloc::{AllocError, Allocator, Global};
 use std::io;
@@ -101,9 +102,9 @@ fn padded(alloc: Global, length: usize, end: &[u8]) -> Result<Vec<u8>, AllocErro
     Ok(script)
 }
 
-/// Scripts, their replies, and how many of those begin with a question mark. The first four are those of `examples/`, without
+/// Scripts, their replies, and how many of those begin with a question mark. The first five are those of `examples/`, without
 /// their comments.
-const ROWS: [(&[u8], &[u8], u64); 12] = [
+const ROWS: [(&[u8], &[u8], u64); 14] = [
     (FIRST_RUN, FIRST_RUN_REPLIES, 0),
     // A program that changes its own orders: the sum of a table.
     (
@@ -121,6 +122,17 @@ const ROWS: [(&[u8], &[u8], u64); 12] = [
     (
         b"type 0\npress manual\ntype 000j0100\npress fill\ntype 00083900\npress oneop\npress execute\norders 1\nwords 0100 1\npanel\npress manual\ntype 000f0100\npress fill\npress oneop\npress execute\norders 1\npanel\npress normal\npress start\norders 10\nprinted\npanel\n",
         b"live 0 dead 1\nlive\nlive 8 dead 0\nlive\nlive 8 dead 0\nlive\nlive\norders 1 halted step\n0100 00083900\ncounter 0000 accumulator 00083900 register 000j0100 status halted step mode oneop switches uuuuuu reader off tape 0 clock 65\nlive\nlive 8 dead 0\nlive\nlive\nlive\norders 1 halted step\ncounter 0100 accumulator 000f0100 register 000f0100 status halted step mode oneop switches uuuuuu reader off tape 0 clock 67\nlive\nlive\norders 2 halted stop\nprinted 1 a\ncounter 0102 accumulator 000f0100 register 00000000 status halted stop mode normal switches uuuuuu reader off tape 0 clock 524\n",
+        0,
+    ),
+    // The same words as orders, as digits and in a dump.
+    (
+        b"put 0000 000100j8\nput 0001 000q00jj\nput 0002 000j00k0\nput 0050 00000006\nput 0051 0000000f\nshow 0000 4\nshow 0050 2\npress start\norders 10\nwords 0052 1\nshow 0052 1\ndump\n",
+        b"ok\nok\nok\nok\nok\n0000 b 0050\n0001 a 0051\n0002 h 0052\n0003 z 0000\n0050 word 00000006\n0051 word 0000000f\nlive\norders 4 halted stop\n0052 00000010\n0052 z 0004\ndump 6\n0000 000100j8\n0001 000q00jj\n0002 000j00k0\n0050 00000006\n0051 0000000f\n0052 00000010\n",
+        0,
+    ),
+    (
+        b"dump\nput 6308 800g3w20\nshow 6308 1\ndump\nput 6363 80000000\nput 0100 00000004\nshow 6362 2\ndump\nput 6308 00000000\ndump\n",
+        b"dump 0\nok\n6308 -t 6308\ndump 1\n6308 800g3w20\nok\nok\n6362 z 0000\n6363 word 80000000\ndump 3\n0100 00000004\n6308 800g3w20\n6363 80000000\nok\ndump 2\n0100 00000004\n6363 80000000\n",
         0,
     ),
     (
@@ -191,7 +203,7 @@ fn scripts_are_answered_in_pieces_of_any_length(rt: HostRuntime) -> Result<(), F
 }
 
 /// Lines in no command's form.
-const NOT_IN_FORM: [&[u8]; 30] = [
+const NOT_IN_FORM: [&[u8]; 36] = [
     b"pan",
     b"PANEL",
     b"panel 1",
@@ -221,7 +233,13 @@ const NOT_IN_FORM: [&[u8]; 30] = [
     b"words 0000 0",
     b"words 0000 65",
     b"words 6363 2",
+    b"show",
+    b"show 0000",
+    b"show 0000 0",
+    b"show 0000 65",
+    b"show 6363 2",
     b"printed 1",
+    b"dump 1",
 ];
 
 #[test]
@@ -422,7 +440,7 @@ fn a_refused_growth_leaves_no_part_of_a_reply(rt: HostRuntime) -> Result<(), Fai
     script.extend_from_slice(&repeated(rt.alloc(), b"a", 4000)?)?;
     let mut refused = false;
     let mut answered = false;
-    for size in 8..32 {
+    for size in 8..96 {
         let heap = LocalHeap::new(rt.alloc(), 2048 * size)?;
         let mut written = Vec::new(rt.alloc());
         match run(&heap, &script, &mut written) {
@@ -441,5 +459,21 @@ fn a_refused_growth_leaves_no_part_of_a_reply(rt: HostRuntime) -> Result<(), Fai
         assert_eq!(rt; heap.used(), 0, "at {size}");
     }
     assert!(rt; refused && answered, "{refused} {answered}");
+    Ok(())
+}
+
+#[test]
+fn a_dump_reads_back_without_its_first_line(rt: HostRuntime) -> Result<(), Fail> {
+    let mut written = Vec::new(rt.alloc());
+    let script = b"put 0100 00000004\nput 6363 80000000\ndump\n";
+    assert_eq!(rt; run(rt.alloc(), script, &mut written), Ok(0));
+    let text = written
+        .strip_prefix(b"ok\nok\ndump 2\n")
+        .ok_or("another reply")?;
+    let drum = read_dump(rt.alloc(), text).map_err(|_| "no dump")?;
+    for (number, bits) in [(64, 4), (4095, 1 << 31), (0, 0)] {
+        let address = Address::new(number).ok_or("below 4096")?;
+        assert_eq!(rt; drum.word(address).get(), bits);
+    }
     Ok(())
 }

@@ -1,3 +1,4 @@
+pub mod DecimalLemmas
 pub mod DigitLemmas
 pub mod OrderLemmas
 pub mod TextLemmas

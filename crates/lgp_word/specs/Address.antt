@@ -1,5 +1,5 @@
--- The numbering of the drum (Programming Manual, "The drum"): 64 tracks of 64 sectors. An address is written ttss
--- and has the number 64 * track + sector.
+-- Part of the public promise: the numbering of the drum (Programming Manual, "The drum"). It has 64 tracks of 64 sectors; an
+-- address is written ttss and has the number 64 * track + sector.
 use Rattle.std.specs.Prelude.{ℕ, ◌+◌, ◌/◌, ◌%◌, ◌<◌}
 
 abbrev pub IsAddress : ℕ → Type 0

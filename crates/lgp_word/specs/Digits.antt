@@ -1,9 +1,10 @@
--- How words and addresses are written (Programming Manual, "Hexadecimal notation" and "The numbering of the drum"): a
--- word as eight digits of base 16, where f g j k q w stand for 10 to 15; an address as ttss, two decimal digits for the track and
--- two for the sector.
-use Rattle.std.specs.Prelude.{ℕ, ◌+◌, ◌-◌, ◌*◌, ◌/◌, ◌%◌, ◌&&◌, ◌==◌, if◌then◌else◌, nat_lt, Option, Some, None, List, [], ◌∷◌, ◌++◌, length, codes, slice_index, position, option_and_then}
+-- Part of the public promise: how words and addresses are written (Programming Manual, "Hexadecimal notation" and "The numbering
+-- of the drum"). A word is eight digits of base 16, where f g j k q w stand for 10 to 15; an address is ttss, two decimal
+-- digits for the track and two for the sector.
+use Rattle.std.specs.Prelude.{ℕ, ◌+◌, ◌*◌, ◌/◌, ◌%◌, ◌&&◌, ◌==◌, if◌then◌else◌, nat_lt, Option, Some, None, List, [], ◌∷◌, ◌++◌, length, codes, slice_index, position, option_and_then}
 use Rattle.std.specs.Char.{is_ascii_digit}
 use Rattle.std.specs.List.{list_all}
+use Rattle.lgp_word.specs.Decimal.{decimal_digit, decimal_value}
 
 -- the sixteen digits in order of their values
 abbrev pub digits : List ℕ
@@ -31,14 +32,14 @@ number_of before [] = Some before
 number_of before (byte ∷ bytes) = option_and_then (λ value. number_of (16 * before + value) bytes) (digit_value byte)
 
 -- the word that a text is: exactly eight digits, an even number
-unfoldable pub word_at : List ℕ → Option ℕ
-word_at text =
+unfoldable pub word_of_digits : List ℕ → Option ℕ
+word_of_digits text =
     if length text == 8 then option_and_then (λ number. if number % 2 == 0 then Some number else None) (number_of 0 text)
     else None
 
 -- a number below 100 as two decimal digits
 abbrev pub two_digits : ℕ → List ℕ
-two_digits number = (48 + number / 10) ∷ (48 + number % 10) ∷ []
+two_digits number = decimal_digit (number / 10) ∷ decimal_digit (number % 10) ∷ []
 
 -- the text of an address
 abbrev pub address_digits : ℕ → List ℕ
@@ -46,7 +47,7 @@ address_digits number = two_digits (number / 64) ++ two_digits (number % 64)
 
 -- two decimal digits of a text as a number
 abbrev pub two_at : List ℕ → ℕ → ℕ
-two_at text place = 10 * (slice_index text place - 48) + (slice_index text (place + 1) - 48)
+two_at text place = 10 * decimal_value (slice_index text place) + decimal_value (slice_index text (place + 1))
 
 -- the address that a text is: exactly four decimal digits, each pair below 64
 abbrev pub address_text : List ℕ → Option ℕ

@@ -1,5 +1,8 @@
+//! Addresses of words on the drum.
+
 ghost use Rattle.std.specs.Prelude.{◌≡◌, ℕ, ◌+◌, ◌-◌, ◌*◌, ◌/◌, ◌%◌, ◌^◌, ◌<◌, ◌↔◌, IsSome, IfSome, IsTrue, Some};
 ghost use Rattle.std.specs.Char.{is_ascii_digit};
+ghost use Rattle.lgp_word.specs.Decimal.{decimal_value};
 ghost use Rattle.lgp_word.specs.Digits.{address_digits, address_text};
 ghost use Rattle.lgp_word.specs.Address.{IsAddress, address_after, sector_of, track_of};
 
@@ -47,14 +50,15 @@ impl Address {
     /// The address of a text; `None` where it is not exactly four decimal digits, each pair at most 63.
     pub fn parse(text: &[u8]) -> Option<Address>
         ensures value { result ≡ address_text text.now }
-        ensures reads_printed { (number : ℕ) → IsAddress number → text.now ≡ address_digits number → result ≡ Some number }
+        ensures reads_printed { (number : ℕ)
+            → IsAddress number → text.now ≡ address_digits number → result ≡ Some number }
         ensures printed_so { IfSome result (λ number. address_digits number ≡ text.now) }
     {
         if text.len() != 4 || !text.iter().all(|byte| byte.is_ascii_digit()) {
             return None;
         }
-        let track = two_digits(text[0], text[1]);
-        let sector = two_digits(text[2], text[3]);
+        let track = pair_value(text[0], text[1]);
+        let sector = pair_value(text[2], text[3]);
         if track < 64 && sector < 64 {
             Some(Address {
                 number: 64 * track + sector,
@@ -120,11 +124,11 @@ impl Default for Address {
     }
 }
 
-/// The number of two decimal digits.
-fn two_digits(tens: u8, ones: u8) -> u16
+/// The number that two decimal digits stand for.
+fn pair_value(tens: u8, ones: u8) -> u16
     requires tens { IsTrue (is_ascii_digit tens) }
     requires ones { IsTrue (is_ascii_digit ones) }
-    ensures { result ≡ 10 * (tens - 48) + (ones - 48) }
+    ensures { result ≡ 10 * decimal_value tens + decimal_value ones }
 {
     10 * u16::from(tens - b'0') + u16::from(ones - b'0')
 }

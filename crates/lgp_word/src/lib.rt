@@ -1,14 +1,16 @@
 //! Words, addresses and orders of the Royal McBee LGP-30, and their texts.
 #![tactic(auto)]
 
-pub mod address;
-pub mod digits;
-pub mod order;
-pub mod word;
+mod address;
+mod decimal;
+mod digits;
+mod order;
+mod word;
 
 pub use address::Address;
-pub use digits::{read_digits, write_bits, write_digits};
-pub use order::{Op, Order, decode, encode, parts, with_address};
+pub use decimal::read_decimal;
+pub use digits::{DIGITS, read_digits, write_bits, write_digits};
+pub use order::{LETTERS, Op, Order, decode, encode, parts, with_address};
 pub use word::Word;
 
 #[cfg(test)]

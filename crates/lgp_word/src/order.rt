@@ -1,3 +1,5 @@
+//! The sixteen orders, and the words that hold them.
+
 ghost use Rattle.std.specs.Prelude.{◌≡◌, ℕ, ◌+◌, ◌-◌, ◌*◌, ◌/◌, ◌%◌, ◌^◌, ◌<◌, ◌↔◌, IsTrue, IsSome, IfSome, Some, Bool};
 ghost use Rattle.lgp_word.specs.Address.{IsAddress};
 ghost use Rattle.lgp_word.specs.Order.{IsOrder, OrderParts, address_at, decoded, letter_number, op_at, op_letter, op_number, op_of, op_of_letter, order_word, parts_of, sign_of, with_address_of};
@@ -6,8 +8,8 @@ use crate::address::Address;
 use crate::word::Word;
 use std::marker::Model;
 
-/// The letters of the orders, by number.
-const LETTERS: [u8; 16] = *b"zbyridnmpeuthcas";
+/// The letters of the sixteen orders by number, in lower case.
+pub const LETTERS: [u8; 16] = *b"zbyridnmpeuthcas";
 
 /// The sixteen orders by number, each named by its letter as a capital.
 #[derive(Clone, Copy, Debug, PartialEq, Eq, Hash)]
@@ -125,7 +127,8 @@ pub fn encode(order: Order) -> Word
 pub fn decode(word: Word) -> Option<Order>
     ensures value { result ≡ decoded word }
     ensures encodes { IfSome result (λ order. order_word order ≡ word) }
-    ensures undoes_encode { (order : OrderParts) → IsOrder order → word ≡ order_word order → result ≡ Some order }
+    ensures undoes_encode { (order : OrderParts)
+        → IsOrder order → word ≡ order_word order → result ≡ Some order }
 {
     let (minus, op, address) = parts(word);
     if minus && !matches!(op, Op::T) {

@@ -1,3 +1,5 @@
+//! Words, addresses, orders and decimal numbers on values from outside.
+
 use super::*;
 use std::test::Fail;
 
@@ -110,6 +112,7 @@ fn letters_name_orders(rt: HostRuntime) -> Result<(), Fail> {
         assert_eq!(rt; op.letter(), letter);
         assert_eq!(rt; Op::of_letter(letter), Some(op));
         assert_eq!(rt; op as u8, number);
+        assert_eq!(rt; LETTERS[usize::from(number)], letter);
     }
     assert_eq!(rt; Op::of_letter(b'Z'), None);
     assert_eq!(rt; Op::of_letter(b'f'), None);
@@ -131,4 +134,28 @@ fn address_parts_are_replaced(rt: HostRuntime) -> Result<(), Fail> {
         word(b"wwwwj002")?
     );
     Ok(())
+}
+
+#[test]
+fn decimals_have_so_many_digits(rt: HostRuntime) {
+    for (text, most, number) in [
+        (b"0".as_slice(), 1, 0),
+        (b"007", 4, 7),
+        (b"1048576", 7, 1_048_576),
+        (b"4294967296", 10, 4_294_967_296),
+        (b"999999999999999999", 18, 999_999_999_999_999_999),
+    ] {
+        assert_eq!(rt; read_decimal(text, most), Some(number));
+    }
+    for (text, most) in [
+        (b"".as_slice(), 18),
+        (b"5", 0),
+        (b"12345", 4),
+        (b"12a", 4),
+        (b"-1", 4),
+        (b" 1", 4),
+        (b"/0:", 4),
+    ] {
+        assert_eq!(rt; read_decimal(text, most), None);
+    }
 }

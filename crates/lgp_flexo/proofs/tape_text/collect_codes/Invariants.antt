@@ -1,6 +1,6 @@
 use Rattle.std.proofs.Common.{length, ◌-◌, ◌≡◌}
 use Rattle.lgp_flexo.specs.TapeText.{codes_of_text, before}
-use Rattle.lgp_flexo.specs.Pieces.{rest_from}
+use Rattle.lgp_flexo.specs.PiecesInside.{rest_from}
 use Rattle.lgp_flexo.proofs.tape_text.collect_codes.Given as goal
 
 abbrev pub invariant-loop-place : goal.invariant-loop-place

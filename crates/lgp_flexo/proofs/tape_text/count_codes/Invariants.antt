@@ -1,6 +1,6 @@
 use Rattle.std.proofs.Common.{length, ◌-◌, ◌≡◌, ◌≤◌}
 use Rattle.lgp_flexo.specs.TapeText.{codes_of_text}
-use Rattle.lgp_flexo.specs.Pieces.{rest_from, counted}
+use Rattle.lgp_flexo.specs.PiecesInside.{rest_from, counted}
 use Rattle.lgp_flexo.proofs.Reading.{added}
 use Rattle.lgp_flexo.proofs.tape_text.count_codes.Given as goal
 

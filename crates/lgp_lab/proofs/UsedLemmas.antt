@@ -1,0 +1,28 @@
+-- The dump of some words, and how many of them are not zero: a word more.
+use Rattle.std.proofs.Common.{◌≡◌, ℕ, ◌+◌, ◌<◌, ◌≤◌, Bool, true, false, cond, List, [], ◌∷◌, ◌++◌, count_by, drop, length, get_or, ap, ◌∙◌, arith}
+use Rattle.std.proofs.lemmas.List.{drop_more}
+use Rattle.std.proofs.lemmas.List.Sums.{sum_by-append}
+use Rattle.lgp_listing.specs.Dump.{dump_from, word_line}
+use Rattle.lgp_listing.proofs.Dumps.{dump_more}
+use Rattle.lgp_lab.specs.Reply.{is_used}
+
+count_by-cons : (word : ℕ) (words : List ℕ) → count_by is_used (word ∷ words) ≡ (0 + cond (is_used word) 1 0) + count_by is_used words
+count_by-cons word words = sum_by-append (λ w. cond (is_used w) 1 0) (word ∷ []) words
+
+pub count_more : (words : List ℕ) (number word count counted whole : ℕ) → number < length words → word ≡ get_or words number 0
+    → counted ≡ count + cond (is_used word) 1 0 → count + count_by is_used (drop number words) ≡ whole → counted + count_by is_used (drop (number + 1) words) ≡ whole
+count_more words number word count counted whole within read added e =
+    let first : count_by is_used (drop number words) ≡ (0 + cond (is_used word) 1 0) + count_by is_used (drop (number + 1) words) =
+    rw read (ap (count_by is_used) (drop_more words number 0 within) ∙ count_by-cons (get_or words number 0) (drop (number + 1) words)) in
+    omega (arith, first, added, e)
+
+pub count_within : (number word count counted : ℕ) → counted ≡ count + cond (is_used word) 1 0 → count ≤ number → counted ≤ number + 1
+count_within number word count counted added small = by_test (is_used word) added where
+  by_test : (b : Bool) → counted ≡ count + cond b 1 0 → counted ≤ number + 1
+  by_test true sum = omega arith
+  by_test false sum = omega arith
+
+pub lines_more : (text written whole words : List ℕ) (number address word : ℕ) → number < length words → address ≡ number → word ≡ get_or words number 0
+    → written ≡ text ++ word_line address word → text ++ dump_from number (drop number words) ≡ whole → written ++ dump_from (number + 1) (drop (number + 1) words) ≡ whole
+lines_more text written whole words number address word within here read added e =
+    rw (added, here, read) (dump_more text words whole number within e)

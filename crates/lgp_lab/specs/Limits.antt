@@ -1,0 +1,16 @@
+-- Part of the public promise: the limits of the script language.
+use Rattle.std.specs.Prelude.{ℕ}
+
+-- how many bytes a line may have, how many digits a number, and how many words one command may show
+abbrev pub line_limit : ℕ
+line_limit = 4096
+
+abbrev pub digit_limit : ℕ
+digit_limit = 10
+
+abbrev pub shown_limit : ℕ
+shown_limit = 64
+
+-- how many words the drum has
+abbrev pub drum_size : ℕ
+drum_size = 4096

@@ -1,0 +1,13 @@
+//! The limits of the script language.
+
+/// How many bytes a line may have.
+pub const LINE_LIMIT: usize = 4096;
+
+/// How many digits a number may have.
+pub const DIGIT_LIMIT: usize = 10;
+
+/// How many words one command may show.
+pub const SHOWN_LIMIT: u64 = 64;
+
+/// How many words the drum has.
+pub const DRUM_SIZE: u64 = 4096;
