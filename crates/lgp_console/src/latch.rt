@@ -39,7 +39,8 @@ impl Latch {
     pub fn keep(&mut self, action: Action) -> bool
         ensures room { IsTrue result ↔ (length self.old < latch_limit) }
         ensures kept { IsTrue result → self.new ≡ self.old ++ action ∷ [] }
-        ensures full { result ≡ false → (self.new ≡ self.old) × (length self.old ≡ latch_limit) }
+        ensures full { result ≡ false
+            → (self.new ≡ self.old) × (length self.old ≡ latch_limit) }
     {
         self.kept.try_push(action).is_ok()
     }

@@ -1,3 +1,5 @@
+//! Each action where it is live and where it is dead, and the latch.
+
 use crate::{Latch, act, is_live};
 use lgp_flexo::Code;
 use lgp_reader::Reader;

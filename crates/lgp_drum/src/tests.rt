@@ -1,3 +1,5 @@
+//! The drum by addresses, by tracks and under its heads.
+
 use crate::Drum;
 use lgp_word::{Address, Word};
 use linked_list_allocator::LocalHeap;

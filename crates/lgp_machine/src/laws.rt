@@ -12,6 +12,8 @@ use lgp_table::Event;
 #[tactic(auto, using(crate::proofs::Turns::turned_within, crate::proofs::Turns::turned_whole))]
 pub fn an_activity()
     ensures within { (s : State) → (times : ℕ) → times < cost s
-        → after_events (at_boundary s) (replicate times Event.WordTime) ≡ record (at_boundary s) { elapsed = times } }
-    ensures whole { (s : State) → after_events (at_boundary s) (replicate (cost s) Event.WordTime) ≡ at_boundary (next s) }
+        → after_events (at_boundary s) (replicate times Event.WordTime)
+            ≡ record (at_boundary s) { elapsed = times } }
+    ensures whole { (s : State)
+        → after_events (at_boundary s) (replicate (cost s) Event.WordTime) ≡ at_boundary (next s) }
 {}

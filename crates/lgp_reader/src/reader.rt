@@ -37,7 +37,8 @@ impl<A: Allocator> Model for Reader<A> {
 
     ghost view = { λ reader. tape_at reader.on reader.codes.items reader.passed };
 
-    ghost invariant = { λ reader. (reader.passed ≤ vec_len reader.codes) × (vec_len reader.codes ≤ tape_limit) };
+    ghost invariant = { λ reader.
+        (reader.passed ≤ vec_len reader.codes) × (vec_len reader.codes ≤ tape_limit) };
 }
 
 impl<A: Allocator + Copy> Reader<A> {

@@ -1,3 +1,5 @@
+//! A reader with its tape, and one that is refused memory.
+
 use crate::{Input, Reader};
 use lgp_flexo::{Code, TAPE_LIMIT, read_tape_text};
 use linked_list_allocator::LocalHeap;
@@ -24,47 +26,42 @@ fn codes_pass_in_order(rt: HostRuntime) -> Result<(), Fail> {
     Ok(())
 }
 
+/// A reader with this tape.
+fn with_tape<A: Allocator + Copy>(alloc: A, text: &[u8]) -> Result<Reader<A>, Fail> {
+    let mut reader = Reader::new(alloc);
+    if reader.mount(read_tape_text(alloc, text)?).is_err() {
+        return Err(Fail::from("the tape is too long"));
+    }
+    Ok(reader)
+}
+
 #[test]
 fn an_input_ends_at_the_stop(rt: HostRuntime) -> Result<(), Fail> {
-    let mut reader = Reader::new(rt.alloc());
-    assert!(rt;
-        reader
-            .mount(read_tape_text(rt.alloc(), b"12[16]3'45")?)
-            .is_ok()
-    );
-    assert_eq!(rt; reader.passing(), 0);
-    assert_eq!(rt;
-        reader.pass_input(false, 7),
-        Input {
-            accumulator: 7,
-            done: false
+    let mut reader = with_tape(rt.alloc(), b"12[16]3'45")?;
+    for (on, passing, six_bit, before, accumulator, done, left) in [
+        (false, 0, false, 7, 7, false, 7),
+        (true, 5, false, 0, 0x123, true, 2),
+        (true, 2, false, 0x12, 0x1245, false, 0),
+    ] {
+        if on {
+            reader.start();
         }
-    );
-    assert_eq!(rt; reader.left().len(), 7);
-    reader.start();
-    assert_eq!(rt; reader.passing(), 5);
-    assert_eq!(rt;
-        reader.pass_input(false, 0),
-        Input {
-            accumulator: 0x123,
-            done: true
-        }
-    );
-    assert!(rt; !reader.is_on());
-    assert_eq!(rt; reader.left().len(), 2);
-    reader.start();
-    assert_eq!(rt;
-        reader.pass_input(false, 0x12),
-        Input {
-            accumulator: 0x1245,
-            done: false
-        }
-    );
+        assert_eq!(rt; reader.passing(), passing);
+        let input = reader.pass_input(six_bit, before);
+        assert_eq!(rt; input, Input { accumulator, done });
+        assert!(rt; !reader.is_on());
+        assert_eq!(rt; reader.left().len(), left);
+    }
+    Ok(())
+}
 
-    assert!(rt; reader.mount(read_tape_text(rt.alloc(), b"a'")?).is_ok());
+#[test]
+fn six_bits_of_a_code_enter(rt: HostRuntime) -> Result<(), Fail> {
+    let mut reader = with_tape(rt.alloc(), b"a'")?;
     reader.start();
+    let input = reader.pass_input(true, 0);
     assert_eq!(rt;
-        reader.pass_input(true, 0),
+        input,
         Input {
             accumulator: 0x39,
             done: true

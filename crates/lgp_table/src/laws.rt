@@ -19,14 +19,16 @@ use crate::action::Action;
 /// A wait is the number of word times until the head first reads the sector, and never more than a revolution.
 pub fn waits()
     ensures range { (sector clock : ℕ) → (1 ≤ wait sector clock) × (wait sector clock ≤ 64) }
-    ensures reads { (sector clock : ℕ) → position_under_head (clock + wait sector clock) ≡ position_of sector }
+    ensures reads { (sector clock : ℕ)
+        → position_under_head (clock + wait sector clock) ≡ position_of sector }
     ensures first { (sector clock before : ℕ) → 1 ≤ before → before < wait sector clock
         → position_under_head (clock + before) ≢ position_of sector }
 {}
 
 /// A dead action changes nothing.
 pub fn dead_actions()
-    ensures unchanged { (desk : Desk) (action : Action) → is_live desk.panel action ≡ false → desk_after desk action ≡ desk }
+    ensures unchanged { (desk : Desk) (action : Action)
+        → is_live desk.panel action ≡ false → desk_after desk action ≡ desk }
 {}
 
 /// Every activity takes a word time at least, and the clock never goes back.
@@ -44,9 +46,12 @@ pub fn other_words()
 
 /// A skipped code passes and does not enter, from the tape as from the keys.
 pub fn skipped_codes()
-    ensures tape { (six_bit : Bool) → (accumulator code : ℕ) → (codes : List ℕ) → is_skipped code ≡ true
-        → accumulator_after_all six_bit accumulator (code ∷ codes) ≡ accumulator_after_all six_bit accumulator codes }
-    ensures key { (panel : Panel) → (code : ℕ) → is_skipped code ≡ true → is_live panel (Action.Key code) ≡ false }
+    ensures tape { (six_bit : Bool) → (accumulator code : ℕ) → (codes : List ℕ)
+        → is_skipped code ≡ true
+        → accumulator_after_all six_bit accumulator (code ∷ codes)
+        ≡ accumulator_after_all six_bit accumulator codes }
+    ensures key { (panel : Panel) → (code : ℕ)
+        → is_skipped code ≡ true → is_live panel (Action.Key code) ≡ false }
 {}
 
 /// What is pressed within an activity waits for its end, where all that is kept acts in order; with 16 kept a press is lost.

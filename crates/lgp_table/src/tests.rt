@@ -1,3 +1,5 @@
+//! The plain types, and the laws and worked orders called once.
+
 use crate::laws::{
     costs, dead_actions, kept_actions, other_words, passed_codes, skipped_codes, waits,
 };

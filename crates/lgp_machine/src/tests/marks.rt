@@ -138,12 +138,21 @@ fn the_tape_goes_back(rt: HostRuntime) -> Result<(), Fail> {
     assert_eq!(rt; status_after(&mut machine), Ok(Status::Going));
     let at_input = mark(&machine)?;
     let before = look(&machine);
-    assert_eq!(rt; before.map(|look| (look.clock, look.reader_on)), Some((67, true)));
+    assert_eq!(rt;
+        before.map(|look| (look.clock, look.reader_on)),
+        Some((67, true))
+    );
     assert_eq!(rt; status_after(&mut machine), Ok(Status::Going));
-    assert_eq!(rt; (tape_passed(&machine), tape_left(&machine)), (Some(5), Some(0)));
+    assert_eq!(rt;
+        (tape_passed(&machine), tape_left(&machine)),
+        (Some(5), Some(0))
+    );
     assert!(rt; return_to(&mut machine, &at_input, None)?);
     assert_eq!(rt; look(&machine), before);
-    assert_eq!(rt; (tape_passed(&machine), tape_left(&machine)), (Some(0), Some(5)));
+    assert_eq!(rt;
+        (tape_passed(&machine), tape_left(&machine)),
+        (Some(0), Some(5))
+    );
     assert_eq!(rt; status_after(&mut machine), Ok(Status::Going));
     let wanted = shown(2, 0x123, 0x0004_0000, Status::Going, 1996);
     assert_eq!(rt; look(&machine), wanted);
@@ -210,7 +219,10 @@ fn a_tape_is_set_within_itself(rt: HostRuntime) -> Result<(), Fail> {
     mount(&mut machine, tape)?;
     let tape = read_tape_text(rt.alloc(), b"abc")?;
     set_tape(&mut machine, tape, 2)?;
-    assert_eq!(rt; (tape_passed(&machine), tape_left(&machine)), (Some(2), Some(1)));
+    assert_eq!(rt;
+        (tape_passed(&machine), tape_left(&machine)),
+        (Some(2), Some(1))
+    );
     Ok(())
 }
 
@@ -266,7 +278,11 @@ fn each_growth_of_a_copy_is_refused(rt: HostRuntime) -> Result<(), Fail> {
     next_order(&mut machine)?;
     let before = look(&machine);
     for room in ROOMS {
-        assert_eq!(rt; is_copied(&heap, &machine, room)?, room == 70000, "in {room}");
+        assert_eq!(rt;
+            is_copied(&heap, &machine, room)?,
+            room == 70000,
+            "in {room}"
+        );
         assert_eq!(rt; (look(&machine), tape_left(&machine)), (before, Some(5)));
     }
     Ok(())
