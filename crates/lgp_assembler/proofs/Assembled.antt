@@ -11,7 +11,7 @@ use Rattle.lgp_assembler.specs.Parts.{ImageParts, AreProgramCells}
 use Rattle.lgp_assembler.specs.Image.{all_lines, cells_in, start_in, faults_of, image_of}
 use Rattle.lgp_assembler.specs.ScanInside.{Stands, IsDraftOf}
 
-first_none : (xs ys : List Fault) → xs ++ ys ≡ [] → xs ≡ []
+pub first_none : (xs ys : List Fault) → xs ++ ys ≡ [] → xs ≡ []
 first_none [] ys e = refl
 first_none (x ∷ xs) ys e = cc
 

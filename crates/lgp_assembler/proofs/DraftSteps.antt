@@ -10,6 +10,7 @@ use Rattle.std.proofs.lemmas.Option.{none-some, cond_some}
 use Rattle.lgp_word.specs.Digits.{address_text, two_at}
 use Rattle.lgp_assembler.specs.declared.operations.Operation.{Operation}
 use Rattle.lgp_assembler.specs.declared.operations.Operation.TheVariants.{Order, MinusT, Org, Word, Frac, Int, End}
+use Rattle.lgp_assembler.specs.declared.output.TheConstants.{NAME_LIMIT}
 use Rattle.lgp_assembler.specs.declared.operands.Meaning.{Meaning}
 use Rattle.lgp_assembler.specs.declared.operands.Meaning.TheVariants.{Cell, Place, Nothing}
 use Rattle.lgp_assembler.specs.declared.operands.OperandFault.{OperandFault}
@@ -89,7 +90,7 @@ place_small : (line : LineFields) (place : ℕ) → place ≤ 4096 → place_by 
 place_small line place within =
     or_place_small (org_address line.operation line.first) place (org_small line.operation line.first) within
 
-word_within : (line : LineFields) (place : ℕ) → (has_word line && nat_lt 4095 place) ≡ false → has_word line ≡ true → place < 4096
+pub word_within : (line : LineFields) (place : ℕ) → (has_word line && nat_lt 4095 place) ≡ false → has_word line ≡ true → place < 4096
 word_within line place e word = ⊎_elim
     (λ below. below)
     (λ above. absurd (true≢false (sym (and_from (has_word line) (nat_lt 4095 place) word (lt-ltb 4095 place (omega arith))) ∙ e)))
@@ -130,7 +131,7 @@ meaning_fits names here place Org (Some text) second small = place_fits place _
 meaning_fits names here place End None second small = tt
 meaning_fits names here place End (Some text) second small = place_fits place _
 
-line_fits : (operation : Option Operation) (names : List (List ℕ × ℕ)) (here place : ℕ) (line : LineFields) → (option_makes_word operation ≡ true → place < 4096) → CellFits place (meaning_by operation names here line)
+pub line_fits : (operation : Option Operation) (names : List (List ℕ × ℕ)) (here place : ℕ) (line : LineFields) → (option_makes_word operation ≡ true → place < 4096) → CellFits place (meaning_by operation names here line)
 line_fits None names here place line small = tt
 line_fits (Some operation) names here place line small = meaning_fits names here place operation line.first line.second small
 
@@ -177,12 +178,12 @@ cells_append (cell ∷ one) other all more = (all.0, cells_append one other all.
 
 -- ---- a label that is new
 
-label_short : (label : List ℕ) → is_bad_label (Some label) ≡ false → length label ≤ 8
+label_short : (label : List ℕ) → is_bad_label (Some label) ≡ false → length label ≤ NAME_LIMIT
 unfolding is_name
 label_short label e =
     let name : is_name label ≡ true = not-false (is_name label) e in
     let parts = and_parts _ _ name in
-    leb-true (length label) 8 parts.1
+    leb-true (length label) NAME_LIMIT parts.1
 
 symbol_fits : (label : Option (List ℕ)) (place : ℕ) → is_bad_label label ≡ false → place ≤ 4096 → SymbolFits label place
 symbol_fits None place e within = tt

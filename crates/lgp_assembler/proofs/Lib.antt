@@ -7,3 +7,4 @@ pub mod DraftSteps
 pub mod Assembled
 pub mod PlaceLaws
 pub mod LineCells
+pub mod Counted

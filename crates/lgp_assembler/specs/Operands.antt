@@ -7,12 +7,13 @@ use Rattle.std.specs.Map.{lookup}
 use Rattle.lgp_word.specs.declared.order.Op.{Op}
 use Rattle.lgp_word.specs.declared.order.Op.TheVariants.{P, T}
 use Rattle.lgp_word.specs.Order.{order_word}
-use Rattle.lgp_word.specs.Digits.{address_text, word_at}
+use Rattle.lgp_word.specs.Digits.{address_text, word_of_digits}
 use Rattle.lgp_fraction.specs.declared.fraction.FractionFault.{FractionFault}
 use Rattle.lgp_fraction.specs.declared.fraction.FractionFault.TheVariants.{Form, OutOfRange}
 use Rattle.lgp_fraction.specs.Arithmetic.{low_bits}
 use Rattle.lgp_fraction.specs.Decimal.{decimal_fraction}
 use Rattle.lgp_flexo.specs.Code.{code_at}
+use Rattle.lgp_assembler.specs.declared.output.TheConstants.{NAME_LIMIT}
 use Rattle.lgp_assembler.specs.declared.operations.Operation.{Operation}
 use Rattle.lgp_assembler.specs.declared.operations.Operation.TheVariants.{Order, MinusT, Org, Word, Frac, Int, End}
 use Rattle.lgp_assembler.specs.declared.operands.OperandFault.{OperandFault}
@@ -27,7 +28,7 @@ is_name_byte b = is_ascii_lowercase b || is_ascii_digit b
 
 -- a name: a letter from a to z, then at most seven letters or digits
 unfoldable pub is_name : List ℕ → Bool
-is_name text = is_ascii_lowercase (slice_index text 0) && list_all is_name_byte text && nat_le (length text) 8
+is_name text = is_ascii_lowercase (slice_index text 0) && list_all is_name_byte text && nat_le (length text) NAME_LIMIT
 
 -- ---- decimal numbers
 
@@ -137,7 +138,7 @@ meaning names place MinusT (Some text) second = order_operand names place true T
 meaning names place MinusT None second = Err Misformed
 meaning names place Org (Some text) second = place_or (ok_or (address_text text) Misformed)
 meaning names place Org None second = Err Misformed
-meaning names place Word (Some text) second = cell_or (word_at text)
+meaning names place Word (Some text) second = cell_or (word_of_digits text)
 meaning names place Word None second = Err Misformed
 meaning names place Frac (Some text) second = cell_of_fraction (decimal_fraction text)
 meaning names place Frac None second = Err Misformed

@@ -1,6 +1,6 @@
 //! The pass over a source for its words and its faults.
 
-ghost use Rattle.std.specs.Prelude.{◌≡◌, ◌++◌, [], None, true, IfOk, OnOk, option_to_list, option_map, slice_set, if◌then◌else◌};
+ghost use Rattle.std.specs.Prelude.{◌≡◌, ◌++◌, [], None, true, IfOk, OnOk, option_to_list, option_map, slice_set, if◌then◌else◌, length, ◌≤◌};
 ghost use Rattle.std.specs.Option.{option_copied, option_or};
 ghost use Rattle.lgp_word.specs.Word.{IsWord};
 ghost use Rattle.lgp_assembler.specs.Faults.{numbered_fault, line_meaning};
@@ -174,9 +174,11 @@ pub fn draft_source<'a, A: Allocator + Copy>(
     source: &'a [u8],
     names: &Names<'a, A>,
 ) -> Result<Draft<A>, AllocError>
-    ensures { let lines = all_lines source.now in
+    ensures draft { let lines = all_lines source.now in
         IfOk result (λ draft. IsDraftOf
         names.now draft.faults.items draft.cells.items draft.start draft.symbols.items lines) }
+    ensures few { IfOk result (λ draft.
+        draft.faults.items ≡ [] → length draft.cells.items ≤ 4096) }
 {
     let mut scan = Scan::new(alloc);
     let mut draft = Draft::new(alloc)?;

@@ -1,7 +1,7 @@
 //! The assembler: a source's words, or its faults.
 #![tactic(auto)]
 
-ghost use Rattle.std.specs.Prelude.{◌≡◌, ◌≢◌, ◌+◌, ◌++◌, ◌<◌, ◌^◌, [], ◌∷◌, IfOk, OnOk, IfErr};
+ghost use Rattle.std.specs.Prelude.{◌≡◌, ◌≢◌, ◌+◌, ◌++◌, ◌<◌, ◌^◌, [], ◌∷◌, IfOk, OnOk, IfErr, length, ◌≤◌};
 ghost use Rattle.lgp_assembler.specs.Answers.{IfFaults};
 ghost use Rattle.lgp_assembler.specs.Faults.{end_fault};
 ghost use Rattle.lgp_assembler.specs.Image.{faults_of, image_of};
@@ -47,7 +47,8 @@ fn add_missing_end<A: Allocator>(
 
 /// The image of a draft without faults, or else its faults.
 fn image_or_faults<A: Allocator>(draft: Draft<A>) -> Result<Image<A>, AssembleError<A>>
-    requires { draft.faults.items ≡ [] → AreProgramCells draft.cells.items }
+    requires program { draft.faults.items ≡ [] → AreProgramCells draft.cells.items }
+    requires few { draft.faults.items ≡ [] → length draft.cells.items ≤ 4096 }
     ensures image { IfOk result (λ image. image ≡ record {
       cells = draft.cells.items;
       start = draft.start;

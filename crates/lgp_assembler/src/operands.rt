@@ -9,6 +9,7 @@ ghost use Rattle.lgp_assembler.specs.Operands as spec;
 
 use crate::name_table::Names;
 use crate::operations::Operation;
+use crate::output::NAME_LIMIT;
 use lgp_flexo::code_of;
 use lgp_fraction::{Fraction, FractionFault};
 use lgp_word::{Address, Op, Order, Word, encode, read_digits};
@@ -65,7 +66,7 @@ pub fn is_name(text: &[u8]) -> bool
     if text.is_empty() {
         return false;
     }
-    text[0].is_ascii_lowercase() && are_name_bytes(text) && text.len() <= 8
+    text[0].is_ascii_lowercase() && are_name_bytes(text) && text.len() <= NAME_LIMIT
 }
 
 /// Whether all bytes of a text are decimal digits.

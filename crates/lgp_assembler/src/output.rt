@@ -12,10 +12,13 @@ use std::ops::Range;
 /// The places of the loader, 6300 to 6309, which no program may take.
 pub const LOADER_PLACES: Range<u64> = 4032..4042;
 
+/// The greatest number of bytes of a name.
+pub const NAME_LIMIT: usize = 8;
+
 /// A name: one to eight bytes of a source. Clauses see their list.
 #[derive(Drop)]
 pub struct Name {
-    bytes: ArrayVec<u8, 8>,
+    bytes: ArrayVec<u8, NAME_LIMIT>,
 }
 
 impl Model for Name {
@@ -29,7 +32,7 @@ impl Model for Name {
 impl Name {
     /// The name of a text; `None` where the text has more than eight bytes.
     pub(crate) fn new(text: &[u8]) -> Option<Name>
-        ensures fits { IsSome result ↔ (length text.now ≤ 8) }
+        ensures fits { IsSome result ↔ (length text.now ≤ NAME_LIMIT) }
         ensures value { IfSome result (λ name. name ≡ text.now) }
     {
         let mut bytes = ArrayVec::new();
@@ -56,6 +59,7 @@ pub struct Image<A: Allocator = Global> {
 }
 
 impl<A: Allocator> Model for Image<A> {
+    ghost use Rattle.std.specs.Prelude.{◌≤◌, length};
     ghost use Rattle.lgp_assembler.specs.Parts.{ImageParts, AreProgramCells};
 
     ghost Value = { ImageParts };
@@ -66,7 +70,8 @@ impl<A: Allocator> Model for Image<A> {
       symbols = image.symbols.items;
     } };
 
-    ghost invariant = { λ image. AreProgramCells image.cells.items };
+    ghost invariant = { λ image.
+        AreProgramCells image.cells.items × (length image.cells.items ≤ 4096) };
 }
 
 impl<A: Allocator> Image<A> {
@@ -75,7 +80,8 @@ impl<A: Allocator> Image<A> {
         start: Option<Address>,
         symbols: Vec<(Name, u16), A>,
     ) -> Image<A>
-        requires { AreProgramCells cells.items }
+        requires program { AreProgramCells cells.items }
+        requires few { length cells.items ≤ 4096 }
         ensures { result ≡ record { cells = cells.items; start = start; symbols = symbols.items } }
     {
         Image {
@@ -86,10 +92,11 @@ impl<A: Allocator> Image<A> {
     }
 
     /// The words of the program with their addresses, in order of the source's lines. None lies at
-    /// one of the loader's places.
+    /// one of the loader's places, and there are at most 4096.
     pub fn cells(&self) -> &[(Address, Word)]
         ensures value { result.now ≡ self.now.cells }
         ensures program { AreProgramCells self.now.cells }
+        ensures few { length self.now.cells ≤ 4096 }
     {
         self.cells.as_slice()
     }

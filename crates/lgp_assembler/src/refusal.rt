@@ -33,7 +33,7 @@ pub enum FaultKind {
     OutOfRange,
     /// A word past the last place of the drum.
     PastEnd,
-    /// A word at one of the ten places of the loader.
+    /// A word at one of the loader's places.
     InLoader,
     /// A word at the place of an earlier line's word.
     PlaceTaken,

@@ -1,8 +1,10 @@
 //! Tests of the assembler.
 
 use crate::{
-    AssembleError, FaultKind, Image, Name, assemble, names_are_first_places, places_count_from_orgs,
+    AssembleError, FaultKind, Image, LOADER_PLACES, Name, assemble, has_word,
+    names_are_first_places, places_count_from_orgs,
 };
+use lgp_source::Lines;
 use lgp_word::{Address, Word, read_digits};
 use linked_list_allocator::LocalHeap;
 use std::alloc::{Allocator, Global};
@@ -170,6 +172,24 @@ fn sources_of_one_fault(rt: HostRuntime) {
 fn a_name_after_the_end_is_none(rt: HostRuntime) {
     let faults = [(1, FaultKind::UnknownName), (3, FaultKind::AfterEnd)];
     expect_faults(&rt, rt.alloc(), b" b late\n end\nlate z", &faults);
+}
+
+#[test]
+fn lines_that_make_words(rt: HostRuntime) {
+    let mut lines = Lines::new(b"a z 1 2 3\n org 0100\nlabel\n end\n");
+    for wanted in [true, false, false, false] {
+        let line = lines.next().expect(&rt, "a line");
+        assert_eq!(rt; has_word(&line), wanted, "line {}", line.number);
+    }
+}
+
+#[test]
+fn places_that_the_loader_keeps(rt: HostRuntime) -> Result<(), Fail> {
+    let first = Address::parse(b"6300").ok_or("an address")?;
+    let last = Address::parse(b"6309").ok_or("an address")?;
+    assert_eq!(rt; LOADER_PLACES.start, u64::from(first.number()));
+    assert_eq!(rt; LOADER_PLACES.end, u64::from(last.number()) + 1);
+    Ok(())
 }
 
 #[test]

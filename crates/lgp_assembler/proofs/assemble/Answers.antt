@@ -1,7 +1,7 @@
 use Rattle.std.proofs.Common.{sym, ◌∙◌}
 use Rattle.lgp_assembler.specs.Parts.{ImageParts}
 use Rattle.lgp_assembler.specs.Image.{image_of, faults_of}
-use Rattle.lgp_assembler.proofs.Assembled.{faults_told, image_made, ok_image, ok_faultless, err_faults, cells_clear}
+use Rattle.lgp_assembler.proofs.Assembled.{faults_told, image_made, ok_image, ok_faultless, err_faults, cells_clear, first_none}
 use Rattle.lgp_assembler.proofs.assemble.Goals as goal
 
 pub returns : goal.returns
@@ -10,8 +10,8 @@ returns g c =
     let scan = c.in_ok-scan.scan in
     let draft = c.in_ok-draft.draft in
     let last = c.in_ok-add_missing_end.ensures in
-    let told = faults_told source scan.lines scan.place scan.ended scan.names draft.faults.items draft.cells.items draft.start draft.symbols.items c.in_ok-scan.ensures.stands c.in_ok-draft.ensures in
-    let made = image_made source scan.lines scan.place scan.ended scan.names draft.faults.items draft.cells.items draft.start draft.symbols.items c.in_ok-scan.ensures.stands c.in_ok-draft.ensures in
+    let told = faults_told source scan.lines scan.place scan.ended scan.names draft.faults.items draft.cells.items draft.start draft.symbols.items c.in_ok-scan.ensures.stands c.in_ok-draft.ensures.draft in
+    let made = image_made source scan.lines scan.place scan.ended scan.names draft.faults.items draft.cells.items draft.start draft.symbols.items c.in_ok-scan.ensures.stands c.in_ok-draft.ensures.draft in
     let r = c.image_or_faults.result in
     let answer = c.image_or_faults.ensures in
     let parts : ImageParts = record { cells = draft.cells.items; start = draft.start; symbols = draft.symbols.items } in
@@ -22,8 +22,11 @@ returns g c =
       faulty = answer.faulty;
     }
 
-pub image_or_faults-requires : goal.image_or_faults-requires
-image_or_faults-requires g c =
+pub image_or_faults-requires-clause-program : goal.image_or_faults-requires-clause-program
+image_or_faults-requires-clause-program g c =
     let scan = c.in_ok-scan.scan in
     let draft = c.in_ok-draft.draft in
-    λ none. cells_clear c.args.source.now scan.names draft.faults.items _ _ draft.cells.items draft.start draft.symbols.items c.in_ok-draft.ensures c.in_ok-add_missing_end.ensures none
+    λ none. cells_clear c.args.source.now scan.names draft.faults.items _ _ draft.cells.items draft.start draft.symbols.items c.in_ok-draft.ensures.draft c.in_ok-add_missing_end.ensures none
+
+pub image_or_faults-requires-clause-few : goal.image_or_faults-requires-clause-few
+image_or_faults-requires-clause-few g c = λ none. c.in_ok-draft.ensures.few (first_none _ _ (sym c.in_ok-add_missing_end.ensures ∙ none))
