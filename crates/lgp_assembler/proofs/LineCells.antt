@@ -4,7 +4,7 @@ use Rattle.std.proofs.lemmas.Bool.{true≢false}
 use Rattle.std.proofs.lemmas.List.{append_assoc, append-nil}
 use Rattle.lgp_word.specs.declared.order.Op.{Op}
 use Rattle.lgp_word.specs.declared.order.Op.TheVariants.{Z, B, Y, R, I, D, N, M, P, E, U, T, H, C, A, S}
-use Rattle.lgp_word.specs.Digits.{word_at}
+use Rattle.lgp_word.specs.Digits.{word_of_digits}
 use Rattle.lgp_flexo.specs.Code.{code_at}
 use Rattle.lgp_fraction.specs.declared.fraction.FractionFault.{FractionFault}
 use Rattle.lgp_fraction.specs.declared.fraction.FractionFault.TheVariants.{Form, OutOfRange}
@@ -20,7 +20,7 @@ use Rattle.lgp_assembler.specs.Operands.{cell_of_order, printing, sign_operand, 
 use Rattle.lgp_assembler.specs.Fields.{LineFields}
 use Rattle.lgp_assembler.specs.Places.{option_makes_word, has_word, place_of, has_ended, names_of, is_taken}
 use Rattle.lgp_assembler.specs.Faults.{is_misformed, is_unknown, is_out_of_range, line_meaning, meaning_by, rows, fault_of, faults_in}
-use Rattle.lgp_assembler.specs.Image.{cell_at, cells_in, passed}
+use Rattle.lgp_assembler.specs.Image.{cell_at, cells_in, passed_lines}
 use Rattle.lgp_assembler.proofs.DraftSteps.{none_fails, append_none, list_none}
 
 -- ---- what an operation that makes a word gives is a word, or a fault
@@ -103,7 +103,7 @@ module _ (names : List (List ℕ × ℕ)) (place : ℕ) where
   makes MinusT None second e = tt
   makes MinusT (Some text) second e = operand_gives names place true T text
   makes Word None second e = tt
-  makes Word (Some text) second e = word_gives (word_at text)
+  makes Word (Some text) second e = word_gives (word_of_digits text)
   makes Frac None second e = tt
   makes Frac (Some text) second e = fraction_gives (decimal_fraction text)
   makes Int None second e = tt
@@ -172,7 +172,7 @@ abbrev pub cells_behind : List (List ℕ × ℕ) → List LineFields → List Li
 cells_behind names earlier [] = []
 cells_behind names earlier (line ∷ lines) = option_to_list (line_cell names earlier line) ++ cells_behind names (line ∷ earlier) lines
 
-pub cells_in_order : (names : List (List ℕ × ℕ)) (earlier lines : List LineFields) → cells_in names (passed earlier lines) ≡ cells_in names earlier ++ cells_behind names earlier lines
+pub cells_in_order : (names : List (List ℕ × ℕ)) (earlier lines : List LineFields) → cells_in names (passed_lines earlier lines) ≡ cells_in names earlier ++ cells_behind names earlier lines
 unfolding cells_in
 cells_in_order names earlier [] = sym (append-nil (cells_in names earlier))
 cells_in_order names earlier (line ∷ lines) =
@@ -185,12 +185,12 @@ abbrev pub AreFaultless : List (List ℕ × ℕ) → List LineFields → List Li
 AreFaultless names earlier [] = Unit {0}
 AreFaultless names earlier (line ∷ lines) = (fault_of names line earlier ≡ None) × AreFaultless names (line ∷ earlier) lines
 
-front_faultless : (names : List (List ℕ × ℕ)) (earlier lines : List LineFields) → faults_in names (passed earlier lines) ≡ [] → faults_in names earlier ≡ []
+front_faultless : (names : List (List ℕ × ℕ)) (earlier lines : List LineFields) → faults_in names (passed_lines earlier lines) ≡ [] → faults_in names earlier ≡ []
 unfolding faults_in
 front_faultless names earlier [] none = none
 front_faultless names earlier (line ∷ lines) none = (append_none (faults_in names earlier) _ (front_faultless names (line ∷ earlier) lines none)).0
 
-pub each_faultless : (names : List (List ℕ × ℕ)) (earlier lines : List LineFields) → faults_in names (passed earlier lines) ≡ [] → AreFaultless names earlier lines
+pub each_faultless : (names : List (List ℕ × ℕ)) (earlier lines : List LineFields) → faults_in names (passed_lines earlier lines) ≡ [] → AreFaultless names earlier lines
 unfolding faults_in
 each_faultless names earlier [] none = tt
 each_faultless names earlier (line ∷ lines) none = (

@@ -12,17 +12,17 @@ use Rattle.lgp_assembler.specs.declared.operations.Operation.{Operation}
 use Rattle.lgp_assembler.specs.declared.operations.Operation.TheVariants.{Order, MinusT, Org, Word, Frac, Int, End}
 use Rattle.lgp_assembler.specs.Fields.{LineFields}
 use Rattle.lgp_assembler.specs.Places.{option_makes_word, org_address, word_count, next_place, place_of, is_end, has_ended, new_label, names_of}
-use Rattle.lgp_assembler.specs.Image.{passed}
-use Rattle.lgp_assembler.specs.Laws.{org_of, HasNoOrg, words_of, PlacesCountFromOrgs, HasNotLabel, NamesAreFirstPlaces}
+use Rattle.lgp_assembler.specs.Image.{passed_lines}
+use Rattle.lgp_assembler.specs.Laws.{org_of, HasNoOrg, word_total, PlacesCountFromOrgs, HasNotLabel, NamesAreFirstPlaces}
 
 -- ---- lines in order, and the nearest first
 
-passed-append : (earlier one other : List LineFields) → passed earlier (one ++ other) ≡ passed (passed earlier one) other
+passed-append : (earlier one other : List LineFields) → passed_lines earlier (one ++ other) ≡ passed_lines (passed_lines earlier one) other
 passed-append earlier one other = fold-append (λ before line. line ∷ before) earlier one other
 
 -- ---- places
 
-run : (earlier between : List LineFields) → HasNoOrg between → next_place (passed earlier between) ≡ next_place earlier + words_of between
+run : (earlier between : List LineFields) → HasNoOrg between → next_place (passed_lines earlier between) ≡ next_place earlier + word_total between
 unfolding next_place
 run earlier [] none = omega arith
 run earlier (line ∷ lines) none =
@@ -48,14 +48,14 @@ after_org earlier org address e =
 pub places_law : PlacesCountFromOrgs
 unfolding next_place
 places_law = record {
-  own = λ before line address e. ap (λ a. unwrap_or a (next_place (passed [] before))) e;
+  own = λ before line address e. ap (λ a. unwrap_or a (next_place (passed_lines [] before))) e;
   nearest = λ before between org line address e none other.
-      ap (λ a. unwrap_or a (next_place (passed [] (before ++ org ∷ between)))) other
+      ap (λ a. unwrap_or a (next_place (passed_lines [] (before ++ org ∷ between)))) other
       ∙ ap next_place (passed-append [] before (org ∷ between))
-      ∙ run (org ∷ passed [] before) between none
-      ∙ ap (λ p. p + words_of between) (after_org (passed [] before) org address e);
+      ∙ run (org ∷ passed_lines [] before) between none
+      ∙ ap (λ p. p + word_total between) (after_org (passed_lines [] before) org address e);
   none = λ before line none other.
-      ap (λ a. unwrap_or a (next_place (passed [] before))) other ∙ run [] before none ∙ omega arith;
+      ap (λ a. unwrap_or a (next_place (passed_lines [] before))) other ∙ run [] before none ∙ omega arith;
 }
 
 -- ---- names
@@ -86,7 +86,7 @@ adds_no name (Some label) place ended names apart = pick (ended || is_some (look
     pick true = refl
     pick false = other_name name label place apart
 
-not_there : (name : List ℕ) (earlier lines : List LineFields) → HasNotLabel name lines → lookup (bytes_eq name) (names_of earlier) ≡ None → lookup (bytes_eq name) (names_of (passed earlier lines)) ≡ None
+not_there : (name : List ℕ) (earlier lines : List LineFields) → HasNotLabel name lines → lookup (bytes_eq name) (names_of earlier) ≡ None → lookup (bytes_eq name) (names_of (passed_lines earlier lines)) ≡ None
 unfolding names_of
 not_there name earlier [] apart none = none
 not_there name earlier (line ∷ lines) apart none =
@@ -95,7 +95,7 @@ not_there name earlier (line ∷ lines) apart none =
     lookup-append name (names_of earlier) added ∙ ap (λ o. option_or o (lookup (bytes_eq name) added)) none ∙ adds_no name line.label (place_of line earlier) (has_ended earlier) (names_of earlier) apart.0 in
     not_there name (line ∷ earlier) lines apart.1 step
 
-stays : (name : List ℕ) (value : ℕ) (earlier lines : List LineFields) → lookup (bytes_eq name) (names_of earlier) ≡ Some value → lookup (bytes_eq name) (names_of (passed earlier lines)) ≡ Some value
+stays : (name : List ℕ) (value : ℕ) (earlier lines : List LineFields) → lookup (bytes_eq name) (names_of earlier) ≡ Some value → lookup (bytes_eq name) (names_of (passed_lines earlier lines)) ≡ Some value
 unfolding names_of
 stays name value earlier [] there = there
 stays name value earlier (line ∷ lines) there =
@@ -106,7 +106,7 @@ or_true : (b : Bool) → (b || true) ≡ true
 or_true true = refl
 or_true false = refl
 
-after_end : (earlier lines : List LineFields) → has_ended earlier ≡ true → names_of (passed earlier lines) ≡ names_of earlier
+after_end : (earlier lines : List LineFields) → has_ended earlier ≡ true → names_of (passed_lines earlier lines) ≡ names_of earlier
 unfolding names_of has_ended
 after_end earlier [] ended = refl
 after_end earlier (line ∷ lines) ended =
@@ -136,16 +136,16 @@ pub names_law : NamesAreFirstPlaces
 unfolding names_of
 names_law = record {
   first = λ name before after line live apart is.
-      let earlier = passed [] before in
+      let earlier = passed_lines [] before in
       let absent = not_there name [] before apart (none_at_all name) in
       ap (λ ls. lookup (bytes_eq name) (names_of ls)) (passed-append [] before (line ∷ after))
       ∙ stays name (place_of line earlier) (line ∷ earlier) after (itself name (place_of line earlier) (names_of earlier) line.label (has_ended earlier) is live absent);
   none = λ name before after apart over.
-      let earlier = passed [] before in
+      let earlier = passed_lines [] before in
       let absent = not_there name [] before apart (none_at_all name) in
       ap (λ ls. lookup (bytes_eq name) (names_of ls)) (passed-append [] before after)
       ∙ ⊎_elim
       (λ ended. ap (lookup (bytes_eq name)) (after_end earlier after ended) ∙ absent)
-      (λ empty. ap (λ ls. lookup (bytes_eq name) (names_of (passed earlier ls))) empty ∙ absent)
+      (λ empty. ap (λ ls. lookup (bytes_eq name) (names_of (passed_lines earlier ls))) empty ∙ absent)
       over;
 }

@@ -34,12 +34,12 @@ start_in names (line ∷ earlier) =
     option_or (start_in names earlier) (start_at line.operation (line_meaning names (place_of line earlier) line))
 
 -- lines put in front of those that come before them
-abbrev pub passed : List LineFields → List LineFields → List LineFields
-passed earlier lines = fold (λ before line. line ∷ before) earlier lines
+abbrev pub passed_lines : List LineFields → List LineFields → List LineFields
+passed_lines earlier lines = fold (λ before line. line ∷ before) earlier lines
 
 -- all lines of a source, the last first
 unfoldable pub all_lines : List ℕ → List LineFields
-all_lines source = passed [] (map fields_of (lines_of source))
+all_lines source = passed_lines [] (map fields_of (lines_of source))
 
 -- the faults of a source in order of its lines
 abbrev pub faults_of : List ℕ → List Fault

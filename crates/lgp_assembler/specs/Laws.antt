@@ -5,7 +5,7 @@ use Rattle.std.specs.Str.{bytes_eq}
 use Rattle.std.specs.Map.{lookup}
 use Rattle.lgp_assembler.specs.Fields.{LineFields}
 use Rattle.lgp_assembler.specs.Places.{org_address, word_count, place_of, has_ended, names_of}
-use Rattle.lgp_assembler.specs.Image.{passed}
+use Rattle.lgp_assembler.specs.Image.{passed_lines}
 
 -- the address of an `org` line whose first operand is one
 abbrev pub org_of : LineFields → Option ℕ
@@ -16,21 +16,21 @@ HasNoOrg [] = Unit {0}
 HasNoOrg (line ∷ lines) = (org_of line ≡ None) × HasNoOrg lines
 
 -- the words of some lines
-abbrev pub words_of : List LineFields → ℕ
-words_of [] = 0
-words_of (line ∷ lines) = word_count line + words_of lines
+abbrev pub word_total : List LineFields → ℕ
+word_total [] = 0
+word_total (line ∷ lines) = word_count line + word_total lines
 
 -- the place of a line after those before it
 abbrev pub place_after : List LineFields → LineFields → ℕ
-place_after before line = place_of line (passed [] before)
+place_after before line = place_of line (passed_lines [] before)
 
 -- the place of an `org` line with an address is that address; that of any other line is the address of the nearest such line before it
 -- plus the words of the lines between, or, with none, the words of the lines before it
 pub record PlacesCountFromOrgs : Type 0 where
   pub own : (before : List LineFields) (line : LineFields) (address : ℕ) → org_of line ≡ Some address → place_after before line ≡ address
   pub nearest : (before between : List LineFields) (org line : LineFields) (address : ℕ) → org_of org ≡ Some address → HasNoOrg between → org_of line ≡ None
-      → place_after (before ++ org ∷ between) line ≡ address + words_of between
-  pub none : (before : List LineFields) (line : LineFields) → HasNoOrg before → org_of line ≡ None → place_after before line ≡ words_of before
+      → place_after (before ++ org ∷ between) line ≡ address + word_total between
+  pub none : (before : List LineFields) (line : LineFields) → HasNoOrg before → org_of line ≡ None → place_after before line ≡ word_total before
 
 abbrev pub HasNotLabel : List ℕ → List LineFields → Type 0
 HasNotLabel name [] = Unit {0}
@@ -38,14 +38,14 @@ HasNotLabel name (line ∷ lines) = (line.label ≡ Some name → ⊥) × HasNot
 
 -- the value of a name in some lines
 abbrev pub value_in : List LineFields → List ℕ → Option ℕ
-value_in lines name = lookup (bytes_eq name) (names_of (passed [] lines))
+value_in lines name = lookup (bytes_eq name) (names_of (passed_lines [] lines))
 
 -- whether the end line is among some lines
 abbrev pub HasEnd : List LineFields → Type 0
-HasEnd lines = has_ended (passed [] lines) ≡ true
+HasEnd lines = has_ended (passed_lines [] lines) ≡ true
 
 -- a name's value is the place of the first line with that label that is not after the end line; with no such line it has none
 pub record NamesAreFirstPlaces : Type 0 where
-  pub first : (name : List ℕ) (before after : List LineFields) (line : LineFields) → has_ended (passed [] before) ≡ false → HasNotLabel name before → line.label ≡ Some name
+  pub first : (name : List ℕ) (before after : List LineFields) (line : LineFields) → has_ended (passed_lines [] before) ≡ false → HasNotLabel name before → line.label ≡ Some name
       → value_in (before ++ line ∷ after) name ≡ Some (place_after before line)
   pub none : (name : List ℕ) (before after : List LineFields) → HasNotLabel name before → HasEnd before ⊎ (after ≡ []) → value_in (before ++ after) name ≡ None

@@ -7,7 +7,7 @@ use Rattle.std.specs.Map.{lookup}
 use Rattle.lgp_word.specs.declared.order.Op.{Op}
 use Rattle.lgp_word.specs.declared.order.Op.TheVariants.{P, T}
 use Rattle.lgp_word.specs.Order.{order_word}
-use Rattle.lgp_word.specs.Digits.{address_text, word_at}
+use Rattle.lgp_word.specs.Digits.{address_text, word_of_digits}
 use Rattle.lgp_fraction.specs.declared.fraction.FractionFault.{FractionFault}
 use Rattle.lgp_fraction.specs.declared.fraction.FractionFault.TheVariants.{Form, OutOfRange}
 use Rattle.lgp_fraction.specs.Arithmetic.{low_bits}
@@ -138,7 +138,7 @@ meaning names place MinusT (Some text) second = order_operand names place true T
 meaning names place MinusT None second = Err Misformed
 meaning names place Org (Some text) second = place_or (ok_or (address_text text) Misformed)
 meaning names place Org None second = Err Misformed
-meaning names place Word (Some text) second = cell_or (word_at text)
+meaning names place Word (Some text) second = cell_or (word_of_digits text)
 meaning names place Word None second = Err Misformed
 meaning names place Frac (Some text) second = cell_of_fraction (decimal_fraction text)
 meaning names place Frac None second = Err Misformed

@@ -1,6 +1,7 @@
 //! What a source assembles to.
 
 ghost use Rattle.std.specs.Prelude.{◌≡◌, ◌≤◌, ◌↔◌, ◌++◌, length, IsSome, IfSome};
+ghost use Rattle.lgp_word.specs.Address.{IsAddress};
 ghost use Rattle.lgp_assembler.specs.Parts.{AreProgramCells};
 
 use arrayvec::ArrayVec;
@@ -103,9 +104,13 @@ impl<A: Allocator> Image<A> {
 
     /// The address at which the program starts, where the source gives one.
     pub fn start(&self) -> Option<Address>
-        ensures { result ≡ self.now.start }
+        ensures value { result ≡ self.now.start }
+        ensures address { IfSome result IsAddress }
     {
-        self.start
+        let start = self.start?;
+        // That its number is an address is what the clause says of it.
+        let _ = start.number();
+        Some(start)
     }
 
     /// The names with their values, 0 to 4096, in order of the source's lines.

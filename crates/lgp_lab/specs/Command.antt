@@ -2,7 +2,7 @@
 use Rattle.std.specs.Prelude.{ℕ, ◌+◌, ◌&&◌, Bool, true, false, if◌then◌else◌, nat_le, nat_lt, Option, Some, None, List, drop, codes}
 use Rattle.std.specs.Str.{bytes_eq}
 use Rattle.lgp_word.specs.Decimal.{decimal_number}
-use Rattle.lgp_word.specs.Digits.{address_text, word_at}
+use Rattle.lgp_word.specs.Digits.{address_text, word_of_digits}
 use Rattle.lgp_lab.specs.Limits.{digit_limit, drum_size, shown_limit}
 use Rattle.lgp_lab.specs.Line.{behind_word, first_word, has_no_word}
 use Rattle.lgp_lab.specs.declared.command.Command.{Command}
@@ -59,7 +59,7 @@ put_by _ _ = None
 unfoldable pub put_command : List ℕ → Option Command
 put_command operands =
     if has_no_word (behind_word (behind_word operands))
-    then put_by (address_text (first_word operands)) (word_at (first_word (behind_word operands))) else None
+    then put_by (address_text (first_word operands)) (word_of_digits (first_word (behind_word operands))) else None
 
 abbrev pub press_by : Option Action → Option Command
 press_by None = None

@@ -3,6 +3,7 @@
 use Rattle.std.specs.Prelude.{◌≡◌, ℕ, ◌-◌, ◌^◌, ◌≤◌, ◌==◌, Bool, true, min, List, [], ◌∷◌, ◌++◌, length, take, count_by, slice_index, Option, Some, ⊤}
 use Rattle.std.specs.List.{concat}
 use Rattle.std.specs.Io.KnownBytes.{Appends, Consumes}
+use Rattle.std.specs.Str.{byte}
 use Rattle.std.specs.Str.Lines.{lines}
 use Rattle.lgp_lab.specs.declared.stream.LabFault.{LabFault}
 use Rattle.lgp_lab.specs.declared.stream.LabFault.TheVariants.{Read, Write, Memory}
@@ -32,14 +33,14 @@ abbrev pub count_limit : ℕ
 count_limit = 2 ^ 64 - 1
 
 abbrev pub is_question : List ℕ → Bool
-is_question reply = slice_index reply 0 == 63
+is_question reply = slice_index reply 0 == byte "?"
 
 abbrev pub question_count : List (List ℕ) → ℕ
 question_count replies = min (count_by is_question replies) count_limit
 
 -- the lines of a text that a line feed ends: as many of its lines as it has line feeds
 abbrev pub is_line_feed : ℕ → Bool
-is_line_feed byte = byte == 10
+is_line_feed character = character == byte "\n"
 
 abbrev pub complete_lines : List ℕ → List (List ℕ)
 complete_lines text = take (count_by is_line_feed text) (lines text)

@@ -51,29 +51,29 @@ written_address address = address_digits address
 
 unfoldable pub registers_text : Look → List ℕ
 registers_text look =
-    codes "counter " ++ (written_address look.counter ++ (codes " accumulator " ++ (digits_of look.accumulator
-    ++ (codes " register " ++ digits_of look.register))))
+    codes "counter " ++ written_address look.counter ++ codes " accumulator " ++ digits_of look.accumulator
+    ++ codes " register " ++ digits_of look.register
 
 unfoldable pub console_text : Look → List ℕ
 console_text look =
-    codes " status " ++ (status_text look.status ++ (codes " mode " ++ (mode_text look.mode
-    ++ (codes " switches " ++ switches_text look.switches))))
+    codes " status " ++ status_text look.status ++ codes " mode " ++ mode_text look.mode
+    ++ codes " switches " ++ switches_text look.switches
 
 unfoldable pub tape_text : Look → ℕ → List ℕ
-tape_text look left = codes " reader " ++ (on_text look.reader_on ++ (codes " tape " ++ decimal left))
+tape_text look left = codes " reader " ++ on_text look.reader_on ++ codes " tape " ++ decimal left
 
 unfoldable pub clock_text : ℕ → List ℕ
-clock_text clock = codes " clock " ++ (decimal clock ++ codes "\n")
+clock_text clock = codes " clock " ++ decimal clock ++ codes "\n"
 
 unfoldable pub panel_text : Look → ℕ → List ℕ
-panel_text look left = registers_text look ++ (console_text look ++ (tape_text look left ++ clock_text look.clock))
+panel_text look left = registers_text look ++ console_text look ++ tape_text look left ++ clock_text look.clock
 
 -- the line of a word by its digits, and by its disassembly
 unfoldable pub digits_line : ℕ → ℕ → List ℕ
 digits_line address word = cell_line address word
 
 unfoldable pub shown_line : ℕ → ℕ → List ℕ
-shown_line address word = written_address address ++ (codes " " ++ (disassembly word ++ codes "\n"))
+shown_line address word = written_address address ++ codes " " ++ disassembly word ++ codes "\n"
 
 -- the lines of so many words from an address on
 abbrev pub lines_text : (ℕ → ℕ → List ℕ) → State → ℕ → ℕ → List ℕ
@@ -86,15 +86,15 @@ abbrev pub is_used : ℕ → Bool
 is_used word = not (word == 0)
 
 unfoldable pub dump_text : List ℕ → List ℕ
-dump_text words = codes "dump " ++ (decimal (count_by is_used words) ++ (codes "\n" ++ dump_of words))
+dump_text words = codes "dump " ++ decimal (count_by is_used words) ++ codes "\n" ++ dump_of words
 
 unfoldable pub printed_text : List ℕ → List ℕ
 printed_text [] = codes "printed 0\n"
 printed_text (code ∷ more) =
-    codes "printed " ++ (decimal (length (code ∷ more)) ++ (32 ∷ (written_tape (code ∷ more) ++ codes "\n")))
+    codes "printed " ++ decimal (length (code ∷ more)) ++ codes " " ++ written_tape (code ∷ more) ++ codes "\n"
 
 unfoldable pub bad_sign_text : ℕ → List ℕ
-bad_sign_text place = codes "? 12 BadSign " ++ (decimal place ++ codes "\n")
+bad_sign_text place = codes "? 12 BadSign " ++ decimal place ++ codes "\n"
 
 unfoldable pub refusal_text : Refusal → List ℕ
 refusal_text refusals.Form = codes "? 1 Form\n"
@@ -105,16 +105,16 @@ refusal_text refusals.TooLong = codes "? 11 TooLong\n"
 refusal_text (refusals.BadSign place) = bad_sign_text place
 
 unfoldable pub count_text : ℕ → List ℕ
-count_text count = codes "ok " ++ (decimal count ++ codes "\n")
+count_text count = codes "ok " ++ decimal count ++ codes "\n"
 
 unfoldable pub typed_text : ℕ → ℕ → List ℕ
-typed_text live dead = codes "live " ++ (decimal live ++ (codes " dead " ++ (decimal dead ++ codes "\n")))
+typed_text live dead = codes "live " ++ decimal live ++ codes " dead " ++ decimal dead ++ codes "\n"
 
 unfoldable pub stopped_clock_text : ℕ → List ℕ
-stopped_clock_text clock = codes "clock " ++ (decimal clock ++ codes "\n")
+stopped_clock_text clock = codes "clock " ++ decimal clock ++ codes "\n"
 
 unfoldable pub orders_text : ℕ → Status → List ℕ
-orders_text done status = codes "orders " ++ (decimal done ++ (32 ∷ (status_text status ++ codes "\n")))
+orders_text done status = codes "orders " ++ decimal done ++ codes " " ++ status_text status ++ codes "\n"
 
 -- the lines of a reply, given the state after the command
 abbrev pub reply_text : State → Reply → List ℕ

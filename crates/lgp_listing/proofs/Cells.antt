@@ -4,9 +4,9 @@ use Rattle.std.proofs.lemmas.Bool.{and_parts, eqb-true, ne_eqb, cond-false}
 use Rattle.std.proofs.lemmas.List.{append_assoc, drop_more, drop-drop, take-append-drop, drop_all}
 use Rattle.lgp_word.specs.Address.{IsAddress}
 use Rattle.lgp_word.specs.Word.{IsWord}
-use Rattle.lgp_word.specs.Digits.{digits_of, four_digits, address_digits, address_text, word_at}
-use Rattle.lgp_word.proofs.DigitLemmas.{word_at-digits_of, digits_of-word_at}
-use Rattle.lgp_word.proofs.TextLemmas.{address_text-address_digits, address_digits-address_text, IsWord-word_at}
+use Rattle.lgp_word.specs.Digits.{digits_of, four_digits, address_digits, address_text, word_of_digits}
+use Rattle.lgp_word.proofs.DigitLemmas.{word_of_digits-digits_of, digits_of-word_of_digits}
+use Rattle.lgp_word.proofs.TextLemmas.{address_text-address_digits, address_digits-address_text, IsWord-word_of_digits}
 use Rattle.lgp_listing.specs.Dump.{cell_line, cell_by, cell_in}
 use Rattle.lgp_listing.specs.Laws.{IsLineOf}
 
@@ -14,8 +14,8 @@ use Rattle.lgp_listing.specs.Laws.{IsLineOf}
 pub cell_in-cell_line : (address word : ℕ) → IsAddress address → IsWord word → word ≢ 0 → cell_in (cell_line address word) ≡ Some (address, word)
 unfolding cell_in digits_of four_digits
 cell_in-cell_line address word is_address is_word some =
-    ap (λ a. cell_by a (word_at (digits_of word))) (address_text-address_digits address is_address)
-    ∙ ap (cell_by (Some address)) (word_at-digits_of word is_word)
+    ap (λ a. cell_by a (word_of_digits (digits_of word))) (address_text-address_digits address is_address)
+    ∙ ap (cell_by (Some address)) (word_of_digits-digits_of word is_word)
     ∙ cond-false (word == 0) None (Some (address, word)) (ne_eqb word 0 some)
 
 -- the two that a line in form has
@@ -55,17 +55,17 @@ kept false o cell e = cc
 pub cell_line-cell_in : (line : List ℕ) (cell : ℕ × ℕ) → cell_in line ≡ Some cell → IsLineOf cell.0 cell.1 line
 unfolding cell_in
 cell_line-cell_in line cell read =
-    let form = kept (length line == 14 && slice_index line 4 == 32 && slice_index line 13 == 10) (cell_by (address_text (take 4 line)) (word_at (take 8 (drop 5 line)))) cell read in
+    let form = kept (length line == 14 && slice_index line 4 == 32 && slice_index line 13 == 10) (cell_by (address_text (take 4 line)) (word_of_digits (take 8 (drop 5 line)))) cell read in
     let two = and_parts (length line == 14 && slice_index line 4 == 32) (slice_index line 13 == 10) form.0 in
     let one = and_parts (length line == 14) (slice_index line 4 == 32) two.0 in
-    let parts = cell_parts (address_text (take 4 line)) (word_at (take 8 (drop 5 line))) cell form.1 in
+    let parts = cell_parts (address_text (take 4 line)) (word_of_digits (take 8 (drop 5 line))) cell form.1 in
     let address = address_digits-address_text (take 4 line) cell.0 parts.0 in
-    let digits = digits_of-word_at (take 8 (drop 5 line)) cell.1 parts.1 in
+    let digits = digits_of-word_of_digits (take 8 (drop 5 line)) cell.1 parts.1 in
     let space : get_or line 4 0 ≡ 32 = eqb-true _ _ one.1 in
     let feed : get_or line 13 0 ≡ 10 = eqb-true _ _ two.1 in
     record {
       address_is = address.0;
-      word_is = IsWord-word_at (take 8 (drop 5 line)) cell.1 parts.1;
+      word_is = IsWord-word_of_digits (take 8 (drop 5 line)) cell.1 parts.1;
       some = parts.2;
       line_is = line_parts line (eqb-true _ _ one.0)
           ∙ ap (λ b. take 4 line ++ b ∷ [] ++ take 8 (drop 5 line) ++ get_or line 13 0 ∷ []) space

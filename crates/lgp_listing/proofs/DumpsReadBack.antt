@@ -8,8 +8,8 @@ use Rattle.bstr.specs.Text.{line_len, lines_of}
 use Rattle.bstr.proofs.lemmas.LineLemmas.{lines-nil, lines-step}
 use Rattle.lgp_word.specs.Address.{IsAddress}
 use Rattle.lgp_word.specs.Word.{IsWord}
-use Rattle.lgp_word.specs.Digits.{digits, digit_byte, digits_of, four_digits, address_digits, address_text, word_at}
-use Rattle.lgp_word.proofs.DigitLemmas.{word_at-digits_of}
+use Rattle.lgp_word.specs.Digits.{digits, digit_byte, digits_of, four_digits, address_digits, address_text, word_of_digits}
+use Rattle.lgp_word.proofs.DigitLemmas.{word_of_digits-digits_of}
 use Rattle.lgp_word.proofs.TextLemmas.{address_text-address_digits}
 use Rattle.lgp_listing.specs.Dump.{IsDrum, cell_line, word_line, dump_from, dump_of, fault_from, first_fault}
 use Rattle.lgp_listing.proofs.Cells.{cell_in-cell_line}
@@ -138,7 +138,7 @@ same_cell a b v w xs ys is_a is_b is_v is_w e =
     let address : address_digits a ≡ address_digits b = cc (e) in
     let digits_same : digits_of v ≡ digits_of w = cc (e) in (
       some_some a b (sym (address_text-address_digits a is_a) ∙ ap address_text address ∙ address_text-address_digits b is_b),
-      some_some v w (sym (word_at-digits_of v is_v) ∙ ap word_at digits_same ∙ word_at-digits_of w is_w),
+      some_some v w (sym (word_of_digits-digits_of v is_v) ∙ ap word_of_digits digits_same ∙ word_of_digits-digits_of w is_w),
       cc (e),
     )
 

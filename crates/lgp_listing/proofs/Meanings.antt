@@ -11,7 +11,7 @@ use Rattle.lgp_word.specs.Address.{IsAddress}
 use Rattle.lgp_word.specs.Word.{IsWord}
 use Rattle.lgp_word.specs.Order.{op_letter, op_of_letter, letter_number, op_of, order_word}
 use Rattle.lgp_word.specs.Digits.{digits_of, address_digits, address_text}
-use Rattle.lgp_word.proofs.DigitLemmas.{word_at-digits_of}
+use Rattle.lgp_word.proofs.DigitLemmas.{word_of_digits-digits_of}
 use Rattle.lgp_word.proofs.TextLemmas.{address_text-address_digits}
 use Rattle.lgp_assembler.specs.declared.operations.Operation.TheVariants.{Order, MinusT, Word, End}
 use Rattle.lgp_assembler.specs.declared.operands.Meaning.TheVariants.{Cell, Nothing}
@@ -102,7 +102,7 @@ module _ (names : List (List ℕ × ℕ)) (place address : ℕ) (is_address : Is
 
 pub word_means : (names : List (List ℕ × ℕ)) (place word : ℕ) → IsWord word → meaning names place Word (Some (digits_of word)) None ≡ Ok (Cell word)
 unfolding meaning
-word_means names place word is_word = ap cell_or (word_at-digits_of word is_word)
+word_means names place word is_word = ap cell_or (word_of_digits-digits_of word is_word)
 
 pub end_means : (names : List (List ℕ × ℕ)) (place : ℕ) → meaning names place End None None ≡ Ok Nothing
 unfolding meaning

@@ -22,7 +22,7 @@ use Rattle.lgp_assembler.specs.Places.{next_place, has_ended, names_of, is_taken
 use Rattle.lgp_assembler.specs.Faults.{needs_at_least, fault_of, faults_in, missing_end}
 use Rattle.lgp_assembler.specs.Parts.{ImageParts}
 use Rattle.lgp_assembler.specs.declared.refusal.Fault.{Fault}
-use Rattle.lgp_assembler.specs.Image.{passed, all_lines, cells_in, start_in}
+use Rattle.lgp_assembler.specs.Image.{passed_lines, all_lines, cells_in, start_in}
 use Rattle.lgp_listing.specs.Disassembly.{order_text, digits_text, text_by, disassembly}
 use Rattle.lgp_listing.specs.Laws.{one_line, AssemblesTo, EachWordAssembles}
 use Rattle.lgp_listing.proofs.Meanings.{order_named, order_means, minus_means, word_means, end_means}
@@ -139,7 +139,7 @@ module _ (n o : ℕ) (name operand : List ℕ) (operation : Operation) (named : 
   pub both_lines : all_lines (one_line text) ≡ end_fields ∷ line_fields operation (o ∷ operand) ∷ []
   unfolding all_lines
   both_lines =
-      ap (λ ls. passed [] (map fields_of ls)) two_lines
+      ap (λ ls. passed_lines [] (map fields_of ls)) two_lines
       ∙ ap (λ f. f ∷ fields_of (line_of 1 (32 ∷ text)) ∷ []) end_line
       ∙ ap (λ f. end_fields ∷ f ∷ []) first_line
 

@@ -1,7 +1,7 @@
 -- Part of the public promise: the text of a drum's words, and the first fault of a text that is no drum's. This project's own choice.
 use Rattle.std.specs.Prelude.{◌≡◌, ℕ, ◌+◌, ◌++◌, ◌==◌, ◌&&◌, nat_lt, if◌then◌else◌, Option, Some, None, List, [], ◌∷◌, length, take, drop, codes, slice_index, All}
 use Rattle.bstr.specs.Text.{lines_of}
-use Rattle.lgp_word.specs.Digits.{digits_of, address_digits, address_text, word_at}
+use Rattle.lgp_word.specs.Digits.{digits_of, address_digits, address_text, word_of_digits}
 use Rattle.lgp_word.specs.Word.{IsWord}
 use Rattle.lgp_listing.specs.declared.reading.DumpFault.{DumpFault}
 use Rattle.lgp_listing.specs.declared.reading.DumpFault.TheVariants.{Form, Order}
@@ -40,7 +40,7 @@ cell_by _ _ = None
 unfoldable pub cell_in : List ℕ → Option (ℕ × ℕ)
 cell_in line =
     if length line == 14 && slice_index line 4 == 32 && slice_index line 13 == 10
-    then cell_by (address_text (take 4 line)) (word_at (take 8 (drop 5 line))) else None
+    then cell_by (address_text (take 4 line)) (word_of_digits (take 8 (drop 5 line))) else None
 
 -- the fault of a line of this number, or else that of the lines behind it: first its form is asked, and then whether its address
 -- is at least `least`, the one after that of the line before

@@ -3,7 +3,7 @@ use Rattle.std.proofs.Common.{◌≡◌, ℕ, zero, suc, ◌+◌, ◌*◌, ◌/�
 use Rattle.std.proofs.lemmas.List.Quantifiers.{position-Some}
 use Rattle.std.proofs.lemmas.Bool.{eqb-true}
 use Rattle.std.proofs.lemmas.List.{append-nil}
-use Rattle.lgp_word.specs.Digits.{digits, digit_byte, digit_value, four_digits, digits_of, number_of, word_at}
+use Rattle.lgp_word.specs.Digits.{digits, digit_byte, digit_value, four_digits, digits_of, number_of, word_of_digits}
 use Rattle.lgp_word.specs.Word.{IsWord}
 
 -- each of the sixteen values is read from its digit
@@ -86,9 +86,9 @@ unfolding digits_of four_digits
 length-digits_of number = refl
 
 -- a word is read from its digits
-pub word_at-digits_of : (word : ℕ) → IsWord word → word_at (digits_of word) ≡ Some word
-unfolding word_at
-word_at-digits_of word h =
+pub word_of_digits-digits_of : (word : ℕ) → IsWord word → word_of_digits (digits_of word) ≡ Some word
+unfolding word_of_digits
+word_of_digits-digits_of word h =
     let even : word % 2 ≡ 0 = h.1 in
     rw (length-digits_of word, number_of-digits_of word h.0, even) refl
 
@@ -118,9 +118,9 @@ kept true o word e = (refl, e)
 kept false o word e = cc
 
 -- a text that is read as a word is its digits
-pub digits_of-word_at : (text : List ℕ) (word : ℕ) → word_at text ≡ Some word → digits_of word ≡ text
-unfolding word_at
-digits_of-word_at text word e =
+pub digits_of-word_of_digits : (text : List ℕ) (word : ℕ) → word_of_digits text ≡ Some word → digits_of word ≡ text
+unfolding word_of_digits
+digits_of-word_of_digits text word e =
     let long = kept (eqb (length text) 8) (option_and_then (λ number. cond (eqb (number % 2) 0) (Some number) None) (number_of 0 text)) word e in
     let read = between (number_of 0 text) (λ number. cond (eqb (number % 2) 0) (Some number) None) word long.1 in
     let same = kept (eqb (read.0 % 2) 0) (Some read.0) word read.2 in
@@ -128,6 +128,6 @@ digits_of-word_at text word e =
     rw (← is_word) (digits_of-number_of text read.0 (eqb-true _ _ long.0) read.1).1
 
 -- the same of the answer of a reader
-pub IfSome-word_at : (answer : Option ℕ) (text : List ℕ) → answer ≡ word_at text → IfSome answer (λ word. digits_of word ≡ text)
-IfSome-word_at None text e = tt
-IfSome-word_at (Some word) text e = digits_of-word_at text word (sym e)
+pub IfSome-word_of_digits : (answer : Option ℕ) (text : List ℕ) → answer ≡ word_of_digits text → IfSome answer (λ word. digits_of word ≡ text)
+IfSome-word_of_digits None text e = tt
+IfSome-word_of_digits (Some word) text e = digits_of-word_of_digits text word (sym e)

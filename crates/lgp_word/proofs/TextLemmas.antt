@@ -6,7 +6,7 @@ use Rattle.std.proofs.lemmas.Bool.{and_parts, and_from, eqb-true, ltb-true, leb-
 use Rattle.std.proofs.lemmas.Option.{cond_some, none-some}
 use Rattle.lgp_word.specs.Address.{IsAddress}
 use Rattle.lgp_word.specs.Word.{IsWord}
-use Rattle.lgp_word.specs.Digits.{address_digits, address_text, two_at, number_of, word_at}
+use Rattle.lgp_word.specs.Digits.{address_digits, address_text, two_at, number_of, word_of_digits}
 use Rattle.lgp_word.proofs.DigitLemmas.{between, digits_of-number_of, kept}
 
 digit : (d : ℕ) → d < 10 → is_ascii_digit (48 + d) ≡ true
@@ -68,9 +68,9 @@ address_digits-address_text (a ∷ b ∷ c ∷ d ∷ e ∷ rest) number read =
     absurd (omega (arith, long))
 
 -- what is read from eight digits is a word
-pub IsWord-word_at : (text : List ℕ) (word : ℕ) → word_at text ≡ Some word → IsWord word
-unfolding word_at
-IsWord-word_at text word e =
+pub IsWord-word_of_digits : (text : List ℕ) (word : ℕ) → word_of_digits text ≡ Some word → IsWord word
+unfolding word_of_digits
+IsWord-word_of_digits text word e =
     let long = kept (eqb (length text) 8) (option_and_then (λ number. cond (eqb (number % 2) 0) (Some number) None) (number_of 0 text)) word e in
     let read = between (number_of 0 text) (λ number. cond (eqb (number % 2) 0) (Some number) None) word long.1 in
     let same = kept (eqb (read.0 % 2) 0) (Some read.0) word read.2 in

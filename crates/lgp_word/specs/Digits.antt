@@ -32,8 +32,8 @@ number_of before [] = Some before
 number_of before (byte ∷ bytes) = option_and_then (λ value. number_of (16 * before + value) bytes) (digit_value byte)
 
 -- the word that a text is: exactly eight digits, an even number
-unfoldable pub word_at : List ℕ → Option ℕ
-word_at text =
+unfoldable pub word_of_digits : List ℕ → Option ℕ
+word_of_digits text =
     if length text == 8 then option_and_then (λ number. if number % 2 == 0 then Some number else None) (number_of 0 text)
     else None
 

@@ -2,7 +2,7 @@
 
 ghost use Rattle.std.specs.Prelude.{◌≡◌, ℕ, ◌+◌, ◌*◌, ◌/◌, ◌%◌, ◌^◌, ◌<◌, ◌≤◌, length, Some, IfSome};
 ghost use Rattle.lgp_word.specs.Word.{IsWord};
-ghost use Rattle.lgp_word.specs.Digits.{digit_byte, digit_value, digits_of, four_digits, number_of, word_at};
+ghost use Rattle.lgp_word.specs.Digits.{digit_byte, digit_value, digits_of, four_digits, number_of, word_of_digits};
 
 use crate::word::Word;
 
@@ -75,9 +75,9 @@ fn number_of(digits: &[u8]) -> Option<u64>
 }
 
 /// The word that a text is, if it is one.
-#[tactic(auto, unfolding(crate::specs::Digits::word_at))]
-fn word_at(text: &[u8]) -> Option<Word>
-    ensures { result ≡ word_at text.now }
+#[tactic(auto, unfolding(crate::specs::Digits::word_of_digits))]
+fn word_of_digits(text: &[u8]) -> Option<Word>
+    ensures { result ≡ word_of_digits text.now }
 {
     if text.len() != 8 {
         return None;
@@ -90,10 +90,10 @@ fn word_at(text: &[u8]) -> Option<Word>
 
 /// The word of a text: `None` where the text is not exactly eight digits of an even number.
 pub fn read_digits(text: &[u8]) -> Option<Word>
-    ensures value { result ≡ word_at text.now }
+    ensures value { result ≡ word_of_digits text.now }
     ensures reads_written { (word : ℕ)
         → IsWord word → text.now ≡ digits_of word → result ≡ Some word }
     ensures written_so { IfSome result (λ word. digits_of word ≡ text.now) }
 {
-    word_at(text)
+    word_of_digits(text)
 }

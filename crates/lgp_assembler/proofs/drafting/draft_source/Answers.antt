@@ -5,7 +5,7 @@ use Rattle.lgp_assembler.specs.FieldsSeenInside.{fields_seen}
 use Rattle.lgp_assembler.specs.Places.{has_word, next_place, place_by, names_of}
 use Rattle.lgp_assembler.specs.Parts.{AreProgramCells}
 use Rattle.lgp_assembler.specs.Faults.{faults_in}
-use Rattle.lgp_assembler.specs.Image.{all_lines, passed, cells_in, start_in}
+use Rattle.lgp_assembler.specs.Image.{all_lines, passed_lines, cells_in, start_in}
 use Rattle.lgp_assembler.specs.ScanInside.{Stands, AreMarks, IsDraftOf}
 use Rattle.lgp_assembler.proofs.ScanSteps.{marks_step, stands_step, names_at, place_at, word_count_small}
 use Rattle.lgp_assembler.proofs.DraftSteps.{draft_step}
@@ -35,7 +35,7 @@ loop-line-init g c =
         };
       };
       few_cells = λ _. omega (arith, ap length c.in_ok-draft.ensures.cells);
-      rest = ap (λ lines. passed [] (map fields_of lines)) (same ∙ c.new-line-items.ensures.lines);
+      rest = ap (λ lines. passed_lines [] (map fields_of lines)) (same ∙ c.new-line-items.ensures.lines);
     }
 
 pub loop-line-preserved : goal.loop-line-preserved
@@ -69,14 +69,14 @@ loop-line-preserved g c =
           c.place_of-place.result place_is before.stands before.marks before.draft added.faults added.cells added.start added.symbols added.words);
       few_cells = counted_step names line c.place_of-place.result c.loop-line.scan.ended c.loop-line.scan.names old.taken.items draft.taken.items
           old.faults.items draft.faults.items old.cells.items draft.cells.items before.marks.length_is added.faults added.cells added.taken before.few_cells;
-      rest = ap (λ lines. passed before.earlier (map fields_of lines)) (sym step) ∙ before.rest;
+      rest = ap (λ lines. passed_lines before.earlier (map fields_of lines)) (sym step) ∙ before.rest;
     }
 
 pub returns-clause-draft : goal.returns-clause-draft
 returns-clause-draft g c =
     let done = c.loop-line.invariant in
     let draft = c.loop-line.draft in
-    let all = ap (λ lines. passed done.earlier (map fields_of lines)) (sym c.in-None.ensures.steps.0) ∙ done.rest in
+    let all = ap (λ lines. passed_lines done.earlier (map fields_of lines)) (sym c.in-None.ensures.steps.0) ∙ done.rest in
     subst (IsDraftOf c.args.names.now draft.faults.items draft.cells.items draft.start draft.symbols.items) all done.draft
 
 pub returns-clause-few : goal.returns-clause-few

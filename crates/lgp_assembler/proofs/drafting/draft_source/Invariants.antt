@@ -1,6 +1,6 @@
 use Rattle.std.proofs.Common.{[], ◌≡◌, ◌+◌, ◌≤◌, ◌<◌, ◌^◌, List, length, map}
 use Rattle.lgp_assembler.specs.Fields.{LineFields, fields_of}
-use Rattle.lgp_assembler.specs.Image.{all_lines, passed}
+use Rattle.lgp_assembler.specs.Image.{all_lines, passed_lines}
 use Rattle.lgp_assembler.specs.ScanInside.{Stands, AreMarks, marked_count, IsDraftOf}
 use Rattle.lgp_assembler.proofs.drafting.draft_source.Given as goal
 
@@ -15,5 +15,5 @@ invariant-loop-line g l = record {
   marks : AreMarks l.draft.taken.items earlier;
   draft : IsDraftOf l.names l.draft.faults.items l.draft.cells.items l.draft.start l.draft.symbols.items earlier;
   few_cells : l.draft.faults.items ≡ [] → length l.draft.cells.items ≤ marked_count l.draft.taken.items;
-  rest : passed earlier (map fields_of l.line-iterator) ≡ all_lines l.source;
+  rest : passed_lines earlier (map fields_of l.line-iterator) ≡ all_lines l.source;
 }

@@ -3,7 +3,7 @@ use Rattle.lgp_source.specs.Seen.{line_seen}
 use Rattle.lgp_assembler.specs.Fields.{fields_of}
 use Rattle.lgp_assembler.specs.FieldsSeenInside.{fields_seen}
 use Rattle.lgp_assembler.specs.Places.{next_place}
-use Rattle.lgp_assembler.specs.Image.{all_lines, passed}
+use Rattle.lgp_assembler.specs.Image.{all_lines, passed_lines}
 use Rattle.lgp_assembler.specs.ScanInside.{Stands}
 use Rattle.lgp_assembler.proofs.ScanSteps.{stands_step, names_at, place_at, word_count_small}
 use Rattle.lgp_assembler.proofs.passes.scan_source.Goals as goal
@@ -19,7 +19,7 @@ loop-line-init g c =
       room = omega (arith, ap length same, c.new-line-items.ensures.len, c.new-scan.ensures.place_is);
       earlier = [];
       stands = c.new-scan.ensures;
-      rest = ap (λ lines. passed [] (map fields_of lines)) (same ∙ c.new-line-items.ensures.lines);
+      rest = ap (λ lines. passed_lines [] (map fields_of lines)) (same ∙ c.new-line-items.ensures.lines);
     }
 
 pub loop-line-preserved : goal.loop-line-preserved
@@ -39,12 +39,12 @@ loop-line-preserved g c =
           (stands_step _ _ _ _ before.earlier line _ _ _ _ before.stands now.lines
           (now.names ∙ names_at line c.place_of-place.result c.loop-line.scan.place c.loop-line.scan.ended c.loop-line.scan.names c.place_of-place.ensures.value)
           (now.place ∙ place_at line c.place_of-place.result c.loop-line.scan.place c.place_of-place.ensures.value) now.ended);
-      rest = ap (λ lines. passed before.earlier (map fields_of lines)) (sym step) ∙ before.rest;
+      rest = ap (λ lines. passed_lines before.earlier (map fields_of lines)) (sym step) ∙ before.rest;
     }
 
 pub returns-clause-stands : goal.returns-clause-stands
 returns-clause-stands g c =
     let done = c.loop-line.invariant in
     let scan = c.loop-line.scan in
-    let all = ap (λ lines. passed done.earlier (map fields_of lines)) (sym c.in-None.ensures.steps.0) ∙ done.rest in
+    let all = ap (λ lines. passed_lines done.earlier (map fields_of lines)) (sym c.in-None.ensures.steps.0) ∙ done.rest in
     subst (Stands scan.lines scan.place scan.ended scan.names) all done.stands

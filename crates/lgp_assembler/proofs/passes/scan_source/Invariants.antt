@@ -1,6 +1,6 @@
 use Rattle.std.proofs.Common.{◌≡◌, ◌+◌, ◌≤◌, ◌<◌, ◌^◌, List, length, map}
 use Rattle.lgp_assembler.specs.Fields.{LineFields, fields_of}
-use Rattle.lgp_assembler.specs.Image.{all_lines, passed}
+use Rattle.lgp_assembler.specs.Image.{all_lines, passed_lines}
 use Rattle.lgp_assembler.specs.ScanInside.{Stands}
 use Rattle.lgp_assembler.proofs.passes.scan_source.Given as goal
 
@@ -12,5 +12,5 @@ invariant-loop-line g l = record {
   room : l.scan.place + length l.line-iterator ≤ 2 ^ 63 + 4096;
   earlier : List LineFields;
   stands : Stands l.scan.lines l.scan.place l.scan.ended l.scan.names earlier;
-  rest : passed earlier (map fields_of l.line-iterator) ≡ all_lines l.source;
+  rest : passed_lines earlier (map fields_of l.line-iterator) ≡ all_lines l.source;
 }
