@@ -1,7 +1,7 @@
 #!/bin/sh
 # Builds the two small programs that stand beside this script, in a copy of the repository, and counts their instructions by
-# callgrind on an input and on one of half its length: the larger one has to take about twice as many. tape.rt passes a tape word
-# time by word time; assembler.rt assembles a source of short lines with labels. Needs valgrind. Nothing of this is part of the check.
+# callgrind on an input and on one of half its length: the larger one has to take about twice as many. tape.rt.txt passes a tape word
+# time by word time; assembler.rt.txt assembles a source of short lines with labels. Needs valgrind. Nothing of this is part of the check.
 set -eu
 top=$(cd "$(dirname "$0")/.." && pwd)
 work=$(mktemp -d)
@@ -11,7 +11,7 @@ cp -r "$top/crates" "$top/crates.txt" "$top/HANDLES" "$work"
 # Builds the program of a name over these crates.
 build() {
     mkdir -p "$work/crates/bench_$1/src"
-    cp "$top/bench/$1.rt" "$work/crates/bench_$1/src/main.rt"
+    cp "$top/bench/$1.rt.txt" "$work/crates/bench_$1/src/main.rt"
     : >"$work/crates/bench_$1/stdin"
     echo "bench_$1: $2" >>"$work/crates.txt"
     (cd "$work/crates/bench_$1" && rt run) >"$work/$1.log" 2>&1 || { tail -n 20 "$work/$1.log" >&2; exit 1; }
