@@ -1,10 +1,11 @@
 -- A line without a fault has a cell exactly where it has a word, and the cells of a source are those of its lines in order.
-use Rattle.std.proofs.Common.{◌≡◌, ◌-◌, ◌*◌, ◌%◌, ◌++◌, ◌^◌, ◌&&◌, ◌==◌, ℕ, ℤ, length, slice_index, Bool, true, false, cond, List, [], ◌∷◌, Option, None, Some, is_some, Result, Ok, Err, refl, sym, ◌∙◌, option_to_list, nat_le, nat_lt}
+use Rattle.std.proofs.Common.{◌≡◌, ◌-◌, ◌*◌, ◌%◌, ◌++◌, ◌^◌, ◌==◌, ℕ, ℤ, length, slice_index, Bool, true, false, cond, List, [], ◌∷◌, Option, None, Some, is_some, Result, Ok, Err, refl, sym, ◌∙◌, option_to_list, nat_le, nat_lt}
 use Rattle.std.proofs.lemmas.Bool.{true≢false}
 use Rattle.std.proofs.lemmas.List.{append_assoc, append-nil}
 use Rattle.lgp_word.specs.declared.order.Op.{Op}
 use Rattle.lgp_word.specs.declared.order.Op.TheVariants.{Z, B, Y, R, I, D, N, M, P, E, U, T, H, C, A, S}
 use Rattle.lgp_word.specs.Digits.{word_of_digits}
+use Rattle.lgp_word.specs.Decimal.{decimal_number}
 use Rattle.lgp_flexo.specs.Code.{code_at}
 use Rattle.lgp_fraction.specs.declared.fraction.FractionFault.{FractionFault}
 use Rattle.lgp_fraction.specs.declared.fraction.FractionFault.TheVariants.{Form, OutOfRange}
@@ -16,7 +17,7 @@ use Rattle.lgp_assembler.specs.declared.operands.Meaning.TheVariants.{Cell, Plac
 use Rattle.lgp_assembler.specs.declared.operands.OperandFault.{OperandFault}
 use Rattle.lgp_assembler.specs.declared.operands.OperandFault.TheVariants.{Misformed, Unknown, Outside}
 use Rattle.lgp_assembler.specs.Operations.{makes_word}
-use Rattle.lgp_assembler.specs.Operands.{cell_of_order, printing, sign_operand, order_operand, address_operand, scaled_word, integer_word, is_decimal, decimal, unsigned_part, cell_of_fraction, cell_or, place_or, meaning}
+use Rattle.lgp_assembler.specs.Operands.{cell_of_order, printing, sign_operand, order_operand, address_operand, scaled_word, word_of_parts, integer_word, unsigned_part, cell_of_fraction, cell_or, place_or, meaning}
 use Rattle.lgp_assembler.specs.Fields.{LineFields}
 use Rattle.lgp_assembler.specs.Places.{option_makes_word, has_word, place_of, has_ended, names_of, is_taken}
 use Rattle.lgp_assembler.specs.Faults.{is_misformed, is_unknown, is_out_of_range, line_meaning, meaning_by, rows, fault_of, faults_in}
@@ -75,12 +76,17 @@ scaled_gives : (minus : Bool) (scaled : ℕ) → IsWordOrFault (scaled_word minu
 scaled_gives true scaled = chosen (nat_le scaled (2 ^ 30)) (Ok (Cell ((2 ^ 32 - 2 * scaled) % 2 ^ 32))) (Err Outside) tt tt
 scaled_gives false scaled = chosen (nat_lt scaled (2 ^ 30)) (Ok (Cell (2 * scaled))) (Err Outside) tt tt
 
+parts_give : (minus : Bool) (size point : Option ℕ) → IsWordOrFault (word_of_parts minus size point)
+parts_give minus None None = tt
+parts_give minus None (Some point) = tt
+parts_give minus (Some size) None = tt
+parts_give minus (Some size) (Some point) =
+    let scaled = size * 2 ^ (30 - point) in
+    chosen (nat_le point 30) (scaled_word minus scaled) (Err Misformed) (scaled_gives minus scaled) tt
+
 integer_gives : (number point : List ℕ) → IsWordOrFault (integer_word number point)
 unfolding integer_word
-integer_gives number point =
-    let minus = slice_index number 0 == 45 in
-    let scaled = decimal (unsigned_part number) * 2 ^ (30 - decimal point) in
-    chosen (is_decimal 10 (unsigned_part number) && is_decimal 2 point && nat_le (decimal point) 30) (scaled_word minus scaled) (Err Misformed) (scaled_gives minus scaled) tt
+integer_gives number point = parts_give (slice_index number 0 == 45) (decimal_number 10 (unsigned_part number)) (decimal_number 2 point)
 
 fraction_gives : (r : Result ℤ FractionFault) → IsWordOrFault (cell_of_fraction r)
 fraction_gives (Ok steps) = tt

@@ -1,5 +1,5 @@
 -- Part of the public promise: what operands stand for. This project's own choice.
-use Rattle.std.specs.Prelude.{ℕ, ◌+◌, ◌-◌, ◌*◌, ◌%◌, ◌^◌, ◌==◌, ◌&&◌, ◌||◌, nat_le, nat_lt, Bool, true, false, if◌then◌else◌, List, length, take, drop, fold, codes, slice_index, Option, None, Some, Result, Ok, Err, ok_or, ℤ, pos, ◌*ℤ◌}
+use Rattle.std.specs.Prelude.{ℕ, ◌+◌, ◌-◌, ◌*◌, ◌%◌, ◌^◌, ◌==◌, ◌&&◌, ◌||◌, nat_le, nat_lt, Bool, true, false, if◌then◌else◌, List, length, take, drop, codes, slice_index, Option, None, Some, option_map, Result, Ok, Err, ok_or, ℤ, pos, ◌*ℤ◌}
 use Rattle.std.specs.Str.{bytes_eq}
 use Rattle.std.specs.Char.{is_ascii_digit, is_ascii_lowercase}
 use Rattle.std.specs.List.{list_all, position_or_len}
@@ -7,6 +7,7 @@ use Rattle.std.specs.Map.{lookup}
 use Rattle.lgp_word.specs.declared.order.Op.{Op}
 use Rattle.lgp_word.specs.declared.order.Op.TheVariants.{P, T}
 use Rattle.lgp_word.specs.Order.{order_word}
+use Rattle.lgp_word.specs.Decimal.{decimal_number}
 use Rattle.lgp_word.specs.Digits.{address_text, word_of_digits}
 use Rattle.lgp_fraction.specs.declared.fraction.FractionFault.{FractionFault}
 use Rattle.lgp_fraction.specs.declared.fraction.FractionFault.TheVariants.{Form, OutOfRange}
@@ -30,18 +31,6 @@ is_name_byte b = is_ascii_lowercase b || is_ascii_digit b
 unfoldable pub is_name : List ℕ → Bool
 is_name text = is_ascii_lowercase (slice_index text 0) && list_all is_name_byte text && nat_le (length text) NAME_LIMIT
 
--- ---- decimal numbers
-
--- one decimal digit at least, and at most so many
-unfoldable pub is_decimal : ℕ → List ℕ → Bool
-is_decimal most text = list_all is_ascii_digit text && nat_le 1 (length text) && nat_le (length text) most
-
-abbrev pub decimal_step : ℕ → ℕ → ℕ
-decimal_step number digit = 10 * number + (digit - 48)
-
-unfoldable pub decimal : List ℕ → ℕ
-decimal digits = fold decimal_step 0 digits
-
 -- ---- address operands
 
 -- `+` or `-`
@@ -52,7 +41,7 @@ is_sign b = b == 43 || b == 45
 unfoldable pub offset_of : List ℕ → Option Offset
 offset_of text =
     if length text == 0 then Some (record { minus = false; number = 0 })
-    else (if is_decimal 4 (drop 1 text) then Some (record { minus = slice_index text 0 == 45; number = decimal (drop 1 text) }) else None)
+    else option_map (λ number. record { minus = slice_index text 0 == 45; number = number }) (decimal_number 4 (drop 1 text))
 
 -- the number of a base: the place of the line, that of a name, or an address
 unfoldable pub base_number : List (List ℕ × ℕ) → ℕ → List ℕ → Result ℕ OperandFault
@@ -110,10 +99,15 @@ scaled_word minus scaled =
 unfoldable pub unsigned_part : List ℕ → List ℕ
 unsigned_part text = if slice_index text 0 == 45 then drop 1 text else text
 
+abbrev pub word_of_parts : Bool → Option ℕ → Option ℕ → Result Meaning OperandFault
+word_of_parts minus (Some size) (Some point) =
+    if nat_le point 30 then scaled_word minus (size * 2 ^ (30 - point)) else Err Misformed
+word_of_parts minus _ _ = Err Misformed
+
+-- n has perhaps a minus and one to ten digits, q one or two
 unfoldable pub integer_word : List ℕ → List ℕ → Result Meaning OperandFault
 integer_word number point =
-    if is_decimal 10 (unsigned_part number) && is_decimal 2 point && nat_le (decimal point) 30
-    then scaled_word (slice_index number 0 == 45) (decimal (unsigned_part number) * 2 ^ (30 - decimal point)) else Err Misformed
+    word_of_parts (slice_index number 0 == 45) (decimal_number 10 (unsigned_part number)) (decimal_number 2 point)
 
 -- the word of a decimal
 abbrev pub cell_of_fraction : Result ℤ FractionFault → Result Meaning OperandFault

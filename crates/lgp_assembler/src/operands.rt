@@ -1,7 +1,6 @@
 //! What operands stand for.
 
 ghost use Rattle.std.specs.Prelude.{◌≡◌, ◌+◌, ◌-◌, ◌*◌, ◌≤◌, ◌<◌, ◌^◌, length, take, drop, IsTrue, IfOk, IfSome, true};
-ghost use Rattle.std.specs.Char.{is_ascii_digit};
 ghost use Rattle.std.specs.List.{list_all, position, position_or_len};
 ghost use Rattle.std.specs.Option.{option_copied};
 ghost use Rattle.lgp_fraction.specs.Decimal.{decimal_fraction};
@@ -12,7 +11,7 @@ use crate::operations::Operation;
 use crate::output::NAME_LIMIT;
 use lgp_flexo::code_of;
 use lgp_fraction::{Fraction, FractionFault};
-use lgp_word::{Address, Op, Order, Word, encode, read_digits};
+use lgp_word::{Address, Op, Order, Word, encode, read_decimal, read_digits};
 use std::alloc::Allocator;
 
 /// Why operands stand for nothing.
@@ -69,38 +68,6 @@ pub fn is_name(text: &[u8]) -> bool
     text[0].is_ascii_lowercase() && are_name_bytes(text) && text.len() <= NAME_LIMIT
 }
 
-/// Whether all bytes of a text are decimal digits.
-fn are_digits(text: &[u8]) -> bool
-    ensures { result ≡ list_all is_ascii_digit text.now }
-{
-    text.iter().all(|byte| byte.is_ascii_digit())
-}
-
-/// Whether a text is one decimal digit or more, at most `most`.
-#[tactic(auto, unfolding(crate::specs::Operands::is_decimal))]
-fn is_decimal(most: usize, text: &[u8]) -> bool
-    ensures value { result ≡ spec.is_decimal most text.now }
-    ensures digits { IsTrue result → list_all is_ascii_digit text.now ≡ true }
-    ensures short { IsTrue result → length text.now ≤ most }
-{
-    are_digits(text) && 1 <= text.len() && text.len() <= most
-}
-
-/// The number of at most ten decimal digits.
-#[tactic(auto, using(crate::proofs::Decimals::decimal_room, crate::proofs::Decimals::decimal_more, crate::proofs::Decimals::decimal_bound), unfolding(crate::specs::Operands::decimal))]
-fn decimal(digits: &[u8]) -> u64
-    requires digits { list_all is_ascii_digit digits.now ≡ true }
-    requires short { length digits.now ≤ 10 }
-    ensures value { result ≡ spec.decimal digits.now }
-    ensures bound { result < 10 ^ 10 }
-{
-    let mut number = 0;
-    for digit in digits {
-        number = 10 * number + u64::from(*digit - b'0');
-    }
-    number
-}
-
 /// Whether a byte is `+` or `-`.
 fn is_sign(byte: u8) -> bool
     ensures { result ≡ spec.is_sign byte }
@@ -120,12 +87,10 @@ fn offset_of(text: &[u8]) -> Option<Offset>
         });
     }
     let (_, digits) = text.split_at(1);
-    if !is_decimal(4, digits) {
-        return None;
-    }
+    let number = read_decimal(digits, 4)?;
     Some(Offset {
         minus: text[0] == b'-',
-        number: decimal(digits),
+        number,
     })
 }
 
@@ -305,16 +270,15 @@ fn scaled(size: u64, point: u64) -> u64
 fn integer_word(number: &[u8], point: &[u8]) -> Result<Meaning, OperandFault>
     ensures { result ≡ spec.integer_word number.now point.now }
 {
-    let digits = unsigned_part(number);
-    if !is_decimal(10, digits) || !is_decimal(2, point) {
-        return Err(OperandFault::Misformed);
-    }
-    let place = decimal(point);
-    if place > 30 {
-        return Err(OperandFault::Misformed);
-    }
     let minus = !number.is_empty() && number[0] == b'-';
-    scaled_word(minus, scaled(decimal(digits), place))
+    let parts = (
+        read_decimal(unsigned_part(number), 10),
+        read_decimal(point, 2),
+    );
+    match parts {
+        (Some(size), Some(point)) if point <= 30 => scaled_word(minus, scaled(size, point)),
+        _ => Err(OperandFault::Misformed),
+    }
 }
 
 /// The word of a decimal.
