@@ -1,48 +1,99 @@
 #!/bin/sh
-# Orders per second of ./lgp_lab on a loop of four orders: b 0050, a 0051, h 0050, u 0000. Where SIMH's LGP-30 is installed (Debian
-# package simh, program lgp), the same loop runs there too. Nothing of this is part of the check.
+# Instructions an order, as callgrind counts them, of the program on two loops, by the script command `orders`: a fixed run of 120,001
+# orders less one of 20,001, so that starting and ending do not count. Where SIMH's LGP-30 is installed (Debian package simh,
+# program lgp), it runs the same loops in the same way. Needs valgrind. Nothing of this is part of the check.
 set -eu
 top=$(cd "$(dirname "$0")/.." && pwd)
-orders=${1:-4000000}
-script=$(mktemp)
-trap 'rm -f "$script"' EXIT
+work=$(mktemp -d)
+trap 'rm -rf "$work"' EXIT
+short=20001
+long=120001
 
-cat > "$script" <<END
-put 0000 000100j8
-put 0001 000q00jj
-put 0002 000j00j8
-put 0003 000f0000
-put 0051 00000002
-press start
-END
-"$top/lgp_lab" < "$script" > /dev/null
+# b 0050, a 0051, h 0050, u 0000: it counts up by one.
+small='0000 000100j8
+0001 000q00jj
+0002 000j00j8
+0003 000f0000
+0051 00000002'
 
-# The same run with and without the orders, so that starting the program does not count. A sum that overflows would stop the
-# machine: the loop adds 1 each round, and has room for 2^30 rounds.
-now() { date +%s.%N; }
-begin=$(now)
-"$top/lgp_lab" < "$script" > /dev/null
-middle=$(now)
-{ cat "$script"; echo "orders $orders"; } | "$top/lgp_lab" | tail -n 1
-end=$(now)
-awk -v a="$begin" -v b="$middle" -v c="$end" -v n="$orders" \
-    'BEGIN { t = (c - b) - (b - a); printf "lgp_lab: %d orders in %.3f s, %.0f orders per second\n", n, t, n / t }'
+# 26 words: a count, an address that is stored into a later order, a return address, masks, a product, a test.
+large='0000 000100j8
+0001 000q00jj
+0002 000j00j8
+0003 0001002j
+0004 000q00k0
+0005 0002002j
+0006 000300w4
+0007 000900k4
+0008 000j00k8
+0009 000w00kj
+0010 000k00q0
+0011 00010100
+0012 000700q4
+0013 000j00q8
+0014 000q00jj
+0015 000900k4
+0016 000j00qj
+0017 000900k4
+0018 000w00jj
+0019 000g0054
+0020 000f0054
+0021 000100j8
+0022 000900k4
+0023 000j00w0
+0024 000100j8
+0025 000f0000
+0051 00000002
+0052 00000004
+0053 0000wwwj
+0055 00000004
+0057 00010000'
 
-if command -v lgp > /dev/null 2>&1; then
-    cat > "$script" <<END
-d 0 000100C8
-d 1 000E00CC
-d 2 000C00C8
-d 3 000A0000
-d 51 2
-step $orders
-exit
-END
-    begin=$(now)
-    lgp "$script" > /dev/null
-    end=$(now)
-    awk -v a="$begin" -v b="$end" -v n="$orders" \
-        'BEGIN { printf "SIMH lgp: %d orders in %.3f s, %.0f orders per second\n", n, b - a, n / (b - a) }'
-else
-    echo "SIMH lgp: not installed"
-fi
+# Instructions of a command whose standard input is a file.
+instructions() {
+    input=$1
+    shift
+    valgrind --tool=callgrind --callgrind-out-file=/dev/null "$@" <"$input" 2>&1 >"$work/output" |
+        sed -n 's/.*Collected : *\([0-9]*\).*/\1/p'
+}
+
+# The difference of the two runs, divided by the number of orders between them.
+per_order() {
+    echo "$1 $2" | awk -v n=$((long - short)) '{ printf "%.1f", ($2 - $1) / n }'
+}
+
+# The script of so many orders of a loop.
+script() {
+    echo "$1" | sed 's/^/put /'
+    echo "press start"
+    echo "orders $2"
+}
+
+# The same for SIMH, whose digits are the usual ones.
+simh_script() {
+    echo "$1" | while read -r address word; do
+        echo "d $address $(echo "$word" | tr 'fgjkqw' 'ABCDEF')"
+    done
+    echo "step $2"
+    echo "exit"
+}
+
+"$top/lgp_lab" </dev/null
+for loop in small large; do
+    eval "words=\$$loop"
+    for count in $short $long; do
+        script "$words" "$count" >"$work/script-$count"
+        simh_script "$words" "$count" >"$work/simh-$count"
+    done
+    a=$(instructions "$work/script-$short" "$top/crates/lgp30/out/lgp30")
+    b=$(instructions "$work/script-$long" "$top/crates/lgp30/out/lgp30")
+    tail -n 1 "$work/output" | grep -q "^orders $long going$" || { echo "the loop $loop ended" >&2; exit 1; }
+    echo "$loop: $(per_order "$a" "$b") instructions an order"
+    if command -v lgp >/dev/null 2>&1; then
+        a=$(instructions /dev/null lgp "$work/simh-$short")
+        b=$(instructions /dev/null lgp "$work/simh-$long")
+        echo "$loop: $(per_order "$a" "$b") in SIMH"
+    else
+        echo "SIMH's lgp is not installed"
+    fi
+done

@@ -99,6 +99,7 @@ scaled_word minus scaled =
 unfoldable pub unsigned_part : List ℕ → List ℕ
 unsigned_part text = if slice_index text 0 == 45 then drop 1 text else text
 
+-- the word of a size and of the place of its point, where both are numbers
 abbrev pub word_of_parts : Bool → Option ℕ → Option ℕ → Result Meaning OperandFault
 word_of_parts minus (Some size) (Some point) =
     if nat_le point 30 then scaled_word minus (size * 2 ^ (30 - point)) else Err Misformed

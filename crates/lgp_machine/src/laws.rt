@@ -13,7 +13,7 @@ use lgp_table::Event;
 pub fn an_activity()
     ensures within { (s : State) → (times : ℕ) → times < cost s
         → after_events (at_boundary s) (replicate times Event.WordTime)
-            ≡ record (at_boundary s) { elapsed = times } }
+        ≡ record (at_boundary s) { elapsed = times } }
     ensures whole { (s : State)
         → after_events (at_boundary s) (replicate (cost s) Event.WordTime) ≡ at_boundary (next s) }
 {}

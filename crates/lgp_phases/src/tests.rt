@@ -546,12 +546,20 @@ fn orders_are_kept_decoded(rt: HostRuntime) -> Result<(), Fail> {
         assert_eq!(rt; bench.decoded(b"0000")?, None);
         bench.activity(way)?;
         bench.activity(way)?;
-        assert_eq!(rt; bench.decoded(b"0000")?, Some((false, Op::B, at(b"0050")?)), "{way:?}");
+        assert_eq!(rt;
+            bench.decoded(b"0000")?,
+            Some((false, Op::B, at(b"0050")?)),
+            "{way:?}"
+        );
         assert_eq!(rt; bench.decoded(b"0001")?, None, "{way:?}");
         bench.activity(way)?;
         bench.activity(way)?;
         bench.copy()?;
-        assert_eq!(rt; bench.decoded(b"0001")?, Some((false, Op::U, at(b"0000")?)), "{way:?}");
+        assert_eq!(rt;
+            bench.decoded(b"0001")?,
+            Some((false, Op::U, at(b"0000")?)),
+            "{way:?}"
+        );
         bench.clear();
         assert_eq!(rt; bench.decoded(b"0000")?, None, "{way:?}");
         assert_eq!(rt; bench.decoded(b"0001")?, None, "{way:?}");
