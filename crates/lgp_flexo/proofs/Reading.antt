@@ -32,17 +32,6 @@ text_from-piece place (a ∷ b ∷ c ∷ d ∷ rest) some = by_group ((a == byte
   by_group true = refl
   by_group false = refl
 
--- a piece has a byte at least, and no more than the text
-pub piece_length-within : (text : List ℕ) → 0 < length text → (0 < piece_length text) × (piece_length text ≤ length text)
-piece_length-within [] some = absurd (omega arith)
-piece_length-within (a ∷ []) some = (omega arith, omega arith)
-piece_length-within (a ∷ b ∷ []) some = (omega arith, omega arith)
-piece_length-within (a ∷ b ∷ c ∷ []) some = (omega arith, omega arith)
-piece_length-within (a ∷ b ∷ c ∷ d ∷ rest) some = by_group ((a == byte "[") && (d == byte "]")) where
-  by_group : (t : Bool) → (0 < cond t 4 1) × (cond t 4 1 ≤ length (a ∷ b ∷ c ∷ d ∷ rest))
-  by_group true = (omega arith, omega arith)
-  by_group false = (omega arith, omega arith)
-
 -- behind its end a text stands for nothing
 pub rest_from_end : (text : List ℕ) (place : ℕ) → length text ≤ place → rest_from text place ≡ Ok []
 rest_from_end text place past = ap (text_from place) (drop_of_length-le text past) ∙ text_from-nothing place
