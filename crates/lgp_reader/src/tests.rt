@@ -120,7 +120,7 @@ fn a_tape_goes_back(rt: HostRuntime) -> Result<(), Fail> {
     reader.start();
     reader.pass_input(false, 0);
     assert_eq!(rt; counts(&reader), (3, 1));
-    assert_eq!(rt; reader.passed()[0].number(), 6);
+    assert_eq!(rt; reader.passed().first().copied(), Code::new(6));
     assert!(rt; !reader.back_up(4));
     assert_eq!(rt; counts(&reader), (3, 1));
     assert!(rt; reader.back_up(2));
