@@ -60,7 +60,7 @@ pub trait History<A: Allocator>: Drop {
 
     /// Goes back `orders` orders: to the state in which the last but so many order began. That order and all later steps are forgotten.
     fn back(&mut self, orders: u64, machine: &mut Machine<A>) -> Result<(), BackFault>
-        requires boundary { IsTrue (is_boundary machine.old) }
+        requires boundary { machine.old ≡ at_boundary machine.old.state }
         requires some { 1 ≤ orders }
         requires leads { Leads (steps self.old machine.old.state) machine.old.state }
         ensures state { OnOk result (machine.new ≡ at_boundary

@@ -1,9 +1,13 @@
 //! Steps from one order boundary to another.
 
-ghost use Rattle.std.specs.Prelude.{◌≡◌, IfOk};
+ghost use Rattle.std.specs.Prelude.{◌≡◌, ◌≤◌, length, IfOk, IsTrue};
+ghost use Rattle.lgp_flexo.specs.Tape.{all_codes};
+ghost use Rattle.lgp_flexo.specs.TapeText.{tape_limit};
+ghost use Rattle.lgp_table.specs.Interleaving.{is_boundary};
 ghost use Rattle.lgp_history.specs.Steps.{is_order};
 
 use lgp_flexo::Code;
+use lgp_machine::Machine;
 use lgp_table::Action;
 use lgp_word::{Address, Word};
 use std::alloc::{AllocError, Allocator, Global};
@@ -52,6 +56,22 @@ impl<A: Allocator + Clone> Tape<A> {
         ensures { IfOk result (λ copy. copy ≡ self.now) }
     {
         let codes = Vec::from_slice(self.codes.allocator().clone()?, self.codes.as_slice())?;
+        Ok(Tape { codes })
+    }
+}
+
+impl<A: Allocator + Clone> Tape<A> {
+    /// The tape in the machine's reader, whole, in the allocator of this one; or a refused growth.
+    pub(crate) fn beside(&self, machine: &Machine<A>) -> Result<Tape<A>, AllocError>
+        requires { IsTrue (is_boundary machine.now) }
+        ensures codes { IfOk result (λ tape. tape ≡ all_codes machine.now.state.core.tape) }
+        ensures few { length (all_codes machine.now.state.core.tape) ≤ tape_limit }
+    {
+        let (Some(passed), Some(left)) = (machine.tape_passed(), machine.tape_left()) else {
+            unreachable!()
+        };
+        let mut codes = Vec::from_slice(self.codes.allocator().clone()?, passed)?;
+        codes.extend_from_slice(left)?;
         Ok(Tape { codes })
     }
 }
