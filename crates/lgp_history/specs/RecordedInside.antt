@@ -39,8 +39,8 @@ lost_in Executing core = lost_by_order core.panel.register core
 lost_in _ core = None
 
 -- what is recorded: the step, the mark of the state before it, the word that it loses, and the tape that it takes out
-pub record Recorded (Z : Type 0) : Type 0 where
-  pub step : Step Z
+pub record Recorded (X : Type 0) : Type 0 where
+  pub step : Step X
   pub mark : Mark
   pub lost : Option (ℕ × ℕ)
   pub tape : Option (List ℕ)
@@ -54,32 +54,32 @@ abbrev pub with_tape : Option (List ℕ) → ℕ → State → State
 with_tape None passed s = s
 with_tape (Some codes) passed s = with_tape_at s codes passed
 
-module _ {Z : Type 0} where
+module _ {X : Type 0} where
   -- the word that a step loses, and the tape that it takes out
-  abbrev pub lost_of : Step Z → State → Option (ℕ × ℕ)
+  abbrev pub lost_of : Step X → State → Option (ℕ × ℕ)
   lost_of Perform s = lost_in s.core.panel.status s.core
   lost_of (Put address word) s = lost_word s.core address word
   lost_of _ s = None
 
-  abbrev pub tape_of : Step Z → State → Option (List ℕ)
+  abbrev pub tape_of : Step X → State → Option (List ℕ)
   tape_of (Mount codes) s = Some (all_codes s.core.tape)
   tape_of _ s = None
 
   -- what is recorded of a step and of the state before it
-  abbrev pub recorded : Step Z → State → Recorded Z
+  abbrev pub recorded : Step X → State → Recorded X
   recorded step s = record { step = step; mark = mark_of s; lost = lost_of step s; tape = tape_of step s }
 
   -- whether a state can be the one after the step
-  abbrev pub belongs : Recorded Z → State → Bool
+  abbrev pub belongs : Recorded X → State → Bool
   belongs r s =
       nat_le r.mark.printed (length s.printed) && (is_some r.tape || nat_le r.mark.passed (length s.core.tape.passed))
       && can_restore r.lost s.core.words
 
   -- the state before the step; a state that cannot be the one after it stays
-  abbrev pub undone : Recorded Z → State → State
+  abbrev pub undone : Recorded X → State → State
   undone r s = if belongs r s then state_at_mark (with_tape r.tape r.mark.passed s) r.mark r.lost else s
 
   -- the kept steps that the records and the present state stand for
-  abbrev pub read : List (Recorded Z) → State → List (State × Step Z)
+  abbrev pub read : List (Recorded X) → State → List (State × Step X)
   read [] now = []
   read (r ∷ later) now = (undone r (first_state (read later now) now), r.step) ∷ read later now
