@@ -1,0 +1,11 @@
+//! The steps that took the machine where it is, kept so that it can go back to the beginning of an earlier order.
+#![tactic(auto)]
+
+mod changes;
+mod history;
+mod rule;
+mod step;
+
+pub use history::{BackFault, History};
+pub use rule::Rule;
+pub use step::{Step, Tape};
