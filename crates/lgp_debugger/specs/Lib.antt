@@ -1,4 +1,5 @@
 pub mod Debugging
+pub mod WatchInside
 pub use Rattle.lgp_history.specs.Steps
 pub use Rattle.lgp_history.specs.Hits
 pub use Rattle.lgp_machine.specs.Look

@@ -10,13 +10,15 @@ ghost use Rattle.lgp_history.specs.declared.step.Step.{Step};
 ghost use Rattle.lgp_history.specs.Hits.{last_hit};
 ghost use Rattle.lgp_history.specs.Steps.{orders_in};
 ghost use Rattle.lgp_flexo.specs.TapeText.{tape_limit};
-ghost use Rattle.lgp_debugger.specs.Debugging.{after_back, after_step, rule_limit};
+ghost use Rattle.lgp_debugger.specs.WatchInside.{watches_of};
+ghost use Rattle.lgp_debugger.specs.Debugging.{after_back, after_step, first_stop, rule_limit, run_of};
 ghost use Rattle.std.specs.Result.{IsErrAnd};
 
 use crate::fault::{
     HitFault, IdleFault, MountFault, PutFault, Ran, Reason, RuleFault, RunFault, RunRefusal,
     StepFault,
 };
+use crate::watch::{Watch, first_stop_now, watch_of};
 use arrayvec::ArrayVec;
 use lgp_flexo::{Code, TAPE_LIMIT};
 use lgp_history::{BackFault, History, Rule, Step, Tape};
@@ -125,6 +127,91 @@ impl<H: History<A>, A: Allocator> Debugger<H, A> {
         };
         self.history.note(note);
         Ok(outcome)
+    }
+
+    /// What the rules watch, before an order.
+    fn watches(&self) -> ArrayVec<Watch, RULE_LIMIT>
+        ensures { result.items ≡ watches_of self.now.state self.now.rules }
+    {
+        let mut watches = ArrayVec::new();
+        for rule in self.rules.as_slice() {
+            watches.push(watch_of(&self.machine, rule));
+        }
+        watches
+    }
+
+    /// An order of a run; then the number of the first rule that stops the run there.
+    #[tactic(auto, using(crate::proofs::WatchLemmas::watched_stop))]
+    fn go_on(&mut self) -> Result<Option<u8>, StepFault>
+        ensures performed { OnOk result (self.new ≡ after_step self.old Step.Perform) }
+        ensures stop { IfOk result (λ stop. stop ≡ first_stop self.old.rules self.old.state) }
+        ensures at_work { OnOk result (is_at_rest self.old.state.core.panel.status ≡ false) }
+        ensures memory { result ≡ Err StepFault.Memory
+            → is_at_rest self.old.state.core.panel.status ≡ false }
+        ensures at_rest { (result ≡ Err StepFault.AtRest)
+            ↔ IsTrue (is_at_rest self.old.state.core.panel.status) }
+        ensures clock_end { (result ≡ Err StepFault.ClockEnd)
+            ↔ ((is_at_rest self.old.state.core.panel.status ≡ false)
+            × (clock_end < self.old.state.clock + cost self.old.state)) }
+        ensures unchanged { OnErr result (self.new ≡ self.old) }
+    {
+        if self.rules.is_empty() {
+            self.step()?;
+            return Ok(None);
+        }
+        let watches = self.watches();
+        self.step()?;
+        Ok(first_stop_now(&self.machine, watches.as_slice()))
+    }
+
+    /// Performs orders until the machine is at rest, a rule stops it or as many orders as the limit allows are done. Where an order
+    /// is refused, those before it stand.
+    pub fn run(&mut self, limit: u64) -> Result<Ran, RunFault>
+        ensures ran { IfOk result (λ ran. run_of limit self.old ≡ (ran, self.new)) }
+        ensures stands { IfErr result (λ fault. run_of fault.orders self.old
+            ≡ (record { orders = fault.orders; reason = Reason.Limit }, self.new)) }
+        ensures within { IfErr result (λ fault. fault.orders < limit) }
+        ensures clock_end { IfErr result (λ fault. (fault.fault ≡ RunRefusal.ClockEnd)
+            ↔ (clock_end < self.new.state.clock + cost self.new.state)) }
+    {
+        for orders in 0..limit {
+            match self.go_on() {
+                Ok(None) => {}
+                Ok(Some(rule)) => {
+                    return Ok(Ran {
+                        orders: orders + 1,
+                        reason: Reason::Rule(rule),
+                    });
+                }
+                Err(StepFault::AtRest) => {
+                    return Ok(Ran {
+                        orders,
+                        reason: Reason::Rest,
+                    });
+                }
+                Err(StepFault::ClockEnd) => {
+                    return Err(RunFault {
+                        orders,
+                        fault: RunRefusal::ClockEnd,
+                    });
+                }
+                Err(StepFault::Memory) => {
+                    return Err(RunFault {
+                        orders,
+                        fault: RunRefusal::Memory,
+                    });
+                }
+            }
+        }
+        let reason = if self.look().status.is_at_rest() {
+            Reason::Rest
+        } else {
+            Reason::Limit
+        };
+        Ok(Ran {
+            orders: limit,
+            reason,
+        })
     }
 
     /// Presses. A live press is a step, a dead one is none and takes no memory; true where it is live.

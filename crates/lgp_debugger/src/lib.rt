@@ -3,6 +3,7 @@
 
 mod debugger;
 mod fault;
+mod watch;
 
 pub use debugger::Debugger;
 pub use fault::{
