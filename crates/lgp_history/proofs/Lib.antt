@@ -1,2 +1,3 @@
 pub mod KeptSteps
 pub mod Undoing
+pub mod RecordedSteps

@@ -3,9 +3,11 @@
 
 mod changes;
 mod history;
+mod records;
 mod rule;
 mod step;
 
 pub use history::{BackFault, History};
+pub use records::{CAPACITY_LIMIT, Records};
 pub use rule::Rule;
 pub use step::{Step, Tape};
