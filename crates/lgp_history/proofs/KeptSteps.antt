@@ -2,6 +2,7 @@
 use Rattle.std.proofs.Common.{◌≡◌, ℕ, ◌+◌, ◌≤◌, Bool, true, false, cond, List, [], ◌∷◌, ◌++◌, drop, refl, sym, ◌∙◌, ap, suc, zero, arith}
 use Rattle.std.specs.Prelude.{◌==◌, ◌&&◌}
 use Rattle.std.proofs.lemmas.Bool.Decides.{nat_tests}
+use mir.Val.{bool_byte}
 use Rattle.lgp_table.specs.State.{State}
 use Rattle.lgp_history.specs.Steps.{AreStepsTo, CanStep, Leads, first_state, is_order, is_order_back, orders_in, state_back, stepped, steps_back, with_step}
 use Rattle.lgp_history.specs.declared.step.Step.{Step}
@@ -18,8 +19,21 @@ within_rest : (b : Bool) (later m : ℕ) → (b && (later + 1 == m)) ≡ false �
 within_rest true later m other within = grind (arith, nat_tests)
 within_rest false later m other within = omega arith
 
+none_back : (b : Bool) (later : ℕ) → (b && (later + 1 == 0)) ≡ false
+none_back true later = grind (arith, nat_tests)
+none_back false later = refl
+
+-- a truth value as a number
+bool_byte-count : (b : Bool) → bool_byte b ≡ cond b 1 0
+bool_byte-count true = refl
+bool_byte-count false = refl
+
+pub bool_byte-few : (b : Bool) → bool_byte b ≤ 1
+bool_byte-few true = omega arith
+bool_byte-few false = omega arith
+
 module _ {A : Type 0} where
-  first_state-more : (kept : List (State × Step A)) (k : State × Step A) (now : State) → first_state (kept ++ k ∷ []) now ≡ first_state kept k.0
+  pub first_state-more : (kept : List (State × Step A)) (k : State × Step A) (now : State) → first_state (kept ++ k ∷ []) now ≡ first_state kept k.0
   first_state-more [] k now = refl
   first_state-more (x ∷ xs) k now = refl
 
@@ -53,6 +67,10 @@ module _ {A : Type 0} where
   abbrev pub order_count : Step A → ℕ
   order_count step = cond (is_order step) 1 0
 
+  -- whether a step is an order, as a number
+  pub bool_byte-order : (step : Step A) (b : Bool) → b ≡ is_order step → bool_byte b ≡ order_count step
+  bool_byte-order step b e = rw e (bool_byte-count (is_order step))
+
   pub orders_in-more : (kept : List (State × Step A)) (k : State × Step A) → orders_in (kept ++ k ∷ []) ≡ orders_in kept + order_count k.1
   orders_in-more [] k = omega arith
   orders_in-more (x ∷ xs) k = omega (arith, orders_in-more xs k)
@@ -74,3 +92,15 @@ module _ {A : Type 0} where
       rw (is_order_back-more xs k x m)
       (elim (is_order_back m x xs) as (λ b. is_order_back m x xs ≡ b → cond b [] (x ∷ steps_back (m + order_count k.1) (xs ++ k ∷ [])) ≡ cond b [] (x ∷ steps_back m xs))
       [ true ↦ λ e. refl | false ↦ λ e. ap (λ ks. x ∷ ks) (steps_back-more xs k m h (within_rest (is_order x.1) (orders_in xs) m e within)) ] refl)
+
+  no_order_back : (k : State × Step A) (later : List (State × Step A)) → is_order_back 0 k later ≡ false
+  no_order_back k later = none_back (is_order k.1) (orders_in later)
+
+  -- no order back is here
+  pub state_back-none : (kept : List (State × Step A)) (now : State) → state_back 0 kept now ≡ now
+  state_back-none [] now = refl
+  state_back-none (k ∷ later) now = rw (no_order_back k later) (state_back-none later now)
+
+  pub steps_back-none : (kept : List (State × Step A)) → steps_back 0 kept ≡ kept
+  steps_back-none [] = refl
+  steps_back-none (k ∷ later) = rw (no_order_back k later) (ap (λ ks. k ∷ ks) (steps_back-none later))

@@ -1,5 +1,5 @@
 -- Serves proofs only: what is recorded of a step and of the state before it, and how a state is taken back with it.
-use Rattle.std.specs.Prelude.{ℕ, ◌==◌, ◌&&◌, ◌||◌, Bool, true, not, if◌then◌else◌, nat_le, nat_lt, List, [], ◌∷◌, length, Option, Some, None, is_some, slice_index}
+use Rattle.std.specs.Prelude.{ℕ, ◌+◌, ◌==◌, ◌&&◌, ◌||◌, Bool, true, false, not, if◌then◌else◌, nat_le, nat_lt, List, [], ◌∷◌, length, Option, Some, None, is_some, slice_index}
 use Rattle.lgp_word.specs.Word.{stored}
 use Rattle.lgp_word.specs.Address.{address_after}
 use Rattle.lgp_word.specs.Order.{address_at, op_at, with_address_of}
@@ -12,7 +12,10 @@ use Rattle.lgp_table.specs.declared.panel.Status.{Status}
 use Rattle.lgp_table.specs.declared.panel.Status.TheVariants.{Going, Executing}
 use Rattle.lgp_machine.specs.Marks.{mark_of, state_at_mark, with_tape_at}
 use Rattle.lgp_machine.specs.declared.mark.Mark.{Mark}
-use Rattle.lgp_history.specs.Steps.{first_state}
+use Rattle.lgp_history.specs.Steps.{first_state, is_order}
+use Rattle.lgp_history.specs.Hits.{is_going}
+use Rattle.lgp_history.specs.declared.rule.Rule.{Rule}
+use Rattle.lgp_history.specs.declared.rule.Rule.TheVariants.{At, Changed}
 use Rattle.lgp_history.specs.declared.step.Step.{Step}
 use Rattle.lgp_history.specs.declared.step.Step.TheVariants.{Perform, Mount, Put}
 
@@ -50,6 +53,11 @@ abbrev pub can_restore : Option (ℕ × ℕ) → List ℕ → Bool
 can_restore None words = true
 can_restore (Some (address, word)) words = nat_lt address (length words) && not (slice_index words address == word)
 
+-- whether it is the word at this address that is lost
+abbrev pub loses_at : Option (ℕ × ℕ) → ℕ → Bool
+loses_at None address = false
+loses_at (Some (lost, word)) address = lost == address
+
 abbrev pub with_tape : Option (List ℕ) → ℕ → State → State
 with_tape None passed s = s
 with_tape (Some codes) passed s = with_tape_at s codes passed
@@ -78,6 +86,16 @@ module _ {X : Type 0} where
   -- the state before the step; a state that cannot be the one after it stays
   abbrev pub undone : Recorded X → State → State
   undone r s = if belongs r s then state_at_mark (with_tape r.tape r.mark.passed s) r.mark r.lost else s
+
+  -- how many of the recorded steps are orders
+  abbrev pub orders_recorded : List (Recorded X) → ℕ
+  orders_recorded [] = 0
+  orders_recorded (r ∷ later) = (if is_order r.step then 1 else 0) + orders_recorded later
+
+  -- whether a rule hits the recorded order, read off what is recorded
+  abbrev pub is_recorded_hit : Recorded X → Rule → Bool
+  is_recorded_hit r (At address) = is_going r.mark.panel.status && (r.mark.panel.counter == address)
+  is_recorded_hit r (Changed address) = loses_at r.lost address
 
   -- the kept steps that the records and the present state stand for
   abbrev pub read : List (Recorded X) → State → List (State × Step X)

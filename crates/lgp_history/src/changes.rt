@@ -1,6 +1,6 @@
 //! What is recorded of a step, so that it can be undone.
 
-ghost use Rattle.std.specs.Prelude.{◌≡◌, ◌≤◌, ℕ, List, Some, length, IfOk, IsTrue};
+ghost use Rattle.std.specs.Prelude.{◌≡◌, ◌≤◌, ℕ, List, Some, length, position, IfOk, IsTrue};
 ghost use Rattle.lgp_flexo.specs.TapeText.{tape_limit};
 ghost use Rattle.lgp_word.specs.Address.{address_after};
 ghost use Rattle.lgp_table.specs.Interleaving.{at_boundary, is_boundary};
@@ -8,6 +8,7 @@ ghost use Rattle.lgp_table.specs.declared.panel.Panel.{Panel};
 ghost use Rattle.lgp_history.specs.Steps.{is_order};
 ghost use Rattle.lgp_history.specs.RecordedInside.{can_restore, lost_by_order, lost_in, lost_of, lost_word, tape_of, with_tape};
 
+use crate::rule::Rule;
 use crate::step::{Step, Tape};
 use lgp_machine::{Machine, Mark};
 use lgp_table::{Panel, Status};
@@ -80,13 +81,41 @@ impl<A: Allocator + Clone> Record<A> {
 }
 
 impl<A: Allocator> Record<A> {
-    ghost use Rattle.lgp_history.specs.RecordedInside.{undone};
+    ghost use Rattle.lgp_history.specs.RecordedInside.{is_recorded_hit, undone};
 
     /// Whether the step is an order.
     pub fn is_order(&self) -> bool
         ensures { result ≡ is_order self.now.step }
     {
         self.step.is_order()
+    }
+
+    /// Whether a rule hits the order.
+    fn is_hit(&self, rule: &Rule) -> bool
+        ensures { result ≡ is_recorded_hit self.now rule.now }
+    {
+        match rule {
+            Rule::At(address) => {
+                matches!(self.panel.status, Status::Going) && self.panel.counter == *address
+            }
+            Rule::Changed(address) => self.loses && self.address == *address,
+        }
+    }
+
+    /// The place of the first rule that hits the order.
+    fn first_place(&self, rules: &[Rule]) -> Option<usize>
+        ensures { result ≡ position (is_recorded_hit self.now) rules.now }
+    {
+        rules.iter().position(|rule| self.is_hit(rule))
+    }
+
+    /// The number of the first rule that hits the order.
+    pub fn first_hit(&self, rules: &[Rule]) -> Option<u8>
+        requires { length rules.now ≤ 256 }
+        ensures { result ≡ position (is_recorded_hit self.now) rules.now }
+    {
+        let place = self.first_place(rules)?;
+        Some(place as u8)
     }
 
     /// Takes the machine back to the state before the step. A machine that cannot be where the step has led stays.

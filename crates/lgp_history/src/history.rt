@@ -39,7 +39,7 @@ pub trait History<A: Allocator>: Drop {
 
     /// Prepares to keep a step that can be done where the machine is.
     fn prepare(&mut self, before: &Machine<A>, step: &Step<A>) -> Result<Self::Note, AllocError>
-        requires boundary { IsTrue (is_boundary before.now) }
+        requires boundary { before.now ≡ at_boundary before.now.state }
         requires possible { CanStep step.now before.now.state }
         ensures fits { IfOk result (λ note. fits self.new note before.now.state step.now) }
         ensures steps { (now : State) → steps self.new now ≡ steps self.old now }
@@ -76,7 +76,7 @@ pub trait History<A: Allocator>: Drop {
 
     /// The latest kept order that a rule hits: how many orders back it is, and the number of the first rule that hits it.
     fn find(&self, now: &Machine<A>, rules: &[Rule]) -> Result<Option<(u64, u8)>, AllocError>
-        requires boundary { IsTrue (is_boundary now.now) }
+        requires boundary { now.now ≡ at_boundary now.now.state }
         requires few { length rules.now ≤ 256 }
         requires leads { Leads (steps self.now now.now.state) now.now.state }
         ensures { IfOk result (λ hit. hit ≡ last_hit rules.now (steps self.now now.now.state)) };

@@ -2,10 +2,14 @@
 #![tactic(auto)]
 
 mod changes;
+mod checkpoints;
 mod history;
+mod records;
 mod rule;
 mod step;
 
+pub use checkpoints::Checkpoints;
 pub use history::{BackFault, History};
+pub use records::{CAPACITY_LIMIT, Records};
 pub use rule::Rule;
 pub use step::{Step, Tape};
