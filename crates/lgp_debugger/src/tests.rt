@@ -1,6 +1,5 @@
 //! The debugger by its calls, over each history.
 
-mod heap;
 mod rows;
 
 use crate::{
