@@ -3,6 +3,7 @@
 ghost use Rattle.std.specs.Prelude.{◌≡◌, ◌==◌, ◌<◌, ◌≤◌, ◌↔◌, length, slice_get, position, IsSome, IfSome};
 ghost use Rattle.lgp_flexo.specs.Code.{IsCode, sign_at, code_at, code_in_row, digit_at, is_skipped};
 ghost use Rattle.lgp_flexo.specs.Input.{accumulator_after};
+ghost use Rattle.lgp_flexo.specs.WordCodes.{digit_code};
 
 use lgp_word::{DIGITS, LETTERS};
 use std::marker::Model;
@@ -51,6 +52,14 @@ impl Code {
         } else {
             None
         }
+    }
+
+    /// The code of the digit that has this value.
+    pub fn of_digit(value: u8) -> Code
+        requires { value < 16 }
+        ensures { result ≡ digit_code value }
+    {
+        Code(4 * value + 2)
     }
 
     /// The number of the code, from 0 to 63.
