@@ -1,6 +1,6 @@
 -- Part of the public promise. Storing words by the console (Operations Manual, "Manual input"): an order to store is keyed into the
 -- accumulator and filled into the instruction register, the word is keyed into the accumulator, and the order is executed.
-use Rattle.std.specs.Prelude.{ℕ, ◌+◌, false, List, [], ◌∷◌, ◌++◌, map, take, length}
+use Rattle.std.specs.Prelude.{ℕ, ◌+◌, false, List, [], ◌∷◌, ◌++◌, map}
 use Rattle.lgp_word.specs.Order.{order_word}
 use Rattle.lgp_word.specs.declared.order.Op.TheVariants.{H, U}
 use Rattle.lgp_flexo.specs.WordCodes.{word_codes}

@@ -1,6 +1,8 @@
 //! What is pressed to store a word, and to start a program.
 
 ghost use Rattle.std.specs.Prelude.{◌≡◌};
+ghost use Rattle.lgp_word.specs.Address.{IsAddress};
+ghost use Rattle.lgp_word.specs.Word.{IsWord};
 ghost use Rattle.lgp_keyin.specs.KeyIn.{jump_actions, start_actions, store_actions, word_keys};
 
 use lgp_flexo::codes_of_word;
@@ -28,7 +30,9 @@ fn word_keys(word: Word) -> [Action; 8]
 /// digits, One Operation and Execute.
 #[tactic(auto, unfolding(lgp_flexo::specs::WordCodes::word_codes, lgp_flexo::specs::WordCodes::four_digit_codes))]
 pub fn actions_to_store(address: Address, word: Word) -> [Action; 20]
-    ensures { result ≡ store_actions address word }
+    ensures actions { result ≡ store_actions address word }
+    ensures address { IsAddress address }
+    ensures word { IsWord word }
 {
     let order = Order {
         minus: false,
@@ -40,7 +44,26 @@ pub fn actions_to_store(address: Address, word: Word) -> [Action; 20]
     let manual = Action::Mode(Mode::Manual);
     let one_operation = Action::Mode(Mode::OneOperation);
     [
-        manual, a, b, c, d, e, f, g, h, Action::Fill, i, j, k, l, m, n, o, p, one_operation, Action::Execute,
+        manual,
+        a,
+        b,
+        c,
+        d,
+        e,
+        f,
+        g,
+        h,
+        Action::Fill,
+        i,
+        j,
+        k,
+        l,
+        m,
+        n,
+        o,
+        p,
+        one_operation,
+        Action::Execute,
     ]
 }
 
@@ -58,7 +81,18 @@ pub fn actions_to_jump(address: Address) -> [Action; 12]
     let manual = Action::Mode(Mode::Manual);
     let one_operation = Action::Mode(Mode::OneOperation);
     [
-        manual, a, b, c, d, e, f, g, h, Action::Fill, one_operation, Action::Execute,
+        manual,
+        a,
+        b,
+        c,
+        d,
+        e,
+        f,
+        g,
+        h,
+        Action::Fill,
+        one_operation,
+        Action::Execute,
     ]
 }
 
@@ -70,6 +104,19 @@ pub fn actions_to_start(address: Address) -> [Action; 14]
 {
     let [a, b, c, d, e, f, g, h, i, j, k, l] = actions_to_jump(address);
     [
-        a, b, c, d, e, f, g, h, i, j, k, l, Action::Mode(Mode::Normal), Action::Start,
+        a,
+        b,
+        c,
+        d,
+        e,
+        f,
+        g,
+        h,
+        i,
+        j,
+        k,
+        l,
+        Action::Mode(Mode::Normal),
+        Action::Start,
     ]
 }

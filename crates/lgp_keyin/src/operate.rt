@@ -67,7 +67,7 @@ pub trait Operate {
             ↔ (IsTrue (is_boundary (configuration self.old))
             × (is_at_rest (configuration self.old).state.core.panel.status ≡ false)
             × (clock_end < (configuration self.old).state.clock
-                + cost (configuration self.old).state)) }
+            + cost (configuration self.old).state)) }
         ensures memory { result ≡ Err OrderFault.Memory
             → IsTrue (is_some (print_of (configuration self.old).state.core)) }
         ensures unchanged { OnErr result (configuration self.new ≡ configuration self.old) };
