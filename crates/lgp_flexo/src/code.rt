@@ -36,6 +36,9 @@ impl Code {
     /// The conditional stop, whose sign is `'`.
     pub const STOP: Code = Code(32);
 
+    /// The carriage return, which an input skips.
+    pub const CARRIAGE_RETURN: Code = Code(16);
+
     /// The code of the digit 1.
     const ONE: Code = Code(6);
 
