@@ -2,3 +2,4 @@ pub mod Orders
 pub mod Runs
 pub mod Cells
 pub mod Through
+pub mod Law

@@ -117,7 +117,7 @@ the_end switches accumulator register words passed skipped start has are is =
     two_orders switches loader_base accumulator register words passed skipped [] word 3 last (fetch_0 words has) (fetch_1 words has) (omega arith) are (end_is_word start is) third
 
 -- the drum after some cells
-pub words_after_cells : List ℕ → List (ℕ × ℕ) → List ℕ
+unfoldable pub words_after_cells : List ℕ → List (ℕ × ℕ) → List ℕ
 words_after_cells words [] = words
 words_after_cells words ((place, word) ∷ cells) = words_after_cells (words_after_cell words place word) cells
 
