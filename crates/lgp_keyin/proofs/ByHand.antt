@@ -281,3 +281,15 @@ pub up_after_store : (s : State) (address word : ℕ) → s.core.panel.switches.
 up_after_store s address word up within is = ap (λ (t : State). t.core.panel.switches.six_bit) (stored_by_hand s address word up within is)
 
 pub ruleset storing = (about_to_store_works, about_to_store_is_silent, up_after_store)
+
+-- the same of the order that jumps
+pub about_to_jump_works : (s : State) (address : ℕ) → s.core.panel.switches.six_bit ≡ false → IsAddress address
+    → is_at_rest (about_to_jump s address).core.panel.status ≡ false
+about_to_jump_works s address up within = ap (λ (t : State). is_at_rest t.core.panel.status) (jump_keyed s address up within)
+
+pub about_to_jump_is_silent : (s : State) (address : ℕ) → s.core.panel.switches.six_bit ≡ false → IsAddress address
+    → print_of (about_to_jump s address).core ≡ None
+about_to_jump_is_silent s address up within =
+    ap (λ (t : State). print_of t.core) (jump_keyed s address up within) ∙ silent_jump s.core address (jump_order address) within
+
+pub ruleset jumping = (about_to_jump_works, about_to_jump_is_silent)

@@ -1,28 +1,24 @@
 -- The loader's way through a tape: eight orders for a cell, five for the end word.
-use Rattle.std.proofs.Common.{◌≡◌, ◌≢◌, ℕ, zero, suc, ◌+◌, ◌*◌, ◌/◌, ◌%◌, ◌^◌, ◌<◌, ◌≤◌, Bool, true, false, refl, sym, ap, ◌∙◌, subst, arith, List, [], ◌∷◌, ◌++◌, None, Some, Option, filter, length, slice_index, slice_set, append_assoc, append-nil, map}
-use Rattle.std.specs.List.{concat, list_any}
+use Rattle.std.proofs.Common.{◌≡◌, ◌≢◌, ℕ, suc, ◌+◌, ◌/◌, ◌%◌, ◌<◌, false, refl, sym, ◌∙◌, subst, arith, List, [], ◌∷◌, ◌++◌, filter, length, slice_index, slice_set}
+use Rattle.std.specs.List.{list_any}
 use Rattle.std.proofs.lemmas.Bool.Decides.{nat_tests}
 use Rattle.std.proofs.lemmas.List.{get_or-set_other, get_or-set_same, length-set}
 use Rattle.std.proofs.lemmas.List.Elements.{filter-append}
 use Rattle.std.proofs.lemmas.List.Folds.{list_any-append}
-use Rattle.lgp_word.specs.Order.{address_at, op_at, op_of, sign_of}
+use Rattle.lgp_word.specs.Order.{op_of, sign_of}
 use Rattle.lgp_word.specs.Word.{IsWord}
-use Rattle.lgp_word.specs.declared.order.Op.TheVariants.{Z, I, P, U, T, H, C}
+use Rattle.lgp_word.specs.declared.order.Op.TheVariants.{I, P, U, T, H, C}
 use Rattle.lgp_flexo.specs.Code.{is_stop, stop_code}
 use Rattle.lgp_flexo.specs.Input.{enters}
 use Rattle.lgp_flexo.specs.WordCodes.{word_codes}
 use Rattle.lgp_flexo.proofs.WordCodes.{word_no_stop, word_unfiltered}
-use Rattle.lgp_table.specs.State.{Core, core_of}
-use Rattle.lgp_table.specs.Activity.{with_status}
-use Rattle.lgp_table.specs.declared.panel.Cause.TheVariants.{Stop}
-use Rattle.lgp_table.specs.declared.panel.Status.TheVariants.{Going, Halted}
+use Rattle.lgp_table.specs.State.{Core}
 use Rattle.lgp_table.specs.declared.panel.Switches.{Switches}
 use Rattle.lgp_assembler.specs.Parts.{is_loaders}
-use Rattle.lgp_loader.specs.LoaderTape.{carriage_return, cell_codes, control_word, end_word, stopped_word}
-use Rattle.lgp_loader.specs.Loading.{counter_after_load, status_after_load}
+use Rattle.lgp_loader.specs.LoaderTape.{carriage_return, control_word}
 use Rattle.lgp_loader.specs.Places.{end_cell, end_place, loader_base, loader_words, store_cell, word_of}
-use Rattle.lgp_loader.proofs.Orders.{Fetches, Leads, cleared, core_at, goes_on, held, jumps, off, on, reader_starts, stops, transfers_to, word_read}
-use Rattle.lgp_loader.proofs.Runs.{Runs, end_of_run, one_then}
+use Rattle.lgp_loader.proofs.Orders.{Fetches, Leads, core_at, off, on, reader_starts, word_read}
+use Rattle.lgp_loader.proofs.Runs.{Runs, one_then}
 
 -- the loader lies on the drum, but for its two cells
 pub record HasLoader (words : List ℕ) : Type 0 where
@@ -130,11 +126,11 @@ two_orders switches counter accumulator register words passed skipped rest word 
     let next = core_at switches (counter + 1) accumulator (word_of P 0) words (on passed left) in
     let then = core_at switches (counter + 2) word (word_of I 0) words (off (passed ++ read_codes skipped word) rest) in
     let first : Leads (core_at switches counter accumulator register words (off passed left)) next =
-        subst (λ n. Leads (core_at switches counter accumulator register words (off passed left)) (core_at switches n accumulator (word_of P 0) words (on passed left))) started
-          (reader_starts switches counter accumulator register words passed left (word_of P 0) p) in
+    subst (λ n. Leads (core_at switches counter accumulator register words (off passed left)) (core_at switches n accumulator (word_of P 0) words (on passed left))) started
+    (reader_starts switches counter accumulator register words passed left (word_of P 0) p) in
     let second : Leads next then =
-        subst (λ n. Leads next (core_at switches n word (word_of I 0) words (off (passed ++ read_codes skipped word) rest))) read
-          (word_read switches (counter + 1) accumulator (word_of P 0) words passed (skipped ++ word_codes word) rest (word_of I 0) word i
-            (no_stop_before skipped word are) (word_enters skipped word are) is) in
+    subst (λ n. Leads next (core_at switches n word (word_of I 0) words (off (passed ++ read_codes skipped word) rest))) read
+    (word_read switches (counter + 1) accumulator (word_of P 0) words passed (skipped ++ word_codes word) rest (word_of I 0) word i
+    (no_stop_before skipped word are) (word_enters skipped word are) is) in
     one_then (suc count) (core_at switches counter accumulator register words (off passed left)) next last first
-      (one_then count next then last second runs)
+    (one_then count next then last second runs)

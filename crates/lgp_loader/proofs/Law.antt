@@ -1,18 +1,17 @@
 -- What loading leaves.
-use Rattle.std.proofs.Common.{◌≡◌, ◌≢◌, ℕ, zero, suc, ◌+◌, ◌*◌, ◌^◌, ◌%◌, ◌<◌, ◌≤◌, Bool, true, false, refl, sym, ap, ◌∙◌, subst, arith, List, [], ◌∷◌, ◌++◌, None, Some, Option, fold, length, slice_index, slice_set}
+use Rattle.std.proofs.Common.{◌≡◌, ◌≢◌, ℕ, zero, suc, ◌+◌, ◌<◌, true, false, refl, sym, ap, ◌∙◌, subst, arith, List, [], ◌∷◌, fold, length, slice_index, slice_set}
 use Rattle.std.specs.List.{All, count_by, list_all}
 use Rattle.std.specs.Prelude.{IfSome}
-use Rattle.std.proofs.lemmas.List.{get_or-set_other, get_or-set_same, length-set, set-get_or}
+use Rattle.std.proofs.lemmas.List.{length-set, set-get_or}
 use Rattle.std.proofs.lemmas.Bool.Decides.{nat_tests}
 use Rattle.lgp_word.specs.Address.{IsAddress}
 use Rattle.lgp_word.specs.Word.{IsWord}
-use Rattle.lgp_table.specs.State.{Core, State, core_of}
+use Rattle.lgp_table.specs.State.{Core, State}
 use Rattle.lgp_table.specs.Activity.{next}
 use Rattle.lgp_table.specs.After.{after, total_cost}
 use Rattle.lgp_table.specs.Interleaving.{after_events, after_mount, at_boundary}
-use Rattle.lgp_table.specs.SwitchPresses.{is_time_or_switch, is_word_time, looks_at_switches, with_switches}
+use Rattle.lgp_table.specs.SwitchPresses.{is_time_or_switch, is_word_time, with_switches}
 use Rattle.lgp_table.specs.declared.action.Event.{Event}
-use Rattle.lgp_table.specs.declared.panel.Panel.{Panel}
 use Rattle.lgp_table.specs.declared.panel.Switches.{Switches}
 use Rattle.lgp_table.proofs.After.{clock_after}
 use Rattle.lgp_table.proofs.Pressed.{switches_pressed}
@@ -22,7 +21,7 @@ use Rattle.lgp_keyin.proofs.ByHand.{keyed_are, started_by_hand}
 use Rattle.lgp_keyin.proofs.Placed.{words_lie}
 use Rattle.lgp_assembler.specs.Parts.{AreProgramCells, ImageParts, is_loaders}
 use Rattle.lgp_loader.specs.LoaderTape.{control_word, end_word, tape_codes}
-use Rattle.lgp_loader.specs.Loading.{begun, last_control, left_by_load, loaded, orders_to_load, overlay, prepared, words_after_load}
+use Rattle.lgp_loader.specs.Loading.{begun, last_control, left_by_load, loaded, orders_to_load, overlay, prepared}
 use Rattle.lgp_loader.specs.Places.{end_cell, end_place, loader_base, loader_words, store_cell, word_of}
 use Rattle.lgp_word.specs.declared.order.Op.TheVariants.{I, P, U, T, H}
 use Rattle.lgp_loader.proofs.Cells.{HasLoader, nothing_skipped}
@@ -37,7 +36,7 @@ all_more word words is others (suc k) d less = others k d (omega (arith, less))
 all_none : All IsWord []
 all_none k d less = absurd (let wrong : ⊥ = omega (arith, less) in wrong)
 
-loader_are_words : All IsWord loader_words
+pub loader_are_words : All IsWord loader_words
 loader_are_words =
     let end : List ℕ = 0 ∷ [] in
     let from_8 : List ℕ = word_of H end_cell ∷ end in
@@ -86,8 +85,8 @@ cells_overlaid [] words control are = refl
 cells_overlaid ((place, word) ∷ cells) words control ((within, free, is), others) =
     let new = control_word place in
     let here : words_after_cell (slice_set words store_cell control) place word ≡ slice_set (slice_set words place word) store_cell new =
-        ap (λ ws. slice_set ws place word) (set_twice words store_cell control new)
-        ∙ set_swapped words store_cell place new word (apart_from_store place free) in
+    ap (λ ws. slice_set ws place word) (set_twice words store_cell control new)
+    ∙ set_swapped words store_cell place new word (apart_from_store place free) in
     ap (λ ws. words_after_cells ws cells) here ∙ cells_overlaid cells (slice_set words place word) new others
 
 length_from : (words drum : List ℕ) (base : ℕ) → length (words_from drum base words) ≡ length drum
@@ -112,7 +111,7 @@ words_at_last : (drum : List ℕ) (cells : List (ℕ × ℕ)) → length drum �
 words_at_last drum cells long are =
     let zero_there : slice_index (with_loader drum) store_cell ≡ 0 = loader_lies drum 6 long (omega arith) in
     let same : with_loader drum ≡ slice_set (with_loader drum) store_cell 0 =
-        sym (ap (λ word. slice_set (with_loader drum) store_cell word) (sym zero_there) ∙ set-get_or (with_loader drum) store_cell 0) in
+    sym (ap (λ word. slice_set (with_loader drum) store_cell word) (sym zero_there) ∙ set-get_or (with_loader drum) store_cell 0) in
     ap (λ ws. words_after_cells ws cells) same ∙ cells_overlaid cells (with_loader drum) 0 are
 
 -- the state in which the loader begins
@@ -138,10 +137,10 @@ pub loader_runs : (s : State) (image : ImageParts) → length s.core.words ≡ 4
 unfolding tape_codes
 loader_runs s image long are is =
     let through = through_tape s.core.panel.switches (jump_order loader_base) (jump_order loader_base) (with_loader s.core.words) [] [] image.cells image.start
-        (has_loader s.core.words long) nothing_skipped are is in
+    (has_loader s.core.words long) nothing_skipped are is in
     let last = words_at_last s.core.words image.cells long are in
     let ends = subst (λ ws. Runs (orders_to_load image) (core_at s.core.panel.switches loader_base (jump_order loader_base) (jump_order loader_base) (with_loader s.core.words) (off [] (tape_codes image)))
-        (final_core s.core.panel.switches image.start (slice_set ws end_cell (end_word image.start)) (tape_codes image))) last through in
+    (final_core s.core.panel.switches image.start (slice_set ws end_cell (end_word image.start)) (tape_codes image))) last through in
     subst (λ (core : Core). Runs (orders_to_load image) core (left_by_load s image 0).core) (sym (ap (λ (t : State). t.core) (begun_is s image))) ends
 
 pub loading_leaves : (s : State) (image : ImageParts) → length s.core.words ≡ 4096 → AreProgramCells image.cells → IfSome image.start IsAddress
@@ -164,7 +163,7 @@ pub loading_undisturbed : (s : State) (image : ImageParts) (events : List Event)
     → (switches : Switches) × (after_events (at_boundary (begun s image)) events ≡ at_boundary (with_switches (loaded s image) switches))
 loading_undisturbed s image events long are is such times =
     switches_pressed (begun s image) (orders_to_load image) events
-      (λ before less. let calm = loader_is_calm s image long are is before less in calm.blind) such times
+    (λ before less. let calm = loader_is_calm s image long are is before less in calm.blind) such times
 
 pub loading_time : (s : State) (image : ImageParts) → (loaded s image).clock ≡ (begun s image).clock + total_cost (begun s image) (orders_to_load image)
 loading_time s image = clock_after (begun s image) (orders_to_load image)

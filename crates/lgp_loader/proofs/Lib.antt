@@ -3,3 +3,4 @@ pub mod Runs
 pub mod Cells
 pub mod Through
 pub mod Law
+pub mod Ready

@@ -1,23 +1,23 @@
 -- One order at a time, in a core that goes in Normal with 6 BIT INPUT up. The places are variables, and so are the words where they
 -- are not known.
-use Rattle.std.proofs.Common.{◌≡◌, ℕ, zero, suc, ◌+◌, ◌*◌, ◌/◌, ◌%◌, ◌^◌, ◌<◌, ◌≤◌, ◌==◌, ◌&&◌, ◌||◌, Bool, true, false, cond, refl, sym, ap, ◌∙◌, subst, arith, List, [], ◌∷◌, ◌++◌, None, Some, Option, filter, fold, slice_index, slice_set, append_assoc, append-nil}
+use Rattle.std.proofs.Common.{◌≡◌, ℕ, ◌||◌, Bool, true, false, cond, refl, sym, ap, ◌∙◌, subst, arith, List, [], ◌∷◌, ◌++◌, None, Option, filter, slice_index, slice_set, append-nil}
 use Rattle.std.specs.List.{list_any}
 use Rattle.std.proofs.lemmas.Bool.Decides.{nat_tests}
 use Rattle.std.proofs.lemmas.Bool.{or_parts}
 use Rattle.std.proofs.lemmas.List.Elements.{filter-append}
 use Rattle.lgp_word.specs.Address.{address_after}
-use Rattle.lgp_word.specs.Order.{address_at, op_at, op_of, sign_of}
+use Rattle.lgp_word.specs.Order.{address_at, op_at, sign_of}
 use Rattle.lgp_word.specs.Word.{IsWord, stored}
 use Rattle.lgp_word.specs.declared.order.Op.{Op}
-use Rattle.lgp_word.specs.declared.order.Op.TheVariants.{Z, B, Y, R, I, D, N, M, P, E, U, T, H, C, A, S}
+use Rattle.lgp_word.specs.declared.order.Op.TheVariants.{Z, I, P, U, T, H, C}
 use Rattle.lgp_flexo.specs.Code.{is_stop, stop_code}
 use Rattle.lgp_flexo.specs.Input.{accumulator_after_all, enters, left_after, met_stop, passed_codes}
 use Rattle.lgp_flexo.specs.Tape.{Tape}
 use Rattle.lgp_flexo.specs.WordCodes.{word_codes}
-use Rattle.lgp_flexo.proofs.WordCodes.{word_keyed, word_no_stop, word_unfiltered}
+use Rattle.lgp_flexo.proofs.WordCodes.{word_keyed}
 use Rattle.lgp_table.specs.State.{Core, core_of}
-use Rattle.lgp_table.specs.Rows.{Effect, passes_stop, row}
-use Rattle.lgp_table.specs.Activity.{after_fetch, core_after, ended, print_of, with_status}
+use Rattle.lgp_table.specs.Rows.{passes_stop, row}
+use Rattle.lgp_table.specs.Activity.{core_after, ended, print_of, with_status}
 use Rattle.lgp_table.specs.Console.{is_at_rest}
 use Rattle.lgp_table.specs.SwitchPresses.{looks_by, order_looks}
 use Rattle.lgp_table.specs.declared.panel.Mode.TheVariants.{Normal}
@@ -86,7 +86,7 @@ performs switches counter accumulator register words tape word op address fetche
     let now = core_at switches (address_after counter) accumulator word words tape in
     let at_address : (row op (sign_of word) (address_at word) now).prints ≡ None = subst (λ m. (row op (sign_of word) m now).prints ≡ None) (sym fetches.is_at) silent in
     let at_word : (row (op_at word) (sign_of word) (address_at word) now).prints ≡ None =
-        prints_row (op_at word) op (sign_of word) (address_at word) now None fetches.is_op at_address in
+    prints_row (op_at word) op (sign_of word) (address_at word) now None fetches.is_op at_address in
     record {
       calm = record {
         works = refl;
@@ -103,7 +103,7 @@ pub reader_starts : (switches : Switches) (counter accumulator register : ℕ) (
     → Leads (core_at switches counter accumulator register words (off passed left)) (core_at switches (address_after counter) accumulator word words (on passed left))
 reader_starts switches counter accumulator register words passed left word fetches =
     performs switches counter accumulator register words (off passed left) word P 0 fetches refl refl
-      (core_at switches (address_after counter) accumulator word words (on passed left)) refl
+    (core_at switches (address_after counter) accumulator word words (on passed left)) refl
 
 or_true : (b : Bool) → (b || true) ≡ true
 or_true true = refl
@@ -143,17 +143,17 @@ pub word_read : (switches : Switches) (counter accumulator register : ℕ) (word
     → Fetches words counter order I 0
     → list_any is_stop codes ≡ false → filter enters codes ≡ word_codes word → IsWord word
     → Leads (core_at switches counter accumulator register words (on passed (codes ++ stop_code ∷ rest)))
-        (core_at switches (address_after counter) word order words (off (passed ++ (codes ++ stop_code ∷ [])) rest))
+    (core_at switches (address_after counter) word order words (off (passed ++ (codes ++ stop_code ∷ [])) rest))
 unfolding input_core
 word_read switches counter accumulator register words passed codes rest order word fetches none same is =
     let left = codes ++ stop_code ∷ rest in
     let read = input_core switches (address_after counter) in
     performs switches counter accumulator register words (on passed left) order I 0 fetches refl refl
-      (core_at switches (address_after counter) word order words (off (passed ++ (codes ++ stop_code ∷ [])) rest))
-      (ap (λ codes. read (accumulator_after_all false accumulator codes) order words (passed ++ codes) (left_after left) (met_stop left)) (passes_to_stop codes rest none)
-      ∙ (ap (λ n. read n order words (passed ++ (codes ++ stop_code ∷ [])) (left_after left) (met_stop left)) (enters_word codes word accumulator same is)
-      ∙ (ap (λ more. read word order words (passed ++ (codes ++ stop_code ∷ [])) more (met_stop left)) (leaves_rest codes rest none)
-      ∙ ap (λ met. read word order words (passed ++ (codes ++ stop_code ∷ [])) rest met) (meets_stop codes rest))))
+    (core_at switches (address_after counter) word order words (off (passed ++ (codes ++ stop_code ∷ [])) rest))
+    (ap (λ codes. read (accumulator_after_all false accumulator codes) order words (passed ++ codes) (left_after left) (met_stop left)) (passes_to_stop codes rest none)
+    ∙ (ap (λ n. read n order words (passed ++ (codes ++ stop_code ∷ [])) (left_after left) (met_stop left)) (enters_word codes word accumulator same is)
+    ∙ (ap (λ more. read word order words (passed ++ (codes ++ stop_code ∷ [])) more (met_stop left)) (leaves_rest codes rest none)
+    ∙ ap (λ met. read word order words (passed ++ (codes ++ stop_code ∷ [])) rest met) (meets_stop codes rest))))
 
 -- t without a minus: it goes on where the accumulator is positive, and transfers where it is negative
 pub goes_on : (switches : Switches) (counter accumulator register : ℕ) (words : List ℕ) (tape : Tape) (word address : ℕ)
@@ -161,14 +161,14 @@ pub goes_on : (switches : Switches) (counter accumulator register : ℕ) (words 
     → Leads (core_at switches counter accumulator register words tape) (core_at switches (address_after counter) accumulator word words tape)
 goes_on switches counter accumulator register words tape word address fetches plus positive =
     performs switches counter accumulator register words tape word T address fetches refl plus
-      (core_at switches (address_after counter) accumulator word words tape) (rw (plus, positive) refl)
+    (core_at switches (address_after counter) accumulator word words tape) (rw (plus, positive) refl)
 
 pub transfers_to : (switches : Switches) (counter accumulator register : ℕ) (words : List ℕ) (tape : Tape) (word address : ℕ)
     → Fetches words counter word T address → sign_of word ≡ false → sign_of accumulator ≡ true
     → Leads (core_at switches counter accumulator register words tape) (core_at switches address accumulator word words tape)
 transfers_to switches counter accumulator register words tape word address fetches plus negative =
     performs switches counter accumulator register words tape word T address fetches refl plus
-      (core_at switches address accumulator word words tape) (rw (plus, negative) refl)
+    (core_at switches address accumulator word words tape) (rw (plus, negative) refl)
 
 stored_word : (word : ℕ) → IsWord word → stored word ≡ word
 stored_word word (small, even) = omega arith
@@ -179,16 +179,16 @@ pub held : (switches : Switches) (counter accumulator register : ℕ) (words : L
     → Leads (core_at switches counter accumulator register words tape) (core_at switches (address_after counter) accumulator word (slice_set words address accumulator) tape)
 held switches counter accumulator register words tape word address fetches is =
     performs switches counter accumulator register words tape word H address fetches refl refl
-      (core_at switches (address_after counter) accumulator word (slice_set words address accumulator) tape)
-      (ap (λ n. core_at switches (address_after counter) accumulator word (slice_set words address n) tape) (stored_word accumulator is))
+    (core_at switches (address_after counter) accumulator word (slice_set words address accumulator) tape)
+    (ap (λ n. core_at switches (address_after counter) accumulator word (slice_set words address n) tape) (stored_word accumulator is))
 
 pub cleared : (switches : Switches) (counter accumulator register : ℕ) (words : List ℕ) (tape : Tape) (word address : ℕ)
     → Fetches words counter word C address → IsWord accumulator
     → Leads (core_at switches counter accumulator register words tape) (core_at switches (address_after counter) 0 word (slice_set words address accumulator) tape)
 cleared switches counter accumulator register words tape word address fetches is =
     performs switches counter accumulator register words tape word C address fetches refl refl
-      (core_at switches (address_after counter) 0 word (slice_set words address accumulator) tape)
-      (ap (λ n. core_at switches (address_after counter) 0 word (slice_set words address n) tape) (stored_word accumulator is))
+    (core_at switches (address_after counter) 0 word (slice_set words address accumulator) tape)
+    (ap (λ n. core_at switches (address_after counter) 0 word (slice_set words address n) tape) (stored_word accumulator is))
 
 -- u jumps
 pub jumps : (switches : Switches) (counter accumulator register : ℕ) (words : List ℕ) (tape : Tape) (word address : ℕ)
@@ -205,7 +205,7 @@ no_stop_passed switches = grind (arith, nat_tests)
 pub stops : (switches : Switches) (counter accumulator register : ℕ) (words : List ℕ) (tape : Tape) (word : ℕ)
     → Fetches words counter word Z 0
     → Leads (core_at switches counter accumulator register words tape)
-        (with_status (core_at switches (address_after counter) accumulator word words tape) (Halted Stop))
+    (with_status (core_at switches (address_after counter) accumulator word words tape) (Halted Stop))
 stops switches counter accumulator register words tape word fetches =
     performs switches counter accumulator register words tape word Z 0 fetches refl refl
-      (with_status (core_at switches (address_after counter) accumulator word words tape) (Halted Stop)) (ap (λ b. ended (record { core = core_at switches (address_after counter) accumulator word words tape; ending = cond b Plain Stopped; prints = None }) Going) (no_stop_passed switches))
+    (with_status (core_at switches (address_after counter) accumulator word words tape) (Halted Stop)) (ap (λ b. ended (record { core = core_at switches (address_after counter) accumulator word words tape; ending = cond b Plain Stopped; prints = None }) Going) (no_stop_passed switches))

@@ -1,7 +1,7 @@
 -- Activities one after another, over the core alone: no core depends on the clock.
-use Rattle.std.proofs.Common.{◌≡◌, ℕ, zero, suc, ◌+◌, ◌<◌, refl, sym, ap, ◌∙◌, subst, arith, List, [], ◌++◌, None, Option, append-nil, option_to_list}
+use Rattle.std.proofs.Common.{◌≡◌, ℕ, zero, suc, ◌<◌, refl, sym, ap, ◌∙◌, subst, arith, ◌++◌, append-nil, option_to_list}
 use Rattle.lgp_table.specs.State.{Core, State}
-use Rattle.lgp_table.specs.Activity.{core_after, next, print_of}
+use Rattle.lgp_table.specs.Activity.{core_after, next}
 use Rattle.lgp_table.specs.After.{after}
 use Rattle.lgp_table.proofs.After.{after_first, after_none}
 use Rattle.lgp_loader.proofs.Orders.{IsCalm, Leads}

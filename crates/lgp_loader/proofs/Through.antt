@@ -1,13 +1,13 @@
 -- The loader's way through a whole tape.
-use Rattle.std.proofs.Common.{◌≡◌, ◌≢◌, ℕ, zero, suc, ◌+◌, ◌*◌, ◌/◌, ◌%◌, ◌^◌, ◌<◌, ◌≤◌, Bool, true, false, refl, sym, ap, ◌∙◌, subst, arith, List, [], ◌∷◌, ◌++◌, None, Some, Option, length, slice_index, slice_set, append_assoc, map}
+use Rattle.std.proofs.Common.{◌≡◌, ℕ, suc, ◌+◌, ◌*◌, ◌/◌, ◌%◌, ◌<◌, true, false, refl, sym, ap, ◌∙◌, subst, arith, List, [], ◌∷◌, ◌++◌, None, Some, Option, length, slice_index, slice_set, append_assoc, map}
 use Rattle.std.specs.List.{concat}
 use Rattle.std.specs.Prelude.{IfSome}
 use Rattle.std.proofs.lemmas.Bool.Decides.{nat_tests}
-use Rattle.std.proofs.lemmas.List.{get_or-set_same, length-set}
+use Rattle.std.proofs.lemmas.List.{get_or-set_same}
 use Rattle.lgp_word.specs.Address.{IsAddress}
-use Rattle.lgp_word.specs.Order.{address_at, op_at, op_of, sign_of}
+use Rattle.lgp_word.specs.Order.{op_of, sign_of}
 use Rattle.lgp_word.specs.Word.{IsWord}
-use Rattle.lgp_word.specs.declared.order.Op.TheVariants.{Z, I, P, U, T, H, C}
+use Rattle.lgp_word.specs.declared.order.Op.TheVariants.{Z, I, U, T, H}
 use Rattle.lgp_flexo.specs.Code.{stop_code}
 use Rattle.lgp_flexo.specs.WordCodes.{word_codes}
 use Rattle.lgp_table.specs.State.{Core, core_of}
@@ -16,10 +16,10 @@ use Rattle.lgp_table.specs.declared.panel.Switches.{Switches}
 use Rattle.lgp_assembler.specs.Parts.{AreProgramCells, is_loaders}
 use Rattle.lgp_loader.specs.LoaderTape.{carriage_return, cell_codes, control_word, end_word, stopped_word}
 use Rattle.lgp_loader.specs.Loading.{counter_after_load, status_after_load}
-use Rattle.lgp_loader.specs.Places.{end_cell, end_place, loader_base, loader_words, store_cell, word_of}
+use Rattle.lgp_loader.specs.Places.{end_cell, end_place, loader_base, store_cell, word_of}
 use Rattle.lgp_loader.proofs.Orders.{Fetches, cleared, core_at, goes_on, held, jumps, off, stops, transfers_to}
-use Rattle.lgp_loader.proofs.Runs.{Runs, end_of_run, one_then}
-use Rattle.lgp_loader.proofs.Cells.{AreSkipped, HasLoader, control_is_positive, control_is_word, end_cell_elsewhere, fetch_0, fetch_1, fetch_2, fetch_3, fetch_4, fetch_5, fetch_7, fetch_8, fetch_store, loader_stays, nothing_skipped, program_elsewhere, read_codes, return_skipped, store_cell_elsewhere, two_orders}
+use Rattle.lgp_loader.proofs.Runs.{Runs, one_then}
+use Rattle.lgp_loader.proofs.Cells.{AreSkipped, HasLoader, control_is_positive, control_is_word, fetch_0, fetch_1, fetch_2, fetch_3, fetch_4, fetch_5, fetch_7, fetch_8, fetch_store, loader_stays, nothing_skipped, program_elsewhere, read_codes, return_skipped, store_cell_elsewhere, two_orders}
 
 -- the drum after a cell: the order that stores it lies in the store cell, and the word at its place
 abbrev pub words_after_cell : List ℕ → ℕ → ℕ → List ℕ
@@ -32,9 +32,9 @@ cell_left skipped place word rest = (skipped ++ word_codes (control_word place))
 one_cell : (switches : Switches) (accumulator register : ℕ) (words passed skipped rest : List ℕ) (place word : ℕ) (count : ℕ) (last : Core)
     → HasLoader words → AreSkipped skipped → place < 4096 → is_loaders place ≡ false → IsWord word
     → Runs count (core_at switches loader_base 0 (word_of U loader_base) (words_after_cell words place word)
-        (off ((passed ++ read_codes skipped (control_word place)) ++ read_codes [] word) (carriage_return ∷ rest))) last
+    (off ((passed ++ read_codes skipped (control_word place)) ++ read_codes [] word) (carriage_return ∷ rest))) last
     → Runs (suc (suc (suc (suc (suc (suc (suc (suc count))))))))
-        (core_at switches loader_base accumulator register words (off passed (cell_left skipped place word rest))) last
+    (core_at switches loader_base accumulator register words (off passed (cell_left skipped place word rest))) last
 one_cell switches accumulator register words passed skipped rest place word count last has are within free is runs =
     let control = control_word place in
     let left = word_codes word ++ stop_code ∷ (carriage_return ∷ rest) in
@@ -93,15 +93,15 @@ end_performed : (switches : Switches) (start : Option ℕ) (words passed : List 
     → Runs 1 (core_at switches end_cell (end_word start) (word_of H end_cell) words (off passed [])) (final_core switches start words passed)
 end_performed switches None words passed is here =
     one_then 0 (core_at switches end_cell (end_word None) (word_of H end_cell) words (off passed [])) (final_core switches None words passed) (final_core switches None words passed)
-      (stops switches end_cell (end_word None) (word_of H end_cell) words (off passed []) (end_word None) (end_stops words here)) refl
+    (stops switches end_cell (end_word None) (word_of H end_cell) words (off passed []) (end_word None) (end_stops words here)) refl
 end_performed switches (Some address) words passed is here =
     one_then 0 (core_at switches end_cell (end_word (Some address)) (word_of H end_cell) words (off passed [])) (final_core switches (Some address) words passed) (final_core switches (Some address) words passed)
-      (jumps switches end_cell (end_word (Some address)) (word_of H end_cell) words (off passed []) (end_word (Some address)) address (end_jumps words address here is)) refl
+    (jumps switches end_cell (end_word (Some address)) (word_of H end_cell) words (off passed []) (end_word (Some address)) address (end_jumps words address here is)) refl
 
 the_end : (switches : Switches) (accumulator register : ℕ) (words passed skipped : List ℕ) (start : Option ℕ)
     → HasLoader words → AreSkipped skipped → IfSome start IsAddress
     → Runs 5 (core_at switches loader_base accumulator register words (off passed ((skipped ++ word_codes (end_word start)) ++ stop_code ∷ [])))
-        (final_core switches start (slice_set words end_cell (end_word start)) (passed ++ read_codes skipped (end_word start)))
+    (final_core switches start (slice_set words end_cell (end_word start)) (passed ++ read_codes skipped (end_word start)))
 the_end switches accumulator register words passed skipped start has are is =
     let word = end_word start in
     let passed1 = passed ++ read_codes skipped word in
@@ -140,13 +140,13 @@ end_shape skipped word = sym (append_assoc skipped word (stop_code ∷ []))
 pub through_tape : (switches : Switches) (accumulator register : ℕ) (words passed skipped : List ℕ) (cells : List (ℕ × ℕ)) (start : Option ℕ)
     → HasLoader words → AreSkipped skipped → AreProgramCells cells → IfSome start IsAddress
     → Runs (8 * length cells + 5) (core_at switches loader_base accumulator register words (off passed (tape_left skipped cells start)))
-        (final_core switches start (slice_set (words_after_cells words cells) end_cell (end_word start)) (passed ++ tape_left skipped cells start))
+    (final_core switches start (slice_set (words_after_cells words cells) end_cell (end_word start)) (passed ++ tape_left skipped cells start))
 unfolding words_after_cells
 through_tape switches accumulator register words passed skipped [] start has are cells is =
     subst (λ left. Runs 5 (core_at switches loader_base accumulator register words (off passed left))
-        (final_core switches start (slice_set words end_cell (end_word start)) (passed ++ left)))
-      (sym (end_shape skipped (word_codes (end_word start))))
-      (the_end switches accumulator register words passed skipped start has are is)
+    (final_core switches start (slice_set words end_cell (end_word start)) (passed ++ left)))
+    (sym (end_shape skipped (word_codes (end_word start))))
+    (the_end switches accumulator register words passed skipped start has are is)
 through_tape switches accumulator register words passed skipped ((place, word) ∷ cells) start has are ((within, free, is_word), others) is =
     let control = control_word place in
     let words2 = words_after_cell words place word in
@@ -157,7 +157,7 @@ through_tape switches accumulator register words passed skipped ((place, word) �
     let later = through_tape switches 0 (word_of U loader_base) words2 passed2 (carriage_return ∷ []) cells start has2 return_skipped others is in
     let left = shape skipped (word_codes control) (word_codes word) (concat (map cell_codes cells)) (stopped_word (end_word start)) in
     let whole : passed2 ++ (carriage_return ∷ rest) ≡ passed ++ tape_left skipped ((place, word) ∷ cells) start =
-        passed_shape passed skipped (word_codes control) (word_codes word) rest ∙ ap (λ codes. passed ++ codes) (sym left) in
+    passed_shape passed skipped (word_codes control) (word_codes word) rest ∙ ap (λ codes. passed ++ codes) (sym left) in
     let last = final_core switches start words_last (passed ++ tape_left skipped ((place, word) ∷ cells) start) in
     let onward = subst (λ codes. Runs (8 * length cells + 5) (core_at switches loader_base 0 (word_of U loader_base) words2 (off passed2 (carriage_return ∷ rest))) (final_core switches start words_last codes)) whole later in
     let all = one_cell switches accumulator register words passed skipped rest place word (8 * length cells + 5) last has are within free is_word onward in

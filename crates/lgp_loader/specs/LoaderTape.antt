@@ -1,6 +1,6 @@
 -- Part of the public promise. The tape of a program: for each cell its control word and its word, then the end word. A control word
 -- is the order that stores the cell, and so is positive; the end word is negative.
-use Rattle.std.specs.Prelude.{ℕ, ◌+◌, ◌^◌, List, [], ◌∷◌, ◌++◌, Option, None, Some, length, map}
+use Rattle.std.specs.Prelude.{ℕ, ◌+◌, ◌^◌, List, [], ◌∷◌, ◌++◌, Option, None, Some, map}
 use Rattle.std.specs.List.{concat}
 use Rattle.lgp_word.specs.declared.order.Op.TheVariants.{U, C}
 use Rattle.lgp_flexo.specs.Code.{stop_code}

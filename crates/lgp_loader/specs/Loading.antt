@@ -45,7 +45,7 @@ last_control cells = fold (λ _ cell. control_word cell.0) 0 cells
 abbrev pub words_after_load : List ℕ → ImageParts → List ℕ
 words_after_load words image =
     slice_set (slice_set (overlay (words_from words loader_base loader_words) image.cells) store_cell (last_control image.cells))
-      end_cell (end_word image.start)
+    end_cell (end_word image.start)
 
 -- where the end word leaves the counter, and the machine
 abbrev pub counter_after_load : Option ℕ → ℕ

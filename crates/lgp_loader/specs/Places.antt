@@ -3,7 +3,7 @@
 use Rattle.std.specs.Prelude.{ℕ, ◌+◌, false, List, [], ◌∷◌}
 use Rattle.lgp_word.specs.Order.{order_word}
 use Rattle.lgp_word.specs.declared.order.Op.{Op}
-use Rattle.lgp_word.specs.declared.order.Op.TheVariants.{I, P, U, T, H, C}
+use Rattle.lgp_word.specs.declared.order.Op.TheVariants.{I, P, U, T, H}
 use Rattle.lgp_assembler.specs.declared.output.TheConstants.{LOADER_PLACES}
 
 -- the order with this letter and this address

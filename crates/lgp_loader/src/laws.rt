@@ -39,5 +39,5 @@ pub fn undisturbed()
         → count_by is_word_time events ≡ total_cost (begun s image) (orders_to_load image)
         → (switches : Switches)
         × (after_events (at_boundary (begun s image)) events
-            ≡ at_boundary (with_switches (loaded s image) switches)) }
+        ≡ at_boundary (with_switches (loaded s image) switches)) }
 {}

@@ -2,9 +2,11 @@
 #![tactic(auto)]
 
 pub mod laws;
+mod loading;
 mod tape;
 mod words;
 
+pub use loading::{LoadFault, load};
 pub use tape::tape_of;
 pub use words::LOADER;
 

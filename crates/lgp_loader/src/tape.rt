@@ -20,7 +20,11 @@ fn push_word<A: Allocator>(codes: &mut Vec<Code, A>, word: Word) -> Result<(), A
 }
 
 /// Punches a cell.
-fn push_cell<A: Allocator>(codes: &mut Vec<Code, A>, place: Address, word: Word) -> Result<(), AllocError>
+fn push_cell<A: Allocator>(
+    codes: &mut Vec<Code, A>,
+    place: Address,
+    word: Word,
+) -> Result<(), AllocError>
     ensures { OnOk result (codes.new.items ≡ codes.old.items ++ cell_codes (place, word)) }
 {
     let control = Order {
