@@ -2,3 +2,4 @@ pub mod HitLemmas
 pub mod WatchLemmas
 pub mod RunLemmas
 pub mod LoadLemmas
+pub mod ClockLemmas

@@ -38,6 +38,9 @@ const RULE_LIMIT: usize = 64;
 /// The clock at which no word time begins.
 const CLOCK_END: u64 = 1 << 62;
 
+/// No order takes more word times.
+const LONGEST_ORDER: u64 = 1 << 32;
+
 /// Whether so many word times from a clock on would pass the clock's end.
 fn passes_end(clock: u64, times: u64) -> bool
     ensures { IsTrue result ↔ (clock_end < clock + times) }
@@ -115,10 +118,7 @@ impl<H: History<A>, A: Allocator> Debugger<H, A> {
         if look.status.is_at_rest() {
             return Err(StepFault::AtRest);
         }
-        let Some(ahead) = self.machine.ahead() else {
-            unreachable!()
-        };
-        if passes_end(look.clock, ahead.cost) {
+        if self.order_passes_end(look.clock) {
             return Err(StepFault::ClockEnd);
         }
         let step: Step<A> = Step::Perform;
@@ -130,6 +130,25 @@ impl<H: History<A>, A: Allocator> Debugger<H, A> {
         };
         self.history.note(note);
         Ok(outcome)
+    }
+
+    /// Whether the order that begins here, at this clock, would pass the clock's end. No order takes 2^32 word times.
+    #[inline]
+    #[tactic(auto, using(lgp_phases::proofs::Bounds::cost_at_short, crate::proofs::ClockLemmas::left_few))]
+    fn order_passes_end(&self, clock: u64) -> bool
+        requires { clock ≡ self.now.state.clock }
+        ensures { IsTrue result ↔ (clock_end < self.now.state.clock + cost self.now.state) }
+    {
+        let Some(_) = self.machine.tape_passed() else {
+            unreachable!()
+        };
+        if clock <= CLOCK_END - LONGEST_ORDER {
+            return false;
+        }
+        let Some(ahead) = self.machine.ahead() else {
+            unreachable!()
+        };
+        passes_end(clock, ahead.cost)
     }
 
     /// What the rules watch, before an order.
