@@ -4,7 +4,7 @@ use Rattle.lgp_table.specs.State.{State}
 use Rattle.lgp_table.specs.Activity.{cost, next}
 use Rattle.lgp_table.specs.Console.{is_at_rest}
 use Rattle.lgp_machine.specs.Answers.{clock_end}
-use Rattle.lgp_lab.specs.Answer.{performed_on}
+use Rattle.lgp_lab.specs.MachineCommands.{performed_on}
 
 pub performed_step : (done left : ℕ) (s : State) → 0 < left → performed_on done left s
     ≡ cond (is_at_rest s.core.panel.status) (record { done = done; stopped = false; state = s })

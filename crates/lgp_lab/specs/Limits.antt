@@ -11,6 +11,10 @@ digit_limit = 10
 abbrev pub shown_limit : ℕ
 shown_limit = 64
 
+-- how many bytes a source may have
+abbrev pub source_limit : ℕ
+source_limit = 1048576
+
 -- how many words the drum has
 abbrev pub drum_size : ℕ
 drum_size = 4096

@@ -11,9 +11,14 @@ mod feed;
 mod laboratory;
 mod limits;
 mod line;
-mod reply;
+mod names;
+mod piece;
+mod program;
+mod refusal;
 mod script;
 mod sink;
+mod source_text;
+mod span;
 mod stream;
 #[cfg(test)]
 mod tests;

@@ -2,8 +2,8 @@
 
 ghost use Rattle.std.specs.Prelude.{◌≡◌, IfErr, IfOk, IfSome, OnOk, false};
 ghost use Rattle.std.specs.Io.KnownBytes.{Appends, IsAtEnd};
-ghost use Rattle.lgp_table.specs.State.{opening};
-ghost use Rattle.lgp_word.specs.Drum.{blank_words};
+
+ghost use Rattle.lgp_lab.specs.Standing.{opening_standing};
 ghost use Rattle.lgp_lab.specs.Language.{HasCause, StandsWritten};
 ghost use Rattle.lgp_lab.specs.Script.{script_faults, script_language, script_text};
 
@@ -31,7 +31,7 @@ pub fn run_script<A: Allocator + Copy, R: Feed, W: Sink>(
     ensures cause { IfErr result (λ fault.
         HasCause fault (R.failed reader.new) (W.failed writer.new)) }
     ensures stands { IfErr result (λ fault. IfSome (R.remaining reader.old) (λ script.
-        StandsWritten script_language (opening blank_words) fault script
+        StandsWritten script_language opening_standing fault script
         (R.remaining reader.new) (W.contents writer.old) (W.contents writer.new))) }
 {
     let Ok(laboratory) = Laboratory::new(alloc) else {

@@ -477,3 +477,116 @@ fn a_dump_reads_back_without_its_first_line(rt: HostRuntime) -> Result<(), Fail>
     }
     Ok(())
 }
+
+/// Scripts with sources, their replies, and how many of those begin with a question mark.
+const SOURCES: [(&[u8], &[u8], u64); 10] = [
+    (
+        b"source\n org 0100\n word 00000004\n end\n.\n",
+        b"cells 1 start none\n",
+        0,
+    ),
+    // Each kind of fault once, but for those of bytes and of the drum's end.
+    (
+        b"source\n org 6304\n b 0100\na org 0100\n z\n org 0100\n z\n q 0000\n b\n b none\n b 6363+1\na z\n9a z\n z 0 0\n word 00000001\n end\n z\n.\nlist\n",
+        b"? 9 Faults\nline 2 InLoader\nline 6 PlaceTaken\nline 7 UnknownOrder\nline 8 MissingOperand\nline 9 UnknownName\nline 10 OutOfRange\nline 11 LabelTwice\nline 12 BadLabel\nline 13 Extra\nline 14 BadOperand\nline 16 AfterEnd\n? 10 NoImage\n",
+        2,
+    ),
+    (
+        b"source\nstart b one ; take\n h 0050\n z\none frac .1\n end start\n.\nlist\n",
+        b"cells 4 start 0000\n0000 0001000j start b one ; take\n0001 000j00j8  h 0050\n0002 00000000  z\n0003 0jjjjjjj one frac .1\n               end start\n",
+        0,
+    ),
+    // The script's end closes a source; a last line without its line feed is a line.
+    (b"source\n z\n end", b"cells 1 start none\n", 0),
+    (b"source", b"? 9 Faults\nline 1 NoEnd\n", 1),
+    // An empty line and a comment are lines of the source, and count.
+    (
+        b"source\n\n; a comment\n   \n q\n end\n.\n",
+        b"? 9 Faults\nline 4 UnknownOrder\n",
+        1,
+    ),
+    // Two points are no point, and a carriage return before the line feed is not the line's.
+    (
+        b"source\r\n..\r\n end\r\n.\r\nturn 1\n",
+        b"? 9 Faults\nline 1 BadLabel\nclock 1\n",
+        1,
+    ),
+    (b"source x\n z\n.\n", b"? 1 Form\n? 1 Form\n? 1 Form\n", 3),
+    // A source with a fault leaves the one before it.
+    (
+        b"list\nsource\n z\n end\n.\nsource\n q\n.\nlist\n",
+        b"? 10 NoImage\ncells 1 start none\n? 9 Faults\nline 1 UnknownOrder\nline 2 NoEnd\n0000 00000000  z\n               end\n",
+        2,
+    ),
+    // Nothing is a command within a source.
+    (
+        b"source\nturn 5\n end\n.\nturn 1\n",
+        b"? 9 Faults\nline 1 UnknownOrder\nclock 1\n",
+        1,
+    ),
+];
+
+#[test]
+fn sources_are_assembled_and_listed(rt: HostRuntime) -> Result<(), Fail> {
+    for (script, replies, faults) in SOURCES {
+        let mut written = Vec::new(rt.alloc());
+        let answer = run(rt.alloc(), script, &mut written);
+        assert_eq!(rt; written.as_slice(), replies, "{script:?}");
+        assert_eq!(rt; answer, Ok(faults), "{script:?}");
+    }
+    Ok(())
+}
+
+/// A script with a source of one line of so many bytes, which is a comment, and of an end line.
+fn long_source(alloc: Global, length: usize) -> Result<Vec<u8>, AllocError> {
+    let mut script = repeated(alloc, b"source\n;", 1)?;
+    script.extend_from_slice(&repeated(alloc, b"a", length.saturating_sub(1))?)?;
+    script.extend_from_slice(b"\n end\n.\nturn 1\n")?;
+    Ok(script)
+}
+
+#[test]
+fn a_line_of_a_source_has_at_most_4096_bytes(rt: HostRuntime) -> Result<(), Fail> {
+    for (length, replies) in [
+        (4096, b"cells 0 start none\nclock 1\n".as_slice()),
+        (4097, b"? 11 TooLong\nclock 1\n".as_slice()),
+    ] {
+        let script = long_source(rt.alloc(), length)?;
+        let mut written = Vec::new(rt.alloc());
+        let _faults = run(rt.alloc(), &script, &mut written);
+        assert_eq!(rt; written.as_slice(), replies, "{length}");
+    }
+    Ok(())
+}
+
+/// A script with a source of comment lines of 1,024 bytes each, line feed included, so many of them, and an end line of five bytes.
+fn many_lines(alloc: Global, lines: usize, last: &[u8]) -> Result<Vec<u8>, AllocError> {
+    let mut line = repeated(alloc, b";", 1023)?;
+    line.push(b'\n')?;
+    let mut script = repeated(alloc, b"source\n", 1)?;
+    script.extend_from_slice(&repeated(alloc, &line, lines)?)?;
+    script.extend_from_slice(last)?;
+    script.extend_from_slice(b".\nturn 1\n")?;
+    Ok(script)
+}
+
+#[test]
+fn a_source_has_at_most_1048576_bytes(rt: HostRuntime) -> Result<(), Fail> {
+    let mut last = repeated(rt.alloc(), b";", 1018)?;
+    last.extend_from_slice(b"\n end\n")?;
+    for (text, replies) in [
+        (b"".as_slice(), b"? 9 Faults\nline 1025 NoEnd\nclock 1\n".as_slice()),
+        (b"\n".as_slice(), b"? 11 TooLong\nclock 1\n".as_slice()),
+        (b" end\n".as_slice(), b"? 11 TooLong\nclock 1\n".as_slice()),
+    ] {
+        let script = many_lines(rt.alloc(), 1024, text)?;
+        let mut written = Vec::new(rt.alloc());
+        let _faults = run(rt.alloc(), &script, &mut written);
+        assert_eq!(rt; written.as_slice(), replies);
+    }
+    let script = many_lines(rt.alloc(), 1023, &last)?;
+    let mut written = Vec::new(rt.alloc());
+    let _faults = run(rt.alloc(), &script, &mut written);
+    assert_eq!(rt; written.as_slice(), b"cells 0 start none\nclock 1\n".as_slice());
+    Ok(())
+}
