@@ -7,3 +7,4 @@ pub mod TapeLemmas
 pub mod PlaceLemmas
 pub mod KeptLemmas
 pub mod UsedLemmas
+pub mod SourceLemmas

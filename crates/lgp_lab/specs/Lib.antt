@@ -12,8 +12,10 @@ pub mod DrumCommands
 pub mod SourceCommands
 pub mod Language
 pub mod Script
+pub mod Files
 pub mod LineInside
 pub mod NamesInside
 pub mod PieceInside
 pub mod StreamInside
 pub mod LaboratoryInside
+pub mod FilesInside

@@ -22,6 +22,8 @@ mod machine_commands;
 mod source_commands;
 mod tape_commands;
 
+pub use source_commands::push_faults;
+
 /// A machine between two activities, on which a script's commands are performed, with the last source that assembled and the one
 /// that is open. It is seen as where it stands.
 #[derive(Drop)]

@@ -2,12 +2,14 @@
 #![tactic(auto)]
 
 pub use feed::{Failed, Feed, FeedOf};
-pub use script::run_script;
+pub use files::asm_file;
+pub use script::{batch_part, run_script};
 pub use sink::{Sink, SinkOf};
 pub use stream::LabFault;
 
 mod command;
 mod feed;
+mod files;
 mod laboratory;
 mod limits;
 mod line;

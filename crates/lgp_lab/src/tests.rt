@@ -1,4 +1,4 @@
-use crate::{Feed, FeedOf, LabFault, Sink, SinkOf, run_script};
+use crate::{Feed, FeedOf, LabFault, Sink, SinkOf, asm_file, batch_part, run_script};
 use lgp_listing::read_dump;
 use lgp_word::Address;
 use linked_list_allocator::LocalHeap;
@@ -588,5 +588,69 @@ fn a_source_has_at_most_1048576_bytes(rt: HostRuntime) -> Result<(), Fail> {
     let mut written = Vec::new(rt.alloc());
     let _faults = run(rt.alloc(), &script, &mut written);
     assert_eq!(rt; written.as_slice(), b"cells 0 start none\nclock 1\n".as_slice());
+    Ok(())
+}
+
+/// Writes what `asm_file` writes for a source behind `written`.
+fn assembled<A: Allocator + Copy>(
+    alloc: A,
+    source: &[u8],
+    written: &mut Vec<u8>,
+) -> Result<u64, LabFault> {
+    let mut reader = FeedOf::new(source, READS);
+    let mut writer = SinkOf::new(written);
+    asm_file(alloc, &mut reader, &mut writer)
+}
+
+#[test]
+fn a_source_file_is_listed_or_its_faults_are_told(rt: HostRuntime) -> Result<(), Fail> {
+    let long = repeated(rt.alloc(), b";", 1_048_577)?;
+    for (source, text, status) in [
+        (
+            b"start b one ; take\n h 0050\n z\none frac .1\n end start\n".as_slice(),
+            b"0000 0001000j start b one ; take\n0001 000j00j8  h 0050\n0002 00000000  z\n0003 0jjjjjjj one frac .1\n               end start\n".as_slice(),
+            0,
+        ),
+        (b" q\n", b"line 1 UnknownOrder\nline 2 NoEnd\n", 1),
+        (b"", b"line 1 NoEnd\n", 1),
+        (&long, b"? 11 TooLong\n", 1),
+    ] {
+        let mut written = Vec::new(rt.alloc());
+        assert_eq!(rt; assembled(rt.alloc(), source, &mut written), Ok(status));
+        assert_eq!(rt; written.as_slice(), text);
+    }
+    Ok(())
+}
+
+#[test]
+fn a_script_of_several_has_a_line_with_its_name(rt: HostRuntime) -> Result<(), Fail> {
+    let mut written = Vec::new(rt.alloc());
+    for (name, script, faults) in [("first run", FIRST_RUN, 0), ("other", b"foo".as_slice(), 1)] {
+        let mut reader = FeedOf::new(script, READS);
+        let mut writer = SinkOf::new(&mut written);
+        let answer = batch_part(rt.alloc(), name, &mut reader, &mut writer);
+        assert_eq!(rt; answer, Ok(faults));
+    }
+    let text = written
+        .strip_prefix(b"file first run\n")
+        .and_then(|text| text.strip_prefix(FIRST_RUN_REPLIES))
+        .ok_or("another text")?;
+    assert_eq!(rt; text, b"file other\n? 1 Form\n".as_slice());
+    Ok(())
+}
+
+#[test]
+fn the_line_of_a_name_is_counted_where_a_write_fails(rt: HostRuntime) -> Result<(), Fail> {
+    for calls in [0, 3, 12] {
+        let mut failing = Failing {
+            taken: Vec::new(rt.alloc()),
+            most: 1,
+            calls,
+        };
+        let mut reader = FeedOf::new(b"turn 5\n".as_slice(), READS);
+        let mut writer = SinkOf::new(&mut failing);
+        let answer = batch_part(rt.alloc(), "name", &mut reader, &mut writer);
+        assert_eq!(rt; answer, Err(LabFault::Write(calls as u64)));
+    }
     Ok(())
 }
