@@ -1,0 +1,3 @@
+pub mod HitLemmas
+pub mod WatchLemmas
+pub mod RunLemmas

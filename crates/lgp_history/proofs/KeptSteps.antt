@@ -1,0 +1,106 @@
+-- What is kept, one step more or some orders back.
+use Rattle.std.proofs.Common.{◌≡◌, ℕ, ◌+◌, ◌≤◌, Bool, true, false, cond, List, [], ◌∷◌, ◌++◌, drop, refl, sym, ◌∙◌, ap, suc, zero, arith}
+use Rattle.std.specs.Prelude.{◌==◌, ◌&&◌}
+use Rattle.std.proofs.lemmas.Bool.Decides.{nat_tests}
+use mir.Val.{bool_byte}
+use Rattle.lgp_table.specs.State.{State}
+use Rattle.lgp_history.specs.Steps.{AreStepsTo, CanStep, Leads, first_state, is_order, is_order_back, orders_in, state_back, stepped, steps_back, with_step}
+use Rattle.lgp_history.specs.declared.step.Step.{Step}
+
+-- where orders are counted from the end, one step more shifts the count by itself
+same_test : (later m more : ℕ) → (later + more + 1 == m + more) ≡ (later + 1 == m)
+same_test later m more = grind (arith, nat_tests)
+
+last_test : (b : Bool) (m : ℕ) → 1 ≤ m + cond b 1 0 → m ≤ 0 → (b && (0 + 1 == m + cond b 1 0)) ≡ true
+last_test true m h within = grind (arith, nat_tests)
+last_test false m h within = absurd (omega arith)
+
+within_rest : (b : Bool) (later m : ℕ) → (b && (later + 1 == m)) ≡ false → m ≤ cond b 1 0 + later → m ≤ later
+within_rest true later m other within = grind (arith, nat_tests)
+within_rest false later m other within = omega arith
+
+none_back : (b : Bool) (later : ℕ) → (b && (later + 1 == 0)) ≡ false
+none_back true later = grind (arith, nat_tests)
+none_back false later = refl
+
+-- a truth value as a number
+bool_byte-count : (b : Bool) → bool_byte b ≡ cond b 1 0
+bool_byte-count true = refl
+bool_byte-count false = refl
+
+pub bool_byte-few : (b : Bool) → bool_byte b ≤ 1
+bool_byte-few true = omega arith
+bool_byte-few false = omega arith
+
+module _ {A : Type 0} where
+  pub first_state-more : (kept : List (State × Step A)) (k : State × Step A) (now : State) → first_state (kept ++ k ∷ []) now ≡ first_state kept k.0
+  first_state-more [] k now = refl
+  first_state-more (x ∷ xs) k now = refl
+
+  are_steps-more : (kept : List (State × Step A)) (before : State) (step : Step A) → AreStepsTo before kept → CanStep step before → AreStepsTo (stepped step before) (kept ++ (before, step) ∷ [])
+  are_steps-more [] before step led can = (can, refl, tt)
+  are_steps-more (x ∷ xs) before step led can = (led.0, led.1 ∙ sym (first_state-more xs (before, step) (stepped step before)), are_steps-more xs before step led.2 can)
+
+  are_steps-drop : (n : ℕ) (kept : List (State × Step A)) (now : State) → AreStepsTo now kept → AreStepsTo now (drop n kept)
+  are_steps-drop zero kept now led = led
+  are_steps-drop (suc n) [] now led = led
+  are_steps-drop (suc n) (x ∷ xs) now led = are_steps-drop n xs now led.2
+
+  pub leads-more : (capacity : ℕ) (kept : List (State × Step A)) (before : State) (step : Step A) → Leads kept before → CanStep step before → Leads (with_step capacity kept before step) (stepped step before)
+  leads-more capacity kept before step led can = record { steps = are_steps-drop _ _ _ (are_steps-more kept before step led.steps can) }
+
+  first_state-back : (n : ℕ) (kept : List (State × Step A)) (now : State) → first_state (steps_back n kept) (state_back n kept now) ≡ first_state kept now
+  first_state-back n [] now = refl
+  first_state-back n (x ∷ xs) now =
+      elim (is_order_back n x xs) as (λ b. first_state (cond b [] (x ∷ steps_back n xs)) (cond b x.0 (state_back n xs now)) ≡ x.0) [ true ↦ refl | false ↦ refl ]
+
+  are_steps-back : (n : ℕ) (kept : List (State × Step A)) (now : State) → AreStepsTo now kept → AreStepsTo (state_back n kept now) (steps_back n kept)
+  are_steps-back n [] now led = tt
+  are_steps-back n (x ∷ xs) now led =
+      elim (is_order_back n x xs) as (λ b. AreStepsTo (cond b x.0 (state_back n xs now)) (cond b [] (x ∷ steps_back n xs)))
+      [ true ↦ tt | false ↦ (led.0, led.1 ∙ sym (first_state-back n xs now), are_steps-back n xs now led.2) ]
+
+  pub leads-back : (n : ℕ) (kept : List (State × Step A)) (now : State) → Leads kept now → Leads (steps_back n kept) (state_back n kept now)
+  leads-back n kept now led = record { steps = are_steps-back n kept now led.steps }
+
+  -- 1 for an order
+  abbrev pub order_count : Step A → ℕ
+  order_count step = cond (is_order step) 1 0
+
+  -- whether a step is an order, as a number
+  pub bool_byte-order : (step : Step A) (b : Bool) → b ≡ is_order step → bool_byte b ≡ order_count step
+  bool_byte-order step b e = rw e (bool_byte-count (is_order step))
+
+  pub orders_in-more : (kept : List (State × Step A)) (k : State × Step A) → orders_in (kept ++ k ∷ []) ≡ orders_in kept + order_count k.1
+  orders_in-more [] k = omega arith
+  orders_in-more (x ∷ xs) k = omega (arith, orders_in-more xs k)
+
+  is_order_back-more : (xs : List (State × Step A)) (k x : State × Step A) (m : ℕ) → is_order_back (m + order_count k.1) x (xs ++ k ∷ []) ≡ is_order_back m x xs
+  is_order_back-more xs k x m = rw (orders_in-more xs k) (ap (λ t. is_order x.1 && t) (same_test (orders_in xs) m (order_count k.1)))
+
+  -- going back over the last step
+  pub state_back-more : (kept : List (State × Step A)) (k : State × Step A) (now : State) (m : ℕ) → 1 ≤ m + order_count k.1 → m ≤ orders_in kept → state_back (m + order_count k.1) (kept ++ k ∷ []) now ≡ state_back m kept k.0
+  state_back-more [] k now m h within = rw (last_test (is_order k.1) m h within)
+  state_back-more (x ∷ xs) k now m h within =
+      rw (is_order_back-more xs k x m)
+      (elim (is_order_back m x xs) as (λ b. is_order_back m x xs ≡ b → cond b x.0 (state_back (m + order_count k.1) (xs ++ k ∷ []) now) ≡ cond b x.0 (state_back m xs k.0))
+      [ true ↦ λ e. refl | false ↦ λ e. state_back-more xs k now m h (within_rest (is_order x.1) (orders_in xs) m e within) ] refl)
+
+  pub steps_back-more : (kept : List (State × Step A)) (k : State × Step A) (m : ℕ) → 1 ≤ m + order_count k.1 → m ≤ orders_in kept → steps_back (m + order_count k.1) (kept ++ k ∷ []) ≡ steps_back m kept
+  steps_back-more [] k m h within = rw (last_test (is_order k.1) m h within)
+  steps_back-more (x ∷ xs) k m h within =
+      rw (is_order_back-more xs k x m)
+      (elim (is_order_back m x xs) as (λ b. is_order_back m x xs ≡ b → cond b [] (x ∷ steps_back (m + order_count k.1) (xs ++ k ∷ [])) ≡ cond b [] (x ∷ steps_back m xs))
+      [ true ↦ λ e. refl | false ↦ λ e. ap (λ ks. x ∷ ks) (steps_back-more xs k m h (within_rest (is_order x.1) (orders_in xs) m e within)) ] refl)
+
+  no_order_back : (k : State × Step A) (later : List (State × Step A)) → is_order_back 0 k later ≡ false
+  no_order_back k later = none_back (is_order k.1) (orders_in later)
+
+  -- no order back is here
+  pub state_back-none : (kept : List (State × Step A)) (now : State) → state_back 0 kept now ≡ now
+  state_back-none [] now = refl
+  state_back-none (k ∷ later) now = rw (no_order_back k later) (state_back-none later now)
+
+  pub steps_back-none : (kept : List (State × Step A)) → steps_back 0 kept ≡ kept
+  steps_back-none [] = refl
+  steps_back-none (k ∷ later) = rw (no_order_back k later) (ap (λ ks. k ∷ ks) (steps_back-none later))

@@ -1,0 +1,4 @@
+pub mod KeptSteps
+pub mod Undoing
+pub mod RecordedSteps
+pub mod Trails

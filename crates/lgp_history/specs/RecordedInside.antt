@@ -1,0 +1,103 @@
+-- Serves proofs only: what is recorded of a step and of the state before it, and how a state is taken back with it.
+use Rattle.std.specs.Prelude.{ℕ, ◌+◌, ◌==◌, ◌&&◌, ◌||◌, Bool, true, false, not, if◌then◌else◌, nat_le, nat_lt, List, [], ◌∷◌, length, Option, Some, None, is_some, slice_index}
+use Rattle.lgp_word.specs.Word.{stored}
+use Rattle.lgp_word.specs.Address.{address_after}
+use Rattle.lgp_word.specs.Order.{address_at, op_at, with_address_of}
+use Rattle.lgp_word.specs.declared.order.Op.{Op}
+use Rattle.lgp_word.specs.declared.order.Op.TheVariants.{Y, R, H, C}
+use Rattle.lgp_flexo.specs.Tape.{all_codes}
+use Rattle.lgp_table.specs.State.{Core, State, with_word, word_at}
+use Rattle.lgp_table.specs.Activity.{after_fetch}
+use Rattle.lgp_table.specs.declared.panel.Status.{Status}
+use Rattle.lgp_table.specs.declared.panel.Status.TheVariants.{Going, Executing}
+use Rattle.lgp_machine.specs.Marks.{mark_of, state_at_mark, with_tape_at}
+use Rattle.lgp_machine.specs.declared.mark.Mark.{Mark}
+use Rattle.lgp_history.specs.Steps.{first_state, is_order}
+use Rattle.lgp_history.specs.Hits.{is_going}
+use Rattle.lgp_history.specs.declared.rule.Rule.{Rule}
+use Rattle.lgp_history.specs.declared.rule.Rule.TheVariants.{At, Changed}
+use Rattle.lgp_history.specs.declared.step.Step.{Step}
+use Rattle.lgp_history.specs.declared.step.Step.TheVariants.{Perform, Mount, Put}
+
+-- the word that is lost where another is stored at this address: none where the same word is stored
+abbrev pub lost_word : Core → ℕ → ℕ → Option (ℕ × ℕ)
+lost_word core address word =
+    if word_at (with_word core address word) address == word_at core address then None else Some (address, word_at core address)
+
+-- the word that an order loses
+abbrev pub lost_by : Op → ℕ → Core → Option (ℕ × ℕ)
+lost_by Y m core = lost_word core m (with_address_of (word_at core m) (address_at core.panel.accumulator))
+lost_by R m core = lost_word core m (with_address_of (word_at core m) (address_after core.panel.counter))
+lost_by H m core = lost_word core m (stored core.panel.accumulator)
+lost_by C m core = lost_word core m (stored core.panel.accumulator)
+lost_by _ m core = None
+
+abbrev pub lost_by_order : ℕ → Core → Option (ℕ × ℕ)
+lost_by_order word core = lost_by (op_at word) (address_at word) core
+
+-- the word that the activity loses which begins with this status
+abbrev pub lost_in : Status → Core → Option (ℕ × ℕ)
+lost_in Going core = lost_by_order (word_at core core.panel.counter) (after_fetch core)
+lost_in Executing core = lost_by_order core.panel.register core
+lost_in _ core = None
+
+-- what is recorded: the step, the mark of the state before it, the word that it loses, and the tape that it takes out
+pub record Recorded (X : Type 0) : Type 0 where
+  pub step : Step X
+  pub mark : Mark
+  pub lost : Option (ℕ × ℕ)
+  pub tape : Option (List ℕ)
+
+-- whether a lost word can be put back: there is another one in its place
+abbrev pub can_restore : Option (ℕ × ℕ) → List ℕ → Bool
+can_restore None words = true
+can_restore (Some (address, word)) words = nat_lt address (length words) && not (slice_index words address == word)
+
+-- whether it is the word at this address that is lost
+abbrev pub loses_at : Option (ℕ × ℕ) → ℕ → Bool
+loses_at None address = false
+loses_at (Some (lost, word)) address = lost == address
+
+abbrev pub with_tape : Option (List ℕ) → ℕ → State → State
+with_tape None passed s = s
+with_tape (Some codes) passed s = with_tape_at s codes passed
+
+module _ {X : Type 0} where
+  -- the word that a step loses, and the tape that it takes out
+  abbrev pub lost_of : Step X → State → Option (ℕ × ℕ)
+  lost_of Perform s = lost_in s.core.panel.status s.core
+  lost_of (Put address word) s = lost_word s.core address word
+  lost_of _ s = None
+
+  abbrev pub tape_of : Step X → State → Option (List ℕ)
+  tape_of (Mount codes) s = Some (all_codes s.core.tape)
+  tape_of _ s = None
+
+  -- what is recorded of a step and of the state before it
+  abbrev pub recorded : Step X → State → Recorded X
+  recorded step s = record { step = step; mark = mark_of s; lost = lost_of step s; tape = tape_of step s }
+
+  -- whether a state can be the one after the step
+  abbrev pub belongs : Recorded X → State → Bool
+  belongs r s =
+      nat_le r.mark.printed (length s.printed) && (is_some r.tape || nat_le r.mark.passed (length s.core.tape.passed))
+      && can_restore r.lost s.core.words
+
+  -- the state before the step; a state that cannot be the one after it stays
+  abbrev pub undone : Recorded X → State → State
+  undone r s = if belongs r s then state_at_mark (with_tape r.tape r.mark.passed s) r.mark r.lost else s
+
+  -- how many of the recorded steps are orders
+  abbrev pub orders_recorded : List (Recorded X) → ℕ
+  orders_recorded [] = 0
+  orders_recorded (r ∷ later) = (if is_order r.step then 1 else 0) + orders_recorded later
+
+  -- whether a rule hits the recorded order, read off what is recorded
+  abbrev pub is_recorded_hit : Recorded X → Rule → Bool
+  is_recorded_hit r (At address) = is_going r.mark.panel.status && (r.mark.panel.counter == address)
+  is_recorded_hit r (Changed address) = loses_at r.lost address
+
+  -- the kept steps that the records and the present state stand for
+  abbrev pub read : List (Recorded X) → State → List (State × Step X)
+  read [] now = []
+  read (r ∷ later) now = (undone r (first_state (read later now) now), r.step) ∷ read later now

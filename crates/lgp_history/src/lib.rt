@@ -1,0 +1,15 @@
+//! The steps that took the machine where it is, kept so that it can go back to the beginning of an earlier order.
+#![tactic(auto)]
+
+mod changes;
+mod checkpoints;
+mod history;
+mod records;
+mod rule;
+mod step;
+
+pub use checkpoints::Checkpoints;
+pub use history::{BackFault, History};
+pub use records::{CAPACITY_LIMIT, Records};
+pub use rule::Rule;
+pub use step::{Step, Tape};
