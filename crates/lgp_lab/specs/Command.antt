@@ -51,6 +51,10 @@ press_command operands =
 unfoldable pub lone_number : List ℕ → Option ℕ
 lone_number operands = if has_no_word (behind_word operands) then number_at (first_word operands) else None
 
+-- the address that is the only operand
+unfoldable pub lone_address : List ℕ → Option ℕ
+lone_address operands = if has_no_word (behind_word operands) then address_text (first_word operands) else None
+
 -- the range of words that an address and a number ask for
 abbrev pub span_by : Option ℕ → Option ℕ → Option WordRange
 span_by (Some address) (Some count) = range_of address count
@@ -80,6 +84,11 @@ command_by verbs.Printed operands = lone commands.Printed operands
 command_by verbs.Dump operands = lone commands.Dump operands
 command_by verbs.Source operands = lone commands.Source operands
 command_by verbs.List operands = lone commands.List operands
+command_by verbs.Break operands = option_map commands.Break (lone_address operands)
+command_by verbs.Watch operands = option_map commands.Watch (lone_address operands)
+command_by verbs.Drop operands = option_map commands.Drop (lone_number operands)
+command_by verbs.Back operands = option_map commands.Back (lone_number operands)
+command_by verbs.Last operands = lone commands.Last operands
 
 -- what a line asks for; None where it is in no command's form
 abbrev pub asked_by : Option Verb → List ℕ → Option Command

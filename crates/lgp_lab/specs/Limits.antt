@@ -15,6 +15,10 @@ shown_limit = 64
 abbrev pub source_limit : ℕ
 source_limit = 1048576
 
+-- how many steps are kept for going back
+abbrev pub kept_limit : ℕ
+kept_limit = 4096
+
 -- how many words the drum has
 abbrev pub drum_size : ℕ
 drum_size = 4096

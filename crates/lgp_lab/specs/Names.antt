@@ -32,6 +32,11 @@ verb_names =
     ∷ (codes "dump", verbs.Dump)
     ∷ (codes "source", verbs.Source)
     ∷ (codes "list", verbs.List)
+    ∷ (codes "break", verbs.Break)
+    ∷ (codes "watch", verbs.Watch)
+    ∷ (codes "drop", verbs.Drop)
+    ∷ (codes "back", verbs.Back)
+    ∷ (codes "last", verbs.Last)
     ∷ []
 
 -- the buttons of the console

@@ -5,6 +5,8 @@ use Rattle.std.specs.List.{concat}
 use Rattle.std.specs.Str.{byte}
 use Rattle.lgp_lab.specs.Command.{command_of, text_behind}
 use Rattle.lgp_lab.specs.DrumCommands.{answer_to_dump, answer_to_put, answer_to_show, answer_to_words}
+use Rattle.lgp_history.specs.declared.rule.Rule.TheVariants.{At, Changed}
+use Rattle.lgp_lab.specs.HistoryCommands.{answer_to_back, answer_to_drop, answer_to_last, answer_to_rule}
 use Rattle.lgp_lab.specs.Language.{Language, question_count, text_replies}
 use Rattle.lgp_lab.specs.Limits.{line_limit}
 use Rattle.lgp_lab.specs.Line.{has_no_word}
@@ -17,59 +19,66 @@ use Rattle.lgp_lab.specs.declared.command.Command.{Command}
 use Rattle.lgp_lab.specs.declared.command.Command.TheVariants as commands
 use Rattle.lgp_lab.specs.declared.refusal.Refusal.TheVariants.{Form, TooLong}
 
--- the answer to a command; the text is that of mount and type
-abbrev pub answer_to : Standing → Command → List ℕ → Answer
-answer_to standing (commands.Put address word) text = answer_to_put standing address word
-answer_to standing commands.Mount text = answer_to_mount standing text
-answer_to standing (commands.Press action) text = answer_to_press standing action
-answer_to standing commands.Type text = answer_to_type standing text
-answer_to standing (commands.Turn times) text = answer_to_turn standing times
-answer_to standing (commands.Orders limit) text = answer_to_orders standing limit
-answer_to standing commands.Panel text = answer_to_panel standing
-answer_to standing (commands.Words range) text = answer_to_words standing range
-answer_to standing (commands.Show range) text = answer_to_show standing range
-answer_to standing commands.Printed text = answer_to_printed standing
-answer_to standing commands.Dump text = answer_to_dump standing
-answer_to standing commands.Source text = answer_to_source standing
-answer_to standing commands.List text = answer_to_list standing
-
-abbrev pub answer_by : Standing → Option Command → List ℕ → Answer
-answer_by standing None text = refused Form standing
-answer_by standing (Some command) text = answer_to standing command text
-
 -- a line without a reply: no word stands on it, or it begins with a semicolon
 abbrev pub is_passed_over : List ℕ → Bool
 is_passed_over line = has_no_word line || (slice_index line 0 == byte ";")
 
--- the answer to a line outside a source
-unfoldable pub answer_to_command : Standing → List ℕ → Answer
-answer_to_command standing line =
-    if is_passed_over line then silent standing
-    else (if nat_lt line_limit (length line) then refused TooLong standing
-    else answer_by standing (command_of line) (text_behind line))
+module _ {A : Type 0} where
+  -- the answer to a command; the text is that of mount and type
+  abbrev pub answer_to : Standing A → Command → List ℕ → Answer A
+  answer_to standing (commands.Put address word) text = answer_to_put standing address word
+  answer_to standing commands.Mount text = answer_to_mount standing text
+  answer_to standing (commands.Press action) text = answer_to_press standing action
+  answer_to standing commands.Type text = answer_to_type standing text
+  answer_to standing (commands.Turn times) text = answer_to_turn standing times
+  answer_to standing (commands.Orders limit) text = answer_to_orders standing limit
+  answer_to standing commands.Panel text = answer_to_panel standing
+  answer_to standing (commands.Words range) text = answer_to_words standing range
+  answer_to standing (commands.Show range) text = answer_to_show standing range
+  answer_to standing commands.Printed text = answer_to_printed standing
+  answer_to standing commands.Dump text = answer_to_dump standing
+  answer_to standing commands.Source text = answer_to_source standing
+  answer_to standing commands.List text = answer_to_list standing
+  answer_to standing (commands.Break address) text = answer_to_rule standing (At address)
+  answer_to standing (commands.Watch address) text = answer_to_rule standing (Changed address)
+  answer_to standing (commands.Drop number) text = answer_to_drop standing number
+  answer_to standing (commands.Back orders) text = answer_to_back standing orders
+  answer_to standing commands.Last text = answer_to_last standing
 
--- the answer to a line; in an open source each line is the source's
-abbrev pub answer_in : Option SourceText → Standing → List ℕ → Answer
-answer_in None standing line = answer_to_command standing line
-answer_in (Some source) standing line = answer_in_source standing source line
+  abbrev pub answer_by : Standing A → Option Command → List ℕ → Answer A
+  answer_by standing None text = refused Form standing
+  answer_by standing (Some command) text = answer_to standing command text
 
-unfoldable pub answer_to_line : Standing → List ℕ → Answer
-answer_to_line standing line = answer_in standing.opened standing line
+  -- the answer to a line outside a source
+  unfoldable pub answer_to_command : Standing A → List ℕ → Answer A
+  answer_to_command standing line =
+      if is_passed_over line then silent standing
+      else (if nat_lt line_limit (length line) then refused TooLong standing
+      else answer_by standing (command_of line) (text_behind line))
 
--- the language of scripts; a script's end closes an open source
-abbrev pub script_language : Language Standing
-script_language = record {
-  reply = λ standing line. (answer_to_line standing line).reply;
-  after = λ standing line. (answer_to_line standing line).after;
-  closing = λ standing. (closed standing).reply;
-}
+  -- the answer to a line; in an open source each line is the source's
+  abbrev pub answer_in : Option SourceText → Standing A → List ℕ → Answer A
+  answer_in None standing line = answer_to_command standing line
+  answer_in (Some source) standing line = answer_in_source standing source line
 
--- the replies to a script, its text, and how many of them begin with a question mark, as far as 64 bits count
-unfoldable pub script_replies : List ℕ → List (List ℕ)
-script_replies script = text_replies script_language opening_standing script
+  unfoldable pub answer_to_line : Standing A → List ℕ → Answer A
+  answer_to_line standing line = answer_in standing.opened standing line
 
-abbrev pub script_text : List ℕ → List ℕ
-script_text script = concat (script_replies script)
+  -- the language of scripts; a script's end closes an open source
+  abbrev pub script_language : Language (Standing A)
+  script_language = record {
+    reply = λ standing line. (answer_to_line standing line).reply;
+    after = λ standing line. (answer_to_line standing line).after;
+    closing = λ standing. (closed standing).reply;
+  }
 
-abbrev pub script_faults : List ℕ → ℕ
-script_faults script = question_count (script_replies script)
+-- the replies to a script, its text, and how many of them begin with a question mark, as far as 64 bits count; the type is that of
+-- Standing
+unfoldable pub script_replies : Type 0 → List ℕ → List (List ℕ)
+script_replies A script = text_replies script_language (opening_standing {A = A}) script
+
+abbrev pub script_text : Type 0 → List ℕ → List ℕ
+script_text A script = concat (script_replies A script)
+
+abbrev pub script_faults : Type 0 → List ℕ → ℕ
+script_faults A script = question_count (script_replies A script)

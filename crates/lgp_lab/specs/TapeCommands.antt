@@ -2,8 +2,9 @@
 use Rattle.std.specs.Prelude.{ℕ, ◌++◌, if◌then◌else◌, Result, Ok, Err, List, [], ◌∷◌, length, codes, decimal}
 use Rattle.lgp_flexo.specs.TapeText.{codes_of_text, written_tape}
 use Rattle.lgp_table.specs.Console.{is_at_rest}
-use Rattle.lgp_table.specs.Interleaving.{after_mount}
-use Rattle.lgp_lab.specs.Standing.{Answer, Standing, refused, shown, with_state}
+use Rattle.lgp_history.specs.declared.step.Step.TheVariants.{Mount}
+use Rattle.lgp_debugger.specs.Debugging.{after_step}
+use Rattle.lgp_lab.specs.Standing.{Answer, Standing, refused, shown, with_debugger}
 use Rattle.lgp_lab.specs.declared.refusal.Refusal.TheVariants as refusals
 
 -- ---- mount
@@ -11,15 +12,16 @@ use Rattle.lgp_lab.specs.declared.refusal.Refusal.TheVariants as refusals
 abbrev pub count_text : ℕ → List ℕ
 count_text count = codes "ok " ++ (decimal count ++ codes "\n")
 
-abbrev pub answer_to_tape : Standing → Result (List ℕ) ℕ → Answer
-answer_to_tape standing (Err place) = refused (refusals.BadSign place) standing
-answer_to_tape standing (Ok tape) =
-    if is_at_rest standing.state.core.panel.status
-    then record { reply = count_text (length tape); after = with_state standing (after_mount standing.state tape) }
-    else refused refusals.Moving standing
+module _ {A : Type 0} where
+  abbrev pub answer_to_tape : Standing A → Result (List ℕ) ℕ → Answer A
+  answer_to_tape standing (Err place) = refused (refusals.BadSign place) standing
+  answer_to_tape standing (Ok tape) =
+      if is_at_rest standing.debugger.state.core.panel.status
+      then record { reply = count_text (length tape); after = with_debugger standing (after_step standing.debugger (Mount tape)) }
+      else refused refusals.Moving standing
 
-abbrev pub answer_to_mount : Standing → List ℕ → Answer
-answer_to_mount standing text = answer_to_tape standing (codes_of_text text)
+  abbrev pub answer_to_mount : Standing A → List ℕ → Answer A
+  answer_to_mount standing text = answer_to_tape standing (codes_of_text text)
 
 -- ---- printed
 
@@ -28,5 +30,5 @@ printed_text [] = codes "printed 0\n"
 printed_text (code ∷ more) =
     codes "printed " ++ (decimal (length (code ∷ more)) ++ (codes " " ++ (written_tape (code ∷ more) ++ codes "\n")))
 
-abbrev pub answer_to_printed : Standing → Answer
-answer_to_printed standing = shown (printed_text standing.state.printed) standing
+abbrev pub answer_to_printed : {A : Type 0} → Standing A → Answer A
+answer_to_printed standing = shown (printed_text standing.debugger.state.printed) standing

@@ -2,7 +2,7 @@
 
 ghost use Rattle.std.specs.Prelude.{◌≡◌, ◌≤◌, drop, length};
 ghost use Rattle.std.specs.List.{position};
-ghost use Rattle.lgp_lab.specs.Command.{command_by, command_of, lone, lone_number, number_at, press_command, put_command, span_at, switch_action, text_behind};
+ghost use Rattle.lgp_lab.specs.Command.{command_by, command_of, lone, lone_address, lone_number, number_at, press_command, put_command, span_at, switch_action, text_behind};
 ghost use Rattle.lgp_lab.specs.Line.{behind_word, first_word, has_no_word, is_space, is_visible};
 ghost use Rattle.lgp_lab.specs.Names.{button_names, named, position_names, switch_names, verb_names};
 
@@ -34,6 +34,16 @@ pub enum Command {
     Source,
     /// The listing of the last source.
     List,
+    /// A rule that an order taken from an address hits.
+    Break(Address),
+    /// A rule that an order hits which changes the word at an address.
+    Watch(Address),
+    /// The rule of a number goes.
+    Drop(u64),
+    /// So many orders back.
+    Back(u64),
+    /// Back to the latest order that a rule hits.
+    Last,
 }
 
 /// What a command's first word says.
@@ -52,6 +62,11 @@ pub enum Verb {
     Dump,
     Source,
     List,
+    Break,
+    Watch,
+    Drop,
+    Back,
+    Last,
 }
 
 /// A switch of the console.
@@ -63,7 +78,7 @@ pub enum Switch {
 }
 
 /// The commands by their first word.
-const VERBS: [Named<Verb>; 13] = [
+const VERBS: [Named<Verb>; 18] = [
     Named { name: b"put", value: Verb::Put },
     Named { name: b"mount", value: Verb::Mount },
     Named { name: b"press", value: Verb::Press },
@@ -77,6 +92,26 @@ const VERBS: [Named<Verb>; 13] = [
     Named { name: b"dump", value: Verb::Dump },
     Named { name: b"source", value: Verb::Source },
     Named { name: b"list", value: Verb::List },
+    Named {
+        name: b"break",
+        value: Verb::Break,
+    },
+    Named {
+        name: b"watch",
+        value: Verb::Watch,
+    },
+    Named {
+        name: b"drop",
+        value: Verb::Drop,
+    },
+    Named {
+        name: b"back",
+        value: Verb::Back,
+    },
+    Named {
+        name: b"last",
+        value: Verb::Last,
+    },
 ];
 
 /// The buttons of the console.
@@ -247,6 +282,19 @@ fn lone_number(operands: &[u8]) -> Option<u64>
     }
 }
 
+/// The address that is the only operand.
+#[tactic(auto, unfolding(crate::specs::Command::lone_address))]
+fn lone_address(operands: &[u8]) -> Option<Address>
+    ensures { result ≡ lone_address operands.now }
+{
+    let address = split_word(operands);
+    if has_no_word(address.behind) {
+        Address::parse(address.word)
+    } else {
+        None
+    }
+}
+
 /// A range of words: an address, and how many words from it on.
 #[tactic(auto, unfolding(crate::specs::Command::span_at))]
 fn span_at(operands: &[u8]) -> Option<Span>
@@ -292,6 +340,11 @@ fn command_by(verb: Verb, operands: &[u8]) -> Option<Command>
         Verb::Dump => lone(Command::Dump, operands),
         Verb::Source => lone(Command::Source, operands),
         Verb::List => lone(Command::List, operands),
+        Verb::Break => Some(Command::Break(lone_address(operands)?)),
+        Verb::Watch => Some(Command::Watch(lone_address(operands)?)),
+        Verb::Drop => Some(Command::Drop(lone_number(operands)?)),
+        Verb::Back => Some(Command::Back(lone_number(operands)?)),
+        Verb::Last => lone(Command::Last, operands),
     }
 }
 

@@ -1,4 +1,4 @@
-//! The laboratory: a machine between two activities with the source at hand, and what is answered to a line.
+//! The laboratory: a machine with its history and the source at hand, and what is answered to a line.
 
 ghost use Rattle.std.specs.Prelude.{◌≡◌, ◌++◌, ◌==◌, ◌≤◌, List, ℕ, IfOk, OnOk, length, slice_index};
 ghost use Rattle.std.specs.Str.{byte};
@@ -8,45 +8,46 @@ ghost use Rattle.lgp_lab.specs.Script.{answer_to, answer_to_command, is_passed_o
 ghost use Rattle.lgp_lab.specs.Standing.{opening_standing};
 
 use crate::command::{Asked, Command, asked_in};
+use crate::limits::KEPT_LIMIT;
 use crate::line::Bytes;
 use crate::program::Program;
 use crate::refusal::{Refusal, push_refusal};
 use crate::source_text::SourceText;
 use crate::stream::Answers;
+use lgp_debugger::Debugger;
+use lgp_history::{Records, Rule};
 use lgp_machine::Machine;
 use std::alloc::{AllocError, Allocator};
 use std::marker::Model;
 
 mod drum_commands;
+mod history_commands;
 mod machine_commands;
 mod source_commands;
 mod tape_commands;
 
 pub use source_commands::push_faults;
 
-/// A machine between two activities, on which a script's commands are performed, with the last source that assembled and the one
-/// that is open. It is seen as where it stands.
+/// A machine with its history and its rules, on which a script's commands are performed, with the last source that assembled and
+/// the one that is open. It is seen as where it stands.
 #[derive(Drop)]
-pub struct Laboratory<A: Allocator> {
+pub struct Laboratory<A: Allocator + Clone> {
     alloc: A,
-    machine: Machine<A>,
+    debugger: Debugger<Records<A>, A>,
     program: Option<Program<A>>,
     opened: Option<SourceText<A>>,
 }
 
-impl<A: Allocator> Model for Laboratory<A> {
-    ghost use Rattle.lgp_lab.specs.LaboratoryInside.{IsAtBoundary};
+impl<A: Allocator + Clone> Model for Laboratory<A> {
     ghost use Rattle.lgp_lab.specs.Standing.{Standing};
 
-    ghost Value = { Standing };
+    ghost Value = { Standing A };
 
     ghost view = { λ laboratory. record {
-      state = laboratory.machine.state;
+      debugger = laboratory.debugger;
       source = laboratory.program;
       opened = laboratory.opened;
     } };
-
-    ghost invariant = { λ laboratory. IsAtBoundary laboratory.machine };
 }
 
 impl<A: Allocator + Copy> Laboratory<A> {
@@ -55,9 +56,11 @@ impl<A: Allocator + Copy> Laboratory<A> {
     pub fn new(alloc: A) -> Result<Laboratory<A>, AllocError>
         ensures { IfOk result (λ laboratory. laboratory ≡ opening_standing) }
     {
+        let machine = Machine::new(alloc)?;
+        let history = Records::new(alloc, KEPT_LIMIT)?;
         Ok(Laboratory {
             alloc,
-            machine: Machine::new(alloc)?,
+            debugger: Debugger::new(machine, history),
             program: None,
             opened: None,
         })
@@ -90,6 +93,11 @@ impl<A: Allocator + Copy> Laboratory<A> {
             Command::Dump => self.dump(reply)?,
             Command::Source => self.open_source(),
             Command::List => self.list(reply)?,
+            Command::Break(address) => self.add_rule(Rule::At(*address), reply)?,
+            Command::Watch(address) => self.add_rule(Rule::Changed(*address), reply)?,
+            Command::Drop(number) => self.drop_rule(*number, reply)?,
+            Command::Back(orders) => self.back(*orders, reply)?,
+            Command::Last => self.last(reply)?,
         }
         Ok(())
     }

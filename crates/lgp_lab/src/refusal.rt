@@ -1,6 +1,6 @@
 //! The refusals of the script language.
 
-ghost use Rattle.std.specs.Prelude.{◌≡◌, ◌++◌, OnOk};
+ghost use Rattle.std.specs.Prelude.{◌≡◌, ◌++◌, OnOk, codes, decimal};
 ghost use Rattle.lgp_lab.specs.Refusal.{refusal_text};
 
 use crate::piece::{Piece, push_pieces};
@@ -17,12 +17,39 @@ pub enum Refusal {
     AtWork,
     /// The clock would pass its end.
     ClockEnd,
+    /// There are 64 rules already.
+    Full,
+    /// There is no rule of that number.
+    NoRule,
+    /// Only so many orders are kept.
+    TooFar(u64),
+    /// No rule hits any of the orders that are kept, which are so many.
+    NoHit(u64),
     /// No source has assembled yet.
     NoImage,
     /// The line has more than 4,096 bytes, or the source more than 1,048,576.
     TooLong,
     /// The tape text's first bad place.
     BadSign(u64),
+}
+
+/// Appends a line of a text and a number.
+pub fn push_counted<A: Allocator>(
+    text: &mut Vec<u8, A>,
+    front: &'static [u8],
+    number: u64,
+) -> Result<(), AllocError>
+    ensures { OnOk result (text.new.items
+        ≡ text.old.items ++ (front.now ++ (decimal number ++ codes "\n"))) }
+{
+    push_pieces(
+        text,
+        &[
+            Piece::Text(front),
+            Piece::Number(number),
+            Piece::Text(b"\n"),
+        ],
+    )
 }
 
 /// Appends a refusal.
@@ -38,15 +65,12 @@ pub fn push_refusal<A: Allocator>(
         Refusal::Moving => text.extend_from_slice(b"? 2 Moving\n"),
         Refusal::AtWork => text.extend_from_slice(b"? 3 AtWork\n"),
         Refusal::ClockEnd => text.extend_from_slice(b"? 4 ClockEnd\n"),
+        Refusal::Full => text.extend_from_slice(b"? 5 Full\n"),
+        Refusal::NoRule => text.extend_from_slice(b"? 6 NoRule\n"),
+        Refusal::TooFar(kept) => push_counted(text, b"? 7 TooFar ", kept),
+        Refusal::NoHit(kept) => push_counted(text, b"? 8 NoHit ", kept),
         Refusal::NoImage => text.extend_from_slice(b"? 10 NoImage\n"),
         Refusal::TooLong => text.extend_from_slice(b"? 11 TooLong\n"),
-        Refusal::BadSign(place) => push_pieces(
-            text,
-            &[
-                Piece::Text(b"? 12 BadSign "),
-                Piece::Number(place),
-                Piece::Text(b"\n"),
-            ],
-        ),
+        Refusal::BadSign(place) => push_counted(text, b"? 12 BadSign ", place),
     }
 }

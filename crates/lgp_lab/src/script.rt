@@ -22,13 +22,13 @@ fn answer_script<A: Allocator + Copy, R: Feed, W: Sink>(
 ) -> Result<u64, LabFault>
     ensures read { OnOk result (IsAtEnd (R.remaining reader.new)) }
     ensures text { OnOk result (IfSome (R.remaining reader.old) (λ script.
-        Appends (W.contents writer.old) (W.contents writer.new) (script_text script))) }
+        Appends (W.contents writer.old) (W.contents writer.new) (script_text A script))) }
     ensures faults { IfOk result (λ faults. IfSome (R.remaining reader.old) (λ script.
-        faults ≡ script_faults script)) }
+        faults ≡ script_faults A script)) }
     ensures cause { IfErr result (λ fault.
         HasCause fault (R.failed reader.new) (W.failed writer.new)) }
     ensures stands { IfErr result (λ fault. IfSome (R.remaining reader.old) (λ script.
-        StandsWritten [] script_language opening_standing fault script
+        StandsWritten [] (script_language {A = A}) opening_standing fault script
         (R.remaining reader.new) (W.contents writer.old) (W.contents writer.new))) }
 {
     let Ok(laboratory) = Laboratory::new(alloc) else {
@@ -49,13 +49,13 @@ pub fn run_script<A: Allocator + Copy, R: Feed, W: Sink>(
     requires writer { W.failed writer.old ≡ false }
     ensures read { OnOk result (IsAtEnd (R.remaining reader.new)) }
     ensures text { OnOk result (IfSome (R.remaining reader.old) (λ script.
-        Appends (W.contents writer.old) (W.contents writer.new) (script_text script))) }
+        Appends (W.contents writer.old) (W.contents writer.new) (script_text A script))) }
     ensures faults { IfOk result (λ faults. IfSome (R.remaining reader.old) (λ script.
-        faults ≡ script_faults script)) }
+        faults ≡ script_faults A script)) }
     ensures cause { IfErr result (λ fault.
         HasCause fault (R.failed reader.new) (W.failed writer.new)) }
     ensures stands { IfErr result (λ fault. IfSome (R.remaining reader.old) (λ script.
-        StandsWritten [] script_language opening_standing fault script
+        StandsWritten [] (script_language {A = A}) opening_standing fault script
         (R.remaining reader.new) (W.contents writer.old) (W.contents writer.new))) }
 {
     answer_script(alloc, reader, writer)
@@ -86,13 +86,13 @@ pub fn batch_part<A: Allocator + Copy, R: Feed, W: Sink>(
     ensures read { OnOk result (IsAtEnd (R.remaining reader.new)) }
     ensures text { OnOk result (IfSome (R.remaining reader.old) (λ script.
         Appends (W.contents writer.old) (W.contents writer.new)
-        (heading name.now ++ script_text script))) }
+        (heading name.now ++ script_text A script))) }
     ensures faults { IfOk result (λ faults. IfSome (R.remaining reader.old) (λ script.
-        faults ≡ script_faults script)) }
+        faults ≡ script_faults A script)) }
     ensures cause { IfErr result (λ fault.
         HasCause fault (R.failed reader.new) (W.failed writer.new)) }
     ensures stands { IfErr result (λ fault. IfSome (R.remaining reader.old) (λ script.
-        StandsWritten (heading name.now ∷ []) script_language opening_standing fault script
+        StandsWritten (heading name.now ∷ []) (script_language {A = A}) opening_standing fault script
         (R.remaining reader.new) (W.contents writer.old) (W.contents writer.new))) }
 {
     let Ok(heading) = heading(alloc, name) else {

@@ -440,8 +440,8 @@ fn a_refused_growth_leaves_no_part_of_a_reply(rt: HostRuntime) -> Result<(), Fai
     script.extend_from_slice(&repeated(rt.alloc(), b"a", 4000)?)?;
     let mut refused = false;
     let mut answered = false;
-    for size in 8..96 {
-        let heap = LocalHeap::new(rt.alloc(), 2048 * size)?;
+    for size in 192..320 {
+        let heap = LocalHeap::new(rt.alloc(), 4096 * size)?;
         let mut written = Vec::new(rt.alloc());
         match run(&heap, &script, &mut written) {
             Ok(_) => {

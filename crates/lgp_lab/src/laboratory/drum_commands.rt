@@ -10,8 +10,9 @@ use crate::limits::DRUM_SIZE;
 use crate::piece::{Piece, push_pieces};
 use crate::refusal::{Refusal, push_refusal};
 use crate::span::Span;
+use lgp_debugger::PutFault;
 use lgp_listing::disassemble;
-use lgp_machine::{Machine, PutFault};
+use lgp_machine::Machine;
 use lgp_word::{Address, Word};
 use std::alloc::{AllocError, Allocator};
 
@@ -27,9 +28,10 @@ impl<A: Allocator + Copy> Laboratory<A> {
             ≡ reply.old.items ++ (answer_to_put self.old address word).reply) }
         ensures after { OnOk result (self.new ≡ (answer_to_put self.old address word).after) }
     {
-        match self.machine.put(address, word) {
+        match self.debugger.put(address, word) {
             Ok(()) => reply.extend_from_slice(b"ok\n")?,
             Err(PutFault::Moving) => push_refusal(reply, Refusal::Moving)?,
+            Err(PutFault::Memory) => return Err(AllocError),
         }
         Ok(())
     }
@@ -39,7 +41,7 @@ impl<A: Allocator + Copy> Laboratory<A> {
         ensures { OnOk result (reply.new.items
             ≡ reply.old.items ++ (answer_to_words self.now span.now).reply) }
     {
-        push_words(reply, &self.machine, span)
+        push_words(reply, self.debugger.machine(), span)
     }
 
     /// Shows words by their disassembly.
@@ -47,7 +49,7 @@ impl<A: Allocator + Copy> Laboratory<A> {
         ensures { OnOk result (reply.new.items
             ≡ reply.old.items ++ (answer_to_show self.now span.now).reply) }
     {
-        push_orders(reply, &self.machine, span)
+        push_orders(reply, self.debugger.machine(), span)
     }
 
     /// Shows all words that are not zero.
@@ -55,7 +57,7 @@ impl<A: Allocator + Copy> Laboratory<A> {
         ensures { OnOk result (reply.new.items
             ≡ reply.old.items ++ (answer_to_dump self.now).reply) }
     {
-        push_dump(self.alloc, reply, &self.machine)
+        push_dump(self.alloc, reply, self.debugger.machine())
     }
 }
 

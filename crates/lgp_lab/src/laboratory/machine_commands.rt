@@ -1,17 +1,18 @@
 //! Pressing, waiting, performing orders, the panel.
 
 ghost use Rattle.std.specs.Prelude.{◌≡◌, ◌++◌, ◌≤◌, IfOk, IsTrue, OnOk, length};
-ghost use Rattle.lgp_table.specs.Interleaving.{at_boundary, is_boundary};
-ghost use Rattle.lgp_lab.specs.LaboratoryInside.{IsAtBoundary};
+ghost use Rattle.lgp_table.specs.Interleaving.{is_boundary};
 ghost use Rattle.lgp_lab.specs.Limits.{line_limit};
-ghost use Rattle.lgp_lab.specs.MachineCommands.{answer_to_orders, answer_to_panel, answer_to_press, answer_to_turn, answer_to_type, clock_text, mode_text, on_text, orders_text, panel_text, reader_text, registers_text, performed, press_text, status_text, switch_text, switches_text, typed, typed_text};
+ghost use Rattle.lgp_lab.specs.MachineCommands.{answer_to_orders, answer_to_panel, answer_to_press, answer_to_turn, answer_to_type, clock_text, mode_text, on_text, orders_text, panel_text, performed, reader_text, registers_text, status_text, switch_text, switches_text, typed, typed_text};
 
 use super::Laboratory;
 use super::tape_commands::read_codes;
 use crate::piece::{Piece, push_pieces};
-use crate::refusal::{Refusal, push_refusal};
+use crate::refusal::{Refusal, push_counted, push_refusal};
+use lgp_debugger::{Debugger, IdleFault, StepFault};
 use lgp_flexo::Code;
-use lgp_machine::{Look, Machine, OrderFault, PressFault, Pressed, RestFault};
+use lgp_history::History;
+use lgp_machine::{Look, Machine};
 use lgp_table::{Action, Cause, Mode, Status, Switches};
 use std::alloc::{AllocError, Allocator};
 
@@ -26,11 +27,8 @@ impl<A: Allocator + Copy> Laboratory<A> {
             ≡ reply.old.items ++ (answer_to_press self.old action).reply) }
         ensures after { OnOk result (self.new ≡ (answer_to_press self.old action).after) }
     {
-        match self.machine.press(action) {
-            Ok(Pressed::Live) => reply.extend_from_slice(b"live\n")?,
-            Ok(Pressed::Dead) => reply.extend_from_slice(b"dead\n")?,
-            Ok(Pressed::Kept) | Err(PressFault::Full) => unreachable!(),
-        }
+        let live = self.debugger.press(action)?;
+        reply.extend_from_slice(if live { b"live\n" } else { b"dead\n" })?;
         Ok(())
     }
 
@@ -47,7 +45,7 @@ impl<A: Allocator + Copy> Laboratory<A> {
     {
         match read_codes(self.alloc, text)? {
             Ok(codes) => {
-                let keys = strike(&mut self.machine, &codes);
+                let keys = strike(&mut self.debugger, &codes)?;
                 push_keys(reply, keys)?;
             }
             Err(place) => push_refusal(reply, Refusal::BadSign(place))?,
@@ -62,10 +60,12 @@ impl<A: Allocator + Copy> Laboratory<A> {
             ≡ reply.old.items ++ (answer_to_turn self.old times).reply) }
         ensures after { OnOk result (self.new ≡ (answer_to_turn self.old times).after) }
     {
-        match self.machine.rest(times) {
-            Ok(()) => push_clock(reply, &self.machine)?,
-            Err(RestFault::AtWork) => push_refusal(reply, Refusal::AtWork)?,
-            Err(RestFault::ClockEnd) => push_refusal(reply, Refusal::ClockEnd)?,
+        let clock = self.debugger.look().clock;
+        match self.debugger.idle(times) {
+            Ok(()) => push_clock(reply, clock.saturating_add(times))?,
+            Err(IdleFault::AtWork) => push_refusal(reply, Refusal::AtWork)?,
+            Err(IdleFault::ClockEnd) => push_refusal(reply, Refusal::ClockEnd)?,
+            Err(IdleFault::Memory) => return Err(AllocError),
         }
         Ok(())
     }
@@ -77,11 +77,11 @@ impl<A: Allocator + Copy> Laboratory<A> {
             ≡ reply.old.items ++ (answer_to_orders self.old limit).reply) }
         ensures after { OnOk result (self.new ≡ (answer_to_orders self.old limit).after) }
     {
-        let run = perform(&mut self.machine, limit)?;
+        let run = perform(&mut self.debugger, limit)?;
         if run.stopped {
             push_refusal(reply, Refusal::ClockEnd)?;
         } else {
-            push_orders(reply, run.done, &self.machine)?;
+            push_orders(reply, run.done, self.debugger.look().status)?;
         }
         Ok(())
     }
@@ -91,7 +91,7 @@ impl<A: Allocator + Copy> Laboratory<A> {
         ensures { OnOk result (reply.new.items
             ≡ reply.old.items ++ (answer_to_panel self.now).reply) }
     {
-        push_panel(reply, &self.machine)
+        push_panel(reply, self.debugger.machine())
     }
 }
 
@@ -104,21 +104,24 @@ struct Keys {
 
 /// Strikes keys one after another.
 #[tactic(auto, unfolding(crate::specs::MachineCommands::typed))]
-fn strike<A: Allocator>(machine: &mut Machine<A>, keys: &[Code]) -> Keys
-    requires { IsAtBoundary machine.old }
-    ensures live { result.live ≡ (typed machine.old.state keys.now).live }
-    ensures dead { result.dead ≡ (typed machine.old.state keys.now).dead }
-    ensures machine { machine.new ≡ at_boundary (typed machine.old.state keys.now).state }
+fn strike<H: History<A>, A: Allocator>(
+    debugger: &mut Debugger<H, A>,
+    keys: &[Code],
+) -> Result<Keys, AllocError>
+    ensures live { IfOk result (λ struck. struck.live ≡ (typed debugger.old keys.now).live) }
+    ensures dead { IfOk result (λ struck. struck.dead ≡ (typed debugger.old keys.now).dead) }
+    ensures after { OnOk result (debugger.new ≡ (typed debugger.old keys.now).after) }
 {
     let mut live = 0;
     let mut dead = 0;
     for key in keys {
-        match machine.press(Action::Key(*key)) {
-            Ok(Pressed::Live) => live += 1,
-            _ => dead += 1,
+        if debugger.press(Action::Key(*key))? {
+            live += 1;
+        } else {
+            dead += 1;
         }
     }
-    Keys { live, dead }
+    Ok(Keys { live, dead })
 }
 
 /// Appends how many keys were live and dead.
@@ -137,63 +140,49 @@ fn push_keys<A: Allocator>(text: &mut Vec<u8, A>, keys: Keys) -> Result<(), Allo
     )
 }
 
-/// Appends the clock of a machine at a boundary.
-fn push_clock<A: Allocator>(text: &mut Vec<u8, A>, machine: &Machine<A>) -> Result<(), AllocError>
-    requires { IsTrue (is_boundary machine.now) }
-    ensures { OnOk result (text.new.items
-        ≡ text.old.items ++ clock_text machine.now.state.clock) }
+/// Appends a clock.
+pub(super) fn push_clock<A: Allocator>(text: &mut Vec<u8, A>, clock: u64) -> Result<(), AllocError>
+    ensures { OnOk result (text.new.items ≡ text.old.items ++ clock_text clock) }
 {
-    let Some(look) = machine.look() else {
-        unreachable!();
-    };
-    push_pieces(
-        text,
-        &[
-            Piece::Text(b"clock "),
-            Piece::Number(look.clock),
-            Piece::Text(b"\n"),
-        ],
-    )
+    push_counted(text, b"clock ", clock)
 }
 
 /// How many orders were performed, and whether the end of the clock stopped them.
 #[derive(Clone, Copy)]
-struct Run {
+struct Performed {
     done: u64,
     stopped: bool,
 }
 
 /// Performs at most so many orders, until the machine is at rest.
 #[tactic(auto, using(crate::proofs::AnswerLemmas::performed_step), unfolding(crate::specs::MachineCommands::performed_on))]
-fn perform<A: Allocator>(machine: &mut Machine<A>, limit: u64) -> Result<Run, AllocError>
-    requires { IsAtBoundary machine.old }
-    ensures done { IfOk result (λ run. run.done ≡ (performed limit machine.old.state).done) }
-    ensures stopped { IfOk result (λ run. run.stopped
-        ≡ (performed limit machine.old.state).stopped) }
-    ensures machine { IfOk result (λ _. machine.new
-        ≡ at_boundary (performed limit machine.old.state).state) }
-    ensures boundary { IsAtBoundary machine.new }
+fn perform<H: History<A>, A: Allocator>(
+    debugger: &mut Debugger<H, A>,
+    limit: u64,
+) -> Result<Performed, AllocError>
+    ensures done { IfOk result (λ run. run.done ≡ (performed limit debugger.old).done) }
+    ensures stopped { IfOk result (λ run. run.stopped ≡ (performed limit debugger.old).stopped) }
+    ensures after { OnOk result (debugger.new ≡ (performed limit debugger.old).after) }
 {
     let mut done = 0;
     let mut left = limit;
     while left > 0 {
-        match machine.next_order() {
+        match debugger.step() {
             Ok(_) => {}
-            Err(OrderFault::AtRest) => return Ok(Run {
+            Err(StepFault::AtRest) => return Ok(Performed {
                 done,
                 stopped: false,
             }),
-            Err(OrderFault::ClockEnd) => return Ok(Run {
+            Err(StepFault::ClockEnd) => return Ok(Performed {
                 done,
                 stopped: true,
             }),
-            Err(OrderFault::Memory) => return Err(AllocError),
-            Err(OrderFault::Moving) => unreachable!(),
+            Err(StepFault::Memory) => return Err(AllocError),
         }
         done += 1;
         left -= 1;
     }
-    Ok(Run {
+    Ok(Performed {
         done,
         stopped: false,
     })
@@ -220,22 +209,17 @@ fn status_text(status: Status) -> &'static [u8]
 fn push_orders<A: Allocator>(
     text: &mut Vec<u8, A>,
     done: u64,
-    machine: &Machine<A>,
+    status: Status,
 ) -> Result<(), AllocError>
-    requires { IsTrue (is_boundary machine.now) }
-    ensures { OnOk result (text.new.items
-        ≡ text.old.items ++ orders_text done machine.now.state.core.panel.status) }
+    ensures { OnOk result (text.new.items ≡ text.old.items ++ orders_text done status) }
 {
-    let Some(look) = machine.look() else {
-        unreachable!();
-    };
     push_pieces(
         text,
         &[
             Piece::Text(b"orders "),
             Piece::Number(done),
             Piece::Text(b" "),
-            Piece::Text(status_text(look.status)),
+            Piece::Text(status_text(status)),
             Piece::Text(b"\n"),
         ],
     )

@@ -2,7 +2,8 @@
 
 ghost use Rattle.std.specs.Prelude.{◌≡◌, ◌++◌, List, ℕ, None, OnOk};
 ghost use Rattle.lgp_lab.specs.LineInside.{kept_of};
-ghost use Rattle.lgp_lab.specs.SourceCommands.{answer_in_source, answer_to_list, answer_to_source, answer_to_end, cells_text, faults_text, start_text, with_opened};
+ghost use Rattle.lgp_lab.specs.SourceCommands.{answer_in_source, answer_to_list, answer_to_end, answer_to_source, cells_text, faults_text, start_text};
+ghost use Rattle.lgp_lab.specs.Standing.{with_opened};
 
 use super::Laboratory;
 use crate::line::Bytes;

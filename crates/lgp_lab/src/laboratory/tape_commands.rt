@@ -9,7 +9,7 @@ use super::Laboratory;
 use crate::piece::{Piece, push_pieces};
 use crate::refusal::{Refusal, push_refusal};
 use lgp_flexo::{Code, TextFault, read_tape_text, write_tape_text};
-use lgp_machine::MountFault;
+use lgp_debugger::MountFault;
 use std::alloc::{AllocError, Allocator};
 
 impl<A: Allocator + Copy> Laboratory<A> {
@@ -40,10 +40,11 @@ impl<A: Allocator + Copy> Laboratory<A> {
             ≡ (answer_to_tape self.old (Ok codes.items)).after) }
     {
         let count = codes.len() as u64;
-        match self.machine.mount(codes) {
+        match self.debugger.mount(codes) {
             Ok(()) => push_count(reply, count)?,
             Err((MountFault::Moving, _)) => push_refusal(reply, Refusal::Moving)?,
             Err((MountFault::TooLong, _)) => unreachable!(),
+            Err((MountFault::Memory, _)) => return Err(AllocError),
         }
         Ok(())
     }
@@ -53,7 +54,7 @@ impl<A: Allocator + Copy> Laboratory<A> {
         ensures { OnOk result (reply.new.items
             ≡ reply.old.items ++ (answer_to_printed self.now).reply) }
     {
-        push_printed(self.alloc, reply, self.machine.printed())
+        push_printed(self.alloc, reply, self.debugger.machine().printed())
     }
 }
 
