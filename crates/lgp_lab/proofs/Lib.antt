@@ -8,3 +8,4 @@ pub mod PlaceLemmas
 pub mod KeptLemmas
 pub mod UsedLemmas
 pub mod SourceLemmas
+pub mod RunLemmas

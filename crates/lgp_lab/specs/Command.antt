@@ -87,6 +87,7 @@ command_by verbs.List operands = lone commands.List operands
 command_by verbs.Break operands = option_map commands.Break (lone_address operands)
 command_by verbs.Watch operands = option_map commands.Watch (lone_address operands)
 command_by verbs.Drop operands = option_map commands.Drop (lone_number operands)
+command_by verbs.Run operands = option_map commands.Run (lone_number operands)
 command_by verbs.Back operands = option_map commands.Back (lone_number operands)
 command_by verbs.Last operands = lone commands.Last operands
 

@@ -1,9 +1,16 @@
 -- Part of the public promise: the script language, what is answered to the commands of rules and of the way back.
-use Rattle.std.specs.Prelude.{ℕ, ◌==◌, ◌++◌, if◌then◌else◌, nat_lt, Option, Some, None, List, [], ◌∷◌, length, remove, slice_get, codes, decimal}
+use Rattle.std.specs.Prelude.{ℕ, zero, suc, ◌+◌, ◌==◌, ◌++◌, Bool, if◌then◌else◌, nat_lt, Option, Some, None, option_map, List, [], ◌∷◌, length, remove, slice_get, codes, decimal}
 use Rattle.lgp_history.specs.Hits.{last_hit}
 use Rattle.lgp_history.specs.Steps.{orders_in}
 use Rattle.lgp_history.specs.declared.rule.Rule.{Rule}
-use Rattle.lgp_debugger.specs.Debugging.{Debugging, after_back, rule_limit}
+use Rattle.lgp_history.specs.declared.step.Step.TheVariants.{Perform}
+use Rattle.lgp_table.specs.Activity.{cost}
+use Rattle.lgp_table.specs.Console.{is_at_rest}
+use Rattle.lgp_machine.specs.Answers.{clock_end}
+use Rattle.lgp_debugger.specs.Debugging.{Debugging, after_back, after_step, first_stop, rule_limit, run_of}
+use Rattle.lgp_debugger.specs.declared.fault.Ran.{Ran}
+use Rattle.lgp_debugger.specs.declared.fault.Reason.{Reason}
+use Rattle.lgp_debugger.specs.declared.fault.Reason.TheVariants.{Rest, Limit, Rule as ByRule}
 use Rattle.lgp_lab.specs.MachineCommands.{clock_text}
 use Rattle.lgp_lab.specs.Refusal.{refusal_text}
 use Rattle.lgp_lab.specs.Standing.{Answer, Standing, refused, shown, with_debugger}
@@ -18,6 +25,20 @@ dropped_text (Some rule) = codes "ok\n"
 
 abbrev pub hit_text : ℕ × ℕ → List ℕ
 hit_text hit = codes "back " ++ (decimal hit.0 ++ (codes " rule " ++ (decimal hit.1 ++ codes "\n")))
+
+-- how many orders a run performed, and why it ended
+abbrev pub reason_text : Reason → List ℕ
+reason_text Rest = codes " rest\n"
+reason_text Limit = codes " limit\n"
+reason_text (ByRule number) = codes " rule " ++ (decimal number ++ codes "\n")
+
+abbrev pub ran_text : Ran → List ℕ
+ran_text ran = codes "ran " ++ (decimal ran.orders ++ reason_text ran.reason)
+
+-- something that comes later, unless a rule stopped the run
+abbrev pub unless_hit : Option ℕ → Option ℕ → Option ℕ
+unless_hit None later = later
+unless_hit (Some number) later = None
 
 module _ {A : Type 0} where
   abbrev pub with_rules : Debugging A → List Rule → Debugging A
@@ -44,6 +65,29 @@ module _ {A : Type 0} where
         after = with_debugger standing (with_rules standing.debugger (remove rules number));
       }
       else refused refusals.NoRule standing
+
+  -- ---- run: a run of the debugger; where its next order would pass the clock's end it is broken off, and the orders before stand
+
+  abbrev pub passes_end : Debugging A → Bool
+  passes_end d = nat_lt clock_end (d.state.clock + cost d.state)
+
+  -- after how many orders a run is broken off, if it is
+  unfoldable pub broken_off : ℕ → Debugging A → Option ℕ
+  broken_off zero d = None
+  broken_off (suc more) d =
+      if is_at_rest d.state.core.panel.status then None
+      else (if passes_end d then Some 0
+      else unless_hit (first_stop d.rules d.state) (option_map (λ orders. orders + 1) (broken_off more (after_step d Perform))))
+
+  abbrev pub run_by : Standing A → ℕ → Option ℕ → Answer A
+  run_by standing limit None = record {
+    reply = ran_text (run_of limit standing.debugger).0;
+    after = with_debugger standing (run_of limit standing.debugger).1;
+  }
+  run_by standing limit (Some orders) = refused refusals.ClockEnd (with_debugger standing (run_of orders standing.debugger).1)
+
+  unfoldable pub answer_to_run : Standing A → ℕ → Answer A
+  answer_to_run standing limit = run_by standing limit (broken_off limit standing.debugger)
 
   -- ---- back: so many orders
 

@@ -35,6 +35,7 @@ verb_names =
     ∷ (codes "break", verbs.Break)
     ∷ (codes "watch", verbs.Watch)
     ∷ (codes "drop", verbs.Drop)
+    ∷ (codes "run", verbs.Run)
     ∷ (codes "back", verbs.Back)
     ∷ (codes "last", verbs.Last)
     ∷ []

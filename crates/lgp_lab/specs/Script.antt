@@ -6,7 +6,7 @@ use Rattle.std.specs.Str.{byte}
 use Rattle.lgp_lab.specs.Command.{command_of, text_behind}
 use Rattle.lgp_lab.specs.DrumCommands.{answer_to_dump, answer_to_put, answer_to_show, answer_to_words}
 use Rattle.lgp_history.specs.declared.rule.Rule.TheVariants.{At, Changed}
-use Rattle.lgp_lab.specs.HistoryCommands.{answer_to_back, answer_to_drop, answer_to_last, answer_to_rule}
+use Rattle.lgp_lab.specs.HistoryCommands.{answer_to_back, answer_to_drop, answer_to_last, answer_to_rule, answer_to_run}
 use Rattle.lgp_lab.specs.Language.{Language, question_count, text_replies}
 use Rattle.lgp_lab.specs.Limits.{line_limit}
 use Rattle.lgp_lab.specs.Line.{has_no_word}
@@ -42,6 +42,7 @@ module _ {A : Type 0} where
   answer_to standing (commands.Break address) text = answer_to_rule standing (At address)
   answer_to standing (commands.Watch address) text = answer_to_rule standing (Changed address)
   answer_to standing (commands.Drop number) text = answer_to_drop standing number
+  answer_to standing (commands.Run limit) text = answer_to_run standing limit
   answer_to standing (commands.Back orders) text = answer_to_back standing orders
   answer_to standing commands.Last text = answer_to_last standing
 

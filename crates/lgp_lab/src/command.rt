@@ -40,6 +40,8 @@ pub enum Command {
     Watch(Address),
     /// The rule of a number goes.
     Drop(u64),
+    /// At most so many orders, until a rule stops them.
+    Run(u64),
     /// So many orders back.
     Back(u64),
     /// Back to the latest order that a rule hits.
@@ -65,6 +67,7 @@ pub enum Verb {
     Break,
     Watch,
     Drop,
+    Run,
     Back,
     Last,
 }
@@ -78,7 +81,7 @@ pub enum Switch {
 }
 
 /// The commands by their first word.
-const VERBS: [Named<Verb>; 18] = [
+const VERBS: [Named<Verb>; 19] = [
     Named { name: b"put", value: Verb::Put },
     Named { name: b"mount", value: Verb::Mount },
     Named { name: b"press", value: Verb::Press },
@@ -103,6 +106,10 @@ const VERBS: [Named<Verb>; 18] = [
     Named {
         name: b"drop",
         value: Verb::Drop,
+    },
+    Named {
+        name: b"run",
+        value: Verb::Run,
     },
     Named {
         name: b"back",
@@ -343,6 +350,7 @@ fn command_by(verb: Verb, operands: &[u8]) -> Option<Command>
         Verb::Break => Some(Command::Break(lone_address(operands)?)),
         Verb::Watch => Some(Command::Watch(lone_address(operands)?)),
         Verb::Drop => Some(Command::Drop(lone_number(operands)?)),
+        Verb::Run => Some(Command::Run(lone_number(operands)?)),
         Verb::Back => Some(Command::Back(lone_number(operands)?)),
         Verb::Last => lone(Command::Last, operands),
     }

@@ -96,6 +96,7 @@ impl<A: Allocator + Copy> Laboratory<A> {
             Command::Break(address) => self.add_rule(Rule::At(*address), reply)?,
             Command::Watch(address) => self.add_rule(Rule::Changed(*address), reply)?,
             Command::Drop(number) => self.drop_rule(*number, reply)?,
+            Command::Run(limit) => self.run(*limit, reply)?,
             Command::Back(orders) => self.back(*orders, reply)?,
             Command::Last => self.last(reply)?,
         }

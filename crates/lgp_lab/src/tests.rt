@@ -440,7 +440,7 @@ fn a_refused_growth_leaves_no_part_of_a_reply(rt: HostRuntime) -> Result<(), Fai
     script.extend_from_slice(&repeated(rt.alloc(), b"a", 4000)?)?;
     let mut refused = false;
     let mut answered = false;
-    for size in 192..320 {
+    for size in 128..224 {
         let heap = LocalHeap::new(rt.alloc(), 4096 * size)?;
         let mut written = Vec::new(rt.alloc());
         match run(&heap, &script, &mut written) {
@@ -652,5 +652,62 @@ fn the_line_of_a_name_is_counted_where_a_write_fails(rt: HostRuntime) -> Result<
         let answer = batch_part(rt.alloc(), "name", &mut reader, &mut writer);
         assert_eq!(rt; answer, Err(LabFault::Write(calls as u64)));
     }
+    Ok(())
+}
+
+/// Scripts with rules and steps back, their replies, and how many of those begin with a question mark.
+const HISTORIES: [(&[u8], &[u8], u64); 6] = [
+    (
+        b"put 0000 00083900\npress start\norders 1\nprinted\nturn 1\nback 0\nback 1\nprinted\nback 1\n",
+        b"ok\nlive\norders 1 going\nprinted 1 a\n? 3 AtWork\nclock 451\nclock 0\nprinted 0\n? 7 TooFar 0\n",
+        2,
+    ),
+    (
+        b"put 0000 000100j8\nput 0001 000q00jj\nput 0002 000j00j8\nput 0003 000f0000\nput 0051 00000002\npress start\nbreak 0002\nrun 100\ndrop 0\nwatch 0050\nrun 100\nrun 100\nlast\nwords 0050 1\nlast\nlast\ndrop 1\n",
+        b"ok\nok\nok\nok\nok\nlive\nrule 0\nran 2 rule 0\nok\nrule 0\nran 1 rule 0\nran 4 rule 0\nback 1 rule 0\n0050 00000002\nback 4 rule 0\n? 8 NoHit 2\n? 6 NoRule\n",
+        2,
+    ),
+    // A mounting and a word put are taken back like any step.
+    (
+        b"put 0000 000f0000\npress start\norders 2\npress manual\nput 0100 00000004\nmount a\npress normal\npress start\norders 1\nback 2\npanel\nwords 0100 1\nback 1\nback 1\n",
+        b"ok\nlive\norders 2 going\nlive\nok\nok 1\nlive\nlive\norders 1 going\nclock 67\ncounter 0000 accumulator 00000000 register 000f0000 status going mode normal switches uuuuuu reader off tape 0 clock 67\n0100 00000000\nclock 0\n? 7 TooFar 0\n",
+        1,
+    ),
+    // A word that was stored anew is decoded anew.
+    (
+        b"put 0000 000f0000\npress start\norders 1\npress manual\nput 0000 00000000\npress normal\npress start\norders 1\nturn 0\n",
+        b"ok\nlive\norders 1 going\nlive\nok\nlive\nlive\norders 1 halted stop\nclock 131\n",
+        0,
+    ),
+    // The numbers of later rules move down; a run ends at its limit or at rest.
+    (
+        b"break 0001\nwatch 6363\nbreak 0000\ndrop 0\ndrop 1\ndrop 1\ndrop 64\nput 0000 000f0000\nrun 5\npress start\nrun 2\nrun 0\n",
+        b"rule 0\nrule 1\nrule 2\nok\nok\n? 6 NoRule\n? 6 NoRule\nok\nran 0 rest\nlive\nran 2 limit\nran 0 limit\n",
+        2,
+    ),
+    (
+        b"break\nbreak 6400\nwatch 0000 1\ndrop x\nrun\nrun 1 1\nback\nlast 1\nlast\nback 1\n",
+        b"? 1 Form\n? 1 Form\n? 1 Form\n? 1 Form\n? 1 Form\n? 1 Form\n? 1 Form\n? 1 Form\n? 8 NoHit 0\n? 7 TooFar 0\n",
+        10,
+    ),
+];
+
+#[test]
+fn rules_stop_a_run_and_orders_are_taken_back(rt: HostRuntime) -> Result<(), Fail> {
+    for (script, replies, faults) in HISTORIES {
+        let mut written = Vec::new(rt.alloc());
+        let answer = run(rt.alloc(), script, &mut written);
+        assert_eq!(rt; written.as_slice(), replies, "{script:?}");
+        assert_eq!(rt; answer, Ok(faults), "{script:?}");
+    }
+    Ok(())
+}
+
+#[test]
+fn there_are_at_most_64_rules(rt: HostRuntime) -> Result<(), Fail> {
+    let script = repeated(rt.alloc(), b"watch 0000\n", 65)?;
+    let mut written = Vec::new(rt.alloc());
+    assert_eq!(rt; run(rt.alloc(), &script, &mut written), Ok(1));
+    assert!(rt; written.ends_with(b"rule 62\nrule 63\n? 5 Full\n"));
     Ok(())
 }
