@@ -10,3 +10,6 @@ pub use fault::{
     HitFault, IdleFault, MountFault, PutFault, Ran, Reason, RuleFault, RunFault, RunRefusal,
     StepFault,
 };
+
+#[cfg(test)]
+mod tests;

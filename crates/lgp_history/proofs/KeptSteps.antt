@@ -1,5 +1,5 @@
 -- What is kept, one step more or some orders back.
-use Rattle.std.proofs.Common.{◌≡◌, ℕ, ◌+◌, ◌≤◌, Bool, true, false, cond, List, [], ◌∷◌, ◌++◌, drop, refl, sym, ◌∙◌, ap, suc, zero, arith}
+use Rattle.std.proofs.Common.{◌≡◌, ℕ, ◌+◌, ◌≤◌, Bool, true, false, cond, List, [], ◌∷◌, ◌++◌, drop, refl, sym, ◌∙◌, ap, suc, zero, arith, length}
 use Rattle.std.specs.Prelude.{◌==◌, ◌&&◌}
 use Rattle.std.proofs.lemmas.Bool.Decides.{nat_tests}
 use mir.Val.{bool_byte}
@@ -18,6 +18,10 @@ last_test false m h within = absurd (omega arith)
 within_rest : (b : Bool) (later m : ℕ) → (b && (later + 1 == m)) ≡ false → m ≤ cond b 1 0 + later → m ≤ later
 within_rest true later m other within = grind (arith, nat_tests)
 within_rest false later m other within = omega arith
+
+within_more : (b : Bool) (orders steps : ℕ) → orders ≤ steps → cond b 1 0 + orders ≤ suc steps
+within_more true orders steps h = omega arith
+within_more false orders steps h = omega arith
 
 none_back : (b : Bool) (later : ℕ) → (b && (later + 1 == 0)) ≡ false
 none_back true later = grind (arith, nat_tests)
@@ -74,6 +78,10 @@ module _ {A : Type 0} where
   pub orders_in-more : (kept : List (State × Step A)) (k : State × Step A) → orders_in (kept ++ k ∷ []) ≡ orders_in kept + order_count k.1
   orders_in-more [] k = omega arith
   orders_in-more (x ∷ xs) k = omega (arith, orders_in-more xs k)
+
+  pub orders_in-within : (kept : List (State × Step A)) → orders_in kept ≤ length kept
+  orders_in-within [] = omega arith
+  orders_in-within (k ∷ later) = within_more (is_order k.1) (orders_in later) (length later) (orders_in-within later)
 
   is_order_back-more : (xs : List (State × Step A)) (k x : State × Step A) (m : ℕ) → is_order_back (m + order_count k.1) x (xs ++ k ∷ []) ≡ is_order_back m x xs
   is_order_back-more xs k x m = rw (orders_in-more xs k) (ap (λ t. is_order x.1 && t) (same_test (orders_in xs) m (order_count k.1)))

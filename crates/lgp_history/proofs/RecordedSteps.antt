@@ -119,7 +119,7 @@ module _ {X : Type 0} where
       ]
       refl (subst (λ (step : Step X). stepped step (undone r after) ≡ after) (order_is r.step order) leads)
 
-  first_hit_as_recorded : (r : Recorded X) (after : State) (rules : List Rule) → is_order r.step ≡ true → stepped r.step (undone r after) ≡ after → first_hit rules (undone r after) ≡ position (is_recorded_hit r) rules
+  pub first_hit_as_recorded : (r : Recorded X) (after : State) (rules : List Rule) → is_order r.step ≡ true → stepped r.step (undone r after) ≡ after → first_hit rules (undone r after) ≡ position (is_recorded_hit r) rules
   first_hit_as_recorded r after rules order leads = ap (λ (test : Rule → Bool). position test rules) (fun_ext (λ rule. hit_as_recorded r after rule order leads))
 
   -- the last hit, one record further from the end

@@ -1,5 +1,5 @@
 -- Serves proofs only: the steps of a trail, of which every 64th begins with a copy of the machine, and what they play.
-use Rattle.std.specs.Prelude.{◌≡◌, ℕ, ◌+◌, ◌-◌, ◌≤◌, ◌<◌, ◌%◌, ◌==◌, if◌then◌else◌, List, [], ◌∷◌, length, drop, Option, Some, None}
+use Rattle.std.specs.Prelude.{◌≡◌, ℕ, ◌+◌, ◌-◌, ◌≤◌, ◌<◌, ◌%◌, ◌==◌, if◌then◌else◌, List, [], ◌∷◌, length, Option, Some, None}
 use Rattle.lgp_table.specs.State.{State, opening}
 use Rattle.lgp_table.specs.Interleaving.{Configuration, at_boundary}
 use Rattle.lgp_history.specs.Steps.{CanStep, stepped}
@@ -59,3 +59,14 @@ pub record Trail (X : Type 0) : Type 0 where
 -- what is noted of a step behind a trail
 abbrev pub noted_after : {X : Type 0} → Trail X → State → Step X → Noted X
 noted_after trail before step = record { step = step; copy = copy_at (trail.passed + length trail.steps) before }
+
+-- the latest hit, by the orders from it on and its rule
+abbrev pub hit_of : ℕ → Option ℕ → Option (ℕ × ℕ)
+hit_of orders None = None
+hit_of orders (Some rule) = Some (orders, rule)
+
+-- the latest hit after one order more, which a rule hits or none
+abbrev pub hit_more : Option (ℕ × ℕ) → Option ℕ → Option (ℕ × ℕ)
+hit_more latest (Some rule) = Some (1, rule)
+hit_more None None = None
+hit_more (Some hit) None = Some (hit.0 + 1, hit.1)
