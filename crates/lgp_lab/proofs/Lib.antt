@@ -9,3 +9,4 @@ pub mod KeptLemmas
 pub mod UsedLemmas
 pub mod SourceLemmas
 pub mod RunLemmas
+pub mod FileLemmas

@@ -26,7 +26,9 @@ mod machine_commands;
 mod source_commands;
 mod tape_commands;
 
+pub use machine_commands::push_panel;
 pub use source_commands::push_faults;
+pub use tape_commands::push_printed;
 
 /// A machine with its history and its rules, on which a script's commands are performed, with the last source that assembled and
 /// the one that is open. It is seen as where it stands.
