@@ -1,5 +1,5 @@
 -- What is left of a tape is within the limit.
-use Rattle.std.proofs.Common.{◌≤◌, ◌+◌, ℕ, ap, arith, length}
+use Rattle.std.proofs.Common.{◌≤◌, ℕ, arith, length}
 use Rattle.std.proofs.lemmas.List.{length-append}
 use Rattle.lgp_flexo.specs.Tape.{Tape, all_codes}
 

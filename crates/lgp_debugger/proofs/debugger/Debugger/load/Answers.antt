@@ -1,5 +1,5 @@
 -- The machine ends at a boundary, as the loader says.
-use Rattle.std.proofs.Common.{◌≡◌, ◌∙◌, Err, ap, subst}
+use Rattle.std.proofs.Common.{◌∙◌, Err, ap, subst}
 use Rattle.lgp_table.specs.State.{State}
 use Rattle.lgp_table.specs.Interleaving.{Configuration}
 use Rattle.lgp_loader.specs.Loading.{EndsLoading}
