@@ -12,6 +12,7 @@ ghost use Rattle.lgp_history.specs.Steps.{orders_in};
 ghost use Rattle.lgp_flexo.specs.TapeText.{tape_limit};
 ghost use Rattle.lgp_debugger.specs.WatchInside.{watches_of};
 ghost use Rattle.lgp_debugger.specs.Debugging.{after_back, after_step, first_stop, rule_limit, run_of};
+ghost use Rattle.lgp_loader.specs.Loading.{EndsLoading, loaded, orders_to_load};
 ghost use Rattle.std.specs.Result.{IsErrAnd};
 
 use crate::fault::{
@@ -20,8 +21,10 @@ use crate::fault::{
 };
 use crate::watch::{Watch, first_stop_now, watch_of};
 use arrayvec::ArrayVec;
+use lgp_assembler::Image;
 use lgp_flexo::{Code, TAPE_LIMIT};
 use lgp_history::{BackFault, History, Rule, Step, Tape};
+use lgp_loader::{LoadFault, load};
 use lgp_machine::{Look, Machine};
 use lgp_phases::Outcome;
 use lgp_table::Action;
@@ -427,5 +430,37 @@ impl<H: History<A>, A: Allocator> Debugger<H, A> {
         ensures { result.now ≡ at_boundary self.now.state }
     {
         &self.machine
+    }
+}
+
+impl<H: History<A>, A: Allocator + Copy> Debugger<H, A> {
+    /// Loads a program by the keyed-in loader, and answers how many orders it performed. No step is kept afterwards, unless nothing
+    /// was done: where there is no memory for the tape (`Memory`), all is as before. Where the clock would pass its end (`ClockEnd`),
+    /// the machine stands at the boundary whose activity would pass it. `Moving` is never answered.
+    pub fn load<B: Allocator>(&mut self, alloc: A, image: &Image<B>) -> Result<u64, LoadFault>
+        ensures loaded { OnOk result (self.new ≡ record self.old {
+          state = loaded self.old.state image.now;
+          steps = [];
+        }) }
+        ensures orders { IfOk result (λ orders. orders ≡ orders_to_load image.now) }
+        ensures moving { result ≢ Err LoadFault.Moving }
+        ensures no_memory { result ≡ Err LoadFault.Memory → self.new ≡ self.old }
+        ensures stands { result ≡ Err LoadFault.ClockEnd
+            → EndsLoading (at_boundary self.new.state) self.old.state image.now }
+        ensures emptied { result ≡ Err LoadFault.ClockEnd
+            → self.new ≡ record self.old { state = self.new.state; steps = [] } }
+    {
+        match load(alloc, &mut self.machine, image) {
+            Ok(orders) => {
+                self.history.clear();
+                Ok(orders)
+            }
+            Err(LoadFault::ClockEnd) => {
+                self.history.clear();
+                Err(LoadFault::ClockEnd)
+            }
+            Err(LoadFault::Memory) => Err(LoadFault::Memory),
+            Err(LoadFault::Moving) => unreachable!(),
+        }
     }
 }

@@ -2,3 +2,4 @@ pub mod KeptSteps
 pub mod Undoing
 pub mod RecordedSteps
 pub mod Trails
+pub mod StepLaws

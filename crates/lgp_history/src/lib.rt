@@ -4,6 +4,7 @@
 mod changes;
 mod checkpoints;
 mod history;
+pub mod laws;
 mod records;
 mod rule;
 mod step;
@@ -13,3 +14,6 @@ pub use history::{BackFault, History};
 pub use records::{CAPACITY_LIMIT, Records};
 pub use rule::Rule;
 pub use step::{Step, Tape};
+
+#[cfg(test)]
+mod tests;

@@ -1,6 +1,8 @@
 //! Worked examples.
 
 use super::*;
+use lgp_assembler::assemble;
+use lgp_history::Checkpoints;
 use std::process::Abort;
 
 /// A transfer to 0000.
@@ -185,6 +187,59 @@ fn records_take_an_input_back(rt: HostRuntime) -> Result<(), Fail> {
 #[test]
 fn records_take_puts_and_mounts_back(rt: HostRuntime) -> Result<(), Fail> {
     puts_and_mounts_go_back(&rt, Records::new(rt.alloc(), 100)?)
+}
+
+#[test]
+fn checkpoints_take_a_print_back(rt: HostRuntime) -> Result<(), Fail> {
+    a_print_goes_back(&rt, Checkpoints::new(rt.alloc(), 4096)?)
+}
+
+#[test]
+fn checkpoints_keep_the_latest_steps(rt: HostRuntime) -> Result<(), Fail> {
+    the_latest_steps_are_kept(&rt, Checkpoints::new(rt.alloc(), 4)?)
+}
+
+#[test]
+fn checkpoints_find_hits(rt: HostRuntime) -> Result<(), Fail> {
+    rules_stop_and_are_found(&rt, Checkpoints::new(rt.alloc(), 4096)?)
+}
+
+#[test]
+fn checkpoints_keep_a_hundred_steps(rt: HostRuntime) -> Result<(), Fail> {
+    a_hundred_steps(&rt, Checkpoints::new(rt.alloc(), 100)?)
+}
+
+#[test]
+fn checkpoints_take_an_input_back(rt: HostRuntime) -> Result<(), Fail> {
+    an_input_goes_back(&rt, Checkpoints::new(rt.alloc(), 100)?)
+}
+
+#[test]
+fn checkpoints_take_puts_and_mounts_back(rt: HostRuntime) -> Result<(), Fail> {
+    puts_and_mounts_go_back(&rt, Checkpoints::new(rt.alloc(), 100)?)
+}
+
+/// Loads a source, and answers how many orders the loader took.
+fn load<H: History<Global>>(lab: &mut Debugger<H>, global: Global, source: &[u8]) -> Option<u64> {
+    let image = assemble(global, source).ok()?;
+    lab.load(global, &image).ok()
+}
+
+#[test]
+fn a_load_keeps_no_step(rt: HostRuntime) -> Result<(), Fail> {
+    let mut lab = debugger(rt.alloc(), Records::new(rt.alloc(), 8)?)?;
+    put(&mut lab, 0, TRANSFER)?;
+    assert_eq!(rt; kept(&lab), (1, 0));
+    let source = b" org 0100\n word 00000004\n end";
+    assert_eq!(rt; load(&mut lab, rt.alloc(), source), Some(13));
+    let shown = look(&lab);
+    assert_eq!(rt;
+        (shown.counter, shown.accumulator, shown.clock),
+        (address(4042), 0x8000_0000, 11348)
+    );
+    assert_eq!(rt; word_at(&lab, 64), 4);
+    assert_eq!(rt; kept(&lab), (0, 0));
+    Ok(())
 }
 
 #[test]
