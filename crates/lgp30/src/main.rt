@@ -55,9 +55,9 @@ fn greatest(before: u8, status: u8) -> u8
 }
 
 /// Opens a file for reading; or the status of one that cannot be opened.
-fn opened(rt: &HostRuntime, name: &FileName) -> Result<FeedOf<File>, u8> {
+fn opened(rt: &HostRuntime, name: &FileName) -> Result<File, u8> {
     match fs::open(rt, name.text()) {
-        Ok(file) => Ok(FeedOf::new(file, READS)),
+        Ok(file) => Ok(file),
         Err(_) => Err(FAILED),
     }
 }
@@ -71,21 +71,21 @@ fn stdin(rt: &HostRuntime) -> u8 {
 
 /// Writes the listing of a source.
 fn asm(rt: &HostRuntime, name: &FileName) -> Result<u8, u8> {
-    let mut reader = opened(rt, name)?;
+    let mut reader = FeedOf::new(opened(rt, name)?, READS);
     let mut writer = SinkOf::new(io::writer(rt));
     Ok(status_of(asm_file(rt.alloc(), &mut reader, &mut writer)))
 }
 
 /// Writes the tape of a source.
 fn tape(rt: &HostRuntime, name: &FileName) -> Result<u8, u8> {
-    let mut reader = opened(rt, name)?;
+    let mut reader = FeedOf::new(opened(rt, name)?, READS);
     let mut writer = SinkOf::new(io::writer(rt));
     Ok(status_of(tape_file(rt.alloc(), &mut reader, &mut writer)))
 }
 
 /// Loads a source and runs it.
 fn run(rt: &HostRuntime, name: &FileName, limit: u64) -> Result<u8, u8> {
-    let mut reader = opened(rt, name)?;
+    let mut reader = FeedOf::new(opened(rt, name)?, READS);
     let mut writer = SinkOf::new(io::writer(rt));
     let outcome = run_file(rt.alloc(), &mut reader, limit, &mut writer);
     Ok(status_of(outcome))
@@ -93,14 +93,14 @@ fn run(rt: &HostRuntime, name: &FileName, limit: u64) -> Result<u8, u8> {
 
 /// Runs a script.
 fn script(rt: &HostRuntime, name: &FileName) -> Result<u8, u8> {
-    let mut reader = opened(rt, name)?;
+    let mut reader = FeedOf::new(opened(rt, name)?, READS);
     let mut writer = SinkOf::new(io::writer(rt));
     Ok(status_of(run_script(rt.alloc(), &mut reader, &mut writer)))
 }
 
 /// Runs a script of several.
 fn part(rt: &HostRuntime, name: &FileName) -> Result<u8, u8> {
-    let mut reader = opened(rt, name)?;
+    let mut reader = FeedOf::new(opened(rt, name)?, READS);
     let mut writer = SinkOf::new(io::writer(rt));
     let outcome = batch_part(rt.alloc(), name.text(), &mut reader, &mut writer);
     Ok(status_of(outcome))
