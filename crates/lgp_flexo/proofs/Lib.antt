@@ -1,3 +1,4 @@
 pub mod Lengths
 pub mod Reading
 pub mod Writing
+pub mod WordCodes

@@ -17,7 +17,7 @@ both : (a b : Bool) → (a && b) ≡ true → (a ≡ true) × (b ≡ true)
 both true b h = (refl, h)
 both false b h = absurd (false≢true h)
 
-all_below-at : (test : ℕ → Bool) (n k : ℕ) → all_below test n ≡ true → k < n → test k ≡ true
+pub all_below-at : (test : ℕ → Bool) (n k : ℕ) → all_below test n ≡ true → k < n → test k ≡ true
 all_below-at test zero k h within = absurd (omega arith)
 all_below-at test (suc n) k h within =
     let parts = both (test n) (all_below test n) h in
@@ -39,7 +39,7 @@ pub all_read_back : all_below (λ code. reads_back code (sign_at code)) 64 ≡ t
 unfolding sign_at code_at
 all_read_back = refl
 
-found-code : (code : ℕ) (found : Option ℕ) → is_piece code found ≡ true → found ≡ Some code
+pub found-code : (code : ℕ) (found : Option ℕ) → is_piece code found ≡ true → found ≡ Some code
 found-code code (Some found) h = ap Some (eqb-true found code h)
 found-code code None h = absurd (false≢true h)
 

@@ -3,3 +3,4 @@ pub mod Input
 pub mod TapeText
 pub mod PiecesInside
 pub mod Tape
+pub mod WordCodes

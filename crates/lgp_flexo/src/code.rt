@@ -3,6 +3,7 @@
 ghost use Rattle.std.specs.Prelude.{◌≡◌, ◌==◌, ◌<◌, ◌≤◌, ◌↔◌, length, slice_get, position, IsSome, IfSome};
 ghost use Rattle.lgp_flexo.specs.Code.{IsCode, sign_at, code_at, code_in_row, digit_at, is_skipped};
 ghost use Rattle.lgp_flexo.specs.Input.{accumulator_after};
+ghost use Rattle.lgp_flexo.specs.WordCodes.{digit_code};
 
 use lgp_word::{DIGITS, LETTERS};
 use std::marker::Model;
@@ -35,6 +36,9 @@ impl Code {
     /// The conditional stop, whose sign is `'`.
     pub const STOP: Code = Code(32);
 
+    /// The carriage return, which an input skips.
+    pub const CARRIAGE_RETURN: Code = Code(16);
+
     /// The code of the digit 1.
     const ONE: Code = Code(6);
 
@@ -51,6 +55,14 @@ impl Code {
         } else {
             None
         }
+    }
+
+    /// The code of the digit that has this value.
+    pub fn of_digit(value: u8) -> Code
+        requires { value < 16 }
+        ensures { result ≡ digit_code value }
+    {
+        Code(4 * value + 2)
     }
 
     /// The number of the code, from 0 to 63.

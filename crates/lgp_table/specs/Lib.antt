@@ -3,6 +3,8 @@ pub mod Wait
 pub mod Rows
 pub mod Activity
 pub mod Console
+pub mod After
+pub mod SwitchPresses
 pub mod Interleaving
 pub mod Worked
 pub mod PassedCodes

@@ -5,7 +5,11 @@ ghost use Rattle.lgp_flexo.specs.Code.{is_skipped};
 ghost use Rattle.lgp_flexo.specs.Input.{accumulator_after_all};
 ghost use Rattle.lgp_word.specs.declared.order.Op.{Op};
 ghost use Rattle.lgp_table.specs.Activity.{cost, next};
-ghost use Rattle.lgp_table.specs.Interleaving.{Configuration, after_action, after_press, after_word_time, at_boundary, is_boundary, latch_limit};
+ghost use Rattle.lgp_table.specs.After.{after, total_cost};
+ghost use Rattle.lgp_table.specs.SwitchPresses.{is_time_or_switch, is_word_time, looks_at_switches, with_switches};
+ghost use Rattle.std.specs.List.{count_by, list_all};
+ghost use Rattle.lgp_table.specs.declared.panel.Switches.{Switches};
+ghost use Rattle.lgp_table.specs.Interleaving.{Configuration, after_action, after_events, after_press, after_word_time, at_boundary, is_boundary, latch_limit};
 ghost use Rattle.lgp_table.specs.PassedCodes.{without_passed};
 ghost use Rattle.lgp_table.specs.Rows.{row};
 ghost use Rattle.lgp_table.specs.State.{Core, State, word_at};
@@ -14,7 +18,7 @@ ghost use Rattle.lgp_word.specs.Drum.{position_of, position_under_head};
 ghost use Rattle.lgp_table.specs.Wait.{wait};
 ghost use Rattle.lgp_table.specs.Console.{Desk, desk_after, is_live};
 
-use crate::action::Action;
+use crate::action::{Action, Event};
 
 /// A wait is the number of word times until the head first reads the sector, and never more than a revolution.
 pub fn waits()
@@ -81,4 +85,37 @@ pub fn passed_codes()
     ensures action { (s : State) → (action : Action)
         → without_passed (after_action (without_passed s) action)
         ≡ without_passed (after_action s action) }
+{}
+
+/// So many activities and then so many others are all of them together. The clock goes on by the sum of what each of them costs.
+#[tactic(auto, using(crate::proofs::After::states_after))]
+pub fn activities_together()
+    ensures none { (s : State) → after s 0 ≡ s }
+    ensures next { (s : State) → (count : ℕ) → after s (count + 1) ≡ next (after s count) }
+    ensures together { (s : State) → (first second : ℕ)
+        → after s (first + second) ≡ after (after s first) second }
+    ensures clock { (s : State) → (count : ℕ)
+        → (after s count).clock ≡ s.clock + total_cost s count }
+{}
+
+/// An activity that does not look at BREAK POINT and TRANSFER CONTROL does the same, in the same time, however these are set, and
+/// does not change them.
+#[tactic(auto, using(crate::proofs::Unseen::switches_unseen))]
+pub fn unseen_switches()
+    ensures cost { (s : State) → (switches : Switches) → cost (with_switches s switches) ≡ cost s }
+    ensures next { (s : State) → (switches : Switches) → looks_at_switches s ≡ false
+        → next (with_switches s switches) ≡ with_switches (next s) switches }
+{}
+
+/// Of activities that do not look at BREAK POINT and TRANSFER CONTROL nobody's hand on these switches is felt: after as many word
+/// times as they take, with presses of those switches anywhere between, the machine stands at the same boundary but for them.
+#[tactic(auto, using(crate::proofs::Pressed::switches_pressed))]
+pub fn pressed_switches()
+    ensures { (s : State) → (count : ℕ) → (events : List Event)
+        → ((before : ℕ) → before < count → looks_at_switches (after s before) ≡ false)
+        → list_all is_time_or_switch events ≡ true
+        → count_by is_word_time events ≡ total_cost s count
+        → (switches : Switches)
+        × (after_events (at_boundary s) events
+        ≡ at_boundary (with_switches (after s count) switches)) }
 {}

@@ -25,6 +25,9 @@ impl Model for Address {
 }
 
 impl Address {
+    /// How many addresses there are: 64 tracks of 64 sectors.
+    pub const COUNT: usize = 64 * 64;
+
     /// The address of this number; `None` from 4096 on.
     pub fn new(number: u16) -> Option<Address>
         ensures range { IsSome result ↔ IsAddress number }

@@ -8,7 +8,9 @@ use std::marker::Model;
 /// A word of the machine: 32 bits, of which the last, the spacer, is 0. Clauses see its number.
 #[derive(Clone, Copy, Debug, PartialEq, Eq, Hash)]
 pub struct Word {
-    bits: u32,
+    /// The word as a number. It can be written down, so that tables of words are constants; one whose spacer is set is refused
+    /// by the prover.
+    pub bits: u32,
 }
 
 impl Model for Word {

@@ -1,0 +1,37 @@
+-- A last hit is at least one order back, and no more than are kept.
+use Rattle.std.proofs.Common.{◌≡◌, ◌≤◌, ◌+◌, ℕ, Bool, true, false, List, [], ◌∷◌, Option, None, Some, ap, arith, option_map}
+use Rattle.std.specs.Prelude.{if◌then◌else◌}
+use Rattle.std.specs.Option.{option_or}
+use Rattle.lgp_table.specs.State.{State}
+use Rattle.lgp_history.specs.Hits.{first_hit, last_hit}
+use Rattle.lgp_history.specs.Steps.{is_order, orders_in}
+use Rattle.lgp_history.specs.declared.rule.Rule.{Rule}
+use Rattle.lgp_history.specs.declared.step.Step.{Step}
+
+-- how many orders back a hit is; 0 where there is none
+abbrev orders_back : Option (ℕ × ℕ) → ℕ
+orders_back None = 0
+orders_back (Some hit) = hit.0
+
+abbrev is_found : Option (ℕ × ℕ) → Bool
+is_found None = false
+is_found (Some hit) = true
+
+-- a later hit stands, else the order itself may be one
+step_within : (later : Option (ℕ × ℕ)) (order : Bool) (first : Option ℕ) (m n i : ℕ)
+    → (later ≡ Some (n, i) → (1 ≤ n) × (n ≤ m))
+    → option_or later (if order then option_map (λ number. (m + 1, number)) first else None) ≡ Some (n, i)
+    → (1 ≤ n) × (n ≤ (if order then 1 else 0) + m)
+step_within (Some hit) true first m n i within e = let w = within e in (w.0, omega (arith, w.1))
+step_within (Some hit) false first m n i within e = let w = within e in (w.0, omega (arith, w.1))
+step_within None true (Some number) m n i within e =
+    let back : m + 1 ≡ n = ap orders_back e in (omega (arith, back), omega (arith, back))
+step_within None true None m n i within e = let bad : false ≡ true = ap is_found e in cc
+step_within None false first m n i within e = let bad : false ≡ true = ap is_found e in cc
+
+pub last_hit-within : {A : Type 0} (rules : List Rule) (kept : List (State × Step A)) (n i : ℕ)
+    → last_hit rules kept ≡ Some (n, i) → (1 ≤ n) × (n ≤ orders_in kept)
+last_hit-within rules [] n i e = let bad : false ≡ true = ap is_found e in cc
+last_hit-within rules (k ∷ later) n i e =
+    step_within (last_hit rules later) (is_order k.1) (first_hit rules k.0) (orders_in later) n i
+    (last_hit-within rules later n i) e

@@ -1,0 +1,5 @@
+pub mod HitLemmas
+pub mod WatchLemmas
+pub mod RunLemmas
+pub mod LoadLemmas
+pub mod ClockLemmas

@@ -1,0 +1,19 @@
+-- Where loading ends, the machine is at a boundary.
+use Rattle.std.proofs.Common.{◌≡◌, ◌∙◌, ap, inl, inr, sym}
+use Rattle.lgp_table.specs.State.{State}
+use Rattle.lgp_table.specs.Interleaving.{Configuration, at_boundary}
+use Rattle.lgp_assembler.specs.Parts.{ImageParts}
+use Rattle.lgp_loader.specs.Loading.{EndsLoading}
+
+-- what is a boundary of some state is one of its own
+own : (now : Configuration) (s : State) → now ≡ at_boundary s → now ≡ at_boundary now.state
+own now s e = e ∙ ap at_boundary (sym (ap (λ (c : Configuration). c.state) e))
+
+pub ends_at_boundary : (now : Configuration) (s : State) (image : ImageParts) → EndsLoading now s image → now ≡ at_boundary now.state
+ends_at_boundary now s image ends = elim ends.0 [
+  | inl store ↦ own now _ store.2
+  | inr later ↦ elim later [
+    | inl jump ↦ own now _ jump
+    | inr order ↦ own now _ order.2
+  ]
+]

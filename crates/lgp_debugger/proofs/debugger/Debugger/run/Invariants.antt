@@ -1,0 +1,5 @@
+use Rattle.lgp_debugger.proofs.RunLemmas.{HasRun}
+use Rattle.lgp_debugger.proofs.debugger.Debugger.run.Given as goal
+
+abbrev pub invariant-loop-orders : goal.invariant-loop-orders
+invariant-loop-orders g l = HasRun {A = g.row.A.Denot} l.initial.self l.self l.orders

@@ -1,0 +1,485 @@
+//! The debugger.
+
+ghost use Rattle.std.specs.Prelude.{◌≡◌, ◌≢◌, ◌==◌, ◌+◌, ◌<◌, ◌≤◌, ◌↔◌, ◌++◌, ◌∷◌, ℕ, [], List, length, remove, slice_get, vec_len, false, None, Some, Err, Ok, IfErr, IfOk, IfSome, IsTrue, OnErr, OnOk, if◌then◌else◌};
+ghost use Rattle.lgp_table.specs.Activity.{cost, print_of};
+ghost use Rattle.lgp_table.specs.Console.{is_at_rest, is_live};
+ghost use Rattle.lgp_table.specs.Interleaving.{at_boundary};
+ghost use Rattle.lgp_machine.specs.Answers.{clock_end};
+ghost use Rattle.lgp_machine.specs.Look.{look_of};
+ghost use Rattle.lgp_history.specs.declared.step.Step.{Step};
+ghost use Rattle.lgp_history.specs.Hits.{last_hit};
+ghost use Rattle.lgp_history.specs.Steps.{orders_in};
+ghost use Rattle.lgp_flexo.specs.TapeText.{tape_limit};
+ghost use Rattle.lgp_debugger.specs.WatchInside.{watches_of};
+ghost use Rattle.lgp_debugger.specs.Debugging.{after_back, after_step, first_stop, rule_limit, run_of};
+ghost use Rattle.lgp_loader.specs.Loading.{EndsLoading, loaded, orders_to_load};
+ghost use Rattle.std.specs.Result.{IsErrAnd};
+
+use crate::fault::{
+    HitFault, IdleFault, MountFault, PutFault, Ran, Reason, RuleFault, RunFault, RunRefusal,
+    StepFault,
+};
+use crate::watch::{Watch, first_stop_now, watch_of};
+use arrayvec::ArrayVec;
+use lgp_assembler::Image;
+use lgp_flexo::{Code, TAPE_LIMIT};
+use lgp_history::{BackFault, History, Rule, Step, Tape};
+use lgp_loader::{LoadFault, load};
+use lgp_machine::{Look, Machine};
+use lgp_phases::Outcome;
+use lgp_table::Action;
+use lgp_word::{Address, Word};
+use std::alloc::{AllocError, Allocator, Global};
+use std::marker::Model;
+
+/// How many rules there may be.
+const RULE_LIMIT: usize = 64;
+
+/// The clock at which no word time begins.
+const CLOCK_END: u64 = 1 << 62;
+
+/// No order takes more word times.
+const LONGEST_ORDER: u64 = 1 << 32;
+
+/// Whether so many word times from a clock on would pass the clock's end.
+fn passes_end(clock: u64, times: u64) -> bool
+    ensures { IsTrue result ↔ (clock_end < clock + times) }
+{
+    match clock.checked_add(times) {
+        Some(end) => end > CLOCK_END,
+        None => true,
+    }
+}
+
+/// A machine that is always at a boundary, with its latest steps and with rules. Clauses see its state, the kept steps, how many
+/// are kept at most, and the rules.
+#[derive(Drop)]
+pub struct Debugger<H: History<A>, A: Allocator = Global> {
+    machine: Machine<A>,
+    history: H,
+    rules: ArrayVec<Rule, RULE_LIMIT>,
+}
+
+impl<H: History<A>, A: Allocator> Model for Debugger<H, A> {
+    ghost use Rattle.lgp_table.specs.Interleaving.{at_boundary};
+    ghost use Rattle.lgp_history.specs.Steps.{Leads};
+    ghost use Rattle.lgp_debugger.specs.Debugging.{Debugging};
+    ghost use Rattle.std.specs.Prelude.{◌≡◌};
+
+    ghost Value = { Debugging A };
+
+    ghost view = { λ d. record {
+      state = d.machine.state;
+      steps = H.steps d.history d.machine.state;
+      capacity = H.capacity d.history;
+      rules = d.rules.items;
+    } };
+
+    ghost invariant = { λ d. (d.machine ≡ at_boundary d.machine.state)
+        × Leads (H.steps d.history d.machine.state) d.machine.state };
+}
+
+impl<H: History<A>, A: Allocator> Debugger<H, A> {
+    /// A debugger of a machine at a boundary, with no step kept and no rule.
+    pub fn new(machine: Machine<A>, history: H) -> Debugger<H, A>
+        requires { machine ≡ at_boundary machine.state }
+        ensures { result ≡ record {
+          state = machine.state;
+          steps = [];
+          capacity = H.capacity history;
+          rules = [];
+        } }
+    {
+        let mut history = history;
+        history.clear();
+        Debugger {
+            machine,
+            history,
+            rules: ArrayVec::new(),
+        }
+    }
+
+    /// One order: the activity that begins here.
+    pub fn step(&mut self) -> Result<Outcome, StepFault>
+        ensures performed { OnOk result (self.new ≡ after_step self.old Step.Perform) }
+        ensures cost { IfOk result (λ outcome. outcome.cost ≡ cost self.old.state) }
+        ensures status { IfOk result (λ outcome.
+            outcome.status ≡ self.new.state.core.panel.status) }
+        ensures printed { IfOk result (λ outcome.
+            outcome.printed ≡ print_of self.old.state.core) }
+        ensures at_rest { (result ≡ Err StepFault.AtRest)
+            ↔ IsTrue (is_at_rest self.old.state.core.panel.status) }
+        ensures clock_end { (result ≡ Err StepFault.ClockEnd)
+            ↔ ((is_at_rest self.old.state.core.panel.status ≡ false)
+            × (clock_end < self.old.state.clock + cost self.old.state)) }
+        ensures unchanged { OnErr result (self.new ≡ self.old) }
+    {
+        let look = self.look();
+        if look.status.is_at_rest() {
+            return Err(StepFault::AtRest);
+        }
+        if self.order_passes_end(look.clock) {
+            return Err(StepFault::ClockEnd);
+        }
+        let step: Step<A> = Step::Perform;
+        let Ok(note) = self.history.prepare(&self.machine, &step) else {
+            return Err(StepFault::Memory);
+        };
+        let Ok(outcome) = self.machine.next_order() else {
+            return Err(StepFault::Memory);
+        };
+        self.history.note(note);
+        Ok(outcome)
+    }
+
+    /// Whether the order that begins here, at this clock, would pass the clock's end. No order takes 2^32 word times.
+    #[inline]
+    #[tactic(auto, using(lgp_phases::proofs::Bounds::cost_at_short, crate::proofs::ClockLemmas::left_few))]
+    fn order_passes_end(&self, clock: u64) -> bool
+        requires { clock ≡ self.now.state.clock }
+        ensures { IsTrue result ↔ (clock_end < self.now.state.clock + cost self.now.state) }
+    {
+        let Some(_) = self.machine.tape_passed() else {
+            unreachable!()
+        };
+        if clock <= CLOCK_END - LONGEST_ORDER {
+            return false;
+        }
+        let Some(ahead) = self.machine.ahead() else {
+            unreachable!()
+        };
+        passes_end(clock, ahead.cost)
+    }
+
+    /// What the rules watch, before an order.
+    fn watches(&self) -> ArrayVec<Watch, RULE_LIMIT>
+        ensures { result.items ≡ watches_of self.now.state self.now.rules }
+    {
+        let mut watches = ArrayVec::new();
+        for rule in self.rules.as_slice() {
+            watches.push(watch_of(&self.machine, rule));
+        }
+        watches
+    }
+
+    /// An order of a run; then the number of the first rule that stops the run there.
+    #[tactic(auto, using(crate::proofs::WatchLemmas::watched_stop))]
+    fn go_on(&mut self) -> Result<Option<u8>, StepFault>
+        ensures performed { OnOk result (self.new ≡ after_step self.old Step.Perform) }
+        ensures stop { IfOk result (λ stop. stop ≡ first_stop self.old.rules self.old.state) }
+        ensures at_work { OnOk result (is_at_rest self.old.state.core.panel.status ≡ false) }
+        ensures memory { result ≡ Err StepFault.Memory
+            → is_at_rest self.old.state.core.panel.status ≡ false }
+        ensures at_rest { (result ≡ Err StepFault.AtRest)
+            ↔ IsTrue (is_at_rest self.old.state.core.panel.status) }
+        ensures clock_end { (result ≡ Err StepFault.ClockEnd)
+            ↔ ((is_at_rest self.old.state.core.panel.status ≡ false)
+            × (clock_end < self.old.state.clock + cost self.old.state)) }
+        ensures unchanged { OnErr result (self.new ≡ self.old) }
+    {
+        if self.rules.is_empty() {
+            self.step()?;
+            return Ok(None);
+        }
+        let watches = self.watches();
+        self.step()?;
+        Ok(first_stop_now(&self.machine, watches.as_slice()))
+    }
+
+    /// Performs orders until the machine is at rest, a rule stops it or as many orders as the limit allows are done. Where an order
+    /// is refused, those before it stand.
+    pub fn run(&mut self, limit: u64) -> Result<Ran, RunFault>
+        ensures ran { IfOk result (λ ran. run_of limit self.old ≡ (ran, self.new)) }
+        ensures stands { IfErr result (λ fault. run_of fault.orders self.old
+            ≡ (record { orders = fault.orders; reason = Reason.Limit }, self.new)) }
+        ensures within { IfErr result (λ fault. fault.orders < limit) }
+        ensures clock_end { IfErr result (λ fault. (fault.fault ≡ RunRefusal.ClockEnd)
+            ↔ (clock_end < self.new.state.clock + cost self.new.state)) }
+    {
+        for orders in 0..limit {
+            match self.go_on() {
+                Ok(None) => {}
+                Ok(Some(rule)) => {
+                    return Ok(Ran {
+                        orders: orders + 1,
+                        reason: Reason::Rule(rule),
+                    });
+                }
+                Err(StepFault::AtRest) => {
+                    return Ok(Ran {
+                        orders,
+                        reason: Reason::Rest,
+                    });
+                }
+                Err(StepFault::ClockEnd) => {
+                    return Err(RunFault {
+                        orders,
+                        fault: RunRefusal::ClockEnd,
+                    });
+                }
+                Err(StepFault::Memory) => {
+                    return Err(RunFault {
+                        orders,
+                        fault: RunRefusal::Memory,
+                    });
+                }
+            }
+        }
+        let reason = if self.look().status.is_at_rest() {
+            Reason::Rest
+        } else {
+            Reason::Limit
+        };
+        Ok(Ran {
+            orders: limit,
+            reason,
+        })
+    }
+
+    /// Presses. A live press is a step, a dead one is none and takes no memory; true where it is live.
+    pub fn press(&mut self, action: Action) -> Result<bool, AllocError>
+        ensures live { IfOk result (λ live. live ≡ is_live self.old.state.core.panel action) }
+        ensures pressed { OnOk result (self.new ≡ (if is_live self.old.state.core.panel action
+            then after_step self.old (Step.Press action) else self.old)) }
+        ensures dead { is_live self.old.state.core.panel action ≡ false → result ≡ Ok false }
+        ensures unchanged { OnErr result (self.new ≡ self.old) }
+    {
+        if !self.is_live(&action) {
+            return Ok(false);
+        }
+        self.press_live(&action)?;
+        Ok(true)
+    }
+
+    /// Whether an action would be live.
+    fn is_live(&self, action: &Action) -> bool
+        ensures { result ≡ is_live self.now.state.core.panel action.now }
+    {
+        let Some(live) = self.machine.live(*action) else {
+            unreachable!()
+        };
+        live
+    }
+
+    /// A live press.
+    fn press_live(&mut self, action: &Action) -> Result<(), AllocError>
+        requires { IsTrue (is_live self.old.state.core.panel action.now) }
+        ensures pressed { OnOk result (self.new
+            ≡ after_step self.old (Step.Press action.now)) }
+        ensures unchanged { OnErr result (self.new ≡ self.old) }
+    {
+        let step: Step<A> = Step::Press(*action);
+        let note = self.history.prepare(&self.machine, &step)?;
+        let _ = self.machine.press(*action);
+        self.history.note(note);
+        Ok(())
+    }
+
+    /// Word times at rest, one step. None of them is no step, and takes no memory.
+    pub fn idle(&mut self, times: u64) -> Result<(), IdleFault>
+        ensures rested { OnOk result (self.new ≡ (if times == 0
+            then self.old else after_step self.old (Step.Idle times))) }
+        ensures at_work { (result ≡ Err IdleFault.AtWork)
+            ↔ (is_at_rest self.old.state.core.panel.status ≡ false) }
+        ensures clock_end { (result ≡ Err IdleFault.ClockEnd)
+            ↔ (IsTrue (is_at_rest self.old.state.core.panel.status)
+            × (clock_end < self.old.state.clock + times)) }
+        ensures none { times ≡ 0 → result ≢ Err IdleFault.Memory }
+        ensures unchanged { OnErr result (self.new ≡ self.old) }
+    {
+        let look = self.look();
+        if !look.status.is_at_rest() {
+            return Err(IdleFault::AtWork);
+        }
+        if passes_end(look.clock, times) {
+            return Err(IdleFault::ClockEnd);
+        }
+        if times == 0 {
+            return Ok(());
+        }
+        let step: Step<A> = Step::Idle(times);
+        let Ok(note) = self.history.prepare(&self.machine, &step) else {
+            return Err(IdleFault::Memory);
+        };
+        let _ = self.machine.rest(times);
+        self.history.note(note);
+        Ok(())
+    }
+
+    /// What the machine shows.
+    pub fn look(&self) -> Look
+        ensures { result ≡ look_of self.now.state }
+    {
+        let Some(look) = self.machine.look() else {
+            unreachable!()
+        };
+        look
+    }
+
+    /// Mounts a tape, at rest, as one step; the reader is off afterwards. A refused tape is handed back.
+    pub fn mount(&mut self, codes: Vec<Code, A>) -> Result<(), (MountFault, Vec<Code, A>)>
+        ensures mounted { OnOk result (self.new ≡ after_step self.old (Step.Mount codes.items)) }
+        ensures moving { IsErrAnd result (λ e. e.0 ≡ MountFault.Moving)
+            ↔ (is_at_rest self.old.state.core.panel.status ≡ false) }
+        ensures too_long { IsErrAnd result (λ e. e.0 ≡ MountFault.TooLong)
+            ↔ (IsTrue (is_at_rest self.old.state.core.panel.status)
+            × (tape_limit < vec_len codes)) }
+        ensures handed_back { IfErr result (λ e. e.1.items ≡ codes.items) }
+        ensures unchanged { OnErr result (self.new ≡ self.old) }
+    {
+        if !self.look().status.is_at_rest() {
+            return Err((MountFault::Moving, codes));
+        }
+        if codes.len() > TAPE_LIMIT {
+            return Err((MountFault::TooLong, codes));
+        }
+        let step = Step::Mount(Tape::new(codes));
+        let prepared = self.history.prepare(&self.machine, &step);
+        let Step::Mount(tape) = step else {
+            unreachable!()
+        };
+        let codes = tape.into_codes();
+        let Ok(note) = prepared else {
+            return Err((MountFault::Memory, codes));
+        };
+        let _ = self.machine.mount(codes);
+        self.history.note(note);
+        Ok(())
+    }
+
+    /// Puts a word on the drum, at rest, as one step.
+    pub fn put(&mut self, address: Address, word: Word) -> Result<(), PutFault>
+        ensures put { OnOk result (self.new ≡ after_step self.old (Step.Put address word)) }
+        ensures moving { (result ≡ Err PutFault.Moving)
+            ↔ (is_at_rest self.old.state.core.panel.status ≡ false) }
+        ensures unchanged { OnErr result (self.new ≡ self.old) }
+    {
+        if !self.look().status.is_at_rest() {
+            return Err(PutFault::Moving);
+        }
+        let step: Step<A> = Step::Put(address, word);
+        let Ok(note) = self.history.prepare(&self.machine, &step) else {
+            return Err(PutFault::Memory);
+        };
+        let _ = self.machine.put(address, word);
+        self.history.note(note);
+        Ok(())
+    }
+
+    /// Goes back to the state in which the last but so many order began; that order and all later steps are forgotten. No order
+    /// back changes nothing.
+    pub fn back(&mut self, orders: u64) -> Result<(), BackFault>
+        ensures back { OnOk result (self.new ≡ (if orders == 0
+            then self.old else after_back self.old orders)) }
+        ensures none { orders ≡ 0 → result ≡ Ok tt }
+        ensures too_far { (kept : ℕ) → (result ≡ Err (BackFault.TooFar kept))
+            ↔ ((kept ≡ orders_in self.old.steps) × (kept < orders)) }
+        ensures unchanged { OnErr result (self.new ≡ self.old) }
+    {
+        if orders == 0 {
+            return Ok(());
+        }
+        self.history.back(orders, &mut self.machine)
+    }
+
+    /// How many steps are kept.
+    pub fn kept(&self) -> u64
+        ensures count { result ≡ length self.now.steps }
+        ensures within { result ≤ self.now.capacity }
+    {
+        self.history.kept()
+    }
+
+    /// How many orders are kept.
+    pub fn orders_kept(&self) -> u64
+        ensures { result ≡ orders_in self.now.steps }
+    {
+        self.history.orders_kept()
+    }
+
+    /// Adds a rule behind the others, and answers its number.
+    pub fn add_rule(&mut self, rule: Rule) -> Result<u8, RuleFault>
+        ensures added { OnOk result (self.new
+            ≡ record self.old { rules = self.old.rules ++ rule ∷ [] }) }
+        ensures number { IfOk result (λ number. number ≡ length self.old.rules) }
+        ensures full { (result ≡ Err RuleFault.Full) ↔ (length self.old.rules ≡ rule_limit) }
+        ensures unchanged { OnErr result (self.new ≡ self.old) }
+    {
+        let number = self.rules.len();
+        if self.rules.try_push(rule).is_err() {
+            return Err(RuleFault::Full);
+        }
+        Ok(number as u8)
+    }
+
+    /// Takes out the rule of this number; later rules move down by one. `None` where there is no such rule.
+    pub fn remove_rule(&mut self, number: u8) -> Option<Rule>
+        ensures removed { result ≡ slice_get self.old.rules number }
+        ensures rules { self.new ≡ record self.old { rules = remove self.old.rules number } }
+    {
+        self.rules.pop_at(usize::from(number))
+    }
+
+    /// Goes back to the beginning of the latest kept order that a rule hits; answers how many orders back that is, and the number
+    /// of the first rule that hits it.
+    pub fn last_hit(&mut self) -> Result<(u64, u8), HitFault>
+        ensures hit { IfOk result (λ hit.
+            (last_hit self.old.rules self.old.steps ≡ Some hit)
+            × (self.new ≡ after_back self.old hit.0)) }
+        ensures no_hit { (kept : ℕ) → result ≡ Err (HitFault.NoHit kept)
+            → (last_hit self.old.rules self.old.steps ≡ None)
+            × (kept ≡ orders_in self.old.steps) }
+        ensures unchanged { OnErr result (self.new ≡ self.old) }
+    {
+        let Ok(found) = self.history.find(&self.machine, self.rules.as_slice()) else {
+            return Err(HitFault::Memory);
+        };
+        let Some(hit) = found else {
+            return Err(HitFault::NoHit(self.orders_kept()));
+        };
+        match self.history.back(hit.0, &mut self.machine) {
+            Ok(()) => Ok(hit),
+            Err(BackFault::Memory) => Err(HitFault::Memory),
+            Err(BackFault::TooFar(_)) => unreachable!(),
+        }
+    }
+
+    /// The machine.
+    pub fn machine(&self) -> &Machine<A>
+        ensures { result.now ≡ at_boundary self.now.state }
+    {
+        &self.machine
+    }
+}
+
+impl<H: History<A>, A: Allocator + Copy> Debugger<H, A> {
+    /// Loads a program by the keyed-in loader, and answers how many orders it performed. No step is kept afterwards, unless nothing
+    /// was done: where there is no memory for the tape (`Memory`), all is as before. Where the clock would pass its end (`ClockEnd`),
+    /// the machine stands at the boundary whose activity would pass it. `Moving` is never answered.
+    pub fn load<B: Allocator>(&mut self, alloc: A, image: &Image<B>) -> Result<u64, LoadFault>
+        ensures loaded { OnOk result (self.new ≡ record self.old {
+          state = loaded self.old.state image.now;
+          steps = [];
+        }) }
+        ensures orders { IfOk result (λ orders. orders ≡ orders_to_load image.now) }
+        ensures moving { result ≢ Err LoadFault.Moving }
+        ensures no_memory { result ≡ Err LoadFault.Memory → self.new ≡ self.old }
+        ensures stands { result ≡ Err LoadFault.ClockEnd
+            → EndsLoading (at_boundary self.new.state) self.old.state image.now }
+        ensures emptied { result ≡ Err LoadFault.ClockEnd
+            → self.new ≡ record self.old { state = self.new.state; steps = [] } }
+    {
+        match load(alloc, &mut self.machine, image) {
+            Ok(orders) => {
+                self.history.clear();
+                Ok(orders)
+            }
+            Err(LoadFault::ClockEnd) => {
+                self.history.clear();
+                Err(LoadFault::ClockEnd)
+            }
+            Err(LoadFault::Memory) => Err(LoadFault::Memory),
+            Err(LoadFault::Moving) => unreachable!(),
+        }
+    }
+}

@@ -1,0 +1,15 @@
+//! The machine with its latest steps: rules that stop a run, and the way back.
+#![tactic(auto)]
+
+mod debugger;
+mod fault;
+mod watch;
+
+pub use debugger::Debugger;
+pub use fault::{
+    HitFault, IdleFault, MountFault, PutFault, Ran, Reason, RuleFault, RunFault, RunRefusal,
+    StepFault,
+};
+
+#[cfg(test)]
+mod tests;

@@ -1,0 +1,3 @@
+pub mod ByHand
+pub mod Progress
+pub mod Placed

@@ -1,0 +1,39 @@
+use Rattle.std.proofs.Common.{rules, ◌≡◌, ◌≤◌, ◌+◌, IsTrue, length, refl, subst}
+use Rattle.lgp_table.specs.Interleaving.{at_boundary, is_boundary}
+use Rattle.lgp_table.specs.Activity.{next}
+use Rattle.lgp_keyin.specs.KeyIn.{about_to_store}
+use Rattle.lgp_keyin.proofs.Progress.{item_at, none_keyed, one_more_keyed, passes}
+use Rattle.lgp_keyin.proofs.keying.key_in.Goals as goal
+
+pub loop-word-init : goal.loop-word-init
+loop-word-init g c =
+    let old = g.M.Operate.configuration c.args.machine.now in
+    let boundary : IsTrue (is_boundary old) = search rules in
+    none_keyed old (g.M.Operate.configuration c.press.new.self) c.args.base c.args.words.now boundary c.press.ensures.state (search rules)
+
+pub returns-then-not-store-clause-clock_end : goal.returns-then-not-store-clause-clock_end
+returns-then-not-store-clause-clock_end g c =
+    let old = g.M.Operate.configuration c.args.machine.now in
+    let now = g.M.Operate.configuration c.loop-word.machine in
+    let then = g.M.Operate.configuration c.store.new.machine in
+    let words = c.args.words.now in
+    let boundary : IsTrue (is_boundary old) = search rules in
+    let fits : c.args.base + length words ≤ 4096 = search rules in
+    let less = c.loop-word-test.true in
+    let item = item_at words c.loop-word.word-index c.word-item.result less c.word-item.is in
+    let stands = subst (λ word. then ≡ at_boundary (about_to_store now.state c.loop-word.address word)) item c.if-not-store.ensures.stands in
+    let past = passes now then old.state c.args.base words c.loop-word.word-index c.loop-word.address c.loop-word.invariant less fits stands c.if-not-store.ensures.clock_end in
+    (λ same. (boundary, fits, past), λ passes. refl)
+
+pub loop-word-preserved : goal.loop-word-preserved
+loop-word-preserved g c =
+    let old = g.M.Operate.configuration c.args.machine.now in
+    let now = g.M.Operate.configuration c.loop-word.machine in
+    let then = g.M.Operate.configuration c.store.new.machine in
+    let words = c.args.words.now in
+    let fits : c.args.base + length words ≤ 4096 = search rules in
+    let less = c.loop-word-test.true in
+    let item = item_at words c.loop-word.word-index c.word-item.result less c.word-item.is in
+    let stored = subst (λ word. then ≡ at_boundary (next (about_to_store now.state c.loop-word.address word))) item c.if-not-store.ensures.stored in
+    let more = one_more_keyed now then old.state c.args.base words c.loop-word.word-index c.loop-word.address c.loop-word.invariant less fits stored c.if-not-store.ensures.up c.if-not-store.ensures.clock in
+    rw c.next-address.ensures more

@@ -1,0 +1,2 @@
+pub mod KeyIn
+pub mod Keyed

@@ -1,0 +1,166 @@
+-- The loader's way through a whole tape.
+use Rattle.std.proofs.Common.{◌≡◌, ℕ, suc, ◌+◌, ◌*◌, ◌/◌, ◌%◌, ◌<◌, true, false, refl, sym, ap, ◌∙◌, subst, arith, List, [], ◌∷◌, ◌++◌, None, Some, Option, length, slice_index, slice_set, append_assoc, map}
+use Rattle.std.specs.List.{concat}
+use Rattle.std.specs.Prelude.{IfSome}
+use Rattle.std.proofs.lemmas.Bool.Decides.{nat_tests}
+use Rattle.std.proofs.lemmas.List.{get_or-set_same}
+use Rattle.lgp_word.specs.Address.{IsAddress}
+use Rattle.lgp_word.specs.Order.{op_of, sign_of}
+use Rattle.lgp_word.specs.Word.{IsWord}
+use Rattle.lgp_word.specs.declared.order.Op.TheVariants.{Z, I, U, T, H}
+use Rattle.lgp_flexo.specs.Code.{stop_code}
+use Rattle.lgp_flexo.specs.WordCodes.{word_codes}
+use Rattle.lgp_table.specs.State.{Core, core_of}
+use Rattle.lgp_table.specs.declared.panel.Mode.TheVariants.{Normal}
+use Rattle.lgp_table.specs.declared.panel.Switches.{Switches}
+use Rattle.lgp_assembler.specs.Parts.{AreProgramCells, is_loaders}
+use Rattle.lgp_loader.specs.LoaderTape.{carriage_return, cell_codes, control_word, end_word, stopped_word}
+use Rattle.lgp_loader.specs.Loading.{counter_after_load, status_after_load}
+use Rattle.lgp_loader.specs.Places.{end_cell, end_place, loader_base, store_cell, word_of}
+use Rattle.lgp_loader.proofs.Orders.{Fetches, cleared, core_at, goes_on, held, jumps, off, stops, transfers_to}
+use Rattle.lgp_loader.proofs.Runs.{Runs, one_then}
+use Rattle.lgp_loader.proofs.Cells.{AreSkipped, HasLoader, control_is_positive, control_is_word, fetch_0, fetch_1, fetch_2, fetch_3, fetch_4, fetch_5, fetch_7, fetch_8, fetch_store, loader_stays, nothing_skipped, program_elsewhere, read_codes, return_skipped, store_cell_elsewhere, two_orders}
+
+-- the drum after a cell: the order that stores it lies in the store cell, and the word at its place
+abbrev pub words_after_cell : List ℕ → ℕ → ℕ → List ℕ
+words_after_cell words place word = slice_set (slice_set words store_cell (control_word place)) place word
+
+-- the codes of a cell, behind some that are skipped, and all that follow
+abbrev cell_left : List ℕ → ℕ → ℕ → List ℕ → List ℕ
+cell_left skipped place word rest = (skipped ++ word_codes (control_word place)) ++ stop_code ∷ (word_codes word ++ stop_code ∷ (carriage_return ∷ rest))
+
+one_cell : (switches : Switches) (accumulator register : ℕ) (words passed skipped rest : List ℕ) (place word : ℕ) (count : ℕ) (last : Core)
+    → HasLoader words → AreSkipped skipped → place < 4096 → is_loaders place ≡ false → IsWord word
+    → Runs count (core_at switches loader_base 0 (word_of U loader_base) (words_after_cell words place word)
+    (off ((passed ++ read_codes skipped (control_word place)) ++ read_codes [] word) (carriage_return ∷ rest))) last
+    → Runs (suc (suc (suc (suc (suc (suc (suc (suc count))))))))
+    (core_at switches loader_base accumulator register words (off passed (cell_left skipped place word rest))) last
+one_cell switches accumulator register words passed skipped rest place word count last has are within free is runs =
+    let control = control_word place in
+    let left = word_codes word ++ stop_code ∷ (carriage_return ∷ rest) in
+    let passed1 = passed ++ read_codes skipped control in
+    let passed2 = passed1 ++ read_codes [] word in
+    let words1 = slice_set words store_cell control in
+    let words2 = slice_set words1 place word in
+    let has1 = loader_stays words store_cell control has store_cell_elsewhere in
+    let has2 = loader_stays words1 place word has1 (program_elsewhere place free) in
+    let at3 = core_at switches (loader_base + 2) control (word_of I 0) words (off passed1 left) in
+    let at4 = core_at switches (loader_base + 3) control (word_of T end_place) words (off passed1 left) in
+    let at5 = core_at switches (loader_base + 4) control (word_of H store_cell) words1 (off passed1 left) in
+    let at7 = core_at switches store_cell word (word_of I 0) words1 (off passed2 (carriage_return ∷ rest)) in
+    let at8 = core_at switches (loader_base + 7) 0 control words2 (off passed2 (carriage_return ∷ rest)) in
+    let at9 = core_at switches loader_base 0 (word_of U loader_base) words2 (off passed2 (carriage_return ∷ rest)) in
+    let eighth = one_then count at8 at9 last (jumps switches (loader_base + 7) 0 control words2 (off passed2 (carriage_return ∷ rest)) (word_of U loader_base) loader_base (fetch_7 words2 has2)) runs in
+    let seventh = one_then (suc count) at7 at8 last (cleared switches store_cell word (word_of I 0) words1 (off passed2 (carriage_return ∷ rest)) control place (fetch_store words place has within) is) eighth in
+    let fifth = two_orders switches (loader_base + 4) control (word_of H store_cell) words1 passed1 [] (carriage_return ∷ rest) word (suc (suc count)) last (fetch_4 words1 has1) (fetch_5 words1 has1) (omega arith) nothing_skipped is seventh in
+    let fourth = one_then (suc (suc (suc (suc count)))) at4 at5 last (held switches (loader_base + 3) control (word_of T end_place) words (off passed1 left) (word_of H store_cell) store_cell (fetch_3 words has) (control_is_word place within)) fifth in
+    let third = one_then (suc (suc (suc (suc (suc count))))) at3 at4 last (goes_on switches (loader_base + 2) control (word_of I 0) words (off passed1 left) (word_of T end_place) end_place (fetch_2 words has) refl (control_is_positive place within)) fourth in
+    two_orders switches loader_base accumulator register words passed skipped left control (suc (suc (suc (suc (suc (suc count)))))) last (fetch_0 words has) (fetch_1 words has) (omega arith) are (control_is_word place within) third
+
+-- the end word
+end_is_word : (start : Option ℕ) → IfSome start IsAddress → IsWord (end_word start)
+end_is_word None is = (omega arith, omega arith)
+end_is_word (Some address) is = (omega (arith, is), omega (arith, is))
+
+end_is_negative : (start : Option ℕ) → sign_of (end_word start) ≡ true
+end_is_negative None = refl
+end_is_negative (Some address) = grind (arith, nat_tests)
+
+-- the core at the end
+abbrev pub final_core : Switches → Option ℕ → List ℕ → List ℕ → Core
+final_core switches start words passed = core_of (record {
+  counter = counter_after_load start;
+  accumulator = end_word start;
+  register = end_word start;
+  status = status_after_load start;
+  mode = Normal;
+  switches = record switches { six_bit = false };
+}) words (off passed [])
+
+end_stops : (words : List ℕ) → slice_index words end_cell ≡ end_word None → Fetches words end_cell (end_word None) Z 0
+unfolding op_of
+end_stops words here = record { here = here; is_op = refl; is_at = refl }
+
+end_jumps : (words : List ℕ) (address : ℕ) → slice_index words end_cell ≡ end_word (Some address) → IsAddress address → Fetches words end_cell (end_word (Some address)) U address
+unfolding op_of
+end_jumps words address here within = record {
+  here = here;
+  is_op = let number : end_word (Some address) / 65536 % 16 ≡ 10 = omega (arith, within) in rw number refl;
+  is_at = omega (arith, within);
+}
+
+end_performed : (switches : Switches) (start : Option ℕ) (words passed : List ℕ) → IfSome start IsAddress → slice_index words end_cell ≡ end_word start
+    → Runs 1 (core_at switches end_cell (end_word start) (word_of H end_cell) words (off passed [])) (final_core switches start words passed)
+end_performed switches None words passed is here =
+    one_then 0 (core_at switches end_cell (end_word None) (word_of H end_cell) words (off passed [])) (final_core switches None words passed) (final_core switches None words passed)
+    (stops switches end_cell (end_word None) (word_of H end_cell) words (off passed []) (end_word None) (end_stops words here)) refl
+end_performed switches (Some address) words passed is here =
+    one_then 0 (core_at switches end_cell (end_word (Some address)) (word_of H end_cell) words (off passed [])) (final_core switches (Some address) words passed) (final_core switches (Some address) words passed)
+    (jumps switches end_cell (end_word (Some address)) (word_of H end_cell) words (off passed []) (end_word (Some address)) address (end_jumps words address here is)) refl
+
+the_end : (switches : Switches) (accumulator register : ℕ) (words passed skipped : List ℕ) (start : Option ℕ)
+    → HasLoader words → AreSkipped skipped → IfSome start IsAddress
+    → Runs 5 (core_at switches loader_base accumulator register words (off passed ((skipped ++ word_codes (end_word start)) ++ stop_code ∷ [])))
+    (final_core switches start (slice_set words end_cell (end_word start)) (passed ++ read_codes skipped (end_word start)))
+the_end switches accumulator register words passed skipped start has are is =
+    let word = end_word start in
+    let passed1 = passed ++ read_codes skipped word in
+    let words1 = slice_set words end_cell word in
+    let last = final_core switches start words1 passed1 in
+    let at3 = core_at switches (loader_base + 2) word (word_of I 0) words (off passed1 []) in
+    let at4 = core_at switches end_place word (word_of T end_place) words (off passed1 []) in
+    let at5 = core_at switches end_cell word (word_of H end_cell) words1 (off passed1 []) in
+    let here = get_or-set_same words end_cell word 0 (let drum = has.drum in omega arith) in
+    let fifth = end_performed switches start words1 passed1 is here in
+    let fourth = one_then 1 at4 at5 last (held switches end_place word (word_of T end_place) words (off passed1 []) (word_of H end_cell) end_cell (fetch_8 words has) (end_is_word start is)) fifth in
+    let third = one_then 2 at3 at4 last (transfers_to switches (loader_base + 2) word (word_of I 0) words (off passed1 []) (word_of T end_place) end_place (fetch_2 words has) refl (end_is_negative start)) fourth in
+    two_orders switches loader_base accumulator register words passed skipped [] word 3 last (fetch_0 words has) (fetch_1 words has) (omega arith) are (end_is_word start is) third
+
+-- the drum after some cells
+unfoldable pub words_after_cells : List ℕ → List (ℕ × ℕ) → List ℕ
+words_after_cells words [] = words
+words_after_cells words ((place, word) ∷ cells) = words_after_cells (words_after_cell words place word) cells
+
+abbrev pub tape_left : List ℕ → List (ℕ × ℕ) → Option ℕ → List ℕ
+tape_left skipped cells start = skipped ++ (concat (map cell_codes cells) ++ stopped_word (end_word start))
+
+shape : (skipped control word rest end : List ℕ)
+    → skipped ++ ((((control ++ stop_code ∷ []) ++ ((word ++ stop_code ∷ []) ++ carriage_return ∷ [])) ++ rest) ++ end)
+    ≡ (skipped ++ control) ++ stop_code ∷ (word ++ stop_code ∷ (carriage_return ∷ (rest ++ end)))
+shape skipped control word rest end = simp append_assoc refl
+
+passed_shape : (passed skipped control word rest : List ℕ)
+    → ((passed ++ ((skipped ++ control) ++ stop_code ∷ [])) ++ (([] ++ word) ++ stop_code ∷ [])) ++ (carriage_return ∷ rest)
+    ≡ passed ++ ((skipped ++ control) ++ stop_code ∷ (word ++ stop_code ∷ (carriage_return ∷ rest)))
+passed_shape passed skipped control word rest = simp append_assoc refl
+
+end_shape : (skipped word : List ℕ) → skipped ++ (word ++ stop_code ∷ []) ≡ (skipped ++ word) ++ stop_code ∷ []
+end_shape skipped word = sym (append_assoc skipped word (stop_code ∷ []))
+
+pub through_tape : (switches : Switches) (accumulator register : ℕ) (words passed skipped : List ℕ) (cells : List (ℕ × ℕ)) (start : Option ℕ)
+    → HasLoader words → AreSkipped skipped → AreProgramCells cells → IfSome start IsAddress
+    → Runs (8 * length cells + 5) (core_at switches loader_base accumulator register words (off passed (tape_left skipped cells start)))
+    (final_core switches start (slice_set (words_after_cells words cells) end_cell (end_word start)) (passed ++ tape_left skipped cells start))
+unfolding words_after_cells
+through_tape switches accumulator register words passed skipped [] start has are cells is =
+    subst (λ left. Runs 5 (core_at switches loader_base accumulator register words (off passed left))
+    (final_core switches start (slice_set words end_cell (end_word start)) (passed ++ left)))
+    (sym (end_shape skipped (word_codes (end_word start))))
+    (the_end switches accumulator register words passed skipped start has are is)
+through_tape switches accumulator register words passed skipped ((place, word) ∷ cells) start has are ((within, free, is_word), others) is =
+    let control = control_word place in
+    let words2 = words_after_cell words place word in
+    let has2 = loader_stays (slice_set words store_cell control) place word (loader_stays words store_cell control has store_cell_elsewhere) (program_elsewhere place free) in
+    let passed2 = (passed ++ read_codes skipped control) ++ read_codes [] word in
+    let rest = concat (map cell_codes cells) ++ stopped_word (end_word start) in
+    let words_last = slice_set (words_after_cells words2 cells) end_cell (end_word start) in
+    let later = through_tape switches 0 (word_of U loader_base) words2 passed2 (carriage_return ∷ []) cells start has2 return_skipped others is in
+    let left = shape skipped (word_codes control) (word_codes word) (concat (map cell_codes cells)) (stopped_word (end_word start)) in
+    let whole : passed2 ++ (carriage_return ∷ rest) ≡ passed ++ tape_left skipped ((place, word) ∷ cells) start =
+    passed_shape passed skipped (word_codes control) (word_codes word) rest ∙ ap (λ codes. passed ++ codes) (sym left) in
+    let last = final_core switches start words_last (passed ++ tape_left skipped ((place, word) ∷ cells) start) in
+    let onward = subst (λ codes. Runs (8 * length cells + 5) (core_at switches loader_base 0 (word_of U loader_base) words2 (off passed2 (carriage_return ∷ rest))) (final_core switches start words_last codes)) whole later in
+    let all = one_cell switches accumulator register words passed skipped rest place word (8 * length cells + 5) last has are within free is_word onward in
+    let count : suc (suc (suc (suc (suc (suc (suc (suc (8 * length cells + 5)))))))) ≡ 8 * length ((place, word) ∷ cells) + 5 = omega arith in
+    let there = subst (λ n. Runs n (core_at switches loader_base accumulator register words (off passed (cell_left skipped place word rest))) last) count all in
+    subst (λ codes. Runs (8 * length ((place, word) ∷ cells) + 5) (core_at switches loader_base accumulator register words (off passed codes)) last) (sym left) there

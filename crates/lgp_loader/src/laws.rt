@@ -1,0 +1,43 @@
+//! What follows from the definitions, each law as the contract of a function that does nothing.
+
+ghost use Rattle.std.specs.Prelude.{◌≡◌, ◌+◌, ℕ, List, IfSome, length, true};
+ghost use Rattle.std.specs.List.{count_by, list_all};
+ghost use Rattle.lgp_assembler.specs.Parts.{AreProgramCells, ImageParts};
+ghost use Rattle.lgp_loader.specs.Loading.{begun, left_by_load, loaded, orders_to_load};
+ghost use Rattle.lgp_table.specs.After.{total_cost};
+ghost use Rattle.lgp_table.specs.Interleaving.{after_events, at_boundary};
+ghost use Rattle.lgp_table.specs.State.{State};
+ghost use Rattle.lgp_table.specs.SwitchPresses.{is_time_or_switch, is_word_time, with_switches};
+ghost use Rattle.lgp_table.specs.declared.panel.Switches.{Switches};
+ghost use Rattle.lgp_word.specs.Address.{IsAddress};
+
+use lgp_table::Event;
+
+/// What loading leaves: the program's words over what was on the drum, and the loader at its ten places, with the order that stored
+/// the last cell in its store cell and the end word in its end cell. The accumulator and the instruction register hold the end
+/// word; the tape is read to its end and the reader is off; nothing has been printed. Without a start the machine has stopped, with
+/// one it goes there. The clock has gone on by the sum of what the orders cost.
+#[tactic(auto, using(crate::proofs::Law::loading_laws))]
+pub fn loading()
+    ensures left { (s : State) → (image : ImageParts) → length s.core.words ≡ 4096
+        → AreProgramCells image.cells → IfSome image.start IsAddress
+        → loaded s image ≡ left_by_load s image (loaded s image).clock }
+    ensures time { (s : State) → (image : ImageParts)
+        → (loaded s image).clock
+        ≡ (begun s image).clock + total_cost (begun s image) (orders_to_load image) }
+{}
+
+/// From the moment the loader has been started nobody's hand on BREAK POINT and TRANSFER CONTROL disturbs it: after as many word
+/// times as its orders take, with presses of those switches anywhere between, the machine stands as after an undisturbed loading,
+/// but for these switches.
+#[tactic(auto, using(crate::proofs::Law::loading_laws))]
+pub fn undisturbed()
+    ensures { (s : State) → (image : ImageParts) → (events : List Event)
+        → length s.core.words ≡ 4096
+        → AreProgramCells image.cells → IfSome image.start IsAddress
+        → list_all is_time_or_switch events ≡ true
+        → count_by is_word_time events ≡ total_cost (begun s image) (orders_to_load image)
+        → (switches : Switches)
+        × (after_events (at_boundary (begun s image)) events
+        ≡ at_boundary (with_switches (loaded s image) switches)) }
+{}

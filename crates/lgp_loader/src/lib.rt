@@ -1,0 +1,14 @@
+//! Loading a program from paper tape, by a program of ten words that writes the order it is about to perform.
+#![tactic(auto)]
+
+pub mod laws;
+mod loading;
+mod tape;
+mod words;
+
+pub use loading::{LoadFault, load};
+pub use tape::tape_of;
+pub use words::LOADER;
+
+#[cfg(test)]
+mod tests;

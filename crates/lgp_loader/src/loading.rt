@@ -1,0 +1,210 @@
+//! Loading a program.
+
+ghost use Rattle.std.specs.Prelude.{◌≡◌, ◌+◌, ◌*◌, ◌<◌, ◌≤◌, ◌↔◌, ℕ, None, List, false, true, IfOk, IfSome, IsTrue, OnOk, Err, length, vec_len};
+ghost use Rattle.std.specs.Bool.{OnFalse, OnTrue};
+ghost use Rattle.lgp_flexo.specs.TapeText.{tape_limit};
+ghost use Rattle.lgp_table.specs.Activity.{cost, next, print_of};
+ghost use Rattle.lgp_table.specs.After.{after};
+ghost use Rattle.lgp_table.specs.Console.{is_at_rest};
+ghost use Rattle.lgp_table.specs.Interleaving.{after_mount, at_boundary, is_boundary};
+ghost use Rattle.lgp_machine.specs.Answers.{clock_end};
+ghost use Rattle.lgp_keyin.specs.KeyIn.{about_to_jump, keyed, started};
+ghost use Rattle.lgp_loader.specs.Loading.{BeginsStore, EndsLoading, loaded, orders_to_load};
+ghost use Rattle.lgp_assembler.specs.Parts.{AreProgramCells};
+ghost use Rattle.lgp_word.specs.Address.{IsAddress};
+ghost use Rattle.lgp_loader.specs.Places.{loader_base, loader_words};
+
+use crate::tape::tape_of;
+use crate::words::LOADER;
+use lgp_assembler::{Image, LOADER_PLACES};
+use lgp_flexo::Code;
+use lgp_keyin::{KeyFault, Operate, actions_to_jump, key_in, press_all};
+use lgp_table::{Action, Mode};
+use lgp_word::Address;
+use std::alloc::Allocator;
+use thiserror::Error;
+
+/// Why a program is not loaded.
+#[derive(Clone, Copy, Debug, PartialEq, Eq, Error)]
+pub enum LoadFault {
+    /// Nothing was pressed.
+    #[error("an activity has been begun")]
+    Moving,
+    /// The machine stands at the boundary whose activity would pass the clock's end.
+    #[error("the clock would pass its end")]
+    ClockEnd,
+    /// Nothing was pressed.
+    #[error("out of memory for the tape")]
+    Memory,
+}
+
+/// The address at which the loader begins.
+fn loader_base() -> Address
+    ensures { result ≡ loader_base }
+{
+    match Address::new(LOADER_PLACES.start as u16) {
+        Some(address) => address,
+        None => unreachable!(),
+    }
+}
+
+/// Mounts a tape on a machine at rest.
+fn mount<A: Allocator, M: Operate<Tape = Vec<Code, A>>>(machine: &mut M, tape: Vec<Code, A>)
+    requires tapes { M.codes ≡ (λ tape. tape.items) }
+    requires rest { is_at_rest (M.configuration machine.old).state.core.panel.status ≡ true }
+    requires short { vec_len tape ≤ tape_limit }
+    ensures { M.configuration machine.new
+        ≡ at_boundary (after_mount (M.configuration machine.old).state tape.items) }
+{
+    match machine.mount(tape) {
+        Ok(()) => {}
+        Err(_) => unreachable!(),
+    }
+}
+
+/// Keys the loader in and mounts a tape. Answers false where key-in meets the end of the clock.
+#[tactic(auto, using(crate::proofs::Ready::readying))]
+fn prepare<A: Allocator, M: Operate<Tape = Vec<Code, A>>>(
+    machine: &mut M,
+    tape: Vec<Code, A>,
+) -> bool
+    requires tapes { M.codes ≡ (λ tape. tape.items) }
+    requires boundary { IsTrue (is_boundary (M.configuration machine.old)) }
+    requires short { vec_len tape ≤ tape_limit }
+    ensures prepared { OnTrue result (M.configuration machine.new ≡ at_boundary (after_mount
+        (keyed (M.configuration machine.old).state loader_base loader_words) tape.items)) }
+    ensures stands { OnFalse result
+        (BeginsStore (M.configuration machine.new) (M.configuration machine.old).state) }
+    ensures clock_end { OnFalse result (clock_end < (M.configuration machine.new).state.clock
+        + cost (M.configuration machine.new).state) }
+    ensures past { OnFalse result (clock_end
+        < (keyed (M.configuration machine.old).state loader_base loader_words).clock) }
+{
+    match key_in(machine, loader_base(), &LOADER) {
+        Ok(()) => {}
+        Err(KeyFault::ClockEnd) => return false,
+        Err(KeyFault::Moving | KeyFault::PastEnd) => unreachable!(),
+    }
+    mount(machine, tape);
+    true
+}
+
+/// Starts the loader. Answers false where the order that jumps to it would pass the end of the clock: all is then pressed, and the
+/// order not performed.
+#[tactic(auto, using(lgp_keyin::proofs::ByHand::jumping))]
+fn begin<M: Operate>(machine: &mut M) -> bool
+    requires boundary { M.configuration machine.old ≡ at_boundary (M.configuration machine.old).state }
+    requires up { (M.configuration machine.old).state.core.panel.switches.six_bit ≡ false }
+    ensures begun { OnTrue result (M.configuration machine.new
+        ≡ at_boundary (started (M.configuration machine.old).state loader_base)) }
+    ensures stands { OnFalse result (M.configuration machine.new
+        ≡ at_boundary (about_to_jump (M.configuration machine.old).state loader_base)) }
+    ensures clock_end { OnFalse result (clock_end < (M.configuration machine.new).state.clock
+        + cost (M.configuration machine.new).state) }
+{
+    press_all(machine, &actions_to_jump(loader_base()));
+    if !perform_one(machine) {
+        return false;
+    }
+    press_all(machine, &[Action::Mode(Mode::Normal), Action::Start]);
+    true
+}
+
+/// Performs an order that is at work and prints nothing. Answers false where it would pass the end of the clock.
+fn perform_one<M: Operate>(machine: &mut M) -> bool
+    requires boundary { M.configuration machine.old ≡ at_boundary (M.configuration machine.old).state }
+    requires work { is_at_rest (M.configuration machine.old).state.core.panel.status ≡ false }
+    requires silent { print_of (M.configuration machine.old).state.core ≡ None }
+    ensures performed { OnTrue result (M.configuration machine.new
+        ≡ at_boundary (next (M.configuration machine.old).state)) }
+    ensures clock { OnTrue result ((M.configuration machine.new).state.clock ≤ clock_end) }
+    ensures stands { OnFalse result (M.configuration machine.new ≡ M.configuration machine.old) }
+    ensures clock_end { OnFalse result (clock_end < (M.configuration machine.old).state.clock
+        + cost (M.configuration machine.old).state) }
+{
+    machine.next_order().is_ok()
+}
+
+/// Performs so many orders that are at work and print nothing. Answers false where one of them would pass the end of the clock.
+fn perform<M: Operate>(machine: &mut M, orders: u64) -> bool
+    requires boundary { M.configuration machine.old ≡ at_boundary (M.configuration machine.old).state }
+    requires work { (before : ℕ) → before < orders
+        → is_at_rest (after (M.configuration machine.old).state before).core.panel.status ≡ false }
+    requires silent { (before : ℕ) → before < orders
+        → print_of (after (M.configuration machine.old).state before).core ≡ None }
+    ensures performed { OnTrue result (M.configuration machine.new
+        ≡ at_boundary (after (M.configuration machine.old).state orders)) }
+    ensures clock { OnTrue result
+        (0 < orders → (M.configuration machine.new).state.clock ≤ clock_end) }
+    ensures stands { OnFalse result ((done : ℕ) × (done < orders)
+        × (M.configuration machine.new
+        ≡ at_boundary (after (M.configuration machine.old).state done))) }
+    ensures clock_end { OnFalse result (clock_end < (M.configuration machine.new).state.clock
+        + cost (M.configuration machine.new).state) }
+{
+    for _ in 0..orders {
+        if !perform_one(machine) {
+            return false;
+        }
+    }
+    true
+}
+
+/// How many orders the loader performs for an image.
+fn orders_to_load<A: Allocator>(image: &Image<A>) -> u64
+    ensures orders { result ≡ orders_to_load image.now }
+    ensures few { length image.now.cells ≤ 4096 }
+    ensures program { AreProgramCells image.now.cells }
+    ensures start { IfSome image.now.start IsAddress }
+{
+    // That a start is an address is what the clause of this call says.
+    let _ = image.start();
+    8 * image.cells().len() as u64 + 5
+}
+
+/// Loads a program, as an operator does: the loader is keyed in, the tape mounted, and the loader started; it then reads the tape.
+/// Answers how many orders the loader performed, 8 for each cell and 5.
+///
+/// Refused, in this order: within an activity (`Moving`), where there is no memory for the tape (`Memory`), both before anything
+/// is pressed; where the clock would pass its end (`ClockEnd`).
+#[tactic(auto, using(crate::proofs::Ready::loading_steps))]
+pub fn load<A: Allocator + Copy, B: Allocator, M: Operate<Tape = Vec<Code, A>>>(
+    alloc: A,
+    machine: &mut M,
+    image: &Image<B>,
+) -> Result<u64, LoadFault>
+    requires tapes { M.codes ≡ (λ tape. tape.items) }
+    ensures loaded { OnOk result (M.configuration machine.new
+        ≡ at_boundary (loaded (M.configuration machine.old).state image.now)) }
+    ensures orders { IfOk result (λ orders. orders ≡ orders_to_load image.now) }
+    ensures clock { OnOk result
+        ((loaded (M.configuration machine.old).state image.now).clock ≤ clock_end) }
+    ensures moving { (result ≡ Err LoadFault.Moving)
+        ↔ (is_boundary (M.configuration machine.old) ≡ false) }
+    ensures unmoved { result ≡ Err LoadFault.Moving
+        → M.configuration machine.new ≡ M.configuration machine.old }
+    ensures no_memory { result ≡ Err LoadFault.Memory
+        → M.configuration machine.new ≡ M.configuration machine.old }
+    ensures stands { result ≡ Err LoadFault.ClockEnd → EndsLoading (M.configuration machine.new)
+        (M.configuration machine.old).state image.now }
+    ensures past { result ≡ Err LoadFault.ClockEnd → clock_end
+        < (loaded (M.configuration machine.old).state image.now).clock }
+{
+    if machine.look().is_none() {
+        return Err(LoadFault::Moving);
+    }
+    let Ok(tape) = tape_of(alloc, image) else {
+        return Err(LoadFault::Memory);
+    };
+    let orders = orders_to_load(image);
+    if !prepare(machine, tape) {
+        return Err(LoadFault::ClockEnd);
+    }
+    if !begin(machine) {
+        return Err(LoadFault::ClockEnd);
+    }
+    if !perform(machine, orders) {
+        return Err(LoadFault::ClockEnd);
+    }
+    Ok(orders)
+}

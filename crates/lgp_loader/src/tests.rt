@@ -1,0 +1,260 @@
+//! Tests of the loader.
+
+use crate::{LOADER, LoadFault, load, tape_of};
+use lgp_assembler::{Image, assemble};
+use lgp_flexo::write_tape_text;
+use lgp_keyin::{actions_to_jump, key_in, press_all};
+use lgp_machine::{Look, Machine};
+use lgp_table::{Action, Cause, Mode, Status};
+use lgp_word::{Address, Word, read_digits};
+use linked_list_allocator::LocalHeap;
+use std::alloc::{Allocator, Global};
+use std::process::Abort;
+use std::test::Fail;
+
+const CLOCK_END: u64 = 1 << 62;
+
+/// One word at 0100.
+const ONE_WORD: &[u8] = b" org 0100\n word 00000004\n end\n";
+
+const FIVE_LINES: &[u8] = b"start b one ; take\n h 0050\n z\none frac .1\n end start\n";
+
+/// The word of these digits.
+fn word(digits: &[u8]) -> Result<Word, Fail> {
+    Ok(read_digits(digits).ok_or("no word")?)
+}
+
+/// The address of this text.
+fn at(text: &[u8]) -> Result<Address, Fail> {
+    Ok(Address::parse(text).ok_or("no address")?)
+}
+
+/// The image of a source that has no fault.
+fn image(alloc: Global, source: &[u8]) -> Result<Image, Fail> {
+    Ok(assemble(alloc, source)?)
+}
+
+#[test]
+fn the_words_of_the_loader(rt: HostRuntime) -> Result<(), Fail> {
+    let wanted: [&[u8]; 10] = [
+        b"00080000",
+        b"00040000",
+        b"000g3w20",
+        b"000j3w18",
+        b"00080000",
+        b"00040000",
+        b"00000000",
+        b"000f3w00",
+        b"000j3w24",
+        b"00000000",
+    ];
+    for (found, digits) in LOADER.iter().zip(wanted) {
+        assert_eq!(rt; *found, word(digits)?);
+    }
+    Ok(())
+}
+
+/// The tape of a source, as a text.
+fn tape_text(alloc: Global, source: &[u8]) -> Result<Vec<u8>, Fail> {
+    let tape = tape_of(alloc, &image(alloc, source)?)?;
+    Ok(write_tape_text(alloc, tape.as_slice())?)
+}
+
+#[test]
+fn tapes_of_programs(rt: HostRuntime) -> Result<(), Fail> {
+    for (source, wanted) in [
+        (ONE_WORD, b"000k0100'00000004'[16]80000000'".as_slice()),
+        (b" end 0100\n", b"800f0100'"),
+        (
+            FIVE_LINES,
+            b"000k0000'0001000j'[16]000k0004'000j00j8'[16]000k0008'00000000'[16]000k000j'0jjjjjjj'[16]800f0000'",
+        ),
+    ] {
+        let text = tape_text(rt.alloc(), source)?;
+        assert_eq!(rt; text.as_slice(), wanted);
+    }
+    Ok(())
+}
+
+// The calls without their contracts, which would fill the context of each test.
+
+fn load_image<A: Allocator + Copy>(
+    alloc: A,
+    machine: &mut Machine<A>,
+    image: &Image,
+) -> Result<u64, LoadFault> {
+    load(alloc, machine, image)
+}
+
+fn look<A: Allocator>(machine: &Machine<A>) -> Option<Look> {
+    machine.look()
+}
+
+fn word_at<A: Allocator>(machine: &Machine<A>, address: Address) -> Word {
+    machine.word(address)
+}
+
+/// A new machine after so many word times at rest.
+fn machine_at<A: Allocator + Copy>(alloc: A, clock: u64) -> Result<Machine<A>, Fail> {
+    let mut machine = Machine::new(alloc)?;
+    machine.rest(clock)?;
+    Ok(machine)
+}
+
+/// Compares counter, accumulator, register, status and clock in Normal.
+fn expect_look(
+    rt: &impl Abort,
+    look: Option<Look>,
+    counter: Address,
+    end_word: Word,
+    status: Status,
+    clock: u64,
+) {
+    let Some(look) = look else {
+        panic!(rt; "no boundary");
+    };
+    assert_eq!(rt; look.counter, counter);
+    assert_eq!(rt; look.accumulator, end_word.get());
+    assert_eq!(rt; look.register, end_word);
+    assert_eq!(rt; look.status, status);
+    assert_eq!(rt; look.mode, Mode::Normal);
+    assert!(rt; !look.reader_on);
+    assert_eq!(rt; look.clock, clock);
+}
+
+const STOPPED: Status = Status::Halted(Cause::Stop);
+
+#[test]
+fn one_word_is_loaded(rt: HostRuntime) -> Result<(), Fail> {
+    let one_word = image(rt.alloc(), ONE_WORD)?;
+    let mut machine = machine_at(rt.alloc(), 0)?;
+    assert_eq!(rt; load_image(rt.alloc(), &mut machine, &one_word), Ok(13));
+    let end_word = word(b"80000000")?;
+    expect_look(&rt, look(&machine), at(b"6310")?, end_word, STOPPED, 11348);
+    assert_eq!(rt; word_at(&machine, at(b"0100")?), word(b"00000004")?);
+    assert_eq!(rt; word_at(&machine, at(b"6306")?), word(b"000k0100")?);
+    assert_eq!(rt; word_at(&machine, at(b"6309")?), end_word);
+    Ok(())
+}
+
+#[test]
+fn a_program_without_words_is_loaded(rt: HostRuntime) -> Result<(), Fail> {
+    let empty = image(rt.alloc(), b" end\n")?;
+    let mut machine = machine_at(rt.alloc(), 0)?;
+    assert_eq!(rt; load_image(rt.alloc(), &mut machine, &empty), Ok(5));
+    let end_word = word(b"80000000")?;
+    expect_look(&rt, look(&machine), at(b"6310")?, end_word, STOPPED, 3796);
+    assert_eq!(rt; word_at(&machine, at(b"6306")?), Word::default());
+    Ok(())
+}
+
+#[test]
+fn five_lines_are_loaded_and_started(rt: HostRuntime) -> Result<(), Fail> {
+    let program = image(rt.alloc(), FIVE_LINES)?;
+    let mut machine = machine_at(rt.alloc(), 0)?;
+    assert_eq!(rt; load_image(rt.alloc(), &mut machine, &program), Ok(37));
+    let Some(look) = look(&machine) else {
+        panic!(rt; "no boundary");
+    };
+    assert_eq!(rt; look.status, Status::Going);
+    assert_eq!(rt; look.counter, at(b"0000")?);
+    assert_eq!(rt; word_at(&machine, at(b"0003")?), word(b"0jjjjjjj")?);
+    Ok(())
+}
+
+#[test]
+fn loading_stops_before_the_order_that_passes_the_clocks_end(rt: HostRuntime) -> Result<(), Fail> {
+    let one_word = image(rt.alloc(), ONE_WORD)?;
+    let mut machine = machine_at(rt.alloc(), CLOCK_END - 1)?;
+    assert_eq!(rt;
+        load_image(rt.alloc(), &mut machine, &one_word),
+        Err(LoadFault::ClockEnd)
+    );
+    let Some(look) = look(&machine) else {
+        panic!(rt; "no boundary");
+    };
+    assert_eq!(rt; look.status, Status::Executing);
+    assert_eq!(rt; look.register, word(b"000j3w00")?);
+    assert_eq!(rt; look.accumulator, word(b"00080000")?.get());
+    assert_eq!(rt; word_at(&machine, at(b"6300")?), Word::default());
+    Ok(())
+}
+
+#[test]
+fn nothing_is_loaded_within_an_order(rt: HostRuntime) -> Result<(), Fail> {
+    let one_word = image(rt.alloc(), ONE_WORD)?;
+    let mut machine = machine_at(rt.alloc(), 0)?;
+    let _ = machine.press(Action::Start);
+    machine.turn()?;
+    assert_eq!(rt;
+        load_image(rt.alloc(), &mut machine, &one_word),
+        Err(LoadFault::Moving)
+    );
+    Ok(())
+}
+
+/// What loading answers while so many bytes of the heap are free, and what then shows.
+fn load_with_room<'a>(
+    heap: &'a LocalHeap,
+    machine: &mut Machine<&'a LocalHeap>,
+    image: &Image,
+    room: usize,
+) -> Result<(Result<u64, LoadFault>, Option<Look>), Fail> {
+    let _filler: Vec<u8, &LocalHeap> = Vec::with_capacity(heap, heap.free().saturating_sub(room))?;
+    let answer = load_image(heap, machine, image);
+    Ok((answer, look(machine)))
+}
+
+#[test]
+fn nothing_is_pressed_where_the_tape_has_no_room(rt: HostRuntime) -> Result<(), Fail> {
+    let heap = LocalHeap::new(rt.alloc(), 262144)?;
+    let one_word = image(rt.alloc(), ONE_WORD)?;
+    let mut machine = machine_at(&heap, 0)?;
+    let before = look(&machine);
+    for room in [0, 16, 24] {
+        let refused = (Err(LoadFault::Memory), before);
+        assert_eq!(rt;
+            load_with_room(&heap, &mut machine, &one_word, room)?,
+            refused
+        );
+    }
+    assert_eq!(rt; load_image(&heap, &mut machine, &one_word), Ok(13));
+    Ok(())
+}
+
+/// Whether a word time ends at a boundary.
+fn turn<A: Allocator>(machine: &mut Machine<A>) -> Result<bool, Fail> {
+    Ok(machine.turn()?)
+}
+
+/// The loader set going by hand, with a tape mounted.
+fn loader_started(alloc: Global, image: &Image) -> Result<Machine, Fail> {
+    let mut machine = Machine::new(alloc)?;
+    let base = at(b"6300")?;
+    key_in(&mut machine, base, &LOADER)?;
+    let Ok(()) = machine.mount(tape_of(alloc, image)?) else {
+        return Err("no tape is mounted")?;
+    };
+    press_all(&mut machine, &actions_to_jump(base));
+    machine.next_order()?;
+    press_all(&mut machine, &[Action::Mode(Mode::Normal), Action::Start]);
+    Ok(machine)
+}
+
+#[test]
+fn transfer_control_does_not_disturb_loading(rt: HostRuntime) -> Result<(), Fail> {
+    let one_word = image(rt.alloc(), ONE_WORD)?;
+    let mut machine = loader_started(rt.alloc(), &one_word)?;
+    let _ = turn(&mut machine)?;
+    let _ = machine.press(Action::Transfer(true));
+    let mut orders = 0u32;
+    for _ in 0..20000 {
+        if orders < 13 && turn(&mut machine)? {
+            orders += 1;
+        }
+    }
+    let end_word = word(b"80000000")?;
+    expect_look(&rt, look(&machine), at(b"6310")?, end_word, STOPPED, 11348);
+    assert!(rt; look(&machine).is_some_and(|look| look.switches.transfer));
+    Ok(())
+}

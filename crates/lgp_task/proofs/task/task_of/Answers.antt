@@ -1,0 +1,28 @@
+-- The task is that of the matches; a refusal is one for memory or has its fault among those of the words.
+use Rattle.std.proofs.Common.{◌∙◌, ap, subst, sym, inl, inr}
+use Rattle.std.specs.Prelude.{List, map}
+use Rattle.std.specs.String.{string_bytes}
+use Rattle.clap.specs.Words.{App, IsAmong, Text, fault_of, is_simple, is_simple_and_free, kind_of, subcommand_of}
+use Rattle.lgp_task.specs.CommandLine.{command_line}
+use Rattle.lgp_task.specs.Task.{IsRefusalOf, task_in}
+use Rattle.lgp_task.specs.declared.task.TaskFault.{TaskFault}
+use Rattle.lgp_task.proofs.RefusalLemmas.{line-free, line-simple, refusal-among}
+use Rattle.lgp_task.proofs.task.task_of.Goals as goal
+
+pub returns-in_ok-matched_task-in-Ok-clause-task : goal.returns-in_ok-matched_task-in-Ok-clause-task
+returns-in_ok-matched_task-in-Ok-clause-task g c =
+    let words : List Text = map string_bytes c.args.words.now in
+    let held = c.in-Ok.ensures.matches (ap is_simple c.in_ok-line.ensures ∙ line-simple) in
+    c.in_ok-matched_task-in-Ok.ensures ∙ ap task_in (held.1 ∙ ap (λ (a : App). subcommand_of a words) c.in_ok-line.ensures)
+
+pub returns-in-Err-clause-cause : goal.returns-in-Err-clause-cause
+returns-in-Err-clause-cause g c =
+    let words : List Text = map string_bytes c.args.words.now in
+    let kinds = fault_of command_line words in
+    let kind = kind_of c.in-Err.fault in
+    let Refuses : TaskFault g.row.A.Denot → Type 0 = λ fault. IsRefusalOf kinds fault in
+    let Among : App → Type 0 = λ line. IsAmong kind (fault_of line words) in
+    elim (c.in-Err.ensures.kinds (ap is_simple_and_free c.in_ok-line.ensures ∙ line-free)) [
+      | inl memory ↦ subst Refuses (sym (c.refusal.ensures.memory memory)) tt
+      | inr among ↦ refusal-among c.refusal.result kind kinds (subst Among c.in_ok-line.ensures among) c.refusal.ensures.cause
+    ]

@@ -1,0 +1,45 @@
+-- Part of the public promise: the command line as `clap` is given it: each command with its arguments, one definition each.
+use Rattle.std.specs.Prelude.{pos, true, Some, codes}
+use Rattle.clap.specs.Lexer.{usize_max}
+use Rattle.clap.specs.Words.{App, Rule, new_app, new_rule, with_rule, with_subcommand}
+use Rattle.clap.specs.declared.builder.value_parser.ValueParser.TheVariants.{Signed}
+
+-- FILE: one file
+abbrev pub file_rule : Rule
+file_rule = record (new_rule (codes "FILE")) { required = true }
+
+-- FILE...: one file or more
+abbrev pub files_rule : Rule
+files_rule = record (new_rule (codes "FILE")) {
+  required = true;
+  range = Some (record { start_inclusive = 1; end_inclusive = usize_max });
+}
+
+-- LIMIT: a number from 0 to 4294967295
+abbrev pub limit_rule : Rule
+limit_rule = record (new_rule (codes "LIMIT")) {
+  required = true;
+  parser = Some (Signed (pos 0) (pos 4294967295));
+}
+
+abbrev pub asm_command : App
+asm_command = with_rule (new_app (codes "asm")) file_rule
+
+abbrev pub tape_command : App
+tape_command = with_rule (new_app (codes "tape")) file_rule
+
+abbrev pub run_command : App
+run_command = with_rule (with_rule (new_app (codes "run")) file_rule) limit_rule
+
+abbrev pub script_command : App
+script_command = with_rule (new_app (codes "script")) file_rule
+
+abbrev pub batch_command : App
+batch_command = with_rule (new_app (codes "batch")) files_rule
+
+-- the command line: `lgp_lab`, which takes one of the five commands, or none
+unfoldable pub command_line : App
+command_line =
+    with_subcommand (with_subcommand (with_subcommand (with_subcommand (with_subcommand
+    (new_app (codes "lgp_lab"))
+    asm_command.top) tape_command.top) run_command.top) script_command.top) batch_command.top

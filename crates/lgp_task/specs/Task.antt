@@ -1,0 +1,56 @@
+-- Part of the public promise: the task that the matches of a command line hold, and which refusals its faults allow.
+use Rattle.std.specs.Prelude.{◌≡◌, ℕ, Bool, true, false, List, [], Option, Some, None, codes, if◌then◌else◌, unwrap_or}
+use Rattle.std.specs.Option.{option_map_or}
+use Rattle.std.specs.Str.{bytes_eq}
+use Rattle.std.specs.Str.Parse.{digits_value, without_leading_plus}
+use Rattle.clap.specs.ValueTests.{is_unsigned_in}
+use Rattle.clap.specs.Words.{IsAmong, Kinds, Row, Text, all_of, first_of, one_of}
+use Rattle.clap.specs.declared.error.kind.ErrorKind.{ErrorKind}
+use Rattle.clap.specs.declared.error.kind.ErrorKind.TheVariants.{DisplayHelp, DisplayVersion}
+use Rattle.lgp_task.specs.declared.task.Task.{Task}
+use Rattle.lgp_task.specs.declared.task.Task.TheVariants.{Stdin, Asm, Tape, Run, Script, Batch}
+use Rattle.lgp_task.specs.declared.task.TaskFault.{TaskFault}
+use Rattle.lgp_task.specs.declared.task.TaskFault.TheVariants.{Usage, Help, Memory}
+
+-- the file that the matches of a command hold, and all of its files in the order in which they were typed; none is the
+-- empty text, or the empty list
+abbrev pub file_in : List Row → Text
+file_in rows = unwrap_or (first_of (codes "FILE") rows) []
+
+abbrev pub files_in : List Row → List Text
+files_in rows = unwrap_or (all_of (codes "FILE") rows) []
+
+-- the number that a text of decimal digits stands for, below 2^64; any other text stands for 0
+abbrev pub number_of : Text → ℕ
+number_of text =
+    if is_unsigned_in 0 18446744073709551615 text then digits_value 10 (without_leading_plus text) else 0
+
+-- the limit that the matches of a command hold; none is 0
+abbrev pub limit_in : List Row → ℕ
+limit_in rows = option_map_or number_of (one_of (codes "LIMIT") rows) 0
+
+-- the task of the command of this name, from its matches
+abbrev pub task_named : {A : Type 0} → Text → List Row → Task A
+task_named name rows =
+    if bytes_eq name (codes "asm") then Asm (file_in rows)
+    else (if bytes_eq name (codes "tape") then Tape (file_in rows)
+    else (if bytes_eq name (codes "run") then Run (file_in rows) (limit_in rows)
+    else (if bytes_eq name (codes "script") then Script (file_in rows)
+    else Batch (files_in rows))))
+
+-- the task of the command that was matched; without one it is the script on standard input
+abbrev pub task_in : {A : Type 0} → Option (Text × List Row) → Task A
+task_in None = Stdin
+task_in (Some matched) = task_named matched.0 matched.1
+
+-- a fault that asks for a text and is no mistake
+abbrev pub is_request : ErrorKind → Bool
+is_request DisplayHelp = true
+is_request DisplayVersion = true
+is_request _ = false
+
+-- a refusal is one for memory, or one of these faults is its cause: a request is answered with help, a mistake with the usage
+abbrev pub IsRefusalOf : {A : Type 0} → Kinds → TaskFault A → Type 0
+IsRefusalOf kinds (Usage text) = (kind : ErrorKind) × IsAmong kind kinds × (is_request kind ≡ false)
+IsRefusalOf kinds (Help text) = (kind : ErrorKind) × IsAmong kind kinds × (is_request kind ≡ true)
+IsRefusalOf kinds Memory = Unit {0}

@@ -1,0 +1,193 @@
+//! The command line as `clap` is given it, with its help.
+
+ghost use Rattle.std.specs.Prelude.{◌≡◌, IfOk, codes, false};
+ghost use Rattle.clap.specs.Words.{app_of, new_app, rule_of, with_rule, with_subcommand};
+ghost use Rattle.clap.specs.declared.builder.command.Command.TheViews.{out-Command as fields_of};
+ghost use Rattle.lgp_task.specs.CommandLine.{asm_command, batch_command, command_line, file_rule, files_rule, limit_rule, run_command, script_command, tape_command};
+
+use clap::{Arg, Command, value_parser};
+use std::alloc::{AllocError, Global};
+
+/// How the argument is called that names a file.
+pub(crate) const FILE: &str = "FILE";
+
+/// How the argument is called that limits a run.
+pub(crate) const LIMIT: &str = "LIMIT";
+
+/// One file.
+fn file<'a>(global: Global, help: &'a str) -> Arg<'a>
+    ensures rule { rule_of result ≡ file_rule }
+    ensures own { result.global ≡ false }
+{
+    Arg::new(global, FILE).required(true).help(help)
+}
+
+/// One file or more.
+fn files<'a>(global: Global, help: &'a str) -> Arg<'a>
+    ensures rule { rule_of result ≡ files_rule }
+    ensures own { result.global ≡ false }
+{
+    Arg::new(global, FILE)
+        .required(true)
+        .num_args(1..)
+        .help(help)
+}
+
+/// How many orders a run may take.
+fn limit<'a>(global: Global) -> Arg<'a>
+    ensures rule { rule_of result ≡ limit_rule }
+    ensures own { result.global ≡ false }
+{
+    Arg::new(global, LIMIT)
+        .required(true)
+        .value_parser(value_parser!(u32))
+        .help("How many orders the program may perform, 0 to 4294967295")
+}
+
+/// A command without arguments: what it does in a line, what it does in full, and an example of its use.
+fn command<'a>(
+    global: Global,
+    name: &'a str,
+    about: &'a str,
+    long_about: &'a str,
+    example: &'a str,
+) -> Command<'a>
+    ensures app { app_of result ≡ new_app name.now }
+    ensures own { (fields_of result).has_globals ≡ false }
+{
+    Command::new(global, name)
+        .about(about)
+        .long_about(long_about)
+        .after_long_help(example)
+}
+
+/// A command with one argument more.
+fn with_argument<'a>(command: Command<'a>, argument: Arg<'a>) -> Result<Command<'a>, AllocError>
+    requires own { argument.global ≡ false }
+    ensures app { IfOk result (λ new.
+        app_of new ≡ with_rule (app_of command.entry) (rule_of argument.entry)) }
+    ensures own { IfOk result (λ new.
+        (fields_of new).has_globals ≡ (fields_of command.entry).has_globals) }
+{
+    command.arg(argument)
+}
+
+/// A command line with one command more.
+fn with_command<'a>(line: Command<'a>, command: Command<'a>) -> Result<Command<'a>, AllocError>
+    requires own { (fields_of command).has_globals ≡ false }
+    ensures app { IfOk result (λ new.
+        app_of new ≡ with_subcommand (app_of line.entry) (app_of command.entry).top) }
+{
+    line.subcommand(command)
+}
+
+/// `asm FILE`
+fn asm_command<'a>(global: Global) -> Result<Command<'a>, AllocError>
+    ensures app { IfOk result (λ command. app_of command ≡ asm_command) }
+    ensures own { IfOk result (λ command. (fields_of command).has_globals ≡ false) }
+{
+    let asm = command(
+        global,
+        "asm",
+        "Assemble a source and write its listing",
+        "Assemble a source and write its listing: each line behind the address and the word that \
+         it became. Of a faulty source the faults are written instead, a line each.",
+        "Example: write the listing of the program in sum.src.\n  lgp_lab asm sum.src",
+    );
+    with_argument(asm, file(global, "The source, a text file"))
+}
+
+/// `tape FILE`
+fn tape_command<'a>(global: Global) -> Result<Command<'a>, AllocError>
+    ensures app { IfOk result (λ command. app_of command ≡ tape_command) }
+    ensures own { IfOk result (λ command. (fields_of command).has_globals ≡ false) }
+{
+    let tape = command(
+        global,
+        "tape",
+        "Assemble a source and write the paper tape that loads it",
+        "Assemble a source and write, as text, the paper tape from which the loader stores its \
+         words and starts it. The tape can be mounted in a script by the command mount.",
+        "Example: make the tape of the program in sum.src.\n  lgp_lab tape sum.src",
+    );
+    with_argument(tape, file(global, "The source, a text file"))
+}
+
+/// `run FILE LIMIT`
+fn run_command<'a>(global: Global) -> Result<Command<'a>, AllocError>
+    ensures app { IfOk result (λ command. app_of command ≡ run_command) }
+    ensures own { IfOk result (λ command. (fields_of command).has_globals ≡ false) }
+{
+    let run = command(
+        global,
+        "run",
+        "Assemble a source, load it into a new machine and run it",
+        "Assemble a source, load it into a new machine as its operator would, by keying in the \
+         loader and reading the tape, and run it until it stops or LIMIT orders were performed. \
+         Then write what was printed, and the registers and lights of the panel.",
+        "Example: run the program in sum.src for 1000 orders at most.\n  lgp_lab run sum.src 1000",
+    );
+    let run = with_argument(run, file(global, "The source, a text file"))?;
+    with_argument(run, limit(global))
+}
+
+/// `script FILE`
+fn script_command<'a>(global: Global) -> Result<Command<'a>, AllocError>
+    ensures app { IfOk result (λ command. app_of command ≡ script_command) }
+    ensures own { IfOk result (λ command. (fields_of command).has_globals ≡ false) }
+{
+    let script = command(
+        global,
+        "script",
+        "Run a script and write its replies",
+        "Run a script, a command of the laboratory on each line, on a new machine, and write the \
+         reply to each command.",
+        "Example: run the commands in first-day.txt.\n  lgp_lab script first-day.txt",
+    );
+    with_argument(script, file(global, "The script, a text file"))
+}
+
+/// `batch FILE..`
+fn batch_command<'a>(global: Global) -> Result<Command<'a>, AllocError>
+    ensures app { IfOk result (λ command. app_of command ≡ batch_command) }
+    ensures own { IfOk result (λ command. (fields_of command).has_globals ≡ false) }
+{
+    let batch = command(
+        global,
+        "batch",
+        "Run several scripts, each on a machine of its own",
+        "Run several scripts one after another, each on a new machine, and write `file` and its \
+         name before the replies to each.",
+        "Example: run all scripts of a lesson.\n  lgp_lab batch first-day.txt second-day.txt",
+    );
+    with_argument(batch, files(global, "The scripts, text files"))
+}
+
+/// `lgp_lab`, without its commands.
+fn bare_line<'a>(global: Global) -> Result<Command<'a>, AllocError>
+    ensures { IfOk result (λ line. app_of line ≡ new_app (codes "lgp_lab")) }
+{
+    let line = command(
+        global,
+        "lgp_lab",
+        "A laboratory for the LGP-30, a drum computer of 1956",
+        "A laboratory for the LGP-30, a drum computer of 1956: it assembles programs, makes paper \
+         tapes, and runs the machine from its console, step by step and back again. Without a \
+         command it runs the script on standard input.",
+        "Example: run a script, and then a program.\n  lgp_lab < first-day.txt\n  \
+         lgp_lab run sum.src 1000",
+    );
+    line.bin_name("lgp_lab")
+}
+
+/// The whole command line.
+#[tactic(auto, unfolding(crate::specs::CommandLine::command_line))]
+pub(crate) fn command_line<'a>(global: Global) -> Result<Command<'a>, AllocError>
+    ensures { IfOk result (λ line. app_of line ≡ command_line) }
+{
+    let line = with_command(bare_line(global)?, asm_command(global)?)?;
+    let line = with_command(line, tape_command(global)?)?;
+    let line = with_command(line, run_command(global)?)?;
+    let line = with_command(line, script_command(global)?)?;
+    with_command(line, batch_command(global)?)
+}

@@ -1,0 +1,12 @@
+//! The words of the command line, read as a task.
+#![tactic(auto)]
+
+mod command_line;
+mod files;
+mod task;
+
+pub use files::{FileName, FileNames};
+pub use task::{Task, TaskFault, task_of};
+
+#[cfg(test)]
+mod tests;
