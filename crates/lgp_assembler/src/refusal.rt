@@ -55,29 +55,31 @@ impl fmt::Display for FaultKind {
     ghost output = { λ kind. Some (kind_name kind) };
 
     fn fmt<W: fmt::Write>(&self, f: &mut fmt::Formatter<W>) -> fmt::Result {
-        f.write_str(kind_name(*self))
+        f.write_str(self.name())
     }
 }
 
-/// The name of a kind.
-fn kind_name(kind: FaultKind) -> &'static str
-    ensures { result.now ≡ spec.kind_name kind }
-{
-    match kind {
-        FaultKind::BadByte => "BadByte",
-        FaultKind::AfterEnd => "AfterEnd",
-        FaultKind::Extra => "Extra",
-        FaultKind::BadLabel => "BadLabel",
-        FaultKind::LabelTwice => "LabelTwice",
-        FaultKind::UnknownOrder => "UnknownOrder",
-        FaultKind::MissingOperand => "MissingOperand",
-        FaultKind::BadOperand => "BadOperand",
-        FaultKind::UnknownName => "UnknownName",
-        FaultKind::OutOfRange => "OutOfRange",
-        FaultKind::PastEnd => "PastEnd",
-        FaultKind::InLoader => "InLoader",
-        FaultKind::PlaceTaken => "PlaceTaken",
-        FaultKind::NoEnd => "NoEnd",
+impl FaultKind {
+    /// The name of the kind.
+    pub fn name(self) -> &'static str
+        ensures { result.now ≡ spec.kind_name self }
+    {
+        match self {
+            FaultKind::BadByte => "BadByte",
+            FaultKind::AfterEnd => "AfterEnd",
+            FaultKind::Extra => "Extra",
+            FaultKind::BadLabel => "BadLabel",
+            FaultKind::LabelTwice => "LabelTwice",
+            FaultKind::UnknownOrder => "UnknownOrder",
+            FaultKind::MissingOperand => "MissingOperand",
+            FaultKind::BadOperand => "BadOperand",
+            FaultKind::UnknownName => "UnknownName",
+            FaultKind::OutOfRange => "OutOfRange",
+            FaultKind::PastEnd => "PastEnd",
+            FaultKind::InLoader => "InLoader",
+            FaultKind::PlaceTaken => "PlaceTaken",
+            FaultKind::NoEnd => "NoEnd",
+        }
     }
 }
 

@@ -1,18 +1,19 @@
 -- What is kept of a line tells as much of it as its answer depends on.
-use Rattle.std.proofs.Common.{◌≡◌, ℕ, ◌<◌, ◌≤◌, ◌==◌, ◌||◌, true, false, Option, Some, None, List, [], length, take, get_or, refl, sym, ap, ◌∙◌, nat_lt, arith}
+use Rattle.std.proofs.Common.{◌≡◌, ℕ, ◌<◌, ◌≤◌, ◌==◌, ◌||◌, ◌++◌, Bool, true, false, Option, Some, None, List, [], codes, length, take, get_or, refl, sym, ap, ◌∙◌, nat_lt, arith}
 use Rattle.std.specs.List.{list_all}
-use Rattle.std.specs.Str.{byte}
-use Rattle.std.proofs.lemmas.Bool.{ltb-false}
+use Rattle.std.specs.Str.{byte, bytes_eq}
+use Rattle.std.proofs.lemmas.Slice.Eq.{bytes_eq-Decides}
+use Rattle.std.proofs.lemmas.Bool.{ltb-false, ltb-true}
 use Rattle.std.proofs.lemmas.List.{get_or-take, take_all}
-use Rattle.lgp_table.specs.State.{State}
-use Rattle.lgp_lab.specs.Answer.{answer_to, refused}
 use Rattle.lgp_lab.specs.Command.{command_of, text_behind}
 use Rattle.lgp_lab.specs.Limits.{line_limit}
 use Rattle.lgp_lab.specs.Line.{has_no_word, is_space}
 use Rattle.lgp_lab.specs.LineInside.{Kept, kept_of}
-use Rattle.lgp_lab.specs.Reply.{reply_text}
-use Rattle.lgp_lab.specs.Script.{after_line, answer_by, answer_to_line, is_passed_over, reply_to_line}
-use Rattle.lgp_lab.specs.declared.reply.Refusal.TheVariants.{Form, TooLong}
+use Rattle.lgp_lab.specs.Script.{answer_by, answer_in, answer_to, answer_to_command, answer_to_line, is_passed_over}
+use Rattle.lgp_lab.specs.SourceCommands.{answer_in_source, answer_to_end, closed, closed_by, is_point}
+use Rattle.lgp_lab.specs.SourceText.{SourceText, with_bytes, with_line}
+use Rattle.lgp_lab.specs.Standing.{Standing, refused, silent, with_opened}
+use Rattle.lgp_lab.specs.declared.refusal.Refusal.TheVariants.{Form, TooLong}
 use Rattle.lgp_lab.specs.declared.command.Command.{Command}
 
 first-take : (limit : ℕ) (line : List ℕ) → 0 < limit → get_or (take limit line) 0 0 ≡ get_or line 0 0
@@ -25,44 +26,92 @@ passed_over line = ap (λ (first : ℕ). list_all is_space line || (first == byt
 pub passed_over_kept : (kept : Kept) (line : List ℕ) → kept ≡ kept_of line → (kept.blank || (get_or kept.front 0 0 == byte ";")) ≡ is_passed_over line
 passed_over_kept kept line e = rw e (passed_over line)
 
--- a line that is longer, and one that is not
-longer_line : (s : State) (line : List ℕ) → (kept_of line).longer ≡ true → answer_to_line s line ≡ refused TooLong s
-unfolding kept_of answer_to_line
-longer_line s line longer = rw longer refl
+-- a line that is passed over
+pub answer_passed : {A : Type 0} (s : Standing A) (line : List ℕ) → is_passed_over line ≡ true → answer_to_command s line ≡ silent s
+unfolding answer_to_command
+answer_passed s line passed = rw passed refl
 
-pub answer_longer : (s : State) (kept : Kept) (line : List ℕ) → kept ≡ kept_of line → kept.longer ≡ true → answer_to_line s line ≡ refused TooLong s
-answer_longer s kept line e longer = longer_line s line (sym (ap (λ (k : Kept). k.longer) e) ∙ longer)
+-- a line that is longer than a command may be, and one that is not
+longer_line : {A : Type 0} (s : Standing A) (line : List ℕ) → is_passed_over line ≡ false → (kept_of line).longer ≡ true → answer_to_command s line ≡ refused TooLong s
+unfolding kept_of answer_to_command
+longer_line s line other longer = rw (other, longer) refl
+
+pub answer_longer : {A : Type 0} (s : Standing A) (kept : Kept) (line : List ℕ) → kept ≡ kept_of line → is_passed_over line ≡ false → kept.longer ≡ true → answer_to_command s line ≡ refused TooLong s
+answer_longer s kept line e other longer = longer_line s line other (sym (ap (λ (k : Kept). k.longer) e) ∙ longer)
 
 front_kept : (limit : ℕ) (line : List ℕ) → nat_lt limit (length line) ≡ false → take limit line ≡ line
 front_kept limit line short = let fits : length line ≤ limit = ltb-false limit (length line) short in take_all limit line fits
 
-short_line : (s : State) (line : List ℕ) → (kept_of line).longer ≡ false → answer_to_line s line ≡ answer_by s (command_of (kept_of line).front) (text_behind (kept_of line).front)
-unfolding kept_of answer_to_line
-short_line s line short = rw (short, front_kept line_limit line short) refl
+short_line : {A : Type 0} (s : Standing A) (line : List ℕ) → is_passed_over line ≡ false → (kept_of line).longer ≡ false → answer_to_command s line ≡ answer_by s (command_of (kept_of line).front) (text_behind (kept_of line).front)
+unfolding kept_of answer_to_command
+short_line s line other short = rw (other, short, front_kept line_limit line short) refl
 
-answer_within : (s : State) (kept : Kept) (line : List ℕ) → kept ≡ kept_of line → kept.longer ≡ false → answer_to_line s line ≡ answer_by s (command_of kept.front) (text_behind kept.front)
-answer_within s kept line e short =
-    short_line s line (sym (ap (λ (k : Kept). k.longer) e) ∙ short) ∙ ap (λ (k : Kept). answer_by s (command_of k.front) (text_behind k.front)) (sym e)
+pub answer_within : {A : Type 0} (s : Standing A) (kept : Kept) (line : List ℕ) → kept ≡ kept_of line → is_passed_over line ≡ false → kept.longer ≡ false → answer_to_command s line ≡ answer_by s (command_of kept.front) (text_behind kept.front)
+answer_within s kept line e other short =
+    short_line s line other (sym (ap (λ (k : Kept). k.longer) e) ∙ short) ∙ ap (λ (k : Kept). answer_by s (command_of k.front) (text_behind k.front)) (sym e)
 
-pub answer_none : (s : State) (kept : Kept) (line : List ℕ) → kept ≡ kept_of line → kept.longer ≡ false → command_of kept.front ≡ None → answer_to_line s line ≡ refused Form s
-answer_none s kept line e short none = answer_within s kept line e short ∙ ap (λ (o : Option Command). answer_by s o (text_behind kept.front)) none
+-- whether a line is longer, and that it is kept whole where it is not
+longer_of : (line : List ℕ) → (kept_of line).longer ≡ nat_lt line_limit (length line)
+unfolding kept_of
+longer_of line = refl
 
-pub answer_some : (s : State) (kept : Kept) (line : List ℕ) (command : Command) → kept ≡ kept_of line → kept.longer ≡ false → command_of kept.front ≡ Some command → answer_to_line s line ≡ answer_to s command (text_behind kept.front)
-answer_some s kept line command e short some = answer_within s kept line e short ∙ ap (λ (o : Option Command). answer_by s o (text_behind kept.front)) some
+whole_front : (line : List ℕ) → (kept_of line).longer ≡ false → (kept_of line).front ≡ line
+unfolding kept_of
+whole_front line short = front_kept line_limit line short
 
--- the reply to a line that is passed over, and to another; and the state after it
-pub reply_passed : (s : State) (line : List ℕ) → is_passed_over line ≡ true → reply_to_line s line ≡ []
-unfolding reply_to_line
-reply_passed s line passed = rw passed refl
+pub longer_kept : (kept : Kept) (line : List ℕ) → kept ≡ kept_of line → nat_lt line_limit (length line) ≡ kept.longer
+longer_kept kept line e = sym (longer_of line) ∙ sym (ap (λ (k : Kept). k.longer) e)
 
-pub after_passed : (s : State) (line : List ℕ) → is_passed_over line ≡ true → after_line s line ≡ s
-unfolding after_line
-after_passed s line passed = rw passed refl
+pub front_whole : (kept : Kept) (line : List ℕ) → kept ≡ kept_of line → kept.longer ≡ false → kept.front ≡ line
+front_whole kept line e short = ap (λ (k : Kept). k.front) e ∙ whole_front line (sym (ap (λ (k : Kept). k.longer) e) ∙ short)
 
-pub reply_answered : (s : State) (line : List ℕ) → is_passed_over line ≡ false → reply_to_line s line ≡ reply_text (answer_to_line s line).state (answer_to_line s line).reply
-unfolding reply_to_line
-reply_answered s line other = rw other refl
+-- a line that is longer than a word is another
+longer_differs : (line word : List ℕ) → length word < length line → bytes_eq line word ≡ false
+longer_differs line word longer = by_result (bytes_eq line word) refl where
+  by_result : (b : Bool) → bytes_eq line word ≡ b → bytes_eq line word ≡ false
+  by_result true e = let same : length line ≡ length word = ap length ((bytes_eq-Decides line word).0 e) in absurd (omega arith)
+  by_result false e = e
 
-pub after_answered : (s : State) (line : List ℕ) → is_passed_over line ≡ false → after_line s line ≡ (answer_to_line s line).state
-unfolding after_line
-after_answered s line other = rw other refl
+pub longer_is_no_word : (kept : Kept) (line word : List ℕ) → kept ≡ kept_of line → kept.longer ≡ true → length word ≤ line_limit → bytes_eq line word ≡ false
+longer_is_no_word kept line word e longer short =
+    let above : line_limit < length line = ltb-true line_limit (length line) (longer_kept kept line e ∙ longer) in
+    longer_differs line word (omega arith)
+
+-- a source with one line more
+pub with_line_longer : (source : SourceText) (kept : Kept) (line : List ℕ) → kept ≡ kept_of line → kept.longer ≡ true → record { text = []; too_long = true } ≡ with_line source line
+with_line_longer source kept line e longer = rw (longer_kept kept line e, longer) refl
+
+pub with_line_whole : (source : SourceText) (kept : Kept) (line : List ℕ) → kept ≡ kept_of line → kept.longer ≡ false → with_bytes source (kept.front ++ codes "\n") ≡ with_line source line
+with_line_whole source kept line e short = rw (longer_kept kept line e, short, front_whole kept line e short) refl
+
+-- a line of an open source, and a line where none is open; the end of each
+pub line_in_source : {A : Type 0} (s : Standing A) (source : SourceText) (line : List ℕ) → s.opened ≡ Some source → answer_to_line s line ≡ answer_in_source s source line
+unfolding answer_to_line
+line_in_source s source line e = ap (λ (o : Option SourceText). answer_in o s line) e
+
+pub line_outside : {A : Type 0} (s : Standing A) (line : List ℕ) → s.opened ≡ None → answer_to_line s line ≡ answer_to_command s line
+unfolding answer_to_line
+line_outside s line e = ap (λ (o : Option SourceText). answer_in o s line) e
+
+pub closed_some : {A : Type 0} (s : Standing A) (source : SourceText) → s.opened ≡ Some source → closed s ≡ answer_to_end (with_opened s None) source
+unfolding closed
+closed_some s source e = ap (λ (o : Option SourceText). closed_by s o) e
+
+pub closed_none : {A : Type 0} (s : Standing A) → s.opened ≡ None → closed s ≡ silent s
+unfolding closed
+closed_none s e = ap (λ (o : Option SourceText). closed_by s o) e
+
+-- a point, and any other line
+pub point_ends : {A : Type 0} (s : Standing A) (source : SourceText) (line : List ℕ) → is_point line ≡ true → answer_to_end (with_opened s None) source ≡ answer_in_source s source line
+point_ends s source line point = rw point refl
+
+pub line_taken : {A : Type 0} (s : Standing A) (source : SourceText) (line : List ℕ) → is_point line ≡ false → silent (with_opened s (Some (with_line source line))) ≡ answer_in_source s source line
+line_taken s source line other = rw other refl
+
+-- a line outside a source that is a command, and one that is none
+pub answer_none : {A : Type 0} (s : Standing A) (kept : Kept) (line : List ℕ) → kept ≡ kept_of line → is_passed_over line ≡ false → kept.longer ≡ false → command_of kept.front ≡ None → answer_to_command s line ≡ refused Form s
+answer_none s kept line e other short none = answer_within s kept line e other short ∙ ap (λ (o : Option Command). answer_by s o (text_behind kept.front)) none
+
+pub answer_some : {A : Type 0} (s : Standing A) (kept : Kept) (line : List ℕ) (command : Command) (text : List ℕ) → kept ≡ kept_of line → is_passed_over line ≡ false → kept.longer ≡ false → command_of kept.front ≡ Some command → text ≡ text_behind kept.front → answer_to_command s line ≡ answer_to s command text
+answer_some s kept line command text e other short some behind =
+    answer_within s kept line e other short ∙ (ap (λ (o : Option Command). answer_by s o (text_behind kept.front)) some ∙ ap (answer_to s command) (sym behind))

@@ -7,3 +7,6 @@ pub mod TapeLemmas
 pub mod PlaceLemmas
 pub mod KeptLemmas
 pub mod UsedLemmas
+pub mod SourceLemmas
+pub mod RunLemmas
+pub mod FileLemmas

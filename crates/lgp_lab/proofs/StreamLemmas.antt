@@ -1,5 +1,5 @@
 -- Lines answered one after another, and what stands written of their replies.
-use Rattle.std.proofs.Common.{◌≡◌, ℕ, ◌+◌, ◌≤◌, Bool, true, false, cond, min, Option, Some, None, IfSome, List, [], ◌∷◌, ◌++◌, length, take, count_by, refl, sym, ap, ◌∙◌, eqb, append_assoc, length-append, zero-add, arith}
+use Rattle.std.proofs.Common.{◌≡◌, ℕ, ◌+◌, ◌≤◌, Bool, true, false, cond, min, Option, Some, None, IfSome, List, [], ◌∷◌, ◌++◌, length, take, count_by, refl, sym, ap, ◌∙◌, eqb, append_assoc, length-append, zero-add, add_comm, arith}
 use Rattle.std.specs.List.{concat}
 use Rattle.std.specs.Io.KnownBytes.{Appends, Consumes, IsAtEnd}
 use Rattle.std.specs.Str.Lines.{lines, strip_carriage_return}
@@ -7,9 +7,9 @@ use Rattle.std.proofs.lemmas.List.{append-nil, take-append-le}
 use Rattle.std.proofs.Math.Seq.{take-append-add}
 use Rattle.std.proofs.lemmas.List.Folds.{concat-append}
 use Rattle.std.proofs.lemmas.List.Sums.{sum_by-append}
-use Rattle.lgp_lab.specs.Language.{HasCause, Language, StandsWritten, complete_lines, count_limit, is_question, question_count, replies_to, state_after, text_replies}
+use Rattle.lgp_lab.specs.Language.{HasCause, HasWrittenBytes, HasWrittenReplies, Language, StandsWritten, complete_lines, count_limit, is_question, question_count, replies_to, state_after, text_replies}
 use Rattle.lgp_lab.specs.LineInside.{Open, kept_of, open_of, open_push}
-use Rattle.lgp_lab.specs.StreamInside.{HasAnswered, HasRead, HasStopped, HasStoppedIn, HasTaken, HasWritten, IsCut}
+use Rattle.lgp_lab.specs.StreamInside.{fault_behind, HasAnswered, HasRead, HasStopped, HasStoppedIn, HasTaken, HasWritten, IsCut}
 use Rattle.lgp_lab.specs.declared.stream.LabFault.{LabFault}
 use Rattle.lgp_lab.specs.declared.stream.LabFault.TheVariants.{Read, Write, Memory}
 use Rattle.lgp_lab.specs.declared.stream.Tally.{Tally}
@@ -64,8 +64,9 @@ HasStopped-more (Write count) w₀ w replies more stop = record {
 }
 HasStopped-more Memory w₀ w replies more stop = record {
   first = stop.first;
+  lacking = stop.lacking;
   rest = stop.rest ++ more;
-  joined = ap (λ (all : List (List ℕ)). all ++ more) stop.joined ∙ append_assoc stop.first stop.rest more;
+  joined = ap (λ (all : List (List ℕ)). all ++ more) stop.joined ∙ append_assoc stop.first (stop.lacking ∷ stop.rest) more;
   sent = stop.sent;
 }
 
@@ -185,7 +186,7 @@ HasStopped-lines language s fault w₀ w text stop = HasStopped-more fault w₀ 
 
 -- no memory for a reply behind these
 pub HasStopped-memory : (w₀ w : Option (List ℕ)) (replies : List (List ℕ)) (reply : List ℕ) (tally : Tally) → HasWritten w₀ w replies tally → HasStopped Memory w₀ w (replies ++ reply ∷ [])
-HasStopped-memory w₀ w replies reply tally written = record { first = replies; rest = reply ∷ []; joined = refl; sent = written.sent }
+HasStopped-memory w₀ w replies reply tally written = record { first = replies; lacking = reply; rest = []; joined = refl; sent = written.sent }
 
 -- reading: nothing yet; bytes more
 pub HasTaken-none : {S : Type 0} (language : Language S) (s : S) (w : Option (List ℕ)) (line : Open) (tally : Tally) → line ≡ open_of [] → tally ≡ record { questions = 0; bytes = 0 } → HasTaken language s w w [] s line tally
@@ -222,7 +223,7 @@ HasRead-still language s r₀ r₁ r₂ w₀ w state line tally read still = rec
 
 -- what stands written after a fault of writing, and of reading
 pub StandsWritten-stopped : {S : Type 0} (language : Language S) (s : S) (fault : LabFault) (r₀ r w₀ w : Option (List ℕ)) (bytes : List ℕ) → Consumes r₀ r bytes → HasStoppedIn language s fault w₀ w bytes
-    → IfSome r₀ (λ text. StandsWritten language s fault text r w₀ w)
+    → IfSome r₀ (λ text. StandsWritten [] language s fault text r w₀ w)
 StandsWritten-stopped language s fault None r w₀ w bytes consumed stop = tt
 StandsWritten-stopped language s fault (Some text) None w₀ w bytes consumed stop = absurd consumed
 StandsWritten-stopped language s Read (Some text) (Some rest) w₀ w bytes consumed stop = absurd (stop rest)
@@ -230,7 +231,7 @@ StandsWritten-stopped language s (Write count) (Some text) (Some rest) w₀ w by
 StandsWritten-stopped language s Memory (Some text) (Some rest) w₀ w bytes consumed stop = rw consumed (stop rest)
 
 pub StandsWritten-read : {S : Type 0} (language : Language S) (s : S) (r₀ r w₀ w : Option (List ℕ)) (state : S) (line : Open) (tally : Tally)
-    → HasRead language s r₀ r w₀ w state line tally → IfSome r₀ (λ text. StandsWritten language s Read text r w₀ w)
+    → HasRead language s r₀ r w₀ w state line tally → IfSome r₀ (λ text. StandsWritten [] language s Read text r w₀ w)
 StandsWritten-read language s None r w₀ w state line tally read = tt
 StandsWritten-read language s (Some text) r w₀ w state line tally read =
     let complete : complete_lines read.bytes ≡ read.taken.complete = IsCut-complete read.bytes read.taken.complete read.taken.piece read.taken.is_cut in
@@ -241,7 +242,7 @@ all_read : (text bytes rest : List ℕ) → text ≡ bytes ++ rest → rest ≡ 
 all_read text bytes rest e none = e ∙ (ap (λ (more : List ℕ). bytes ++ more) none ∙ append-nil bytes)
 
 pub StandsWritten-end : {S : Type 0} (language : Language S) (s : S) (fault : LabFault) (r₀ r w₀ w : Option (List ℕ)) (bytes : List ℕ) → Consumes r₀ r bytes → IsAtEnd r
-    → HasStopped fault w₀ w (text_replies language s bytes) → IfSome r₀ (λ text. StandsWritten language s fault text r w₀ w)
+    → HasStopped fault w₀ w (text_replies language s bytes) → IfSome r₀ (λ text. StandsWritten [] language s fault text r w₀ w)
 StandsWritten-end language s fault None r w₀ w bytes consumed at_end stop = tt
 StandsWritten-end language s fault (Some text) None w₀ w bytes consumed at_end stop = absurd consumed
 StandsWritten-end language s Read (Some text) (Some rest) w₀ w bytes consumed at_end stop = absurd stop
@@ -276,3 +277,75 @@ pub HasCause-writer : (fault : LabFault) (reader writer : Bool) → HasCause fau
 HasCause-writer Read reader writer cause = cc
 HasCause-writer (Write count) reader writer cause = cause
 HasCause-writer Memory reader writer cause = tt
+
+-- nothing was written yet
+lacks_first : (w : Option (List ℕ)) (replies : List (List ℕ)) (last : List ℕ) → HasWrittenReplies w w (replies ++ last ∷ [])
+lacks_first w [] last = record { first = []; lacking = last; rest = []; joined = refl; sent = Appends-none w }
+lacks_first w (reply ∷ more) last = record { first = []; lacking = reply; rest = more ++ last ∷ []; joined = refl; sent = Appends-none w }
+
+pub HasWrittenReplies-none : {S : Type 0} (language : Language S) (s : S) (w : Option (List ℕ)) (text : List ℕ) → HasWrittenReplies w w (text_replies language s text)
+unfolding text_replies
+HasWrittenReplies-none language s w text = lacks_first w (replies_to language s (lines text)) (language.closing (state_after language s (lines text)))
+
+pub StandsWritten-none : {S : Type 0} (language : Language S) (s : S) (r₀ r w : Option (List ℕ)) → IfSome r₀ (λ text. StandsWritten [] language s Memory text r w w)
+StandsWritten-none language s None r w = tt
+StandsWritten-none language s (Some text) r w = HasWrittenReplies-none language s w text
+
+-- a text of which a front was written
+pub HasWrittenBytes-one : (w₀ w : Option (List ℕ)) (text : List ℕ) (taken : ℕ) → Appends w₀ w (take taken text) → taken ≤ length text → taken ≤ count_limit → HasWrittenBytes taken w₀ w (text ∷ [])
+HasWrittenBytes-one w₀ w text taken sent within small = record {
+  taken = taken;
+  within = rw (append-nil text) within;
+  sent = rw (append-nil text) sent;
+  counted = omega arith;
+}
+
+-- behind a text that was written whole
+StandsWritten-behind : {S : Type 0} (language : Language S) (s : S) (fault : LabFault) (heading text : List ℕ) (left w₀ w₁ w : Option (List ℕ)) → Appends w₀ w₁ heading
+    → StandsWritten [] language s fault text left w₁ w → StandsWritten (heading ∷ []) language s (fault_behind (length heading) fault) text left w₀ w
+StandsWritten-behind language s Read heading text left w₀ w₁ w written stands = record {
+  part = stands.part;
+  consumed = stands.consumed;
+  sent = Appends-trans w₀ w₁ w heading (concat (replies_to language s (complete_lines stands.part))) written stands.sent;
+}
+StandsWritten-behind language s (Write count) heading text left w₀ w₁ w written stands =
+    let all : List ℕ = concat (text_replies language s text) in
+    record {
+      taken = length heading + stands.taken;
+      within = rw (length-append heading (concat (text_replies language s text))) (omega (arith, stands.within));
+      sent = rw (take-append-add heading (concat (text_replies language s text)) stands.taken) (Appends-trans w₀ w₁ w heading (take stands.taken (concat (text_replies language s text))) written stands.sent);
+      counted = counted-more count (length heading) stands.taken count_limit stands.counted ∙ ap (λ (n : ℕ). min n count_limit) (add_comm stands.taken (length heading));
+    }
+StandsWritten-behind language s Memory heading text left w₀ w₁ w written stands = record {
+  first = heading ∷ stands.first;
+  lacking = stands.lacking;
+  rest = stands.rest;
+  joined = ap (λ (replies : List (List ℕ)). heading ∷ replies) stands.joined;
+  sent = Appends-trans w₀ w₁ w heading (concat stands.first) written stands.sent;
+}
+
+pub StandsWritten-part : {S : Type 0} (language : Language S) (s : S) (fault : LabFault) (heading : List ℕ) (r₀ r w₀ w₁ w : Option (List ℕ)) → Appends w₀ w₁ heading
+    → IfSome r₀ (λ text. StandsWritten [] language s fault text r w₁ w) → IfSome r₀ (λ text. StandsWritten (heading ∷ []) language s (fault_behind (length heading) fault) text r w₀ w)
+StandsWritten-part language s fault heading r₀ r w₀ w₁ w written stands =
+    IfSome-weaker r₀ (λ text. StandsWritten [] language s fault text r w₁ w) (λ text. StandsWritten (heading ∷ []) language s (fault_behind (length heading) fault) text r w₀ w)
+    (λ text. StandsWritten-behind language s fault heading text r w₀ w₁ w written) stands
+
+-- a fault while a text in front was written, and no memory for it
+StandsWritten-front : {S : Type 0} (language : Language S) (s : S) (fault : LabFault) (heading text : List ℕ) (left w₀ w : Option (List ℕ)) → HasStopped fault w₀ w (heading ∷ [])
+    → StandsWritten (heading ∷ []) language s fault text left w₀ w
+StandsWritten-front language s Read heading text left w₀ w stop = absurd stop
+StandsWritten-front language s (Write count) heading text left w₀ w stop = HasStopped-more (Write count) w₀ w (heading ∷ []) (text_replies language s text) stop
+StandsWritten-front language s Memory heading text left w₀ w stop = HasStopped-more Memory w₀ w (heading ∷ []) (text_replies language s text) stop
+
+pub StandsWritten-heading : {S : Type 0} (language : Language S) (s : S) (fault : LabFault) (heading : List ℕ) (r₀ r w₀ w : Option (List ℕ)) → HasStopped fault w₀ w (heading ∷ [])
+    → IfSome r₀ (λ text. StandsWritten (heading ∷ []) language s fault text r w₀ w)
+StandsWritten-heading language s fault heading None r w₀ w stop = tt
+StandsWritten-heading language s fault heading (Some text) r w₀ w stop = StandsWritten-front language s fault heading text r w₀ w stop
+
+pub StandsWritten-unnamed : {S : Type 0} (language : Language S) (s : S) (heading : List ℕ) (r₀ r w : Option (List ℕ)) → IfSome r₀ (λ text. StandsWritten (heading ∷ []) language s Memory text r w w)
+StandsWritten-unnamed language s heading None r w = tt
+StandsWritten-unnamed language s heading (Some text) r w = record { first = []; lacking = heading; rest = text_replies language s text; joined = refl; sent = Appends-none w }
+
+pub Appends-part : (heading : List ℕ) (texts : List ℕ → List ℕ) (r₀ w₀ w₁ w : Option (List ℕ)) → Appends w₀ w₁ heading → IfSome r₀ (λ text. Appends w₁ w (texts text)) → IfSome r₀ (λ text. Appends w₀ w (heading ++ texts text))
+Appends-part heading texts r₀ w₀ w₁ w written sent =
+    IfSome-weaker r₀ (λ text. Appends w₁ w (texts text)) (λ text. Appends w₀ w (heading ++ texts text)) (λ text more. Appends-trans w₀ w₁ w heading (texts text) written more) sent

@@ -4,7 +4,7 @@ use Rattle.std.proofs.lemmas.List.{drop_more}
 use Rattle.std.proofs.lemmas.List.Sums.{sum_by-append}
 use Rattle.lgp_listing.specs.Dump.{dump_from, word_line}
 use Rattle.lgp_listing.proofs.Dumps.{dump_more}
-use Rattle.lgp_lab.specs.Reply.{is_used}
+use Rattle.lgp_lab.specs.DrumCommands.{is_used}
 
 count_by-cons : (word : ℕ) (words : List ℕ) → count_by is_used (word ∷ words) ≡ (0 + cond (is_used word) 1 0) + count_by is_used words
 count_by-cons word words = sum_by-append (λ w. cond (is_used w) 1 0) (word ∷ []) words

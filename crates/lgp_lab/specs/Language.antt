@@ -45,11 +45,11 @@ is_line_feed character = character == byte "\n"
 abbrev pub complete_lines : List ℕ → List (List ℕ)
 complete_lines text = take (count_by is_line_feed text) (lines text)
 
--- of a text that was read in part, the replies to the complete lines of that part were written
-pub record HasReadPart {S : Type 0} (language : Language S) (s : S) (text : List ℕ) (left w₀ w : Option (List ℕ)) : Type 0 where
+-- of a text that was read in part, the replies to the complete lines of that part were written, behind those in front
+pub record HasReadPart {S : Type 0} (front : List (List ℕ)) (language : Language S) (s : S) (text : List ℕ) (left w₀ w : Option (List ℕ)) : Type 0 where
   pub part : List ℕ
   pub consumed : Consumes (Some text) left part
-  pub sent : Appends w₀ w (concat (replies_to language s (complete_lines part)))
+  pub sent : Appends w₀ w (concat (front ++ replies_to language s (complete_lines part)))
 
 -- the first bytes of the replies were written, so many as counted
 pub record HasWrittenBytes (count : ℕ) (w₀ w : Option (List ℕ)) (replies : List (List ℕ)) : Type 0 where
@@ -58,18 +58,19 @@ pub record HasWrittenBytes (count : ℕ) (w₀ w : Option (List ℕ)) (replies :
   pub sent : Appends w₀ w (take taken (concat replies))
   pub counted : count ≡ min taken count_limit
 
--- the first of the replies were written, each whole
+-- all replies before one were written, each whole, and of that one and those behind it nothing
 pub record HasWrittenReplies (w₀ w : Option (List ℕ)) (replies : List (List ℕ)) : Type 0 where
   pub first : List (List ℕ)
+  pub lacking : List ℕ
   pub rest : List (List ℕ)
-  pub joined : replies ≡ first ++ rest
+  pub joined : replies ≡ first ++ (lacking ∷ rest)
   pub sent : Appends w₀ w (concat first)
 
--- what stands written after each fault
-abbrev pub StandsWritten : {S : Type 0} → Language S → S → LabFault → List ℕ → Option (List ℕ) → Option (List ℕ) → Option (List ℕ) → Type 0
-StandsWritten language s Read text left w₀ w = HasReadPart language s text left w₀ w
-StandsWritten language s (Write count) text left w₀ w = HasWrittenBytes count w₀ w (text_replies language s text)
-StandsWritten language s Memory text left w₀ w = HasWrittenReplies w₀ w (text_replies language s text)
+-- what stands written after each fault, of replies in front and of the replies to a text
+abbrev pub StandsWritten : {S : Type 0} → List (List ℕ) → Language S → S → LabFault → List ℕ → Option (List ℕ) → Option (List ℕ) → Option (List ℕ) → Type 0
+StandsWritten front language s Read text left w₀ w = HasReadPart front language s text left w₀ w
+StandsWritten front language s (Write count) text left w₀ w = HasWrittenBytes count w₀ w (front ++ text_replies language s text)
+StandsWritten front language s Memory text left w₀ w = HasWrittenReplies w₀ w (front ++ text_replies language s text)
 
 -- whose failure a fault tells: the reader's, the writer's
 abbrev pub HasCause : LabFault → Bool → Bool → Type 0

@@ -11,6 +11,14 @@ digit_limit = 10
 abbrev pub shown_limit : ℕ
 shown_limit = 64
 
+-- how many bytes a source may have
+abbrev pub source_limit : ℕ
+source_limit = 1048576
+
+-- how many steps are kept for going back
+abbrev pub kept_limit : ℕ
+kept_limit = 4096
+
 -- how many words the drum has
 abbrev pub drum_size : ℕ
 drum_size = 4096

@@ -1,51 +1,85 @@
 -- Part of the public promise: the script language. A script is its lines, each of which has at most one reply, and a script's text
 -- is its replies one after another, from a machine in its opening state on.
-use Rattle.std.specs.Prelude.{ℕ, ◌==◌, ◌||◌, Bool, if◌then◌else◌, nat_lt, Option, Some, None, List, [], length, slice_index}
+use Rattle.std.specs.Prelude.{ℕ, ◌==◌, ◌||◌, Bool, if◌then◌else◌, nat_lt, Option, Some, None, List, length, slice_index}
 use Rattle.std.specs.List.{concat}
 use Rattle.std.specs.Str.{byte}
-use Rattle.lgp_word.specs.Drum.{blank_words}
-use Rattle.lgp_table.specs.State.{State, opening}
-use Rattle.lgp_lab.specs.Answer.{Answer, answer_to, refused}
 use Rattle.lgp_lab.specs.Command.{command_of, text_behind}
+use Rattle.lgp_lab.specs.DrumCommands.{answer_to_dump, answer_to_put, answer_to_show, answer_to_words}
+use Rattle.lgp_history.specs.declared.rule.Rule.TheVariants.{At, Changed}
+use Rattle.lgp_lab.specs.HistoryCommands.{answer_to_back, answer_to_drop, answer_to_last, answer_to_rule, answer_to_run}
 use Rattle.lgp_lab.specs.Language.{Language, question_count, text_replies}
 use Rattle.lgp_lab.specs.Limits.{line_limit}
 use Rattle.lgp_lab.specs.Line.{has_no_word}
-use Rattle.lgp_lab.specs.Reply.{reply_text}
+use Rattle.lgp_lab.specs.MachineCommands.{answer_to_orders, answer_to_panel, answer_to_press, answer_to_turn, answer_to_type}
+use Rattle.lgp_lab.specs.SourceCommands.{answer_in_source, answer_to_list, answer_to_source, closed}
+use Rattle.lgp_lab.specs.SourceText.{SourceText}
+use Rattle.lgp_lab.specs.Standing.{Answer, Standing, opening_standing, refused, silent}
+use Rattle.lgp_lab.specs.TapeCommands.{answer_to_mount, answer_to_printed}
 use Rattle.lgp_lab.specs.declared.command.Command.{Command}
-use Rattle.lgp_lab.specs.declared.reply.Refusal.TheVariants.{Form, TooLong}
+use Rattle.lgp_lab.specs.declared.command.Command.TheVariants as commands
+use Rattle.lgp_lab.specs.declared.refusal.Refusal.TheVariants.{Form, TooLong}
 
 -- a line without a reply: no word stands on it, or it begins with a semicolon
 abbrev pub is_passed_over : List ℕ → Bool
 is_passed_over line = has_no_word line || (slice_index line 0 == byte ";")
 
-abbrev pub answer_by : State → Option Command → List ℕ → Answer
-answer_by s None text = refused Form s
-answer_by s (Some command) text = answer_to s command text
+module _ {A : Type 0} where
+  -- the answer to a command; the text is that of mount and type
+  abbrev pub answer_to : Standing A → Command → List ℕ → Answer A
+  answer_to standing (commands.Put address word) text = answer_to_put standing address word
+  answer_to standing commands.Mount text = answer_to_mount standing text
+  answer_to standing (commands.Press action) text = answer_to_press standing action
+  answer_to standing commands.Type text = answer_to_type standing text
+  answer_to standing (commands.Turn times) text = answer_to_turn standing times
+  answer_to standing (commands.Orders limit) text = answer_to_orders standing limit
+  answer_to standing commands.Panel text = answer_to_panel standing
+  answer_to standing (commands.Words range) text = answer_to_words standing range
+  answer_to standing (commands.Show range) text = answer_to_show standing range
+  answer_to standing commands.Printed text = answer_to_printed standing
+  answer_to standing commands.Dump text = answer_to_dump standing
+  answer_to standing commands.Source text = answer_to_source standing
+  answer_to standing commands.List text = answer_to_list standing
+  answer_to standing (commands.Break address) text = answer_to_rule standing (At address)
+  answer_to standing (commands.Watch address) text = answer_to_rule standing (Changed address)
+  answer_to standing (commands.Drop number) text = answer_to_drop standing number
+  answer_to standing (commands.Run limit) text = answer_to_run standing limit
+  answer_to standing (commands.Back orders) text = answer_to_back standing orders
+  answer_to standing commands.Last text = answer_to_last standing
 
--- the answer to a line that is not passed over
-unfoldable pub answer_to_line : State → List ℕ → Answer
-answer_to_line s line =
-    if nat_lt line_limit (length line) then refused TooLong s else answer_by s (command_of line) (text_behind line)
+  abbrev pub answer_by : Standing A → Option Command → List ℕ → Answer A
+  answer_by standing None text = refused Form standing
+  answer_by standing (Some command) text = answer_to standing command text
 
--- the reply to a line, if it has one, and the state after it
-unfoldable pub reply_to_line : State → List ℕ → List ℕ
-reply_to_line s line =
-    let answer = answer_to_line s line in
-    if is_passed_over line then [] else reply_text answer.state answer.reply
+  -- the answer to a line outside a source
+  unfoldable pub answer_to_command : Standing A → List ℕ → Answer A
+  answer_to_command standing line =
+      if is_passed_over line then silent standing
+      else (if nat_lt line_limit (length line) then refused TooLong standing
+      else answer_by standing (command_of line) (text_behind line))
 
-unfoldable pub after_line : State → List ℕ → State
-after_line s line = if is_passed_over line then s else (answer_to_line s line).state
+  -- the answer to a line; in an open source each line is the source's
+  abbrev pub answer_in : Option SourceText → Standing A → List ℕ → Answer A
+  answer_in None standing line = answer_to_command standing line
+  answer_in (Some source) standing line = answer_in_source standing source line
 
--- the language of scripts; a script's end has no reply
-abbrev pub script_language : Language State
-script_language = record { reply = reply_to_line; after = after_line; closing = λ _. [] }
+  unfoldable pub answer_to_line : Standing A → List ℕ → Answer A
+  answer_to_line standing line = answer_in standing.opened standing line
 
--- the replies to a script, its text, and how many of them begin with a question mark, as far as 64 bits count
-unfoldable pub script_replies : List ℕ → List (List ℕ)
-script_replies script = text_replies script_language (opening blank_words) script
+  -- the language of scripts; a script's end closes an open source
+  abbrev pub script_language : Language (Standing A)
+  script_language = record {
+    reply = λ standing line. (answer_to_line standing line).reply;
+    after = λ standing line. (answer_to_line standing line).after;
+    closing = λ standing. (closed standing).reply;
+  }
 
-abbrev pub script_text : List ℕ → List ℕ
-script_text script = concat (script_replies script)
+-- the replies to a script, its text, and how many of them begin with a question mark, as far as 64 bits count; the type is that of
+-- Standing
+unfoldable pub script_replies : Type 0 → List ℕ → List (List ℕ)
+script_replies A script = text_replies script_language (opening_standing {A = A}) script
 
-abbrev pub script_faults : List ℕ → ℕ
-script_faults script = question_count (script_replies script)
+abbrev pub script_text : Type 0 → List ℕ → List ℕ
+script_text A script = concat (script_replies A script)
+
+abbrev pub script_faults : Type 0 → List ℕ → ℕ
+script_faults A script = question_count (script_replies A script)

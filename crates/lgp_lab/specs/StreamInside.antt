@@ -1,5 +1,5 @@
 -- Serves proofs only: how far a text has been answered while its bytes come in one after another.
-use Rattle.std.specs.Prelude.{◌≡◌, ℕ, min, false, List, ◌++◌, length, count_by, Option}
+use Rattle.std.specs.Prelude.{◌≡◌, ℕ, ◌+◌, min, false, List, ◌++◌, length, count_by, Option}
 use Rattle.std.specs.List.{AllByRecursion, concat}
 use Rattle.std.specs.Io.KnownBytes.{Appends, Consumes}
 use Rattle.std.specs.Str.Lines.{lines}
@@ -50,3 +50,9 @@ pub record HasRead {S : Type 0} (language : Language S) (s : S) (r₀ r w₀ w :
   pub bytes : List ℕ
   pub consumed : Consumes r₀ r bytes
   pub taken : HasTaken language s w₀ w bytes state line tally
+
+-- a fault, counted behind so many bytes
+abbrev pub fault_behind : ℕ → LabFault → LabFault
+fault_behind bytes Read = Read
+fault_behind bytes (Write taken) = Write (min (taken + bytes) count_limit)
+fault_behind bytes Memory = Memory

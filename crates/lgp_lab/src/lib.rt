@@ -2,18 +2,26 @@
 #![tactic(auto)]
 
 pub use feed::{Failed, Feed, FeedOf};
-pub use script::run_script;
+pub use files::{asm_file, run_file, tape_file};
+pub use script::{batch_part, run_script};
 pub use sink::{Sink, SinkOf};
 pub use stream::LabFault;
+pub use lgp_task::{FileName, FileNames, Task, TaskFault, task_of};
 
 mod command;
 mod feed;
+mod files;
 mod laboratory;
 mod limits;
 mod line;
-mod reply;
+mod names;
+mod piece;
+mod program;
+mod refusal;
 mod script;
 mod sink;
+mod source_text;
+mod span;
 mod stream;
 #[cfg(test)]
 mod tests;

@@ -1,6 +1,7 @@
 //! The line of a script that is open.
 
-ghost use Rattle.std.specs.Prelude.{◌≡◌, ◌≤◌, [], false, length};
+ghost use Rattle.std.specs.Prelude.{◌≡◌, ◌≤◌, [], false, length, List, ℕ};
+ghost use Rattle.std.specs.Str.{bytes_eq};
 ghost use Rattle.lgp_lab.specs.Limits.{line_limit};
 ghost use Rattle.lgp_lab.specs.LineInside.{Kept, Open, is_unbegun, kept_of, kept_push, open_of, open_push, whole};
 
@@ -66,6 +67,14 @@ impl Bytes {
         ensures { result ≡ self.now.longer }
     {
         self.longer
+    }
+
+    /// Whether the bytes are a word that a line can hold.
+    pub fn is_word(&self, word: &[u8]) -> bool
+        requires { length word.now ≤ line_limit }
+        ensures { (text : List ℕ) → self.now ≡ kept_of text → result ≡ bytes_eq text word.now }
+    {
+        !self.longer && self.front.as_slice() == word
     }
 
     /// Whether no word stands on the line: all bytes are spaces.

@@ -1,21 +1,45 @@
 //! Running scripts.
 
-ghost use Rattle.std.specs.Prelude.{◌≡◌, IfErr, IfOk, IfSome, OnOk, false};
+ghost use Rattle.std.specs.Prelude.{◌≡◌, ◌∷◌, ◌++◌, [], IfErr, IfOk, IfSome, OnOk, false};
 ghost use Rattle.std.specs.Io.KnownBytes.{Appends, IsAtEnd};
-ghost use Rattle.lgp_table.specs.State.{opening};
-ghost use Rattle.lgp_word.specs.Drum.{blank_words};
+ghost use Rattle.lgp_lab.specs.Files.{heading};
 ghost use Rattle.lgp_lab.specs.Language.{HasCause, StandsWritten};
 ghost use Rattle.lgp_lab.specs.Script.{script_faults, script_language, script_text};
+ghost use Rattle.lgp_lab.specs.Standing.{opening_standing};
 
 use crate::feed::Feed;
 use crate::laboratory::Laboratory;
 use crate::sink::Sink;
-use crate::stream::{LabFault, run_text};
-use std::alloc::Allocator;
+use crate::stream::{LabFault, run_text, write_whole};
+use std::alloc::{AllocError, Allocator};
+
+/// Runs a script, wherever reader and writer stand.
+#[tactic(auto, unfolding(crate::specs::Script::script_replies))]
+fn answer_script<A: Allocator + Copy, R: Feed, W: Sink>(
+    alloc: A,
+    reader: &mut R,
+    writer: &mut W,
+) -> Result<u64, LabFault>
+    ensures read { OnOk result (IsAtEnd (R.remaining reader.new)) }
+    ensures text { OnOk result (IfSome (R.remaining reader.old) (λ script.
+        Appends (W.contents writer.old) (W.contents writer.new) (script_text A script))) }
+    ensures faults { IfOk result (λ faults. IfSome (R.remaining reader.old) (λ script.
+        faults ≡ script_faults A script)) }
+    ensures cause { IfErr result (λ fault.
+        HasCause fault (R.failed reader.new) (W.failed writer.new)) }
+    ensures stands { IfErr result (λ fault. IfSome (R.remaining reader.old) (λ script.
+        StandsWritten [] (script_language {A = A}) opening_standing fault script
+        (R.remaining reader.new) (W.contents writer.old) (W.contents writer.new))) }
+{
+    let Ok(laboratory) = Laboratory::new(alloc) else {
+        return Err(LabFault::Memory);
+    };
+    let faults = run_text(alloc, laboratory, reader, writer)?;
+    Ok(faults)
+}
 
 /// Runs a script: reads commands to the reader's end and writes the reply to each; answers how many replies begin with a
 /// question mark.
-#[tactic(auto, unfolding(crate::specs::Script::script_replies))]
 pub fn run_script<A: Allocator + Copy, R: Feed, W: Sink>(
     alloc: A,
     reader: &mut R,
@@ -25,18 +49,58 @@ pub fn run_script<A: Allocator + Copy, R: Feed, W: Sink>(
     requires writer { W.failed writer.old ≡ false }
     ensures read { OnOk result (IsAtEnd (R.remaining reader.new)) }
     ensures text { OnOk result (IfSome (R.remaining reader.old) (λ script.
-        Appends (W.contents writer.old) (W.contents writer.new) (script_text script))) }
+        Appends (W.contents writer.old) (W.contents writer.new) (script_text A script))) }
     ensures faults { IfOk result (λ faults. IfSome (R.remaining reader.old) (λ script.
-        faults ≡ script_faults script)) }
+        faults ≡ script_faults A script)) }
     ensures cause { IfErr result (λ fault.
         HasCause fault (R.failed reader.new) (W.failed writer.new)) }
     ensures stands { IfErr result (λ fault. IfSome (R.remaining reader.old) (λ script.
-        StandsWritten script_language (opening blank_words) fault script
+        StandsWritten [] (script_language {A = A}) opening_standing fault script
         (R.remaining reader.new) (W.contents writer.old) (W.contents writer.new))) }
 {
-    let Ok(laboratory) = Laboratory::new(alloc) else {
+    answer_script(alloc, reader, writer)
+}
+
+/// The line that names a script's file.
+#[tactic(auto, unfolding(crate::specs::Files::heading))]
+fn heading<A: Allocator>(alloc: A, name: &str) -> Result<Vec<u8, A>, AllocError>
+    ensures { IfOk result (λ text. text.items ≡ heading name.now) }
+{
+    let mut text = Vec::new(alloc);
+    text.extend_from_slice(b"file ")?;
+    text.extend_from_slice(name.as_bytes())?;
+    text.push(b'\n')?;
+    Ok(text)
+}
+
+/// Runs a script of several: writes a line that names its file, and then does as `run_script`. The bytes of that line are counted
+/// among those of a failed write.
+pub fn batch_part<A: Allocator + Copy, R: Feed, W: Sink>(
+    alloc: A,
+    name: &str,
+    reader: &mut R,
+    writer: &mut W,
+) -> Result<u64, LabFault>
+    requires reader { R.failed reader.old ≡ false }
+    requires writer { W.failed writer.old ≡ false }
+    ensures read { OnOk result (IsAtEnd (R.remaining reader.new)) }
+    ensures text { OnOk result (IfSome (R.remaining reader.old) (λ script.
+        Appends (W.contents writer.old) (W.contents writer.new)
+        (heading name.now ++ script_text A script))) }
+    ensures faults { IfOk result (λ faults. IfSome (R.remaining reader.old) (λ script.
+        faults ≡ script_faults A script)) }
+    ensures cause { IfErr result (λ fault.
+        HasCause fault (R.failed reader.new) (W.failed writer.new)) }
+    ensures stands { IfErr result (λ fault. IfSome (R.remaining reader.old) (λ script.
+        StandsWritten (heading name.now ∷ []) (script_language {A = A}) opening_standing fault script
+        (R.remaining reader.new) (W.contents writer.old) (W.contents writer.new))) }
+{
+    let Ok(heading) = heading(alloc, name) else {
         return Err(LabFault::Memory);
     };
-    let faults = run_text(alloc, laboratory, reader, writer)?;
-    Ok(faults)
+    write_whole(writer, &heading)?;
+    match answer_script(alloc, reader, writer) {
+        Ok(faults) => Ok(faults),
+        Err(fault) => Err(fault.behind(heading.len() as u64)),
+    }
 }

@@ -4,9 +4,10 @@ ghost use Rattle.std.specs.Prelude.{◌≡◌, ◌++◌, ◌∷◌, ◌≤◌, [
 ghost use Rattle.std.specs.Io.KnownBytes.{Appends, IsAtEnd};
 ghost use Rattle.std.specs.List.{concat};
 ghost use Rattle.std.specs.Str.Lines.{lines};
+ghost use Rattle.lgp_lab.specs.Files.{StandsOf};
 ghost use Rattle.lgp_lab.specs.Language.{HasCause, Language, StandsWritten, is_question, question_count, replies_to, state_after, text_replies};
 ghost use Rattle.lgp_lab.specs.LineInside.{kept_of};
-ghost use Rattle.lgp_lab.specs.StreamInside.{HasAnswered, HasRead, HasStopped, HasStoppedIn, HasTaken, HasWritten};
+ghost use Rattle.lgp_lab.specs.StreamInside.{fault_behind, HasAnswered, HasRead, HasStopped, HasStoppedIn, HasTaken, HasWritten};
 
 use crate::feed::Feed;
 use crate::line::{Bytes, Line};
@@ -27,6 +28,18 @@ pub enum LabFault {
     /// A growth was refused: nothing of that command's reply was written.
     #[error("out of memory")]
     Memory,
+}
+
+impl LabFault {
+    /// The fault of a text behind one of which so many bytes were written.
+    pub fn behind(self, bytes: u64) -> LabFault
+        ensures { result ≡ fault_behind bytes self }
+    {
+        match self {
+            LabFault::Write(taken) => LabFault::Write(taken.saturating_add(bytes)),
+            other => other,
+        }
+    }
 }
 
 /// What answers the lines of a text.
@@ -80,6 +93,21 @@ fn send<W: Sink>(writer: &mut W, bytes: &[u8]) -> Result<(), Broken>
         }
     }
     Ok(())
+}
+
+/// Writes a text whole, or tells how many of its first bytes were taken.
+pub fn write_whole<W: Sink>(writer: &mut W, text: &[u8]) -> Result<(), LabFault>
+    ensures all { OnOk result (Appends (W.contents writer.old) (W.contents writer.new) text.now) }
+    ensures stands { IfErr result (λ fault.
+        StandsOf text.now fault (W.contents writer.old) (W.contents writer.new)) }
+    ensures stopped { IfErr result (λ fault.
+        HasStopped fault (W.contents writer.old) (W.contents writer.new) (text.now ∷ [])) }
+    ensures cause { IfErr result (λ fault. HasCause fault false (W.failed writer.new)) }
+{
+    match send(writer, text) {
+        Ok(()) => Ok(()),
+        Err(broken) => Err(LabFault::Write(broken.taken as u64)),
+    }
 }
 
 /// How many replies began with a question mark, and how many bytes of replies were written.
@@ -234,7 +262,7 @@ impl<A: Allocator + Copy, L: Answers<A>> Stream<A, L> {
 }
 
 /// How many bytes one read asks for.
-const CHUNK: usize = 4096;
+pub const CHUNK: usize = 4096;
 
 /// Reads to the reader's end.
 fn read_all<A: Allocator + Copy, L: Answers<A>, R: Feed, W: Sink>(
@@ -253,7 +281,7 @@ fn read_all<A: Allocator + Copy, L: Answers<A>, R: Feed, W: Sink>(
         → HasTaken L.language s (W.contents writer.old) (W.contents writer.old) []
         stream.old.answers stream.old.line stream.old.tally
         → IfErr result (λ fault. IfSome (R.remaining reader.old) (λ text.
-        StandsWritten L.language s fault text
+        StandsWritten [] L.language s fault text
         (R.remaining reader.new) (W.contents writer.old) (W.contents writer.new))) }
     ensures cause { IfErr result (λ fault.
         HasCause fault (R.failed reader.new) (W.failed writer.new)) }
@@ -287,7 +315,7 @@ pub fn run_text<A: Allocator + Copy, L: Answers<A>, R: Feed, W: Sink>(
     ensures cause { IfErr result (λ fault.
         HasCause fault (R.failed reader.new) (W.failed writer.new)) }
     ensures stands { IfErr result (λ fault. IfSome (R.remaining reader.old) (λ text.
-        StandsWritten L.language answers fault text
+        StandsWritten [] L.language answers fault text
         (R.remaining reader.new) (W.contents writer.old) (W.contents writer.new))) }
 {
     let mut stream = Stream {

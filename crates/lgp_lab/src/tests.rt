@@ -1,4 +1,4 @@
-use crate::{Feed, FeedOf, LabFault, Sink, SinkOf, run_script};
+use crate::{Feed, FeedOf, LabFault, Sink, SinkOf, asm_file, batch_part, run_script};
 use lgp_listing::read_dump;
 use lgp_word::Address;
 use linked_list_allocator::LocalHeap;
@@ -440,8 +440,8 @@ fn a_refused_growth_leaves_no_part_of_a_reply(rt: HostRuntime) -> Result<(), Fai
     script.extend_from_slice(&repeated(rt.alloc(), b"a", 4000)?)?;
     let mut refused = false;
     let mut answered = false;
-    for size in 8..96 {
-        let heap = LocalHeap::new(rt.alloc(), 2048 * size)?;
+    for size in 128..224 {
+        let heap = LocalHeap::new(rt.alloc(), 4096 * size)?;
         let mut written = Vec::new(rt.alloc());
         match run(&heap, &script, &mut written) {
             Ok(_) => {
@@ -475,5 +475,239 @@ fn a_dump_reads_back_without_its_first_line(rt: HostRuntime) -> Result<(), Fail>
         let address = Address::new(number).ok_or("below 4096")?;
         assert_eq!(rt; drum.word(address).get(), bits);
     }
+    Ok(())
+}
+
+/// Scripts with sources, their replies, and how many of those begin with a question mark.
+const SOURCES: [(&[u8], &[u8], u64); 10] = [
+    (
+        b"source\n org 0100\n word 00000004\n end\n.\n",
+        b"cells 1 start none\n",
+        0,
+    ),
+    // Each kind of fault once, but for those of bytes and of the drum's end.
+    (
+        b"source\n org 6304\n b 0100\na org 0100\n z\n org 0100\n z\n q 0000\n b\n b none\n b 6363+1\na z\n9a z\n z 0 0\n word 00000001\n end\n z\n.\nlist\n",
+        b"? 9 Faults\nline 2 InLoader\nline 6 PlaceTaken\nline 7 UnknownOrder\nline 8 MissingOperand\nline 9 UnknownName\nline 10 OutOfRange\nline 11 LabelTwice\nline 12 BadLabel\nline 13 Extra\nline 14 BadOperand\nline 16 AfterEnd\n? 10 NoImage\n",
+        2,
+    ),
+    (
+        b"source\nstart b one ; take\n h 0050\n z\none frac .1\n end start\n.\nlist\n",
+        b"cells 4 start 0000\n0000 0001000j start b one ; take\n0001 000j00j8  h 0050\n0002 00000000  z\n0003 0jjjjjjj one frac .1\n               end start\n",
+        0,
+    ),
+    // The script's end closes a source; a last line without its line feed is a line.
+    (b"source\n z\n end", b"cells 1 start none\n", 0),
+    (b"source", b"? 9 Faults\nline 1 NoEnd\n", 1),
+    // An empty line and a comment are lines of the source, and count.
+    (
+        b"source\n\n; a comment\n   \n q\n end\n.\n",
+        b"? 9 Faults\nline 4 UnknownOrder\n",
+        1,
+    ),
+    // Two points are no point, and a carriage return before the line feed is not the line's.
+    (
+        b"source\r\n..\r\n end\r\n.\r\nturn 1\n",
+        b"? 9 Faults\nline 1 BadLabel\nclock 1\n",
+        1,
+    ),
+    (b"source x\n z\n.\n", b"? 1 Form\n? 1 Form\n? 1 Form\n", 3),
+    // A source with a fault leaves the one before it.
+    (
+        b"list\nsource\n z\n end\n.\nsource\n q\n.\nlist\n",
+        b"? 10 NoImage\ncells 1 start none\n? 9 Faults\nline 1 UnknownOrder\nline 2 NoEnd\n0000 00000000  z\n               end\n",
+        2,
+    ),
+    // Nothing is a command within a source.
+    (
+        b"source\nturn 5\n end\n.\nturn 1\n",
+        b"? 9 Faults\nline 1 UnknownOrder\nclock 1\n",
+        1,
+    ),
+];
+
+#[test]
+fn sources_are_assembled_and_listed(rt: HostRuntime) -> Result<(), Fail> {
+    for (script, replies, faults) in SOURCES {
+        let mut written = Vec::new(rt.alloc());
+        let answer = run(rt.alloc(), script, &mut written);
+        assert_eq!(rt; written.as_slice(), replies, "{script:?}");
+        assert_eq!(rt; answer, Ok(faults), "{script:?}");
+    }
+    Ok(())
+}
+
+/// A script with a source of one line of so many bytes, which is a comment, and of an end line.
+fn long_source(alloc: Global, length: usize) -> Result<Vec<u8>, AllocError> {
+    let mut script = repeated(alloc, b"source\n;", 1)?;
+    script.extend_from_slice(&repeated(alloc, b"a", length.saturating_sub(1))?)?;
+    script.extend_from_slice(b"\n end\n.\nturn 1\n")?;
+    Ok(script)
+}
+
+#[test]
+fn a_line_of_a_source_has_at_most_4096_bytes(rt: HostRuntime) -> Result<(), Fail> {
+    for (length, replies) in [
+        (4096, b"cells 0 start none\nclock 1\n".as_slice()),
+        (4097, b"? 11 TooLong\nclock 1\n".as_slice()),
+    ] {
+        let script = long_source(rt.alloc(), length)?;
+        let mut written = Vec::new(rt.alloc());
+        let _faults = run(rt.alloc(), &script, &mut written);
+        assert_eq!(rt; written.as_slice(), replies, "{length}");
+    }
+    Ok(())
+}
+
+/// A script with a source of comment lines of 1,024 bytes each, line feed included, so many of them, and an end line of five bytes.
+fn many_lines(alloc: Global, lines: usize, last: &[u8]) -> Result<Vec<u8>, AllocError> {
+    let mut line = repeated(alloc, b";", 1023)?;
+    line.push(b'\n')?;
+    let mut script = repeated(alloc, b"source\n", 1)?;
+    script.extend_from_slice(&repeated(alloc, &line, lines)?)?;
+    script.extend_from_slice(last)?;
+    script.extend_from_slice(b".\nturn 1\n")?;
+    Ok(script)
+}
+
+#[test]
+fn a_source_has_at_most_1048576_bytes(rt: HostRuntime) -> Result<(), Fail> {
+    let mut last = repeated(rt.alloc(), b";", 1018)?;
+    last.extend_from_slice(b"\n end\n")?;
+    for (text, replies) in [
+        (b"".as_slice(), b"? 9 Faults\nline 1025 NoEnd\nclock 1\n".as_slice()),
+        (b"\n".as_slice(), b"? 11 TooLong\nclock 1\n".as_slice()),
+        (b" end\n".as_slice(), b"? 11 TooLong\nclock 1\n".as_slice()),
+    ] {
+        let script = many_lines(rt.alloc(), 1024, text)?;
+        let mut written = Vec::new(rt.alloc());
+        let _faults = run(rt.alloc(), &script, &mut written);
+        assert_eq!(rt; written.as_slice(), replies);
+    }
+    let script = many_lines(rt.alloc(), 1023, &last)?;
+    let mut written = Vec::new(rt.alloc());
+    let _faults = run(rt.alloc(), &script, &mut written);
+    assert_eq!(rt; written.as_slice(), b"cells 0 start none\nclock 1\n".as_slice());
+    Ok(())
+}
+
+/// Writes what `asm_file` writes for a source behind `written`.
+fn assembled<A: Allocator + Copy>(
+    alloc: A,
+    source: &[u8],
+    written: &mut Vec<u8>,
+) -> Result<u64, LabFault> {
+    let mut reader = FeedOf::new(source, READS);
+    let mut writer = SinkOf::new(written);
+    asm_file(alloc, &mut reader, &mut writer)
+}
+
+#[test]
+fn a_source_file_is_listed_or_its_faults_are_told(rt: HostRuntime) -> Result<(), Fail> {
+    let long = repeated(rt.alloc(), b";", 1_048_577)?;
+    for (source, text, status) in [
+        (
+            b"start b one ; take\n h 0050\n z\none frac .1\n end start\n".as_slice(),
+            b"0000 0001000j start b one ; take\n0001 000j00j8  h 0050\n0002 00000000  z\n0003 0jjjjjjj one frac .1\n               end start\n".as_slice(),
+            0,
+        ),
+        (b" q\n", b"line 1 UnknownOrder\nline 2 NoEnd\n", 1),
+        (b"", b"line 1 NoEnd\n", 1),
+        (&long, b"? 11 TooLong\n", 1),
+    ] {
+        let mut written = Vec::new(rt.alloc());
+        assert_eq!(rt; assembled(rt.alloc(), source, &mut written), Ok(status));
+        assert_eq!(rt; written.as_slice(), text);
+    }
+    Ok(())
+}
+
+#[test]
+fn a_script_of_several_has_a_line_with_its_name(rt: HostRuntime) -> Result<(), Fail> {
+    let mut written = Vec::new(rt.alloc());
+    for (name, script, faults) in [("first run", FIRST_RUN, 0), ("other", b"foo".as_slice(), 1)] {
+        let mut reader = FeedOf::new(script, READS);
+        let mut writer = SinkOf::new(&mut written);
+        let answer = batch_part(rt.alloc(), name, &mut reader, &mut writer);
+        assert_eq!(rt; answer, Ok(faults));
+    }
+    let text = written
+        .strip_prefix(b"file first run\n")
+        .and_then(|text| text.strip_prefix(FIRST_RUN_REPLIES))
+        .ok_or("another text")?;
+    assert_eq!(rt; text, b"file other\n? 1 Form\n".as_slice());
+    Ok(())
+}
+
+#[test]
+fn the_line_of_a_name_is_counted_where_a_write_fails(rt: HostRuntime) -> Result<(), Fail> {
+    for calls in [0, 3, 12] {
+        let mut failing = Failing {
+            taken: Vec::new(rt.alloc()),
+            most: 1,
+            calls,
+        };
+        let mut reader = FeedOf::new(b"turn 5\n".as_slice(), READS);
+        let mut writer = SinkOf::new(&mut failing);
+        let answer = batch_part(rt.alloc(), "name", &mut reader, &mut writer);
+        assert_eq!(rt; answer, Err(LabFault::Write(calls as u64)));
+    }
+    Ok(())
+}
+
+/// Scripts with rules and steps back, their replies, and how many of those begin with a question mark.
+const HISTORIES: [(&[u8], &[u8], u64); 6] = [
+    (
+        b"put 0000 00083900\npress start\norders 1\nprinted\nturn 1\nback 0\nback 1\nprinted\nback 1\n",
+        b"ok\nlive\norders 1 going\nprinted 1 a\n? 3 AtWork\nclock 451\nclock 0\nprinted 0\n? 7 TooFar 0\n",
+        2,
+    ),
+    (
+        b"put 0000 000100j8\nput 0001 000q00jj\nput 0002 000j00j8\nput 0003 000f0000\nput 0051 00000002\npress start\nbreak 0002\nrun 100\ndrop 0\nwatch 0050\nrun 100\nrun 100\nlast\nwords 0050 1\nlast\nlast\ndrop 1\n",
+        b"ok\nok\nok\nok\nok\nlive\nrule 0\nran 2 rule 0\nok\nrule 0\nran 1 rule 0\nran 4 rule 0\nback 1 rule 0\n0050 00000002\nback 4 rule 0\n? 8 NoHit 2\n? 6 NoRule\n",
+        2,
+    ),
+    // A mounting and a word put are taken back like any step.
+    (
+        b"put 0000 000f0000\npress start\norders 2\npress manual\nput 0100 00000004\nmount a\npress normal\npress start\norders 1\nback 2\npanel\nwords 0100 1\nback 1\nback 1\n",
+        b"ok\nlive\norders 2 going\nlive\nok\nok 1\nlive\nlive\norders 1 going\nclock 67\ncounter 0000 accumulator 00000000 register 000f0000 status going mode normal switches uuuuuu reader off tape 0 clock 67\n0100 00000000\nclock 0\n? 7 TooFar 0\n",
+        1,
+    ),
+    // A word that was stored anew is decoded anew.
+    (
+        b"put 0000 000f0000\npress start\norders 1\npress manual\nput 0000 00000000\npress normal\npress start\norders 1\nturn 0\n",
+        b"ok\nlive\norders 1 going\nlive\nok\nlive\nlive\norders 1 halted stop\nclock 131\n",
+        0,
+    ),
+    // The numbers of later rules move down; a run ends at its limit or at rest.
+    (
+        b"break 0001\nwatch 6363\nbreak 0000\ndrop 0\ndrop 1\ndrop 1\ndrop 64\nput 0000 000f0000\nrun 5\npress start\nrun 2\nrun 0\n",
+        b"rule 0\nrule 1\nrule 2\nok\nok\n? 6 NoRule\n? 6 NoRule\nok\nran 0 rest\nlive\nran 2 limit\nran 0 limit\n",
+        2,
+    ),
+    (
+        b"break\nbreak 6400\nwatch 0000 1\ndrop x\nrun\nrun 1 1\nback\nlast 1\nlast\nback 1\n",
+        b"? 1 Form\n? 1 Form\n? 1 Form\n? 1 Form\n? 1 Form\n? 1 Form\n? 1 Form\n? 1 Form\n? 8 NoHit 0\n? 7 TooFar 0\n",
+        10,
+    ),
+];
+
+#[test]
+fn rules_stop_a_run_and_orders_are_taken_back(rt: HostRuntime) -> Result<(), Fail> {
+    for (script, replies, faults) in HISTORIES {
+        let mut written = Vec::new(rt.alloc());
+        let answer = run(rt.alloc(), script, &mut written);
+        assert_eq!(rt; written.as_slice(), replies, "{script:?}");
+        assert_eq!(rt; answer, Ok(faults), "{script:?}");
+    }
+    Ok(())
+}
+
+#[test]
+fn there_are_at_most_64_rules(rt: HostRuntime) -> Result<(), Fail> {
+    let script = repeated(rt.alloc(), b"watch 0000\n", 65)?;
+    let mut written = Vec::new(rt.alloc());
+    assert_eq!(rt; run(rt.alloc(), &script, &mut written), Ok(1));
+    assert!(rt; written.ends_with(b"rule 62\nrule 63\n? 5 Full\n"));
     Ok(())
 }

@@ -1,6 +1,0 @@
-use Rattle.std.proofs.Common.{◌≡◌, ◌++◌}
-use Rattle.lgp_lab.specs.Reply.{lines_text, digits_line}
-use Rattle.lgp_lab.proofs.reply.push_words.Given as goal
-
-abbrev pub invariant-loop-place : goal.invariant-loop-place
-invariant-loop-place g l = l.text.items ≡ l.fn.text.items ++ lines_text digits_line l.machine.state l.first l.place

@@ -1,0 +1,16 @@
+-- Serves proofs only: the pieces of which a reply is put together.
+use Rattle.std.specs.Prelude.{ℕ, List, [], ◌∷◌, ◌++◌, decimal}
+use Rattle.lgp_word.specs.Digits.{address_digits, digits_of}
+use Rattle.lgp_lab.specs.declared.piece.Piece.{Piece}
+use Rattle.lgp_lab.specs.declared.piece.Piece.TheVariants.{Text, Number, Place, Digits}
+
+abbrev pub piece_text : Piece → List ℕ
+piece_text (Text text) = text.now
+piece_text (Number number) = decimal number
+piece_text (Place address) = address_digits address
+piece_text (Digits bits) = digits_of bits
+
+-- pieces one after another
+abbrev pub pieces_text : List Piece → List ℕ
+pieces_text [] = []
+pieces_text (piece ∷ pieces) = piece_text piece ++ pieces_text pieces

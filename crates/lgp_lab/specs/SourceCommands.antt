@@ -1,0 +1,74 @@
+-- Part of the public promise: the script language, what is answered to a source, and to the commands that use it.
+use Rattle.std.specs.Prelude.{ℕ, ◌++◌, Bool, if◌then◌else◌, Option, Some, None, List, [], ◌∷◌, length, codes, decimal}
+use Rattle.std.specs.Str.{bytes_eq}
+use Rattle.lgp_word.specs.Digits.{address_digits}
+use Rattle.lgp_assembler.specs.Image.{faults_of, image_of}
+use Rattle.lgp_assembler.specs.KindNames.{kind_name}
+use Rattle.lgp_assembler.specs.Parts.{ImageParts}
+use Rattle.lgp_assembler.specs.declared.refusal.Fault.{Fault}
+use Rattle.lgp_listing.specs.Listing.{listing_of}
+use Rattle.lgp_lab.specs.Refusal.{refusal_text}
+use Rattle.lgp_lab.specs.SourceText.{SourceText, source_of, with_line}
+use Rattle.lgp_lab.specs.Standing.{Answer, Standing, refused, shown, silent, with_opened}
+use Rattle.lgp_lab.specs.declared.refusal.Refusal.TheVariants as refusals
+
+-- ---- source
+
+-- a source is opened: the lines that follow are its lines
+abbrev pub answer_to_source : {A : Type 0} → Standing A → Answer A
+answer_to_source standing = silent (with_opened standing (Some (source_of [])))
+
+-- the lines of faults, each with its line's number and its kind
+unfoldable pub faults_text : List Fault → List ℕ
+faults_text [] = []
+faults_text (fault ∷ more) =
+    (codes "line " ++ (decimal fault.line ++ (codes " " ++ (kind_name fault.kind ++ codes "\n")))) ++ faults_text more
+
+-- how many words a source has made, and where it starts
+abbrev pub start_text : Option ℕ → List ℕ
+start_text None = codes "none\n"
+start_text (Some start) = address_digits start ++ codes "\n"
+
+abbrev pub cells_text : ImageParts → List ℕ
+cells_text image = codes "cells " ++ (decimal (length image.cells) ++ (codes " start " ++ start_text image.start))
+
+-- a line of an open source: a point alone closes it
+abbrev pub is_point : List ℕ → Bool
+is_point line = bytes_eq line (codes ".")
+
+module _ {A : Type 0} where
+  -- the answer to a source by its faults; with faults the source from before stays
+  abbrev pub assembled : Standing A → List ℕ → List Fault → Answer A
+  assembled standing text [] = record {
+    reply = cells_text (image_of text);
+    after = record { debugger = standing.debugger; source = Some text; opened = None };
+  }
+  assembled standing text (fault ∷ more) = shown (codes "? 9 Faults\n" ++ faults_text (fault ∷ more)) standing
+
+  -- the answer to a source at its end
+  abbrev pub answer_to_end : Standing A → SourceText → Answer A
+  answer_to_end standing source =
+      if source.too_long then refused refusals.TooLong standing
+      else assembled standing source.text (faults_of source.text)
+
+  -- the open source is closed, if there is one
+  abbrev pub closed_by : Standing A → Option SourceText → Answer A
+  closed_by standing None = silent standing
+  closed_by standing (Some source) = answer_to_end (with_opened standing None) source
+
+  unfoldable pub closed : Standing A → Answer A
+  closed standing = closed_by standing standing.opened
+
+  abbrev pub answer_in_source : Standing A → SourceText → List ℕ → Answer A
+  answer_in_source standing source line =
+      if is_point line then answer_to_end (with_opened standing None) source
+      else silent (with_opened standing (Some (with_line source line)))
+
+-- ---- list
+
+unfoldable pub list_text : Option (List ℕ) → List ℕ
+list_text None = refusal_text refusals.NoImage
+list_text (Some source) = listing_of source
+
+abbrev pub answer_to_list : {A : Type 0} → Standing A → Answer A
+answer_to_list standing = shown (list_text standing.source) standing

@@ -1,0 +1,47 @@
+-- Part of the public promise: the script language, where a laboratory stands between two lines of a script, and what an answer is.
+-- The type A stands for the allocator of the tapes that are kept; nothing depends on it.
+use Rattle.std.specs.Prelude.{ℕ, Option, None, List, []}
+use Rattle.lgp_word.specs.Drum.{blank_words}
+use Rattle.lgp_table.specs.State.{opening}
+use Rattle.lgp_debugger.specs.Debugging.{Debugging}
+use Rattle.lgp_lab.specs.Limits.{kept_limit}
+use Rattle.lgp_lab.specs.Refusal.{refusal_text}
+use Rattle.lgp_lab.specs.SourceText.{SourceText}
+use Rattle.lgp_lab.specs.declared.refusal.Refusal.{Refusal}
+
+-- the machine with its kept steps and its rules, the last source that assembled, and the source whose lines are being taken
+pub record Standing (A : Type 0) : Type 0 where
+  pub debugger : Debugging A
+  pub source : Option (List ℕ)
+  pub opened : Option SourceText
+
+-- a reply, empty where there is none, and where the laboratory stands after it
+pub record Answer (A : Type 0) : Type 0 where
+  pub reply : List ℕ
+  pub after : Standing A
+
+module _ {A : Type 0} where
+  -- where a script begins
+  unfoldable pub opening_standing : Standing A
+  opening_standing = record {
+    debugger = record { state = opening blank_words; steps = []; capacity = kept_limit; rules = [] };
+    source = None;
+    opened = None;
+  }
+
+  abbrev pub with_debugger : Standing A → Debugging A → Standing A
+  with_debugger standing debugger = record { debugger = debugger; source = standing.source; opened = standing.opened }
+
+  abbrev pub with_opened : Standing A → Option SourceText → Standing A
+  with_opened standing opened = record { debugger = standing.debugger; source = standing.source; opened = opened }
+
+  -- an answer that shows something and changes nothing
+  abbrev pub shown : List ℕ → Standing A → Answer A
+  shown reply standing = record { reply = reply; after = standing }
+
+  abbrev pub refused : Refusal → Standing A → Answer A
+  refused refusal standing = shown (refusal_text refusal) standing
+
+  -- no reply, and nothing changes
+  abbrev pub silent : Standing A → Answer A
+  silent standing = shown [] standing

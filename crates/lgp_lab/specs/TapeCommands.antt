@@ -1,0 +1,34 @@
+-- Part of the public promise: the script language, what is answered to the commands of the tape and the paper.
+use Rattle.std.specs.Prelude.{ℕ, ◌++◌, if◌then◌else◌, Result, Ok, Err, List, [], ◌∷◌, length, codes, decimal}
+use Rattle.lgp_flexo.specs.TapeText.{codes_of_text, written_tape}
+use Rattle.lgp_table.specs.Console.{is_at_rest}
+use Rattle.lgp_history.specs.declared.step.Step.TheVariants.{Mount}
+use Rattle.lgp_debugger.specs.Debugging.{after_step}
+use Rattle.lgp_lab.specs.Standing.{Answer, Standing, refused, shown, with_debugger}
+use Rattle.lgp_lab.specs.declared.refusal.Refusal.TheVariants as refusals
+
+-- ---- mount
+
+abbrev pub count_text : ℕ → List ℕ
+count_text count = codes "ok " ++ (decimal count ++ codes "\n")
+
+module _ {A : Type 0} where
+  abbrev pub answer_to_tape : Standing A → Result (List ℕ) ℕ → Answer A
+  answer_to_tape standing (Err place) = refused (refusals.BadSign place) standing
+  answer_to_tape standing (Ok tape) =
+      if is_at_rest standing.debugger.state.core.panel.status
+      then record { reply = count_text (length tape); after = with_debugger standing (after_step standing.debugger (Mount tape)) }
+      else refused refusals.Moving standing
+
+  abbrev pub answer_to_mount : Standing A → List ℕ → Answer A
+  answer_to_mount standing text = answer_to_tape standing (codes_of_text text)
+
+-- ---- printed
+
+unfoldable pub printed_text : List ℕ → List ℕ
+printed_text [] = codes "printed 0\n"
+printed_text (code ∷ more) =
+    codes "printed " ++ (decimal (length (code ∷ more)) ++ (codes " " ++ (written_tape (code ∷ more) ++ codes "\n")))
+
+abbrev pub answer_to_printed : {A : Type 0} → Standing A → Answer A
+answer_to_printed standing = shown (printed_text standing.debugger.state.printed) standing

@@ -1,0 +1,275 @@
+//! What the program's commands write for a file.
+
+ghost use Rattle.std.specs.Prelude.{◌≡◌, ℕ, List, None, Some, Ok, true, option_map, IfErr, IfOk, IfSome, OnOk, false};
+ghost use Rattle.std.specs.Io.KnownBytes.{Appends, IsAtEnd};
+ghost use Rattle.lgp_lab.specs.Files.{FileAnswer, StandsOf, answer_of, asm_answer, ended, listed, run_answer, run_to, state_at, tape_answer, taped};
+ghost use Rattle.lgp_table.specs.Interleaving.{at_boundary};
+ghost use Rattle.lgp_lab.specs.Language.{HasCause};
+ghost use Rattle.lgp_lab.specs.SourceText.{source_of};
+
+use crate::feed::Feed;
+use crate::laboratory::{push_faults, push_panel, push_printed};
+use crate::program::Program;
+use crate::refusal::{Refusal, push_refusal};
+use crate::sink::Sink;
+use crate::source_text::SourceText;
+use crate::stream::{CHUNK, LabFault, write_whole};
+use lgp_assembler::AssembleError;
+use lgp_flexo::write_tape_text;
+use lgp_loader::{LoadFault, load, tape_of};
+use lgp_machine::{Machine, OrderFault};
+use std::alloc::{AllocError, Allocator};
+
+/// Reads a source to the reader's end. Of one that is too long nothing is kept.
+#[tactic(auto, unfolding(crate::specs::SourceText::source_of))]
+fn read_source<A: Allocator + Copy, R: Feed>(
+    alloc: A,
+    reader: &mut R,
+) -> Result<SourceText<A>, LabFault>
+    ensures read { OnOk result (IsAtEnd (R.remaining reader.new)) }
+    ensures source { IfOk result (λ source. IfSome (R.remaining reader.old) (λ bytes.
+        source ≡ source_of bytes)) }
+    ensures cause { IfErr result (λ fault. HasCause fault (R.failed reader.new) false) }
+{
+    let mut source = SourceText::new(alloc);
+    let mut chunk = [0; CHUNK];
+    'reads: loop {
+        let Ok(count) = reader.read(&mut chunk) else {
+            return Err(LabFault::Read);
+        };
+        if count == 0 {
+            return Ok(source);
+        }
+        let Ok(()) = source.push_bytes(&chunk[..count]) else {
+            return Err(LabFault::Memory);
+        };
+    }
+}
+
+/// What is written for a source, and the status of the program.
+#[derive(Drop)]
+struct FileReply<A: Allocator> {
+    text: Vec<u8, A>,
+    status: u64,
+}
+
+/// Assembles a source; where it has a fault or is too long, what is written for it.
+fn assembled<A: Allocator + Copy>(
+    alloc: A,
+    source: SourceText<A>,
+) -> Result<Result<Program<A>, FileReply<A>>, AllocError>
+    ensures program { (answer : List ℕ → FileAnswer) → IfOk result (λ outcome. IfOk outcome
+        (λ program. answer_of answer source ≡ answer program)) }
+    ensures refused { (answer : List ℕ → FileAnswer) → IfOk result (λ outcome. IfErr outcome
+        (λ reply. answer_of answer source
+        ≡ record { text = reply.text.items; status = reply.status })) }
+{
+    let mut text = Vec::new(alloc);
+    if source.is_too_long() {
+        push_refusal(&mut text, Refusal::TooLong)?;
+        return Ok(Err(FileReply { text, status: 1 }));
+    }
+    match Program::new(alloc, source.into_text()) {
+        Ok(program) => Ok(Ok(program)),
+        Err(AssembleError::Faults(list)) => {
+            push_faults(&mut text, list.faults())?;
+            Ok(Err(FileReply { text, status: 1 }))
+        }
+        Err(AssembleError::Memory) => Err(AllocError),
+    }
+}
+
+/// The tape of a program as text, with a line feed.
+fn tape_text<A: Allocator + Copy>(alloc: A, program: &Program<A>) -> Result<Vec<u8, A>, AllocError>
+    ensures { IfOk result (λ text. text.items ≡ (taped program.now).text) }
+{
+    let codes = tape_of(alloc, program.image())?;
+    let mut text = write_tape_text(alloc, &codes)?;
+    text.push(b'\n')?;
+    Ok(text)
+}
+
+/// Performs at most so many orders, until the machine is at rest; false where the clock's end stops it.
+#[tactic(auto, using(crate::proofs::FileLemmas::state_step), unfolding(crate::specs::Files::state_at))]
+fn perform<A: Allocator>(machine: &mut Machine<A>, limit: u64) -> Result<bool, AllocError>
+    requires { machine.old ≡ at_boundary machine.old.state }
+    ensures whole { result ≡ Ok true → state_at limit machine.old.state ≡ Some machine.new.state }
+    ensures boundary { machine.new ≡ at_boundary machine.new.state }
+    ensures stopped { result ≡ Ok false → state_at limit machine.old.state ≡ None }
+{
+    let mut left = limit;
+    while left > 0 {
+        match machine.next_order() {
+            Ok(_) => {}
+            Err(OrderFault::AtRest) => return Ok(true),
+            Err(OrderFault::ClockEnd) => return Ok(false),
+            Err(OrderFault::Memory) => return Err(AllocError),
+            Err(OrderFault::Moving) => unreachable!(),
+        }
+        left -= 1;
+    }
+    Ok(true)
+}
+
+/// Loads a program into a new machine and performs at most so many orders more; `None` where the clock's end stops it.
+fn run_program<A: Allocator + Copy>(
+    alloc: A,
+    program: &Program<A>,
+    limit: u64,
+) -> Result<Option<Machine<A>>, AllocError>
+    ensures boundary { IfOk result (λ outcome. IfSome outcome (λ machine.
+        machine ≡ at_boundary machine.state)) }
+    ensures ended { IfOk result (λ outcome. run_to limit program.now
+        ≡ ended (option_map (λ machine. machine.state) outcome)) }
+{
+    let mut machine = Machine::new(alloc)?;
+    match load(alloc, &mut machine, program.image()) {
+        Ok(_) => {}
+        Err(LoadFault::ClockEnd) => return Ok(None),
+        Err(LoadFault::Memory) => return Err(AllocError),
+        Err(LoadFault::Moving) => unreachable!(),
+    }
+    if perform(&mut machine, limit)? {
+        Ok(Some(machine))
+    } else {
+        Ok(None)
+    }
+}
+
+impl<A: Allocator + Copy> FileReply<A> {
+    /// The listing of a source, or why there is none.
+    fn listing(alloc: A, source: SourceText<A>) -> Result<FileReply<A>, AllocError>
+        ensures text { IfOk result (λ reply. reply.text.items ≡ (answer_of listed source).text) }
+        ensures status { IfOk result (λ reply. reply.status ≡ (answer_of listed source).status) }
+    {
+        match assembled(alloc, source)? {
+            Ok(program) => Ok(FileReply {
+                text: program.listing(alloc)?,
+                status: 0,
+            }),
+            Err(reply) => Ok(reply),
+        }
+    }
+
+    /// The tape of a source, or why there is none.
+    fn tape(alloc: A, source: SourceText<A>) -> Result<FileReply<A>, AllocError>
+        ensures text { IfOk result (λ reply. reply.text.items ≡ (answer_of taped source).text) }
+        ensures status { IfOk result (λ reply. reply.status ≡ (answer_of taped source).status) }
+    {
+        match assembled(alloc, source)? {
+            Ok(program) => Ok(FileReply {
+                text: tape_text(alloc, &program)?,
+                status: 0,
+            }),
+            Err(reply) => Ok(reply),
+        }
+    }
+
+    /// What a run of a source prints and leaves, or why there is none.
+    fn run(alloc: A, source: SourceText<A>, limit: u64) -> Result<FileReply<A>, AllocError>
+        ensures text { IfOk result (λ reply.
+            reply.text.items ≡ (answer_of (run_to limit) source).text) }
+        ensures status { IfOk result (λ reply.
+            reply.status ≡ (answer_of (run_to limit) source).status) }
+    {
+        let program = match assembled(alloc, source)? {
+            Ok(program) => program,
+            Err(reply) => return Ok(reply),
+        };
+        let mut text = Vec::new(alloc);
+        let Some(machine) = run_program(alloc, &program, limit)? else {
+            push_refusal(&mut text, Refusal::ClockEnd)?;
+            return Ok(FileReply { text, status: 1 });
+        };
+        push_printed(alloc, &mut text, machine.printed())?;
+        push_panel(&mut text, &machine)?;
+        Ok(FileReply { text, status: 0 })
+    }
+}
+
+/// Reads a source to its end and writes its listing, or its faults; answers 0 where it has none, and else 1.
+#[tactic(auto, unfolding(crate::specs::Files::asm_answer))]
+pub fn asm_file<A: Allocator + Copy, R: Feed, W: Sink>(
+    alloc: A,
+    reader: &mut R,
+    writer: &mut W,
+) -> Result<u64, LabFault>
+    requires reader { R.failed reader.old ≡ false }
+    requires writer { W.failed writer.old ≡ false }
+    ensures read { OnOk result (IsAtEnd (R.remaining reader.new)) }
+    ensures text { OnOk result (IfSome (R.remaining reader.old) (λ source.
+        Appends (W.contents writer.old) (W.contents writer.new) (asm_answer source).text)) }
+    ensures status { IfOk result (λ status. IfSome (R.remaining reader.old) (λ source.
+        status ≡ (asm_answer source).status)) }
+    ensures cause { IfErr result (λ fault.
+        HasCause fault (R.failed reader.new) (W.failed writer.new)) }
+    ensures stands { IfErr result (λ fault. IfSome (R.remaining reader.old) (λ source.
+        StandsOf (asm_answer source).text fault (W.contents writer.old) (W.contents writer.new))) }
+{
+    let source = read_source(alloc, reader)?;
+    let Ok(reply) = FileReply::listing(alloc, source) else {
+        return Err(LabFault::Memory);
+    };
+    let FileReply { text, status } = reply;
+    write_whole(writer, &text)?;
+    Ok(status)
+}
+
+/// Reads a source to its end and writes the text of its tape and a line feed, or its faults; answers 0 where it has none, and
+/// else 1.
+#[tactic(auto, unfolding(crate::specs::Files::tape_answer))]
+pub fn tape_file<A: Allocator + Copy, R: Feed, W: Sink>(
+    alloc: A,
+    reader: &mut R,
+    writer: &mut W,
+) -> Result<u64, LabFault>
+    requires reader { R.failed reader.old ≡ false }
+    requires writer { W.failed writer.old ≡ false }
+    ensures read { OnOk result (IsAtEnd (R.remaining reader.new)) }
+    ensures text { OnOk result (IfSome (R.remaining reader.old) (λ source.
+        Appends (W.contents writer.old) (W.contents writer.new) (tape_answer source).text)) }
+    ensures status { IfOk result (λ status. IfSome (R.remaining reader.old) (λ source.
+        status ≡ (tape_answer source).status)) }
+    ensures cause { IfErr result (λ fault.
+        HasCause fault (R.failed reader.new) (W.failed writer.new)) }
+    ensures stands { IfErr result (λ fault. IfSome (R.remaining reader.old) (λ source.
+        StandsOf (tape_answer source).text fault (W.contents writer.old) (W.contents writer.new))) }
+{
+    let source = read_source(alloc, reader)?;
+    let Ok(reply) = FileReply::tape(alloc, source) else {
+        return Err(LabFault::Memory);
+    };
+    let FileReply { text, status } = reply;
+    write_whole(writer, &text)?;
+    Ok(status)
+}
+
+/// Reads a source to its end, loads it into a new machine, performs at most so many orders more, and writes what is printed and
+/// the panel; or its faults. Answers 0, or 1 where there is a fault or the clock's end is met.
+#[tactic(auto, unfolding(crate::specs::Files::run_answer))]
+pub fn run_file<A: Allocator + Copy, R: Feed, W: Sink>(
+    alloc: A,
+    reader: &mut R,
+    limit: u64,
+    writer: &mut W,
+) -> Result<u64, LabFault>
+    requires reader { R.failed reader.old ≡ false }
+    requires writer { W.failed writer.old ≡ false }
+    ensures read { OnOk result (IsAtEnd (R.remaining reader.new)) }
+    ensures text { OnOk result (IfSome (R.remaining reader.old) (λ source.
+        Appends (W.contents writer.old) (W.contents writer.new) (run_answer limit source).text)) }
+    ensures status { IfOk result (λ status. IfSome (R.remaining reader.old) (λ source.
+        status ≡ (run_answer limit source).status)) }
+    ensures cause { IfErr result (λ fault.
+        HasCause fault (R.failed reader.new) (W.failed writer.new)) }
+    ensures stands { IfErr result (λ fault. IfSome (R.remaining reader.old) (λ source.
+        StandsOf (run_answer limit source).text fault (W.contents writer.old) (W.contents writer.new))) }
+{
+    let source = read_source(alloc, reader)?;
+    let Ok(reply) = FileReply::run(alloc, source, limit) else {
+        return Err(LabFault::Memory);
+    };
+    let FileReply { text, status } = reply;
+    write_whole(writer, &text)?;
+    Ok(status)
+}

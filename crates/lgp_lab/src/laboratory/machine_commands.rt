@@ -1,0 +1,332 @@
+//! Pressing, waiting, performing orders, the panel.
+
+ghost use Rattle.std.specs.Prelude.{◌≡◌, ◌++◌, ◌≤◌, IfOk, IsTrue, OnOk, length};
+ghost use Rattle.lgp_table.specs.Interleaving.{is_boundary};
+ghost use Rattle.lgp_lab.specs.Limits.{line_limit};
+ghost use Rattle.lgp_lab.specs.MachineCommands.{answer_to_orders, answer_to_panel, answer_to_press, answer_to_turn, answer_to_type, clock_text, mode_text, on_text, orders_text, panel_text, performed, reader_text, registers_text, status_text, switch_text, switches_text, typed, typed_text};
+
+use super::Laboratory;
+use super::tape_commands::read_codes;
+use crate::piece::{Piece, push_pieces};
+use crate::refusal::{Refusal, push_counted, push_refusal};
+use lgp_debugger::{Debugger, IdleFault, StepFault};
+use lgp_flexo::Code;
+use lgp_history::History;
+use lgp_machine::{Look, Machine};
+use lgp_table::{Action, Cause, Mode, Status, Switches};
+use std::alloc::{AllocError, Allocator};
+
+impl<A: Allocator + Copy> Laboratory<A> {
+    /// Presses a button or sets a switch.
+    pub(super) fn press(
+        &mut self,
+        action: Action,
+        reply: &mut Vec<u8, A>,
+    ) -> Result<(), AllocError>
+        ensures reply { OnOk result (reply.new.items
+            ≡ reply.old.items ++ (answer_to_press self.old action).reply) }
+        ensures after { OnOk result (self.new ≡ (answer_to_press self.old action).after) }
+    {
+        let live = self.debugger.press(action)?;
+        reply.extend_from_slice(if live { b"live\n" } else { b"dead\n" })?;
+        Ok(())
+    }
+
+    /// Strikes the keys of a text.
+    pub(super) fn type_text(
+        &mut self,
+        text: &[u8],
+        reply: &mut Vec<u8, A>,
+    ) -> Result<(), AllocError>
+        requires { length text.now ≤ line_limit }
+        ensures reply { OnOk result (reply.new.items
+            ≡ reply.old.items ++ (answer_to_type self.old text.now).reply) }
+        ensures after { OnOk result (self.new ≡ (answer_to_type self.old text.now).after) }
+    {
+        match read_codes(self.alloc, text)? {
+            Ok(codes) => {
+                let keys = strike(&mut self.debugger, &codes)?;
+                push_keys(reply, keys)?;
+            }
+            Err(place) => push_refusal(reply, Refusal::BadSign(place))?,
+        }
+        Ok(())
+    }
+
+    /// Lets word times pass at rest.
+    #[tactic(auto, unfolding(crate::specs::MachineCommands::answer_to_turn))]
+    pub(super) fn turn(&mut self, times: u64, reply: &mut Vec<u8, A>) -> Result<(), AllocError>
+        ensures reply { OnOk result (reply.new.items
+            ≡ reply.old.items ++ (answer_to_turn self.old times).reply) }
+        ensures after { OnOk result (self.new ≡ (answer_to_turn self.old times).after) }
+    {
+        let clock = self.debugger.look().clock;
+        match self.debugger.idle(times) {
+            Ok(()) => push_clock(reply, clock.saturating_add(times))?,
+            Err(IdleFault::AtWork) => push_refusal(reply, Refusal::AtWork)?,
+            Err(IdleFault::ClockEnd) => push_refusal(reply, Refusal::ClockEnd)?,
+            Err(IdleFault::Memory) => return Err(AllocError),
+        }
+        Ok(())
+    }
+
+    /// Performs orders.
+    #[tactic(auto, unfolding(crate::specs::MachineCommands::answer_to_orders))]
+    pub(super) fn orders(&mut self, limit: u64, reply: &mut Vec<u8, A>) -> Result<(), AllocError>
+        ensures reply { OnOk result (reply.new.items
+            ≡ reply.old.items ++ (answer_to_orders self.old limit).reply) }
+        ensures after { OnOk result (self.new ≡ (answer_to_orders self.old limit).after) }
+    {
+        let run = perform(&mut self.debugger, limit)?;
+        if run.stopped {
+            push_refusal(reply, Refusal::ClockEnd)?;
+        } else {
+            push_orders(reply, run.done, self.debugger.look().status)?;
+        }
+        Ok(())
+    }
+
+    /// Shows the panel.
+    pub(super) fn panel(&self, reply: &mut Vec<u8, A>) -> Result<(), AllocError>
+        ensures { OnOk result (reply.new.items
+            ≡ reply.old.items ++ (answer_to_panel self.now).reply) }
+    {
+        push_panel(reply, self.debugger.machine())
+    }
+}
+
+/// How many keys were live and dead.
+#[derive(Clone, Copy)]
+struct Keys {
+    live: u64,
+    dead: u64,
+}
+
+/// Strikes keys one after another.
+#[tactic(auto, unfolding(crate::specs::MachineCommands::typed))]
+fn strike<H: History<A>, A: Allocator>(
+    debugger: &mut Debugger<H, A>,
+    keys: &[Code],
+) -> Result<Keys, AllocError>
+    ensures live { IfOk result (λ struck. struck.live ≡ (typed debugger.old keys.now).live) }
+    ensures dead { IfOk result (λ struck. struck.dead ≡ (typed debugger.old keys.now).dead) }
+    ensures after { OnOk result (debugger.new ≡ (typed debugger.old keys.now).after) }
+{
+    let mut live = 0;
+    let mut dead = 0;
+    for key in keys {
+        if debugger.press(Action::Key(*key))? {
+            live += 1;
+        } else {
+            dead += 1;
+        }
+    }
+    Ok(Keys { live, dead })
+}
+
+/// Appends how many keys were live and dead.
+fn push_keys<A: Allocator>(text: &mut Vec<u8, A>, keys: Keys) -> Result<(), AllocError>
+    ensures { OnOk result (text.new.items ≡ text.old.items ++ typed_text keys.live keys.dead) }
+{
+    push_pieces(
+        text,
+        &[
+            Piece::Text(b"live "),
+            Piece::Number(keys.live),
+            Piece::Text(b" dead "),
+            Piece::Number(keys.dead),
+            Piece::Text(b"\n"),
+        ],
+    )
+}
+
+/// Appends a clock.
+pub(super) fn push_clock<A: Allocator>(text: &mut Vec<u8, A>, clock: u64) -> Result<(), AllocError>
+    ensures { OnOk result (text.new.items ≡ text.old.items ++ clock_text clock) }
+{
+    push_counted(text, b"clock ", clock)
+}
+
+/// How many orders were performed, and whether the end of the clock stopped them.
+#[derive(Clone, Copy)]
+struct Performed {
+    done: u64,
+    stopped: bool,
+}
+
+/// Performs at most so many orders, until the machine is at rest.
+#[tactic(auto, using(crate::proofs::AnswerLemmas::performed_step), unfolding(crate::specs::MachineCommands::performed_on))]
+fn perform<H: History<A>, A: Allocator>(
+    debugger: &mut Debugger<H, A>,
+    limit: u64,
+) -> Result<Performed, AllocError>
+    ensures done { IfOk result (λ run. run.done ≡ (performed limit debugger.old).done) }
+    ensures stopped { IfOk result (λ run. run.stopped ≡ (performed limit debugger.old).stopped) }
+    ensures after { OnOk result (debugger.new ≡ (performed limit debugger.old).after) }
+{
+    let mut done = 0;
+    let mut left = limit;
+    while left > 0 {
+        match debugger.step() {
+            Ok(_) => {}
+            Err(StepFault::AtRest) => return Ok(Performed {
+                done,
+                stopped: false,
+            }),
+            Err(StepFault::ClockEnd) => return Ok(Performed {
+                done,
+                stopped: true,
+            }),
+            Err(StepFault::Memory) => return Err(AllocError),
+        }
+        done += 1;
+        left -= 1;
+    }
+    Ok(Performed {
+        done,
+        stopped: false,
+    })
+}
+
+/// The text of a status.
+#[tactic(auto, unfolding(crate::specs::MachineCommands::status_text))]
+fn status_text(status: Status) -> &'static [u8]
+    ensures { result.now ≡ status_text status }
+{
+    match status {
+        Status::Halted(Cause::Operator) => b"halted operator",
+        Status::Halted(Cause::Stop) => b"halted stop",
+        Status::Halted(Cause::Overflow) => b"halted overflow",
+        Status::Halted(Cause::Step) => b"halted step",
+        Status::Going => b"going",
+        Status::Executing => b"executing",
+        Status::Waiting => b"waiting",
+        Status::Reading => b"reading",
+    }
+}
+
+/// Appends how many orders were performed, and the status after them.
+fn push_orders<A: Allocator>(
+    text: &mut Vec<u8, A>,
+    done: u64,
+    status: Status,
+) -> Result<(), AllocError>
+    ensures { OnOk result (text.new.items ≡ text.old.items ++ orders_text done status) }
+{
+    push_pieces(
+        text,
+        &[
+            Piece::Text(b"orders "),
+            Piece::Number(done),
+            Piece::Text(b" "),
+            Piece::Text(status_text(status)),
+            Piece::Text(b"\n"),
+        ],
+    )
+}
+
+/// The text of a mode.
+#[tactic(auto, unfolding(crate::specs::MachineCommands::mode_text))]
+fn mode_text(mode: Mode) -> &'static [u8]
+    ensures { result.now ≡ mode_text mode }
+{
+    match mode {
+        Mode::Normal => b"normal",
+        Mode::OneOperation => b"oneop",
+        Mode::Manual => b"manual",
+    }
+}
+
+/// The letter of a switch's position.
+fn switch_text(down: bool) -> u8
+    ensures { result ≡ switch_text down }
+{
+    if down { b'd' } else { b'u' }
+}
+
+/// The letters of the switches' positions.
+#[tactic(auto, unfolding(crate::specs::MachineCommands::switches_text))]
+fn switches_text(switches: Switches) -> [u8; 6]
+    ensures { result ≡ switches_text switches }
+{
+    [
+        switch_text(switches.b32),
+        switch_text(switches.b16),
+        switch_text(switches.b8),
+        switch_text(switches.b4),
+        switch_text(switches.transfer),
+        switch_text(switches.six_bit),
+    ]
+}
+
+/// Whether the reader is on.
+#[tactic(auto, unfolding(crate::specs::MachineCommands::on_text))]
+fn on_text(on: bool) -> &'static [u8]
+    ensures { result.now ≡ on_text on }
+{
+    if on { b"on" } else { b"off" }
+}
+
+/// Appends the panel's line of a machine at a boundary.
+#[tactic(auto, unfolding(crate::specs::MachineCommands::panel_text))]
+pub fn push_panel<A: Allocator>(
+    text: &mut Vec<u8, A>,
+    machine: &Machine<A>,
+) -> Result<(), AllocError>
+    requires { IsTrue (is_boundary machine.now) }
+    ensures { OnOk result (text.new.items ≡ text.old.items ++ panel_text machine.now.state) }
+{
+    let (Some(look), Some(left)) = (machine.look(), machine.tape_left()) else {
+        unreachable!();
+    };
+    push_registers(text, &look)?;
+    text.extend_from_slice(&switches_text(look.switches))?;
+    push_reader(text, &look, left.len() as u64)?;
+    Ok(())
+}
+
+/// Appends the registers, the status and the mode.
+#[tactic(auto, unfolding(crate::specs::MachineCommands::registers_text))]
+fn push_registers<A: Allocator>(text: &mut Vec<u8, A>, look: &Look) -> Result<(), AllocError>
+    ensures { OnOk result (text.new.items ≡ text.old.items ++ registers_text look.now) }
+{
+    push_pieces(
+        text,
+        &[
+            Piece::Text(b"counter "),
+            Piece::Place(look.counter),
+            Piece::Text(b" accumulator "),
+            Piece::Digits(look.accumulator),
+            Piece::Text(b" register "),
+            Piece::Digits(look.register.get()),
+            Piece::Text(b" status "),
+            Piece::Text(status_text(look.status)),
+            Piece::Text(b" mode "),
+            Piece::Text(mode_text(look.mode)),
+            Piece::Text(b" switches "),
+        ],
+    )
+}
+
+/// Appends the reader, how many codes are left, and the clock.
+#[tactic(auto, unfolding(crate::specs::MachineCommands::reader_text))]
+fn push_reader<A: Allocator>(
+    text: &mut Vec<u8, A>,
+    look: &Look,
+    left: u64,
+) -> Result<(), AllocError>
+    ensures { OnOk result (text.new.items ≡ text.old.items ++ reader_text look.now left) }
+{
+    push_pieces(
+        text,
+        &[
+            Piece::Text(b" reader "),
+            Piece::Text(on_text(look.reader_on)),
+            Piece::Text(b" tape "),
+            Piece::Number(left),
+            Piece::Text(b" clock "),
+            Piece::Number(look.clock),
+            Piece::Text(b"\n"),
+        ],
+    )
+}

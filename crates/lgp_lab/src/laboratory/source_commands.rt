@@ -1,0 +1,141 @@
+//! Sources and their listings.
+
+ghost use Rattle.std.specs.Prelude.{◌≡◌, ◌++◌, List, ℕ, None, OnOk};
+ghost use Rattle.lgp_lab.specs.LineInside.{kept_of};
+ghost use Rattle.lgp_lab.specs.SourceCommands.{answer_in_source, answer_to_list, answer_to_end, answer_to_source, cells_text, faults_text, start_text};
+ghost use Rattle.lgp_lab.specs.Standing.{with_opened};
+
+use super::Laboratory;
+use crate::line::Bytes;
+use crate::piece::{Piece, push_pieces};
+use crate::program::Program;
+use crate::refusal::{Refusal, push_refusal};
+use crate::source_text::SourceText;
+use lgp_assembler::{AssembleError, Fault, Image};
+use lgp_word::Address;
+use std::alloc::{AllocError, Allocator};
+
+impl<A: Allocator + Copy> Laboratory<A> {
+    /// Opens a source: the lines that follow are its lines.
+    pub(super) fn open_source(&mut self)
+        ensures { self.new ≡ (answer_to_source self.old).after }
+    {
+        self.opened = Some(SourceText::new(self.alloc));
+    }
+
+    /// Takes a line of the source that is open; a point alone closes the source.
+    pub(super) fn take_line(
+        &mut self,
+        source: SourceText<A>,
+        line: &Bytes,
+        reply: &mut Vec<u8, A>,
+    ) -> Result<(), AllocError>
+        ensures reply { (text : List ℕ) → line.now ≡ kept_of text → OnOk result (reply.new.items
+            ≡ reply.old.items ++ (answer_in_source self.old source text).reply) }
+        ensures after { (text : List ℕ) → line.now ≡ kept_of text
+            → OnOk result (self.new ≡ (answer_in_source self.old source text).after) }
+    {
+        if line.is_word(b".") {
+            return self.close_source(source, reply);
+        }
+        let mut source = source;
+        source.push_line(line)?;
+        self.opened = Some(source);
+        Ok(())
+    }
+
+    /// Closes a source.
+    pub(super) fn close_source(
+        &mut self,
+        source: SourceText<A>,
+        reply: &mut Vec<u8, A>,
+    ) -> Result<(), AllocError>
+        ensures reply { OnOk result (reply.new.items
+            ≡ reply.old.items ++ (answer_to_end (with_opened self.old None) source).reply) }
+        ensures after { OnOk result (self.new
+            ≡ (answer_to_end (with_opened self.old None) source).after) }
+    {
+        self.opened = None;
+        if source.is_too_long() {
+            push_refusal(reply, Refusal::TooLong)?;
+            return Ok(());
+        }
+        match Program::new(self.alloc, source.into_text()) {
+            Ok(program) => {
+                push_cells(reply, program.image())?;
+                self.program = Some(program);
+                Ok(())
+            }
+            Err(AssembleError::Faults(list)) => {
+                reply.extend_from_slice(b"? 9 Faults\n")?;
+                push_faults(reply, list.faults())?;
+                Ok(())
+            }
+            Err(AssembleError::Memory) => Err(AllocError),
+        }
+    }
+
+    /// Lists the last source that assembled.
+    #[tactic(auto, unfolding(crate::specs::SourceCommands::list_text))]
+    pub(super) fn list(&self, reply: &mut Vec<u8, A>) -> Result<(), AllocError>
+        ensures { OnOk result (reply.new.items
+            ≡ reply.old.items ++ (answer_to_list self.now).reply) }
+    {
+        let Some(program) = &self.program else {
+            push_refusal(reply, Refusal::NoImage)?;
+            return Ok(());
+        };
+        let listing = program.listing(self.alloc)?;
+        reply.extend_from_slice(&listing)?;
+        Ok(())
+    }
+}
+
+/// Appends the start of a program.
+fn push_start<A: Allocator>(
+    text: &mut Vec<u8, A>,
+    start: Option<Address>,
+) -> Result<(), AllocError>
+    ensures { OnOk result (text.new.items ≡ text.old.items ++ start_text start) }
+{
+    match start {
+        Some(start) => push_pieces(text, &[Piece::Place(start), Piece::Text(b"\n")]),
+        None => text.extend_from_slice(b"none\n"),
+    }
+}
+
+/// Appends how many words a source has made, and where it starts.
+fn push_cells<A: Allocator>(text: &mut Vec<u8, A>, image: &Image<A>) -> Result<(), AllocError>
+    ensures { OnOk result (text.new.items ≡ text.old.items ++ cells_text image.now) }
+{
+    push_pieces(
+        text,
+        &[
+            Piece::Text(b"cells "),
+            Piece::Number(image.cells().len() as u64),
+            Piece::Text(b" start "),
+        ],
+    )?;
+    push_start(text, image.start())?;
+    Ok(())
+}
+
+/// Appends a line for each fault.
+#[tactic(auto, unfolding(crate::specs::SourceCommands::faults_text))]
+pub fn push_faults<A: Allocator>(text: &mut Vec<u8, A>, faults: &[Fault]) -> Result<(), AllocError>
+    ensures { OnOk result (text.new.items ≡ text.old.items ++ faults_text faults.now) }
+{
+    for fault in faults {
+        push_pieces(
+            text,
+            &[
+                Piece::Text(b"line "),
+                Piece::Number(fault.line),
+                Piece::Text(b" "),
+                Piece::Text(fault.kind.name().as_bytes()),
+                Piece::Text(b"\n"),
+            ],
+        )?;
+    }
+    Ok(())
+}

@@ -1,0 +1,120 @@
+//! The tape and the paper.
+
+ghost use Rattle.std.specs.Prelude.{◌≡◌, ◌++◌, ◌≤◌, IfErr, IfOk, OnOk, length, vec_len};
+ghost use Rattle.lgp_flexo.specs.TapeText.{codes_of_text};
+ghost use Rattle.lgp_lab.specs.Limits.{line_limit};
+ghost use Rattle.lgp_lab.specs.TapeCommands.{answer_to_mount, answer_to_printed, answer_to_tape, count_text, printed_text};
+
+use super::Laboratory;
+use crate::piece::{Piece, push_pieces};
+use crate::refusal::{Refusal, push_refusal};
+use lgp_flexo::{Code, TextFault, read_tape_text, write_tape_text};
+use lgp_debugger::MountFault;
+use std::alloc::{AllocError, Allocator};
+
+impl<A: Allocator + Copy> Laboratory<A> {
+    /// Mounts a tape given by its text.
+    pub(super) fn mount(&mut self, text: &[u8], reply: &mut Vec<u8, A>) -> Result<(), AllocError>
+        requires { length text.now ≤ line_limit }
+        ensures reply { OnOk result (reply.new.items
+            ≡ reply.old.items ++ (answer_to_mount self.old text.now).reply) }
+        ensures after { OnOk result (self.new ≡ (answer_to_mount self.old text.now).after) }
+    {
+        match read_codes(self.alloc, text)? {
+            Ok(codes) => self.mount_codes(codes, reply)?,
+            Err(place) => push_refusal(reply, Refusal::BadSign(place))?,
+        }
+        Ok(())
+    }
+
+    /// Mounts a tape.
+    fn mount_codes(
+        &mut self,
+        codes: Vec<Code, A>,
+        reply: &mut Vec<u8, A>,
+    ) -> Result<(), AllocError>
+        requires { vec_len codes ≤ 1048576 }
+        ensures reply { OnOk result (reply.new.items
+            ≡ reply.old.items ++ (answer_to_tape self.old (Ok codes.items)).reply) }
+        ensures after { OnOk result (self.new
+            ≡ (answer_to_tape self.old (Ok codes.items)).after) }
+    {
+        let count = codes.len() as u64;
+        match self.debugger.mount(codes) {
+            Ok(()) => push_count(reply, count)?,
+            Err((MountFault::Moving, _)) => push_refusal(reply, Refusal::Moving)?,
+            Err((MountFault::TooLong, _)) => unreachable!(),
+            Err((MountFault::Memory, _)) => return Err(AllocError),
+        }
+        Ok(())
+    }
+
+    /// Shows what is printed.
+    pub(super) fn printed(&self, reply: &mut Vec<u8, A>) -> Result<(), AllocError>
+        ensures { OnOk result (reply.new.items
+            ≡ reply.old.items ++ (answer_to_printed self.now).reply) }
+    {
+        push_printed(self.alloc, reply, self.debugger.machine().printed())
+    }
+}
+
+/// Reads a tape's text of at most one line: its codes, or its first bad place.
+pub(super) fn read_codes<A: Allocator + Copy>(
+    alloc: A,
+    text: &[u8],
+) -> Result<Result<Vec<Code, A>, u64>, AllocError>
+    requires { length text.now ≤ line_limit }
+    ensures codes { IfOk result (λ read. IfOk read (λ codes.
+        codes_of_text text.now ≡ Ok codes.items)) }
+    ensures few { IfOk result (λ read. IfOk read (λ codes. vec_len codes ≤ 1048576)) }
+    ensures bad_place { IfOk result (λ read. IfErr read (λ place.
+        codes_of_text text.now ≡ Err place)) }
+{
+    match read_tape_text(alloc, text) {
+        Ok(codes) => Ok(Ok(codes)),
+        Err(TextFault::BadSign(place)) => Ok(Err(place as u64)),
+        Err(TextFault::TooLong) => unreachable!(),
+        Err(TextFault::Memory(refused)) => Err(refused),
+    }
+}
+
+/// Appends the number of codes mounted.
+fn push_count<A: Allocator>(text: &mut Vec<u8, A>, count: u64) -> Result<(), AllocError>
+    ensures { OnOk result (text.new.items ≡ text.old.items ++ count_text count) }
+{
+    push_pieces(
+        text,
+        &[
+            Piece::Text(b"ok "),
+            Piece::Number(count),
+            Piece::Text(b"\n"),
+        ],
+    )
+}
+
+/// Appends what is printed.
+#[tactic(auto, unfolding(crate::specs::TapeCommands::printed_text))]
+pub fn push_printed<A: Allocator + Copy>(
+    alloc: A,
+    text: &mut Vec<u8, A>,
+    codes: &[Code],
+) -> Result<(), AllocError>
+    ensures { OnOk result (text.new.items ≡ text.old.items ++ printed_text codes.now) }
+{
+    if codes.is_empty() {
+        text.extend_from_slice(b"printed 0\n")?;
+        return Ok(());
+    }
+    let written = write_tape_text(alloc, codes)?;
+    push_pieces(
+        text,
+        &[
+            Piece::Text(b"printed "),
+            Piece::Number(codes.len() as u64),
+            Piece::Text(b" "),
+        ],
+    )?;
+    text.extend_from_slice(&written)?;
+    text.push(b'\n')?;
+    Ok(())
+}
