@@ -30,8 +30,10 @@ pub with_bytes-source_of : (text bytes : List ℕ) → with_bytes (source_of tex
 unfolding source_of
 with_bytes-source_of text bytes =
     let long : Bool = nat_lt source_limit (length text) in
-    rw (gathered_so source_limit text bytes (nat_lt source_limit (length text)) refl,
-    kept_so (nat_lt source_limit (length text)) (nat_lt source_limit (length (text ++ bytes))) text bytes (still_long source_limit text bytes)) refl
+    rw (
+      gathered_so source_limit text bytes (nat_lt source_limit (length text)) refl,
+      kept_so (nat_lt source_limit (length text)) (nat_lt source_limit (length (text ++ bytes))) text bytes (still_long source_limit text bytes),
+    ) refl
 
 pub HasGathered-none : (r : Option (List ℕ)) (source : SourceText) → source ≡ source_of [] → HasGathered r r source
 HasGathered-none r source none = record { bytes = []; consumed = Consumes-none r; gathered = none }

@@ -82,19 +82,58 @@ pub enum Switch {
 
 /// The commands by their first word.
 const VERBS: [Named<Verb>; 19] = [
-    Named { name: b"put", value: Verb::Put },
-    Named { name: b"mount", value: Verb::Mount },
-    Named { name: b"press", value: Verb::Press },
-    Named { name: b"type", value: Verb::Type },
-    Named { name: b"turn", value: Verb::Turn },
-    Named { name: b"orders", value: Verb::Orders },
-    Named { name: b"panel", value: Verb::Panel },
-    Named { name: b"words", value: Verb::Words },
-    Named { name: b"show", value: Verb::Show },
-    Named { name: b"printed", value: Verb::Printed },
-    Named { name: b"dump", value: Verb::Dump },
-    Named { name: b"source", value: Verb::Source },
-    Named { name: b"list", value: Verb::List },
+    Named {
+        name: b"put",
+        value: Verb::Put,
+    },
+    Named {
+        name: b"mount",
+        value: Verb::Mount,
+    },
+    Named {
+        name: b"press",
+        value: Verb::Press,
+    },
+    Named {
+        name: b"type",
+        value: Verb::Type,
+    },
+    Named {
+        name: b"turn",
+        value: Verb::Turn,
+    },
+    Named {
+        name: b"orders",
+        value: Verb::Orders,
+    },
+    Named {
+        name: b"panel",
+        value: Verb::Panel,
+    },
+    Named {
+        name: b"words",
+        value: Verb::Words,
+    },
+    Named {
+        name: b"show",
+        value: Verb::Show,
+    },
+    Named {
+        name: b"printed",
+        value: Verb::Printed,
+    },
+    Named {
+        name: b"dump",
+        value: Verb::Dump,
+    },
+    Named {
+        name: b"source",
+        value: Verb::Source,
+    },
+    Named {
+        name: b"list",
+        value: Verb::List,
+    },
     Named {
         name: b"break",
         value: Verb::Break,
@@ -123,31 +162,82 @@ const VERBS: [Named<Verb>; 19] = [
 
 /// The buttons of the console.
 const BUTTONS: [Named<Action>; 9] = [
-    Named { name: b"normal", value: Action::Mode(Mode::Normal) },
-    Named { name: b"oneop", value: Action::Mode(Mode::OneOperation) },
-    Named { name: b"manual", value: Action::Mode(Mode::Manual) },
-    Named { name: b"start", value: Action::Start },
-    Named { name: b"clear", value: Action::ClearCounter },
-    Named { name: b"fill", value: Action::Fill },
-    Named { name: b"execute", value: Action::Execute },
-    Named { name: b"compute", value: Action::StartCompute },
-    Named { name: b"read", value: Action::StartRead },
+    Named {
+        name: b"normal",
+        value: Action::Mode(Mode::Normal),
+    },
+    Named {
+        name: b"oneop",
+        value: Action::Mode(Mode::OneOperation),
+    },
+    Named {
+        name: b"manual",
+        value: Action::Mode(Mode::Manual),
+    },
+    Named {
+        name: b"start",
+        value: Action::Start,
+    },
+    Named {
+        name: b"clear",
+        value: Action::ClearCounter,
+    },
+    Named {
+        name: b"fill",
+        value: Action::Fill,
+    },
+    Named {
+        name: b"execute",
+        value: Action::Execute,
+    },
+    Named {
+        name: b"compute",
+        value: Action::StartCompute,
+    },
+    Named {
+        name: b"read",
+        value: Action::StartRead,
+    },
 ];
 
 /// The switches of the console.
 const SWITCHES: [Named<Switch>; 6] = [
-    Named { name: b"bp32", value: Switch::BreakPoint(Which::B32) },
-    Named { name: b"bp16", value: Switch::BreakPoint(Which::B16) },
-    Named { name: b"bp8", value: Switch::BreakPoint(Which::B8) },
-    Named { name: b"bp4", value: Switch::BreakPoint(Which::B4) },
-    Named { name: b"transfer", value: Switch::Transfer },
-    Named { name: b"sixbit", value: Switch::SixBit },
+    Named {
+        name: b"bp32",
+        value: Switch::BreakPoint(Which::B32),
+    },
+    Named {
+        name: b"bp16",
+        value: Switch::BreakPoint(Which::B16),
+    },
+    Named {
+        name: b"bp8",
+        value: Switch::BreakPoint(Which::B8),
+    },
+    Named {
+        name: b"bp4",
+        value: Switch::BreakPoint(Which::B4),
+    },
+    Named {
+        name: b"transfer",
+        value: Switch::Transfer,
+    },
+    Named {
+        name: b"sixbit",
+        value: Switch::SixBit,
+    },
 ];
 
 /// The positions of a switch; true is down.
 const POSITIONS: [Named<bool>; 2] = [
-    Named { name: b"down", value: true },
-    Named { name: b"up", value: false },
+    Named {
+        name: b"down",
+        value: true,
+    },
+    Named {
+        name: b"up",
+        value: false,
+    },
 ];
 
 /// The command of a first word.

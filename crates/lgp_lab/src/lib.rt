@@ -3,10 +3,10 @@
 
 pub use feed::{Failed, Feed, FeedOf};
 pub use files::{asm_file, run_file, tape_file};
+pub use lgp_task::{FileName, FileNames, Task, TaskFault, task_of};
 pub use script::{batch_part, run_script};
 pub use sink::{Sink, SinkOf};
 pub use stream::LabFault;
-pub use lgp_task::{FileName, FileNames, Task, TaskFault, task_of};
 
 mod command;
 mod feed;

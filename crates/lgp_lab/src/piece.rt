@@ -41,10 +41,7 @@ fn push_piece<A: Allocator>(text: &mut Vec<u8, A>, piece: &Piece) -> Result<(), 
 }
 
 /// Appends pieces one after another.
-pub fn push_pieces<A: Allocator>(
-    text: &mut Vec<u8, A>,
-    pieces: &[Piece],
-) -> Result<(), AllocError>
+pub fn push_pieces<A: Allocator>(text: &mut Vec<u8, A>, pieces: &[Piece]) -> Result<(), AllocError>
     ensures { OnOk result (text.new.items ≡ text.old.items ++ pieces_text pieces.now) }
 {
     for piece in pieces {

@@ -54,10 +54,7 @@ pub fn push_counted<A: Allocator>(
 
 /// Appends a refusal.
 #[tactic(auto, unfolding(crate::specs::Refusal::refusal_text))]
-pub fn push_refusal<A: Allocator>(
-    text: &mut Vec<u8, A>,
-    refusal: Refusal,
-) -> Result<(), AllocError>
+pub fn push_refusal<A: Allocator>(text: &mut Vec<u8, A>, refusal: Refusal) -> Result<(), AllocError>
     ensures { OnOk result (text.new.items ≡ text.old.items ++ refusal_text refusal) }
 {
     match refusal {

@@ -33,10 +33,7 @@ impl Span {
     pub fn new(first: Address, count: u64) -> Option<Span>
         ensures { result ≡ range_of first count }
     {
-        if count > 0
-            && count <= SHOWN_LIMIT
-            && u64::from(first.number()) + count <= DRUM_SIZE
-        {
+        if count > 0 && count <= SHOWN_LIMIT && u64::from(first.number()) + count <= DRUM_SIZE {
             Some(Span { first, count })
         } else {
             None

@@ -575,7 +575,10 @@ fn a_source_has_at_most_1048576_bytes(rt: HostRuntime) -> Result<(), Fail> {
     let mut last = repeated(rt.alloc(), b";", 1018)?;
     last.extend_from_slice(b"\n end\n")?;
     for (text, replies) in [
-        (b"".as_slice(), b"? 9 Faults\nline 1025 NoEnd\nclock 1\n".as_slice()),
+        (
+            b"".as_slice(),
+            b"? 9 Faults\nline 1025 NoEnd\nclock 1\n".as_slice(),
+        ),
         (b"\n".as_slice(), b"? 11 TooLong\nclock 1\n".as_slice()),
         (b" end\n".as_slice(), b"? 11 TooLong\nclock 1\n".as_slice()),
     ] {
@@ -587,7 +590,10 @@ fn a_source_has_at_most_1048576_bytes(rt: HostRuntime) -> Result<(), Fail> {
     let script = many_lines(rt.alloc(), 1023, &last)?;
     let mut written = Vec::new(rt.alloc());
     let _faults = run(rt.alloc(), &script, &mut written);
-    assert_eq!(rt; written.as_slice(), b"cells 0 start none\nclock 1\n".as_slice());
+    assert_eq!(rt;
+        written.as_slice(),
+        b"cells 0 start none\nclock 1\n".as_slice()
+    );
     Ok(())
 }
 

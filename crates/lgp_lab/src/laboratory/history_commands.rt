@@ -32,7 +32,11 @@ impl<A: Allocator + Copy> Laboratory<A> {
 
     /// Takes a rule out.
     #[tactic(auto, unfolding(crate::specs::HistoryCommands::answer_to_drop, crate::specs::HistoryCommands::dropped_text))]
-    pub(super) fn drop_rule(&mut self, number: u64, reply: &mut Vec<u8, A>) -> Result<(), AllocError>
+    pub(super) fn drop_rule(
+        &mut self,
+        number: u64,
+        reply: &mut Vec<u8, A>,
+    ) -> Result<(), AllocError>
         ensures reply { OnOk result (reply.new.items
             ≡ reply.old.items ++ (answer_to_drop self.old number).reply) }
         ensures after { OnOk result (self.new ≡ (answer_to_drop self.old number).after) }

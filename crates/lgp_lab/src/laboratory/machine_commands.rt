@@ -18,11 +18,7 @@ use std::alloc::{AllocError, Allocator};
 
 impl<A: Allocator + Copy> Laboratory<A> {
     /// Presses a button or sets a switch.
-    pub(super) fn press(
-        &mut self,
-        action: Action,
-        reply: &mut Vec<u8, A>,
-    ) -> Result<(), AllocError>
+    pub(super) fn press(&mut self, action: Action, reply: &mut Vec<u8, A>) -> Result<(), AllocError>
         ensures reply { OnOk result (reply.new.items
             ≡ reply.old.items ++ (answer_to_press self.old action).reply) }
         ensures after { OnOk result (self.new ≡ (answer_to_press self.old action).after) }

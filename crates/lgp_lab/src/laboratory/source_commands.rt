@@ -92,10 +92,7 @@ impl<A: Allocator + Copy> Laboratory<A> {
 }
 
 /// Appends the start of a program.
-fn push_start<A: Allocator>(
-    text: &mut Vec<u8, A>,
-    start: Option<Address>,
-) -> Result<(), AllocError>
+fn push_start<A: Allocator>(text: &mut Vec<u8, A>, start: Option<Address>) -> Result<(), AllocError>
     ensures { OnOk result (text.new.items ≡ text.old.items ++ start_text start) }
 {
     match start {

@@ -8,8 +8,8 @@ ghost use Rattle.lgp_lab.specs.TapeCommands.{answer_to_mount, answer_to_printed,
 use super::Laboratory;
 use crate::piece::{Piece, push_pieces};
 use crate::refusal::{Refusal, push_refusal};
-use lgp_flexo::{Code, TextFault, read_tape_text, write_tape_text};
 use lgp_debugger::MountFault;
+use lgp_flexo::{Code, TextFault, read_tape_text, write_tape_text};
 use std::alloc::{AllocError, Allocator};
 
 impl<A: Allocator + Copy> Laboratory<A> {
@@ -28,11 +28,7 @@ impl<A: Allocator + Copy> Laboratory<A> {
     }
 
     /// Mounts a tape.
-    fn mount_codes(
-        &mut self,
-        codes: Vec<Code, A>,
-        reply: &mut Vec<u8, A>,
-    ) -> Result<(), AllocError>
+    fn mount_codes(&mut self, codes: Vec<Code, A>, reply: &mut Vec<u8, A>) -> Result<(), AllocError>
         requires { vec_len codes ≤ 1048576 }
         ensures reply { OnOk result (reply.new.items
             ≡ reply.old.items ++ (answer_to_tape self.old (Ok codes.items)).reply) }

@@ -36,7 +36,7 @@ returns-clause-text g c =
     let same = rw c.in-Ok.is at (c.in_ok-program.ensures.program (run_to c.args.limit)) in
     let ended = rw c.in-Some.is at c.in_ok-machine.ensures.ended in
     let printed = c.in_ok-push_printed.ensures
-        ∙ (ap (λ (text : List ℕ). text ++ printed_text c.printed.result.now) c.new-text.ensures.items ∙ ap printed_text c.printed.ensures) in
+    ∙ (ap (λ (text : List ℕ). text ++ printed_text c.printed.result.now) c.new-text.ensures.items ∙ ap printed_text c.printed.ensures) in
     let written = c.in_ok-push_panel.ensures ∙ ap (λ (text : List ℕ). text ++ panel_text c.in-Some.machine.state) printed in
     written ∙ ap (λ (a : FileAnswer). a.text) (sym (same ∙ ended))
 

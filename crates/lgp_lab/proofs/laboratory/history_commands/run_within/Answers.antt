@@ -22,7 +22,8 @@ returns-in-ClockEnd-clause-broken g c = λ none.
     let orders = c.in-Err.broken.orders in
     let same : run_of c.in-Err.broken.orders c.args.debugger.now ≡ (record { orders = c.in-Err.broken.orders; reason = Limit }, c.run-outcome.new.self) = c.in-Err.ensures.stands in
     let beyond : clock_end < c.run-outcome.new.self.state.clock + cost c.run-outcome.new.self.state = c.in-Err.ensures.clock_end.0 (search rules) in
-    let passes : passes_end c.run-outcome.new.self ≡ true = grind (arith, nat_tests) in
-    (c.in-Err.broken.orders,
-    run_cut c.in-Err.broken.orders c.args.limit c.args.debugger.now c.in-Err.ensures.within (rw same refl) (rw same within) (rw same passes),
-    rw same refl)
+    let passes : passes_end c.run-outcome.new.self ≡ true = grind (arith, nat_tests) in (
+      c.in-Err.broken.orders,
+      run_cut c.in-Err.broken.orders c.args.limit c.args.debugger.now c.in-Err.ensures.within (rw same refl) (rw same within) (rw same passes),
+      rw same refl,
+    )
