@@ -1,6 +1,5 @@
 -- A run, and whether the clock's end breaks it off.
-use Rattle.std.proofs.Common.{◌≡◌, ℕ, zero, suc, ◌+◌, ◌<◌, ◌≤◌, Bool, true, false, nat_lt, Option, Some, None, IfSome, option_map, refl, subst, sym, ap, ◌∙◌, arith}
-use Rattle.std.proofs.lemmas.Bool.{ltb-true}
+use Rattle.std.proofs.Common.{◌≡◌, ℕ, zero, suc, ◌+◌, ◌<◌, ◌≤◌, Bool, true, false, Option, Some, None, IfSome, option_map, refl, subst, sym, ap, ◌∙◌, arith}
 use Rattle.std.proofs.lemmas.Bool.Decides.{nat_tests}
 use Rattle.lgp_table.specs.Activity.{cost, next}
 use Rattle.lgp_table.specs.Console.{is_at_rest}
@@ -16,7 +15,7 @@ use Rattle.lgp_debugger.specs.declared.fault.Ran.{Ran}
 use Rattle.lgp_debugger.specs.declared.fault.Reason.{Reason}
 use Rattle.lgp_debugger.specs.declared.fault.Reason.TheVariants.{Rest, Limit, Rule as ByRule}
 use Rattle.lgp_lab.specs.HistoryCommands.{answer_to_run, broken_off, passes_end, ran_text, run_by, unless_hit}
-use Rattle.lgp_lab.specs.Standing.{Answer, Standing, refused, with_debugger}
+use Rattle.lgp_lab.specs.Standing.{Standing, refused, with_debugger}
 use Rattle.lgp_lab.specs.declared.refusal.Refusal.TheVariants.{ClockEnd}
 
 next_clock : (s : State) → (next s).clock ≡ s.clock + cost s

@@ -1,5 +1,5 @@
 -- Part of the public promise: what is written for a whole file, of a source or of a script.
-use Rattle.std.specs.Prelude.{◌≡◌, ℕ, zero, suc, ◌+◌, ◌++◌, if◌then◌else◌, nat_lt, Option, Some, None, List, [], ◌∷◌, codes}
+use Rattle.std.specs.Prelude.{ℕ, zero, suc, ◌+◌, ◌++◌, if◌then◌else◌, nat_lt, Option, Some, None, List, [], ◌∷◌, codes}
 use Rattle.std.specs.Io.KnownBytes.{Appends}
 use Rattle.lgp_word.specs.Drum.{blank_words}
 use Rattle.lgp_flexo.specs.TapeText.{written_tape}

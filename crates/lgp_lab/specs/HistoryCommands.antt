@@ -13,7 +13,7 @@ use Rattle.lgp_debugger.specs.declared.fault.Reason.{Reason}
 use Rattle.lgp_debugger.specs.declared.fault.Reason.TheVariants.{Rest, Limit, Rule as ByRule}
 use Rattle.lgp_lab.specs.MachineCommands.{clock_text}
 use Rattle.lgp_lab.specs.Refusal.{refusal_text}
-use Rattle.lgp_lab.specs.Standing.{Answer, Standing, refused, shown, with_debugger}
+use Rattle.lgp_lab.specs.Standing.{Answer, Standing, refused, with_debugger}
 use Rattle.lgp_lab.specs.declared.refusal.Refusal.TheVariants as refusals
 
 abbrev pub rule_text : ℕ → List ℕ

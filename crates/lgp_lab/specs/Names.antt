@@ -5,7 +5,6 @@ use Rattle.std.specs.Str.{bytes_eq}
 use Rattle.lgp_table.specs.declared.action.Action.{Action}
 use Rattle.lgp_table.specs.declared.action.Action.TheVariants as actions
 use Rattle.lgp_table.specs.declared.panel.Mode.TheVariants.{Normal, OneOperation, Manual}
-use Rattle.lgp_table.specs.declared.panel.Which.{Which}
 use Rattle.lgp_table.specs.declared.panel.Which.TheVariants.{B32, B16, B8, B4}
 use Rattle.lgp_lab.specs.declared.command.Verb.{Verb}
 use Rattle.lgp_lab.specs.declared.command.Verb.TheVariants as verbs

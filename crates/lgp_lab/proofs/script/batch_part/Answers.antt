@@ -1,9 +1,8 @@
-use Rattle.std.proofs.Common.{◌≡◌, ◌∷◌, [], Err, length, rules}
-use Rattle.std.specs.Io.KnownBytes.{Appends}
+use Rattle.std.proofs.Common.{◌≡◌, Err, length, rules}
 use Rattle.lgp_lab.specs.Files.{heading}
 use Rattle.lgp_lab.specs.Script.{script_language}
 use Rattle.lgp_lab.specs.Standing.{opening_standing}
-use Rattle.lgp_lab.specs.StreamInside.{HasStopped, fault_behind}
+use Rattle.lgp_lab.specs.StreamInside.{fault_behind}
 use Rattle.lgp_lab.proofs.StreamLemmas.{StandsWritten-heading, StandsWritten-part, StandsWritten-unnamed}
 use Rattle.lgp_lab.proofs.script.batch_part.Goals as goal
 

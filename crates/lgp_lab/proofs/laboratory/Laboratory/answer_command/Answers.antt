@@ -1,9 +1,8 @@
 use Rattle.std.proofs.Common.{◌≡◌, ◌∙◌, ◌++◌, None, Some, ap, false, rules, sym, true}
 use Rattle.std.proofs.lemmas.List.{append-nil}
 use Rattle.lgp_lab.specs.Command.{command_of, text_behind}
-use Rattle.lgp_lab.specs.Script.{answer_to, answer_to_command, is_passed_over}
-use Rattle.lgp_lab.specs.Standing.{Answer, refused}
-use Rattle.lgp_lab.specs.declared.refusal.Refusal.TheVariants.{Form}
+use Rattle.lgp_lab.specs.Script.{is_passed_over}
+use Rattle.lgp_lab.specs.Standing.{Answer}
 use Rattle.lgp_lab.proofs.KeptLemmas.{answer_longer, answer_none, answer_passed, answer_some}
 use Rattle.lgp_lab.proofs.laboratory.Laboratory.answer_command.Goals as goal
 

@@ -1,9 +1,8 @@
-use Rattle.std.proofs.Common.{◌≡◌, ◌<◌, ◌≤◌, ◌+◌, ◌∙◌, ap, arith, nat_lt, refl, rules, sym, true}
+use Rattle.std.proofs.Common.{◌≡◌, ◌<◌, ◌≤◌, ◌+◌, arith, refl, rules, true}
 use Rattle.std.proofs.lemmas.Bool.Decides.{nat_tests}
 use Rattle.lgp_table.specs.Activity.{cost}
 use Rattle.lgp_machine.specs.Answers.{clock_end}
-use Rattle.lgp_debugger.specs.Debugging.{Debugging, run_of}
-use Rattle.lgp_debugger.specs.declared.fault.Ran.{Ran}
+use Rattle.lgp_debugger.specs.Debugging.{run_of}
 use Rattle.lgp_debugger.specs.declared.fault.Reason.TheVariants.{Limit}
 use Rattle.lgp_lab.specs.HistoryCommands.{passes_end}
 use Rattle.lgp_lab.proofs.RunLemmas.{mark_within, run_cut, run_whole}
