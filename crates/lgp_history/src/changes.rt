@@ -41,13 +41,20 @@ impl<A: Allocator> Model for Record<A> {
 
     ghost view = { λ r. record {
       step = r.step;
-      mark = record { panel = r.panel; reader_on = r.reader_on; clock = r.clock; printed = r.printed; passed = r.passed };
+      mark = record {
+        panel = r.panel;
+        reader_on = r.reader_on;
+        clock = r.clock;
+        printed = r.printed;
+        passed = r.passed;
+      };
       lost = if r.loses then Some (r.address, r.word) else None;
       tape = r.tape;
     } };
 
     ghost invariant = { λ r. (r.clock ≤ clock_end)
-        × ((codes : List ℕ) → r.tape ≡ Some codes → (r.passed ≤ length codes) × (length codes ≤ tape_limit)) };
+        × ((codes : List ℕ) → r.tape ≡ Some codes
+        → (r.passed ≤ length codes) × (length codes ≤ tape_limit)) };
 }
 
 impl<A: Allocator + Clone> Record<A> {

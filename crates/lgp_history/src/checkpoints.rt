@@ -186,12 +186,15 @@ fn place_of<A: Allocator>(
     orders: u64,
 ) -> usize
     requires some { 1 ≤ orders }
-    requires kept { orders ≤ orders_in (drop passed (played (start_of trail.now.items) trail.now.items)) }
+    requires kept { orders
+        ≤ orders_in (drop passed (played (start_of trail.now.items) trail.now.items)) }
     ensures within { (passed ≤ result) × (result < length trail.now.items) }
-    ensures state { state_back orders (drop passed (played (start_of trail.now.items) trail.now.items))
+    ensures state { state_back orders
+        (drop passed (played (start_of trail.now.items) trail.now.items))
         (played_to (start_of trail.now.items) trail.now.items)
         ≡ played_to (start_of trail.now.items) (take result trail.now.items) }
-    ensures steps { steps_back orders (drop passed (played (start_of trail.now.items) trail.now.items))
+    ensures steps { steps_back orders
+        (drop passed (played (start_of trail.now.items) trail.now.items))
         ≡ drop passed (played (start_of trail.now.items) (take result trail.now.items)) }
 {
     let mut place = trail.len();
@@ -279,7 +282,8 @@ impl Latest {
     /// Passes an order, which a rule has hit or none.
     fn pass(&mut self, hit: Option<u8>)
         requires { self.old.orders < 2 ^ 63 }
-        ensures hit { hit_of self.new.orders self.new.rule ≡ hit_more (hit_of self.old.orders self.old.rule) hit }
+        ensures hit { hit_of self.new.orders self.new.rule
+            ≡ hit_more (hit_of self.old.orders self.old.rule) hit }
         ensures orders { self.new.orders ≤ self.old.orders + 1 }
     {
         if hit.is_some() {
@@ -319,7 +323,8 @@ impl<A: Allocator> Model for Checkpoints<A> {
       capacity = h.trail.capacity - 64;
     } };
 
-    ghost invariant = { λ h. IsTrail h.trail.items h.passed (h.trail.capacity - 64) × (64 < h.trail.capacity) };
+    ghost invariant = { λ h.
+        IsTrail h.trail.items h.passed (h.trail.capacity - 64) × (64 < h.trail.capacity) };
 }
 
 impl<A: Allocator + Clone> Checkpoints<A> {

@@ -47,8 +47,8 @@ pub trait History<A: Allocator>: Drop {
 
     /// Keeps a step for which it was prepared. Where as many are kept as there is room for, the oldest one goes.
     fn note(&mut self, note: Self::Note)
-        requires { (before : State) × ((step : Step A) × (CanStep step before × fits self.old note before step
-            × Leads (steps self.old before) before)) }
+        requires { (before : State) × ((step : Step A) × (CanStep step before
+            × fits self.old note before step × Leads (steps self.old before) before)) }
         ensures kept { (before : State) → (step : Step A) → CanStep step before
             → fits self.old note before step → Leads (steps self.old before) before
             → steps self.new (stepped step before)
@@ -71,7 +71,8 @@ pub trait History<A: Allocator>: Drop {
         ensures too_far { (kept : ℕ) → (result ≡ Err (BackFault.TooFar kept))
             ↔ ((kept ≡ orders_in (steps self.old machine.old.state)) × (kept < orders)) }
         ensures unchanged { OnErr result (machine.new ≡ machine.old) }
-        ensures steps_stay { OnErr result ((now : State) → steps self.new now ≡ steps self.old now) }
+        ensures steps_stay { OnErr result
+            ((now : State) → steps self.new now ≡ steps self.old now) }
         ensures capacity { capacity self.new ≡ capacity self.old };
 
     /// The latest kept order that a rule hits: how many orders back it is, and the number of the first rule that hits it.

@@ -3,7 +3,7 @@
 use crate::{LOADER, LoadFault, load, tape_of};
 use lgp_assembler::{Image, assemble};
 use lgp_flexo::write_tape_text;
-use lgp_keyin::{actions_to_jump, key_in, press_all};
+use lgp_keyin::{actions_to_jump, key_in};
 use lgp_machine::{Look, Machine};
 use lgp_table::{Action, Cause, Mode, Status};
 use lgp_word::{Address, Word, read_digits};
@@ -184,8 +184,8 @@ fn loading_stops_before_the_order_that_passes_the_clocks_end(rt: HostRuntime) ->
 fn nothing_is_loaded_within_an_order(rt: HostRuntime) -> Result<(), Fail> {
     let one_word = image(rt.alloc(), ONE_WORD)?;
     let mut machine = machine_at(rt.alloc(), 0)?;
-    let _ = machine.press(Action::Start);
-    machine.turn()?;
+    press(&mut machine, &[Action::Start]);
+    let _ = turn(&mut machine)?;
     assert_eq!(rt;
         load_image(rt.alloc(), &mut machine, &one_word),
         Err(LoadFault::Moving)
@@ -227,18 +227,52 @@ fn turn<A: Allocator>(machine: &mut Machine<A>) -> Result<bool, Fail> {
     Ok(machine.turn()?)
 }
 
+/// Keys the loader in.
+fn key<A: Allocator>(machine: &mut Machine<A>, base: Address) -> Result<(), Fail> {
+    Ok(key_in(machine, base, &LOADER)?)
+}
+
+/// Mounts the tape of an image.
+fn mount(alloc: Global, machine: &mut Machine, image: &Image) -> Result<(), Fail> {
+    let tape = tape_of(alloc, image)?;
+    match machine.mount(tape) {
+        Ok(()) => Ok(()),
+        Err(_) => Err("no tape is mounted")?,
+    }
+}
+
+fn press<A: Allocator>(machine: &mut Machine<A>, actions: &[Action]) {
+    for action in actions {
+        let _ = machine.press(*action);
+    }
+}
+
+fn next_order<A: Allocator>(machine: &mut Machine<A>) -> Result<(), Fail> {
+    machine.next_order()?;
+    Ok(())
+}
+
 /// The loader set going by hand, with a tape mounted.
 fn loader_started(alloc: Global, image: &Image) -> Result<Machine, Fail> {
-    let mut machine = Machine::new(alloc)?;
+    let mut machine = machine_at(alloc, 0)?;
     let base = at(b"6300")?;
-    key_in(&mut machine, base, &LOADER)?;
-    let Ok(()) = machine.mount(tape_of(alloc, image)?) else {
-        return Err("no tape is mounted")?;
-    };
-    press_all(&mut machine, &actions_to_jump(base));
-    machine.next_order()?;
-    press_all(&mut machine, &[Action::Mode(Mode::Normal), Action::Start]);
+    key(&mut machine, base)?;
+    mount(alloc, &mut machine, image)?;
+    press(&mut machine, &actions_to_jump(base));
+    next_order(&mut machine)?;
+    press(&mut machine, &[Action::Mode(Mode::Normal), Action::Start]);
     Ok(machine)
+}
+
+/// Lets so many orders end, word time by word time.
+fn let_orders_end<A: Allocator>(machine: &mut Machine<A>, wanted: u32) -> Result<(), Fail> {
+    let mut orders = 0;
+    for _ in 0..20000 {
+        if orders < wanted && turn(machine)? {
+            orders += 1;
+        }
+    }
+    Ok(())
 }
 
 #[test]
@@ -246,13 +280,8 @@ fn transfer_control_does_not_disturb_loading(rt: HostRuntime) -> Result<(), Fail
     let one_word = image(rt.alloc(), ONE_WORD)?;
     let mut machine = loader_started(rt.alloc(), &one_word)?;
     let _ = turn(&mut machine)?;
-    let _ = machine.press(Action::Transfer(true));
-    let mut orders = 0u32;
-    for _ in 0..20000 {
-        if orders < 13 && turn(&mut machine)? {
-            orders += 1;
-        }
-    }
+    press(&mut machine, &[Action::Transfer(true)]);
+    let_orders_end(&mut machine, 13)?;
     let end_word = word(b"80000000")?;
     expect_look(&rt, look(&machine), at(b"6310")?, end_word, STOPPED, 11348);
     assert!(rt; look(&machine).is_some_and(|look| look.switches.transfer));
