@@ -10,7 +10,7 @@ use crate::{
 use lgp_drum::Drum;
 use lgp_flexo::{Code, TAPE_LIMIT, read_tape_text};
 use lgp_table::{Action, Cause, Event, Mode, Status, Switches, Which};
-use lgp_word::{Address, Word};
+use lgp_word::{Address, Op, Word};
 use linked_list_allocator::LocalHeap;
 use std::alloc::{AllocError, Allocator};
 use std::test::Fail;
@@ -92,6 +92,10 @@ fn printed<A: Allocator>(machine: &Machine<A>) -> (usize, Option<Code>) {
 
 fn word_at<A: Allocator>(machine: &Machine<A>, at: u16) -> u32 {
     machine.word(address(at)).get()
+}
+
+fn parts_at<A: Allocator>(machine: &Machine<A>, at: u16) -> (bool, Op, Address) {
+    machine.parts(address(at))
 }
 
 fn copy<A: Allocator + Clone>(machine: &Machine<A>) -> Result<Machine<A>, AllocError> {
@@ -191,6 +195,16 @@ fn seventeen_actions() -> [Action; 17] {
 /// So many codes.
 fn codes<A: Allocator>(alloc: A, count: usize) -> Result<Vec<Code, A>, AllocError> {
     vec![in alloc; Code::STOP; count]
+}
+
+/// A transfer shows its parts before it is kept decoded and after.
+#[test]
+fn a_word_shows_its_parts(rt: HostRuntime) -> Result<(), Fail> {
+    let mut machine = started(rt.alloc(), TRANSFER)?;
+    assert_eq!(rt; parts_at(&machine, 0), (false, Op::U, address(0)));
+    next_order(&mut machine)?;
+    assert_eq!(rt; parts_at(&machine, 0), (false, Op::U, address(0)));
+    Ok(())
 }
 
 #[test]

@@ -102,7 +102,8 @@ pub fn activities_together()
 /// does not change them.
 #[tactic(auto, using(crate::proofs::Unseen::switches_unseen))]
 pub fn unseen_switches()
-    ensures cost { (s : State) → (switches : Switches) → cost (with_switches s switches) ≡ cost s }
+    ensures cost { (s : State) → (switches : Switches)
+        → cost (with_switches s switches) ≡ cost s }
     ensures next { (s : State) → (switches : Switches) → looks_at_switches s ≡ false
         → next (with_switches s switches) ≡ with_switches (next s) switches }
 {}
