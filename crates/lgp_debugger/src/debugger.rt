@@ -12,7 +12,7 @@ ghost use Rattle.lgp_history.specs.Steps.{orders_in};
 ghost use Rattle.lgp_flexo.specs.TapeText.{tape_limit};
 ghost use Rattle.lgp_debugger.specs.WatchInside.{watches_of};
 ghost use Rattle.lgp_debugger.specs.Debugging.{after_back, after_step, first_stop, rule_limit, run_of};
-ghost use Rattle.lgp_loader.specs.Loading.{EndsLoading, loaded, orders_to_load};
+ghost use Rattle.lgp_loader.specs.Loading.{loaded, loading_stopped, orders_to_load};
 ghost use Rattle.std.specs.Result.{IsErrAnd};
 
 use crate::fault::{
@@ -100,6 +100,7 @@ impl<H: History<A>, A: Allocator> Debugger<H, A> {
     }
 
     /// One order: the activity that begins here.
+    #[inline(always)]
     pub fn step(&mut self) -> Result<Outcome, StepFault>
         ensures performed { OnOk result (self.new ≡ after_step self.old Step.Perform) }
         ensures cost { IfOk result (λ outcome. outcome.cost ≡ cost self.old.state) }
@@ -181,6 +182,22 @@ impl<H: History<A>, A: Allocator> Debugger<H, A> {
             self.step()?;
             return Ok(None);
         }
+        self.go_on_by_rules()
+    }
+
+    /// The same where there are rules, out of the way of a run without any.
+    #[inline(never)]
+    #[tactic(auto, using(crate::proofs::WatchLemmas::watched_stop))]
+    fn go_on_by_rules(&mut self) -> Result<Option<u8>, StepFault>
+        ensures performed { OnOk result (self.new ≡ after_step self.old Step.Perform) }
+        ensures stop { IfOk result (λ stop. stop ≡ first_stop self.old.rules self.old.state) }
+        ensures at_rest { (result ≡ Err StepFault.AtRest)
+            ↔ IsTrue (is_at_rest self.old.state.core.panel.status) }
+        ensures clock_end { (result ≡ Err StepFault.ClockEnd)
+            ↔ ((is_at_rest self.old.state.core.panel.status ≡ false)
+            × (clock_end < self.old.state.clock + cost self.old.state)) }
+        ensures unchanged { OnErr result (self.new ≡ self.old) }
+    {
         let watches = self.watches();
         self.step()?;
         Ok(first_stop_now(&self.machine, watches.as_slice()))
@@ -452,24 +469,50 @@ impl<H: History<A>, A: Allocator> Debugger<H, A> {
     }
 }
 
+/// Loads a program into a machine at a boundary by the keyed-in loader, and answers how many orders it performed.
+#[tactic(auto, using(lgp_loader::proofs::Stopped::stopped_nowhere))]
+fn load_machine<A: Allocator + Copy, B: Allocator>(
+    alloc: A,
+    machine: &mut Machine<A>,
+    image: &Image<B>,
+) -> Result<u64, LoadFault>
+    requires { machine.old ≡ at_boundary machine.old.state }
+    ensures loaded { OnOk result
+        (machine.new ≡ at_boundary (loaded machine.old.state image.now)) }
+    ensures orders { IfOk result (λ orders. orders ≡ orders_to_load image.now) }
+    ensures whole { OnOk result (loading_stopped machine.old.state image.now ≡ None) }
+    ensures moving { result ≢ Err LoadFault.Moving }
+    ensures no_memory { result ≡ Err LoadFault.Memory → machine.new ≡ machine.old }
+    ensures stands { result ≡ Err LoadFault.ClockEnd
+        → loading_stopped machine.old.state image.now ≡ Some machine.new.state }
+    ensures boundary { result ≡ Err LoadFault.ClockEnd
+        → machine.new ≡ at_boundary machine.new.state }
+{
+    let outcome = load(alloc, machine, image);
+    // That the clock is within its end is what the mark's clause says.
+    let _ = machine.mark();
+    outcome
+}
+
 impl<H: History<A>, A: Allocator + Copy> Debugger<H, A> {
     /// Loads a program by the keyed-in loader, and answers how many orders it performed. No step is kept afterwards, unless nothing
     /// was done: where there is no memory for the tape (`Memory`), all is as before. Where the clock would pass its end (`ClockEnd`),
-    /// the machine stands at the boundary whose activity would pass it. `Moving` is never answered.
+    /// the machine stands at the first boundary of the loading whose activity would pass it. `Moving` is never answered.
     pub fn load<B: Allocator>(&mut self, alloc: A, image: &Image<B>) -> Result<u64, LoadFault>
         ensures loaded { OnOk result (self.new ≡ record self.old {
           state = loaded self.old.state image.now;
           steps = [];
         }) }
         ensures orders { IfOk result (λ orders. orders ≡ orders_to_load image.now) }
+        ensures whole { OnOk result (loading_stopped self.old.state image.now ≡ None) }
         ensures moving { result ≢ Err LoadFault.Moving }
         ensures no_memory { result ≡ Err LoadFault.Memory → self.new ≡ self.old }
         ensures stands { result ≡ Err LoadFault.ClockEnd
-            → EndsLoading (at_boundary self.new.state) self.old.state image.now }
+            → loading_stopped self.old.state image.now ≡ Some self.new.state }
         ensures emptied { result ≡ Err LoadFault.ClockEnd
             → self.new ≡ record self.old { state = self.new.state; steps = [] } }
     {
-        match load(alloc, &mut self.machine, image) {
+        match load_machine(alloc, &mut self.machine, image) {
             Ok(orders) => {
                 self.history.clear();
                 Ok(orders)

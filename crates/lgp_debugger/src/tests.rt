@@ -1,10 +1,11 @@
 //! The debugger by its calls, over each history.
 
+mod growths;
 mod rows;
 
 use crate::{
     Debugger, HitFault, IdleFault, MountFault, PutFault, Ran, Reason, RuleFault, RunFault,
-    StepFault,
+    RunRefusal, StepFault,
 };
 use lgp_drum::Drum;
 use lgp_flexo::{Code, read_tape_text};

@@ -1,4 +1,5 @@
 pub mod KeptSteps
+pub mod Looking
 pub mod Undoing
 pub mod RecordedSteps
 pub mod Trails

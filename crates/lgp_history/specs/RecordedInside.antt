@@ -48,6 +48,11 @@ pub record Recorded (X : Type 0) : Type 0 where
   pub lost : Option (ℕ × ℕ)
   pub tape : Option (List ℕ)
 
+-- the tape that is taken out, where nothing is said of one there is none
+abbrev pub tape_or_none : Option (Option (List ℕ)) → Option (List ℕ)
+tape_or_none None = None
+tape_or_none (Some tape) = tape
+
 -- whether a lost word can be put back: there is another one in its place
 abbrev pub can_restore : Option (ℕ × ℕ) → List ℕ → Bool
 can_restore None words = true
@@ -63,6 +68,11 @@ with_tape None passed s = s
 with_tape (Some codes) passed s = with_tape_at s codes passed
 
 module _ {X : Type 0} where
+  -- a step of which nothing is said is an order
+  abbrev pub step_or_order : Option (Step X) → Step X
+  step_or_order None = Perform
+  step_or_order (Some step) = step
+
   -- the word that a step loses, and the tape that it takes out
   abbrev pub lost_of : Step X → State → Option (ℕ × ℕ)
   lost_of Perform s = lost_in s.core.panel.status s.core

@@ -1,12 +1,12 @@
 //! What is recorded of a step, so that it can be undone.
 
-ghost use Rattle.std.specs.Prelude.{◌≡◌, ◌≤◌, ℕ, List, Some, length, position, IfOk, IsTrue};
+ghost use Rattle.std.specs.Prelude.{◌≡◌, ◌≤◌, ℕ, List, Some, length, option_map, position, IfOk, IsTrue};
 ghost use Rattle.lgp_flexo.specs.TapeText.{tape_limit};
 ghost use Rattle.lgp_word.specs.Address.{address_after};
 ghost use Rattle.lgp_table.specs.Interleaving.{at_boundary, is_boundary};
 ghost use Rattle.lgp_table.specs.declared.panel.Panel.{Panel};
 ghost use Rattle.lgp_history.specs.Steps.{is_order};
-ghost use Rattle.lgp_history.specs.RecordedInside.{can_restore, lost_by_order, lost_in, lost_of, lost_word, tape_of, with_tape};
+ghost use Rattle.lgp_history.specs.RecordedInside.{can_restore, lost_by, lost_by_order, lost_in, lost_of, lost_word, tape_of, tape_or_none, with_tape};
 
 use crate::rule::Rule;
 use crate::step::{Step, Tape};
@@ -14,9 +14,11 @@ use lgp_machine::{Machine, Mark};
 use lgp_table::{Panel, Status};
 use lgp_word::{Address, Op, Word, parts, with_address};
 use std::alloc::{AllocError, Allocator};
+use std::boxed::Box;
 use std::marker::Model;
 
-/// What is recorded of a step and of the machine before it. Its fields are flat and narrow, since one is written at every order.
+/// What is recorded of a step and of the machine before it. One is written at every order, so its fields are flat and narrow, and
+/// what only other steps need lies in a box.
 #[derive(Drop)]
 pub struct Record<A: Allocator> {
     panel: Panel,
@@ -24,23 +26,69 @@ pub struct Record<A: Allocator> {
     printed: usize,
     passed: usize,
     reader_on: bool,
-    loses: bool,
+    lost: Lost,
+    /// Nothing for an order.
+    other: Option<Box<Other<A>, A>>,
+}
+
+/// The word that stood at an address before another was stored there, or the same. Clauses see the lost word with its address, and
+/// nothing where it was the same.
+#[derive(Drop)]
+struct Lost {
+    differs: bool,
     address: Address,
     word: Word,
+}
+
+impl Model for Lost {
+    ghost use Rattle.std.specs.Prelude.{ℕ, Option, Some, None, if◌then◌else◌};
+
+    ghost Value = { Option (ℕ × ℕ) };
+
+    ghost view = { λ l. if l.differs then Some (l.address, l.word) else None };
+}
+
+impl Lost {
+    /// The lost word with its address.
+    fn word(&self) -> Option<(Address, Word)>
+        ensures { result ≡ self.now }
+    {
+        if self.differs {
+            Some((self.address, self.word))
+        } else {
+            None
+        }
+    }
+
+    /// No word is stored.
+    fn nothing() -> Lost
+        ensures { result ≡ None }
+    {
+        Lost {
+            differs: false,
+            address: Address::default(),
+            word: Word::default(),
+        }
+    }
+}
+
+/// A step, and the tape that it takes out.
+#[derive(Drop)]
+struct Other<A: Allocator> {
     step: Step<A>,
     tape: Option<Tape<A>>,
 }
 
 impl<A: Allocator> Model for Record<A> {
-    ghost use Rattle.std.specs.Prelude.{◌≡◌, ℕ, ◌≤◌, List, length, Some, None, if◌then◌else◌};
+    ghost use Rattle.std.specs.Prelude.{◌≡◌, ℕ, ◌≤◌, List, length, option_map, Some, None, if◌then◌else◌};
     ghost use Rattle.lgp_flexo.specs.TapeText.{tape_limit};
     ghost use Rattle.lgp_machine.specs.Answers.{clock_end};
-    ghost use Rattle.lgp_history.specs.RecordedInside.{Recorded};
+    ghost use Rattle.lgp_history.specs.RecordedInside.{Recorded, step_or_order, tape_or_none};
 
     ghost Value = { Recorded A };
 
     ghost view = { λ r. record {
-      step = r.step;
+      step = step_or_order (option_map (λ other. other.value.step) r.other);
       mark = record {
         panel = r.panel;
         reader_on = r.reader_on;
@@ -48,42 +96,90 @@ impl<A: Allocator> Model for Record<A> {
         printed = r.printed;
         passed = r.passed;
       };
-      lost = if r.loses then Some (r.address, r.word) else None;
-      tape = r.tape;
+      lost = r.lost;
+      tape = tape_or_none (option_map (λ other. other.value.tape) r.other);
     } };
 
     ghost invariant = { λ r. (r.clock ≤ clock_end)
-        × ((codes : List ℕ) → r.tape ≡ Some codes
+        × ((codes : List ℕ) → tape_or_none (option_map (λ other. other.value.tape) r.other)
+        ≡ Some codes
         → (r.passed ≤ length codes) × (length codes ≤ tape_limit)) };
+}
+
+impl<A: Allocator> Record<A> {
+    ghost use Rattle.lgp_machine.specs.Answers.{clock_end};
+    ghost use Rattle.lgp_history.specs.RecordedInside.{recorded, step_or_order, tape_or_none};
+
+    /// What is recorded of the order that begins where the machine is.
+    #[inline(always)]
+    pub fn of_order(before: &Machine<A>) -> Record<A>
+        requires { IsTrue (is_boundary before.now) }
+        ensures { result ≡ recorded Step.Perform before.now.state }
+    {
+        let Some(mark) = before.mark() else {
+            unreachable!()
+        };
+        let lost = lost_in(before);
+        Record::at(&mark, lost, None)
+    }
+
+    /// The record of a step that begins at a mark: the word that it loses and, in a box, a step that is no order.
+    #[inline(always)]
+    fn at(mark: &Mark, lost: Lost, other: Option<Box<Other<A>, A>>) -> Record<A>
+        requires clock { mark.now.clock ≤ clock_end }
+        requires tape { (codes : List ℕ)
+            → tape_or_none (option_map (λ other. other.value.tape) other) ≡ Some codes
+            → (mark.now.passed ≤ length codes) × (length codes ≤ tape_limit) }
+        ensures { result ≡ record {
+          step = step_or_order (option_map (λ other. other.value.step) other);
+          mark = mark.now;
+          lost = lost;
+          tape = tape_or_none (option_map (λ other. other.value.tape) other);
+        } }
+    {
+        Record {
+            panel: mark.panel,
+            clock: mark.clock,
+            printed: mark.printed,
+            passed: mark.passed,
+            reader_on: mark.reader_on,
+            lost,
+            other,
+        }
+    }
 }
 
 impl<A: Allocator + Clone> Record<A> {
     ghost use Rattle.lgp_history.specs.RecordedInside.{recorded};
 
     /// What is recorded of a step that can be done where the machine is, or a refused growth.
-    pub fn new(before: &Machine<A>, step: &Step<A>) -> Result<Record<A>, AllocError>
+    #[inline(always)]
+    pub fn new(alloc: &A, before: &Machine<A>, step: &Step<A>) -> Result<Record<A>, AllocError>
+        requires { IsTrue (is_boundary before.now) }
+        ensures { IfOk result (λ r. r ≡ recorded step.now before.now.state) }
+    {
+        match step {
+            Step::Perform => Ok(Record::of_order(before)),
+            Step::Press(_) | Step::Idle(_) | Step::Mount(_) | Step::Put(..) => {
+                Record::of_other(alloc, before, step)
+            }
+        }
+    }
+
+    /// The same of any step, which is kept in a box.
+    #[inline(never)]
+    fn of_other(alloc: &A, before: &Machine<A>, step: &Step<A>) -> Result<Record<A>, AllocError>
         requires { IsTrue (is_boundary before.now) }
         ensures { IfOk result (λ r. r ≡ recorded step.now before.now.state) }
     {
         let Some(mark) = before.mark() else {
             unreachable!()
         };
+        let lost = lost_of(before, step);
         let tape = tape_of(before, step)?;
         let step = step.copy()?;
-        let lost = lost_of(before, &step, &mark.panel);
-        let (address, word) = lost.unwrap_or_default();
-        Ok(Record {
-            panel: mark.panel,
-            clock: mark.clock,
-            printed: mark.printed,
-            passed: mark.passed,
-            reader_on: mark.reader_on,
-            loses: lost.is_some(),
-            address,
-            word,
-            step,
-            tape,
-        })
+        let other = Box::new(alloc.clone()?, Other { step, tape })?;
+        Ok(Record::at(&mark, lost, Some(other)))
     }
 }
 
@@ -94,7 +190,10 @@ impl<A: Allocator> Record<A> {
     pub fn is_order(&self) -> bool
         ensures { result ≡ is_order self.now.step }
     {
-        self.step.is_order()
+        match &self.other {
+            None => true,
+            Some(other) => other.step.is_order(),
+        }
     }
 
     /// Whether a rule hits the order.
@@ -105,7 +204,7 @@ impl<A: Allocator> Record<A> {
             Rule::At(address) => {
                 matches!(self.panel.status, Status::Going) && self.panel.counter == *address
             }
-            Rule::Changed(address) => self.loses && self.address == *address,
+            Rule::Changed(address) => self.lost.differs && self.lost.address == *address,
         }
     }
 
@@ -136,17 +235,14 @@ impl<A: Allocator> Record<A> {
             printed,
             passed,
             reader_on,
-            loses,
-            address,
-            word,
-            step: _step,
-            tape,
+            lost,
+            other,
         } = self;
-        let lost = if loses { Some((address, word)) } else { None };
+        let lost = lost.word();
         if printed > machine.printed().len() || !can_restore(machine, &lost) {
             return;
         }
-        put_tape(machine, tape, passed);
+        put_tape(machine, taken_tape(other), passed);
         let mark = Mark {
             panel,
             reader_on,
@@ -156,6 +252,14 @@ impl<A: Allocator> Record<A> {
         };
         let _ = machine.return_to(&mark, lost);
     }
+}
+
+/// The tape that is kept with a step.
+fn taken_tape<A: Allocator>(other: Option<Box<Other<A>, A>>) -> Option<Tape<A>>
+    ensures { result ≡ tape_or_none (option_map (λ other. other.value.tape) other) }
+{
+    let Other { step: _step, tape } = Box::into_inner(other?);
+    tape
 }
 
 /// Puts a tape back of which so many codes have passed, if there is one.
@@ -183,34 +287,34 @@ fn can_restore<A: Allocator>(machine: &Machine<A>, lost: &Option<(Address, Word)
     }
 }
 
-/// The word that is lost where another is stored at an address; `None` where the same word is stored.
-fn lost_word<A: Allocator>(
-    machine: &Machine<A>,
-    address: Address,
-    word: Word,
-) -> Option<(Address, Word)>
+/// The word that is lost where a word is stored at an address.
+fn lost_word<A: Allocator>(machine: &Machine<A>, address: Address, word: Word) -> Lost
     ensures { result ≡ lost_word machine.now.state.core address word }
 {
     let old = machine.word(address);
     let _number = address.number();
-    if old == word {
-        None
-    } else {
-        Some((address, old))
+    Lost {
+        differs: old != word,
+        address,
+        word: old,
     }
 }
 
 /// The word that an order loses which begins with these registers.
-fn lost_by_order<A: Allocator>(
+#[inline(always)]
+fn lost_by<A: Allocator>(
     machine: &Machine<A>,
-    order: Word,
+    op: Op,
+    address: Address,
     accumulator: u32,
     counter: Address,
-) -> Option<(Address, Word)>
+) -> Lost
     ensures { (panel : Panel) → panel.accumulator ≡ accumulator → panel.counter ≡ counter
-        → result ≡ lost_by_order order (record machine.now.state.core { panel = panel }) }
+        → result ≡ lost_by op address (record machine.now.state.core { panel = panel }) }
 {
-    let (_, op, address) = parts(order);
+    if !matches!(op, Op::Y | Op::R | Op::H | Op::C) {
+        return Lost::nothing();
+    }
     match op {
         Op::Y => {
             let part = parts(Word::of_bits(accumulator)).2;
@@ -222,42 +326,53 @@ fn lost_by_order<A: Allocator>(
             with_address(machine.word(address), counter.next()),
         ),
         Op::H | Op::C => lost_word(machine, address, Word::of_bits(accumulator)),
-        _ => None,
+        _ => Lost::nothing(),
     }
 }
 
-/// The word that the activity loses which begins with these registers.
-fn lost_in<A: Allocator>(machine: &Machine<A>, panel: &Panel) -> Option<(Address, Word)>
+/// The word that the order in the instruction register loses.
+#[cold]
+#[inline(never)]
+fn lost_in_register<A: Allocator>(machine: &Machine<A>) -> Lost
+    requires { IsTrue (is_boundary machine.now) }
     ensures { result
-        ≡ lost_in panel.now.status (record machine.now.state.core { panel = panel.now }) }
+        ≡ lost_by_order machine.now.state.core.panel.register machine.now.state.core }
 {
-    match panel.status {
-        Status::Going => lost_by_order(
-            machine,
-            machine.word(panel.counter),
-            panel.accumulator,
-            panel.counter.next(),
-        ),
-        Status::Executing => {
-            lost_by_order(machine, panel.register, panel.accumulator, panel.counter)
-        }
-        Status::Halted(_) | Status::Waiting | Status::Reading => None,
-    }
+    let Some(look) = machine.look() else {
+        unreachable!()
+    };
+    let (_, op, address) = parts(look.register);
+    lost_by(machine, op, address, look.accumulator, look.counter)
 }
 
-/// The word that a step loses which is done with these registers.
-fn lost_of<A: Allocator>(
-    machine: &Machine<A>,
-    step: &Step<A>,
-    panel: &Panel,
-) -> Option<(Address, Word)>
-    requires { panel.now ≡ machine.now.state.core.panel }
+/// The word that the activity loses which begins here.
+#[inline(always)]
+fn lost_in<A: Allocator>(machine: &Machine<A>) -> Lost
+    requires { IsTrue (is_boundary machine.now) }
+    ensures { result ≡ lost_in machine.now.state.core.panel.status machine.now.state.core }
+{
+    let Some(look) = machine.look() else {
+        unreachable!()
+    };
+    if matches!(look.status, Status::Going) {
+        let (_, op, address) = machine.parts(look.counter);
+        return lost_by(machine, op, address, look.accumulator, look.counter.next());
+    }
+    if !matches!(look.status, Status::Executing) {
+        return Lost::nothing();
+    }
+    lost_in_register(machine)
+}
+
+/// The word that a step loses.
+fn lost_of<A: Allocator>(machine: &Machine<A>, step: &Step<A>) -> Lost
+    requires { IsTrue (is_boundary machine.now) }
     ensures { result ≡ lost_of step.now machine.now.state }
 {
     match step {
-        Step::Perform => lost_in(machine, panel),
+        Step::Perform => lost_in(machine),
         Step::Put(address, word) => lost_word(machine, *address, *word),
-        Step::Press(_) | Step::Idle(_) | Step::Mount(_) => None,
+        Step::Press(_) | Step::Idle(_) | Step::Mount(_) => Lost::nothing(),
     }
 }
 

@@ -212,7 +212,8 @@ fn place_of<A: Allocator>(
 /// How many orders there are on a trail from the place `passed` on.
 fn orders_from<A: Allocator>(trail: &HeapCircularBuffer<Checkpoint<A>, A>, passed: usize) -> u64
     requires { passed ≤ length trail.now.items }
-    ensures { result ≡ orders_in (drop passed (played (start_of trail.now.items) trail.now.items)) }
+    ensures { result
+        ≡ orders_in (drop passed (played (start_of trail.now.items) trail.now.items)) }
 {
     let mut orders = 0;
     for place in passed..trail.len() {
@@ -247,8 +248,7 @@ fn find_from<A: Allocator + Clone>(
             unreachable!()
         };
         if noted.is_order() {
-            let hit = first_hit(&machine, rules)?;
-            latest.pass(hit);
+            latest.pass(first_hit(&machine, rules));
         }
         noted.take_step(&mut machine)?;
     }
@@ -256,17 +256,13 @@ fn find_from<A: Allocator + Clone>(
 }
 
 /// The number of the first rule that hits the order that begins where the machine is.
-fn first_hit<A: Allocator + Clone>(
-    machine: &Machine<A>,
-    rules: &[Rule],
-) -> Result<Option<u8>, AllocError>
+fn first_hit<A: Allocator>(machine: &Machine<A>, rules: &[Rule]) -> Option<u8>
     requires boundary { machine.now ≡ at_boundary machine.now.state }
     requires few { length rules.now ≤ 256 }
-    ensures { IfOk result (λ hit. hit ≡ first_hit rules.now machine.now.state) }
+    ensures { result ≡ first_hit rules.now machine.now.state }
 {
-    let perform: Step<A> = Step::Perform;
-    let record = Record::new(machine, &perform)?;
-    Ok(record.first_hit(rules))
+    let record = Record::of_order(machine);
+    record.first_hit(rules)
 }
 
 /// The latest order so far that a rule hits: its rule, and how many orders there have been from it on.

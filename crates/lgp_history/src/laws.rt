@@ -13,7 +13,7 @@ use std::alloc::Allocator;
 /// Going back as many orders as were done last, and performing as many again, comes to the same state.
 #[tactic(auto, using(crate::proofs::StepLaws::again))]
 pub fn orders_again<A: Allocator>()
-    ensures { (earlier : List (State × Step A)) → (later : List (State × Step A)) → (now : State)
+    ensures { (earlier later : List (State × Step A)) → (now : State)
         → Leads (earlier ++ later) now → 0 < length later → orders_in later ≡ length later
         → performed_again (state_back (length later) (earlier ++ later) now) later ≡ now }
 {}

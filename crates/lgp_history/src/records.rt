@@ -71,10 +71,12 @@ impl<A: Allocator + Clone> History<A> for Records<A> {
 
     ghost fits = { λ history note before step. note ≡ recorded step before };
 
+    #[inline(always)]
     fn prepare(&mut self, before: &Machine<A>, step: &Step<A>) -> Result<Self::Note, AllocError> {
-        Record::new(before, step)
+        Record::new(self.records.allocator(), before, step)
     }
 
+    #[inline(always)]
     fn note(&mut self, note: Self::Note) {
         let _oldest = self.records.push_back(note);
     }

@@ -31,7 +31,8 @@ pub enum KeyFault {
 /// Stores a word by hand. Answers false where the clock would pass its end: all is then pressed, and the order not performed.
 #[tactic(auto, using(crate::proofs::ByHand::storing))]
 fn store<M: Operate>(machine: &mut M, address: Address, word: Word) -> bool
-    requires boundary { M.configuration machine.old ≡ at_boundary (M.configuration machine.old).state }
+    requires boundary { M.configuration machine.old
+        ≡ at_boundary (M.configuration machine.old).state }
     requires up { (M.configuration machine.old).state.core.panel.switches.six_bit ≡ false }
     ensures stored { OnTrue result (M.configuration machine.new
         ≡ at_boundary (next (about_to_store (M.configuration machine.old).state address word))) }

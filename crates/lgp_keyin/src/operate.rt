@@ -29,7 +29,8 @@ pub trait Operate {
 
     /// What shows; nothing within an activity.
     fn look(&self) -> Option<Look>
-        ensures look { result ≡ shown (configuration self.now) (look_of (configuration self.now).state) }
+        ensures look { result
+            ≡ shown (configuration self.now) (look_of (configuration self.now).state) }
         ensures drum { length (configuration self.now).state.core.words ≡ 4096 };
 
     /// Presses: at a boundary the action acts at once, else it is kept until the activity ends.
@@ -53,7 +54,8 @@ pub trait Operate {
     fn next_order(&mut self) -> Result<Outcome, OrderFault>
         ensures state { OnOk result (configuration self.new
             ≡ at_boundary (next (configuration self.old).state)) }
-        ensures cost { IfOk result (λ outcome. outcome.cost ≡ cost (configuration self.old).state) }
+        ensures cost { IfOk result (λ outcome.
+            outcome.cost ≡ cost (configuration self.old).state) }
         ensures status { IfOk result (λ outcome.
             outcome.status ≡ (configuration self.new).state.core.panel.status) }
         ensures printed { IfOk result (λ outcome.

@@ -242,6 +242,22 @@ fn a_load_keeps_no_step(rt: HostRuntime) -> Result<(), Fail> {
     Ok(())
 }
 
+/// One word time before the clock's end the order that stores the loader's first word is keyed in, and not performed.
+#[test]
+fn a_load_stops_at_the_clocks_end(rt: HostRuntime) -> Result<(), Fail> {
+    let mut lab = debugger(rt.alloc(), Records::new(rt.alloc(), 8)?)?;
+    assert_eq!(rt; idle(&mut lab, (1 << 62) - 1), Ok(()));
+    assert_eq!(rt; load(&mut lab, rt.alloc(), b" end"), None);
+    let shown = look(&lab);
+    assert_eq!(rt;
+        (shown.status, shown.register.get(), shown.accumulator),
+        (Status::Executing, 0x000c_3f00, 0x0008_0000)
+    );
+    assert_eq!(rt; word_at(&lab, 4032), 0);
+    assert_eq!(rt; kept(&lab), (0, 0));
+    Ok(())
+}
+
 #[test]
 fn word_times_at_rest_pass(rt: HostRuntime) -> Result<(), Fail> {
     let mut lab = debugger(rt.alloc(), Records::new(rt.alloc(), 4)?)?;

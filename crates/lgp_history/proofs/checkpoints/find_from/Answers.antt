@@ -6,7 +6,7 @@ use Rattle.lgp_history.specs.declared.checkpoints.Latest.{Latest}
 use Rattle.lgp_history.specs.declared.step.Step.{Step}
 use Rattle.lgp_history.proofs.Trails.{at_its_boundary, can_at, done_at, kept_to-all, kept_to-none, latest_passed, latest_skipped, nothing_within}
 use Rattle.lgp_history.proofs.checkpoints.find_from.Goals as goal
-use Rattle.lgp_history.proofs.checkpoints.find_from.Goals.{then-is_order+in_ok-hit, else-is_order}
+use Rattle.lgp_history.proofs.checkpoints.find_from.Goals.{then-is_order, else-is_order}
 
 pub loop-place-init : goal.loop-place-init
 loop-place-init g c =
@@ -33,13 +33,13 @@ loop-place-preserved g c =
     record {
       machine = done_at c.loop-place.machine c.take_step.new.machine c.loop-place.place es c.in-Some.noted.now got c.loop-place.invariant.machine c.in_ok-take_step.ensures;
       few = elim c.if-is_order.branch [
-        | then-is_order+in_ok-hit w ↦ let is = ap (λ (l : Latest). l.orders) w.latest-is in omega (arith, w.pass.ensures.orders, is)
+        | then-is_order w ↦ let is = ap (λ (l : Latest). l.orders) w.latest-is in omega (arith, w.pass.ensures.orders, is)
         | else-is_order w ↦ let is = ap (λ (l : Latest). l.orders) w.latest-is in omega (arith, is)
       ];
       latest = elim c.if-is_order.branch [
-        | then-is_order+in_ok-hit w ↦
+        | then-is_order w ↦
             ap (λ (l : Latest). hit_of l.orders l.rule) w.latest-is
-            ∙ latest_passed c.args.rules.now es c.args.passed c.loop-place.place c.in-Some.noted.now c.loop-place.machine (hit_of c.loop-place.latest.orders c.loop-place.latest.rule) (hit_of w.pass.new.self.orders w.pass.new.self.rule) w.in_ok-hit.hit c.loop-place.auto.place got (sym w.if-is_order.ensures) c.loop-place.invariant.machine c.loop-place.invariant.latest w.in_ok-hit.ensures w.pass.ensures.hit
+            ∙ latest_passed c.args.rules.now es c.args.passed c.loop-place.place c.in-Some.noted.now c.loop-place.machine (hit_of c.loop-place.latest.orders c.loop-place.latest.rule) (hit_of w.pass.new.self.orders w.pass.new.self.rule) _ c.loop-place.auto.place got (sym w.if-is_order.ensures) c.loop-place.invariant.machine c.loop-place.invariant.latest w.first_hit.ensures w.pass.ensures.hit
         | else-is_order w ↦
             ap (λ (l : Latest). hit_of l.orders l.rule) w.latest-is
             ∙ latest_skipped c.args.rules.now es c.args.passed c.loop-place.place c.in-Some.noted.now (hit_of c.loop-place.latest.orders c.loop-place.latest.rule) c.loop-place.auto.place got (sym w.if-is_order.ensures) c.loop-place.invariant.latest
