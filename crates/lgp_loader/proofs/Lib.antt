@@ -4,3 +4,4 @@ pub mod Cells
 pub mod Through
 pub mod Law
 pub mod Ready
+pub mod Stopped

@@ -1,5 +1,6 @@
 -- Part of the public promise. Loading: the loader is keyed in, the tape mounted, the loader started, and so many orders performed.
-use Rattle.std.specs.Prelude.{◌≡◌, ℕ, ◌+◌, ◌*◌, ◌<◌, ◌⊎◌, false, List, [], Option, None, Some, fold, length, slice_set}
+use Rattle.std.specs.Prelude.{◌≡◌, ℕ, ◌+◌, ◌*◌, ◌<◌, ◌⊎◌, ◌++◌, Bool, false, nat_lt, List, [], ◌∷◌, Option, None, Some, find, fold, length, map, slice_set}
+use Rattle.std.specs.List.{range_with_len}
 use Rattle.lgp_flexo.specs.Tape.{Tape}
 use Rattle.lgp_table.specs.State.{State, core_of}
 use Rattle.lgp_table.specs.Activity.{cost}
@@ -96,3 +97,24 @@ abbrev pub EndsLoading : Configuration → State → ImageParts → Type 0
 EndsLoading now s image =
     (BeginsStore now s ⊎ (BeginsJump now s image ⊎ BeginsOrder now s image))
     × (clock_end < now.state.clock + cost now.state)
+
+-- whether the activity that begins in a state would pass it
+abbrev pub passes_end : State → Bool
+passes_end s = nat_lt clock_end (s.clock + cost s)
+
+-- the states in which words are about to be stored, and those in which so many activities begin, one after another
+unfoldable pub store_states : State → ℕ → List ℕ → List State
+store_states s base words = map (before_store s base words) (range_with_len 0 (length words))
+
+unfoldable pub order_states : State → ℕ → List State
+order_states s count = map (after s) (range_with_len 0 count)
+
+-- the states in which the activities of loading begin: the stores of the loader's words, the jump that starts it, its orders
+abbrev pub loading_states : State → ImageParts → List State
+loading_states s image =
+    store_states s loader_base loader_words
+    ++ (about_to_jump (prepared s image) loader_base ∷ order_states (begun s image) (orders_to_load image))
+
+-- where loading meets the end of the clock: in the first of these states whose activity would pass it; None where there is none
+unfoldable pub loading_stopped : State → ImageParts → Option State
+loading_stopped s image = find passes_end (loading_states s image)

@@ -1,11 +1,12 @@
 //! What follows from the definitions, each law as the contract of a function that does nothing.
 
-ghost use Rattle.std.specs.Prelude.{◌≡◌, ◌+◌, ℕ, List, IfSome, length, true};
+ghost use Rattle.std.specs.Prelude.{◌≡◌, ◌+◌, ◌≤◌, ℕ, List, IfSome, None, Some, length, true};
 ghost use Rattle.std.specs.List.{count_by, list_all};
 ghost use Rattle.lgp_assembler.specs.Parts.{AreProgramCells, ImageParts};
-ghost use Rattle.lgp_loader.specs.Loading.{begun, left_by_load, loaded, orders_to_load};
+ghost use Rattle.lgp_loader.specs.Loading.{EndsLoading, begun, left_by_load, loaded, loading_stopped, orders_to_load};
+ghost use Rattle.lgp_machine.specs.Answers.{clock_end};
 ghost use Rattle.lgp_table.specs.After.{total_cost};
-ghost use Rattle.lgp_table.specs.Interleaving.{after_events, at_boundary};
+ghost use Rattle.lgp_table.specs.Interleaving.{Configuration, after_events, at_boundary};
 ghost use Rattle.lgp_table.specs.State.{State};
 ghost use Rattle.lgp_table.specs.SwitchPresses.{is_time_or_switch, is_word_time, with_switches};
 ghost use Rattle.lgp_table.specs.declared.panel.Switches.{Switches};
@@ -40,4 +41,16 @@ pub fn undisturbed()
         → (switches : Switches)
         × (after_events (at_boundary (begun s image)) events
         ≡ at_boundary (with_switches (loaded s image) switches)) }
+{}
+
+/// Where the clock's end stops loading there is one state alone in which the machine can stand: the first one whose activity would
+/// pass the end. The clock goes on by what the activities cost, so none before it would. A loading that ends within the clock is
+/// stopped nowhere.
+#[tactic(auto, using(crate::proofs::Stopped::loading_stops))]
+pub fn stopped()
+    ensures first { (s : State) → (image : ImageParts) → (now : Configuration)
+        → EndsLoading now s image → now.state.clock ≤ clock_end
+        → loading_stopped s image ≡ Some now.state }
+    ensures nowhere { (s : State) → (image : ImageParts)
+        → (loaded s image).clock ≤ clock_end → loading_stopped s image ≡ None }
 {}

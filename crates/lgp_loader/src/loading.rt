@@ -93,7 +93,8 @@ fn prepare<A: Allocator, M: Operate<Tape = Vec<Code, A>>>(
 /// order not performed.
 #[tactic(auto, using(lgp_keyin::proofs::ByHand::jumping))]
 fn begin<M: Operate>(machine: &mut M) -> bool
-    requires boundary { M.configuration machine.old ≡ at_boundary (M.configuration machine.old).state }
+    requires boundary { M.configuration machine.old
+        ≡ at_boundary (M.configuration machine.old).state }
     requires up { (M.configuration machine.old).state.core.panel.switches.six_bit ≡ false }
     ensures begun { OnTrue result (M.configuration machine.new
         ≡ at_boundary (started (M.configuration machine.old).state loader_base)) }
@@ -112,7 +113,8 @@ fn begin<M: Operate>(machine: &mut M) -> bool
 
 /// Performs an order that is at work and prints nothing. Answers false where it would pass the end of the clock.
 fn perform_one<M: Operate>(machine: &mut M) -> bool
-    requires boundary { M.configuration machine.old ≡ at_boundary (M.configuration machine.old).state }
+    requires boundary { M.configuration machine.old
+        ≡ at_boundary (M.configuration machine.old).state }
     requires work { is_at_rest (M.configuration machine.old).state.core.panel.status ≡ false }
     requires silent { print_of (M.configuration machine.old).state.core ≡ None }
     ensures performed { OnTrue result (M.configuration machine.new
@@ -127,7 +129,8 @@ fn perform_one<M: Operate>(machine: &mut M) -> bool
 
 /// Performs so many orders that are at work and print nothing. Answers false where one of them would pass the end of the clock.
 fn perform<M: Operate>(machine: &mut M, orders: u64) -> bool
-    requires boundary { M.configuration machine.old ≡ at_boundary (M.configuration machine.old).state }
+    requires boundary { M.configuration machine.old
+        ≡ at_boundary (M.configuration machine.old).state }
     requires work { (before : ℕ) → before < orders
         → is_at_rest (after (M.configuration machine.old).state before).core.panel.status ≡ false }
     requires silent { (before : ℕ) → before < orders

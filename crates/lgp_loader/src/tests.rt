@@ -222,6 +222,23 @@ fn nothing_is_pressed_where_the_tape_has_no_room(rt: HostRuntime) -> Result<(), 
     Ok(())
 }
 
+/// How long the tape of a program is where so many bytes of the heap are free; none where it is refused.
+fn tape_with_room(heap: &LocalHeap, image: &Image, room: usize) -> Result<Option<usize>, Fail> {
+    let _filler: Vec<u8, &LocalHeap> = Vec::with_capacity(heap, heap.free().saturating_sub(room))?;
+    let tape = tape_of(heap, image).ok();
+    Ok(tape.map(|codes| codes.len()))
+}
+
+#[test]
+fn a_tape_is_made_where_there_is_room(rt: HostRuntime) -> Result<(), Fail> {
+    let heap = LocalHeap::new(rt.alloc(), 4096)?;
+    let one_word = image(rt.alloc(), ONE_WORD)?;
+    for (room, length) in [(0, None), (16, None), (24, None), (1024, Some(28))] {
+        assert_eq!(rt; tape_with_room(&heap, &one_word, room)?, length);
+    }
+    Ok(())
+}
+
 /// Whether a word time ends at a boundary.
 fn turn<A: Allocator>(machine: &mut Machine<A>) -> Result<bool, Fail> {
     Ok(machine.turn()?)

@@ -1,0 +1,206 @@
+-- Where loading meets the end of the clock.
+use Rattle.std.proofs.Common.{◌≡◌, ℕ, zero, suc, ◌+◌, ◌-◌, ◌<◌, ◌≤◌, true, false, cond, refl, sym, ap, ◌∙◌, arith, List, [], ◌∷◌, Option, Some, None, length, map, slice_index, take, inl, inr}
+use Rattle.std.specs.List.{find, range_with_len}
+use Rattle.std.specs.Option.{option_or}
+use Rattle.std.proofs.lemmas.Bool.Decides.{nat_tests}
+use Rattle.std.proofs.lemmas.List.Folds.{find-append}
+use Rattle.lgp_table.specs.State.{State}
+use Rattle.lgp_table.specs.Activity.{cost, next}
+use Rattle.lgp_table.specs.After.{after}
+use Rattle.lgp_table.specs.Interleaving.{Configuration, at_boundary}
+use Rattle.lgp_table.proofs.After.{after_none, after_one_more}
+use Rattle.lgp_machine.specs.Answers.{clock_end}
+use Rattle.lgp_keyin.specs.KeyIn.{about_to_jump, about_to_store, keyed, with_four_bit_input, words_keyed}
+use Rattle.lgp_keyin.specs.Keyed.{before_store}
+use Rattle.lgp_assembler.specs.Parts.{ImageParts}
+use Rattle.lgp_loader.specs.Loading.{EndsLoading, begun, loaded, loading_stopped, order_states, orders_to_load, passes_end, prepared, store_states}
+use Rattle.lgp_loader.specs.Places.{loader_base, loader_words}
+use Rattle.lgp_loader.proofs.Law.{loading_time}
+use Rattle.lgp_loader.proofs.Ready.{begun_later, clock_later}
+
+-- an activity within the clock, and one past its end
+fits : (s : State) → s.clock + cost s ≤ clock_end → passes_end s ≡ false
+fits s within = grind (arith, nat_tests)
+
+passes : (s : State) → clock_end < s.clock + cost s → passes_end s ≡ true
+passes s past = grind (arith, nat_tests)
+
+-- the first of states that are told by their number
+module _ (f : ℕ → State) where
+  none_of : (first count : ℕ) → ((k : ℕ) → k < count → passes_end (f (first + k)) ≡ false)
+      → find passes_end (map f (range_with_len first count)) ≡ None
+  none_of first zero calm = refl
+  none_of first (suc count) calm =
+      let here : passes_end (f first) ≡ false = ap (λ n. passes_end (f n)) (let e : first ≡ first + 0 = omega arith in e) ∙ calm 0 (omega arith) in
+      ap (λ b. cond b (Some (f first)) (find passes_end (map f (range_with_len (first + 1) count)))) here
+      ∙ none_of (first + 1) count (λ k less. ap (λ n. passes_end (f n)) (let e : first + 1 + k ≡ first + (k + 1) = omega arith in e) ∙ calm (k + 1) (omega (arith, less)))
+
+  first_of : (first count done : ℕ) → done < count → ((k : ℕ) → k < done → passes_end (f (first + k)) ≡ false) → passes_end (f (first + done)) ≡ true
+      → find passes_end (map f (range_with_len first count)) ≡ Some (f (first + done))
+  first_of first zero done less calm past = absurd (let wrong : ⊥ = omega (arith, less) in wrong)
+  first_of first (suc count) zero less calm past =
+      let same : first ≡ first + 0 = omega arith in
+      ap (λ b. cond b (Some (f first)) (find passes_end (map f (range_with_len (first + 1) count)))) (ap (λ n. passes_end (f n)) same ∙ past)
+      ∙ ap (λ n. Some (f n)) same
+  first_of first (suc count) (suc done) less calm past =
+      let here : passes_end (f first) ≡ false = ap (λ n. passes_end (f n)) (let e : first ≡ first + 0 = omega arith in e) ∙ calm 0 (omega arith) in
+      let same : first + 1 + done ≡ first + suc done = omega arith in
+      ap (λ b. cond b (Some (f first)) (find passes_end (map f (range_with_len (first + 1) count)))) here
+      ∙ (first_of (first + 1) count done (omega (arith, less))
+      (λ k below. ap (λ n. passes_end (f n)) (let e : first + 1 + k ≡ first + (k + 1) = omega arith in e) ∙ calm (k + 1) (omega (arith, below)))
+      (ap (λ n. passes_end (f n)) same ∙ past)
+      ∙ ap (λ n. Some (f n)) same)
+
+-- the same for the states of stores and of orders
+no_store : (s : State) (base : ℕ) (words : List ℕ) → ((k : ℕ) → k < length words → passes_end (before_store s base words k) ≡ false)
+    → find passes_end (store_states s base words) ≡ None
+unfolding store_states
+no_store s base words calm =
+    none_of (before_store s base words) 0 (length words) (λ k less. ap (λ n. passes_end (before_store s base words n)) (let e : 0 + k ≡ k = omega arith in e) ∙ calm k less)
+
+first_store : (s : State) (base : ℕ) (words : List ℕ) (done : ℕ) → done < length words → ((k : ℕ) → k < done → passes_end (before_store s base words k) ≡ false)
+    → passes_end (before_store s base words done) ≡ true → find passes_end (store_states s base words) ≡ Some (before_store s base words done)
+unfolding store_states
+first_store s base words done less calm past =
+    let same : 0 + done ≡ done = omega arith in
+    first_of (before_store s base words) 0 (length words) done less (λ k below. ap (λ n. passes_end (before_store s base words n)) (let e : 0 + k ≡ k = omega arith in e) ∙ calm k below)
+    (ap (λ n. passes_end (before_store s base words n)) same ∙ past)
+    ∙ ap (λ n. Some (before_store s base words n)) same
+
+no_order : (s : State) (count : ℕ) → ((k : ℕ) → k < count → passes_end (after s k) ≡ false) → find passes_end (order_states s count) ≡ None
+unfolding order_states
+no_order s count calm = none_of (after s) 0 count (λ k less. ap (λ n. passes_end (after s n)) (let e : 0 + k ≡ k = omega arith in e) ∙ calm k less)
+
+first_order : (s : State) (count done : ℕ) → done < count → ((k : ℕ) → k < done → passes_end (after s k) ≡ false) → passes_end (after s done) ≡ true
+    → find passes_end (order_states s count) ≡ Some (after s done)
+unfolding order_states
+first_order s count done less calm past =
+    let same : 0 + done ≡ done = omega arith in
+    first_of (after s) 0 count done less (λ k below. ap (λ n. passes_end (after s n)) (let e : 0 + k ≡ k = omega arith in e) ∙ calm k below)
+    (ap (λ n. passes_end (after s n)) same ∙ past)
+    ∙ ap (λ n. Some (after s n)) same
+
+-- one word more stored
+store_more : (s : State) (base : ℕ) (words : List ℕ) (k : ℕ) → k < length words
+    → words_keyed s base (take (suc k) words) ≡ next (about_to_store (words_keyed s base (take k words)) (base + k) (slice_index words k))
+unfolding words_keyed
+store_more s base [] k less = absurd (let wrong : ⊥ = omega (arith, less) in wrong)
+store_more s base (word ∷ words) zero less = ap (λ n. next (about_to_store s n word)) (let e : base ≡ base + 0 = omega arith in e)
+store_more s base (word ∷ words) (suc k) less =
+    let t = next (about_to_store s base word) in
+    store_more t (base + 1) words k (omega (arith, less))
+    ∙ ap (λ n. next (about_to_store (words_keyed t (base + 1) (take k words)) n (slice_index words k))) (let e : base + 1 + k ≡ base + suc k = omega arith in e)
+
+-- the clock while words are stored
+keyed_clock : (s : State) (base : ℕ) (words : List ℕ) (k : ℕ) → k < length words
+    → (before_store s base words k).clock + cost (before_store s base words k) ≡ (keyed s base (take (k + 1) words)).clock
+keyed_clock s base words k less =
+    ap (λ (t : State). t.clock) (sym (store_more (with_four_bit_input s) base words k less))
+    ∙ ap (λ n. (keyed s base (take n words)).clock) (let e : suc k ≡ k + 1 = omega arith in e)
+
+keyed_grows : (s : State) (base : ℕ) (words : List ℕ) (k more : ℕ) → k + more ≤ length words
+    → (keyed s base (take k words)).clock ≤ (keyed s base (take (k + more) words)).clock
+keyed_grows s base words k zero le =
+    let same : (keyed s base (take (k + 0) words)).clock ≡ (keyed s base (take k words)).clock = ap (λ n. (keyed s base (take n words)).clock) (let e : k + 0 ≡ k = omega arith in e) in
+    omega (arith, same)
+keyed_grows s base words k (suc more) le =
+    let before = keyed_grows s base words k more (omega (arith, le)) in
+    let one : (keyed s base (take (k + more) words)).clock ≤ (keyed s base (take (k + more + 1) words)).clock =
+    omega (arith, keyed_clock s base words (k + more) (omega (arith, le))) in
+    let same : (keyed s base (take (k + suc more) words)).clock ≡ (keyed s base (take (k + more + 1) words)).clock =
+    ap (λ n. (keyed s base (take n words)).clock) (let e : k + suc more ≡ k + more + 1 = omega arith in e) in
+    omega (arith, before, one, same)
+
+-- a store before others ends before they begin
+store_fits : (s : State) (base : ℕ) (words : List ℕ) (k done : ℕ) → k < done → done ≤ length words
+    → (keyed s base (take done words)).clock ≤ clock_end → passes_end (before_store s base words k) ≡ false
+store_fits s base words k done below within clock =
+    let left : k + 1 + (done - (k + 1)) ≡ done = omega (arith, below) in
+    let later : (keyed s base (take (k + 1) words)).clock ≤ (keyed s base (take (k + 1 + (done - (k + 1))) words)).clock =
+    keyed_grows s base words (k + 1) (done - (k + 1)) (omega (arith, left, within)) in
+    let same : (keyed s base (take (k + 1 + (done - (k + 1))) words)).clock ≡ (keyed s base (take done words)).clock = ap (λ n. (keyed s base (take n words)).clock) left in
+    fits (before_store s base words k) (omega (arith, keyed_clock s base words k (omega (arith, below, within)), later, same, clock))
+
+order_fits : (s : State) (k done : ℕ) → k < done → (after s done).clock ≤ clock_end → passes_end (after s k) ≡ false
+order_fits s k done below clock =
+    let one : (after s (k + 1)).clock ≡ (after s k).clock + cost (after s k) = ap (λ (t : State). t.clock) (after_one_more s k) in
+    let later = clock_later s (k + 1) done (omega (arith, below)) in
+    fits (after s k) (omega (arith, one, later, clock))
+
+-- no store of the loader passes the end where the clock after them all is within it
+stores_fit : (s : State) → (keyed s loader_base loader_words).clock ≤ clock_end → find passes_end (store_states s loader_base loader_words) ≡ None
+stores_fit s clock = no_store s loader_base loader_words (λ k less. store_fits s loader_base loader_words k (length loader_words) less (omega arith) clock)
+
+jump_fits : (s : State) (image : ImageParts) → (begun s image).clock ≤ clock_end → passes_end (about_to_jump (prepared s image) loader_base) ≡ false
+jump_fits s image clock = fits (about_to_jump (prepared s image) loader_base) clock
+
+-- the first of all states of loading, by the parts
+behind_stores : (s : State) (image : ImageParts) → (keyed s loader_base loader_words).clock ≤ clock_end
+    → loading_stopped s image
+    ≡ find passes_end (about_to_jump (prepared s image) loader_base ∷ order_states (begun s image) (orders_to_load image))
+unfolding loading_stopped
+behind_stores s image clock =
+    let others = about_to_jump (prepared s image) loader_base ∷ order_states (begun s image) (orders_to_load image) in
+    find-append passes_end (store_states s loader_base loader_words) others ∙ ap (λ o. option_or o (find passes_end others)) (stores_fit s clock)
+
+behind_jump : (s : State) (image : ImageParts) → (begun s image).clock ≤ clock_end
+    → loading_stopped s image ≡ find passes_end (order_states (begun s image) (orders_to_load image))
+behind_jump s image clock =
+    let jump = about_to_jump (prepared s image) loader_base in
+    let stores : (keyed s loader_base loader_words).clock ≤ clock_end = omega (arith, begun_later s image, clock) in
+    behind_stores s image stores
+    ∙ ap (λ b. cond b (Some jump) (find passes_end (order_states (begun s image) (orders_to_load image)))) (jump_fits s image clock)
+
+stopped_in_store : (s : State) (image : ImageParts) (done : ℕ) → done < length loader_words
+    → (before_store s loader_base loader_words done).clock ≤ clock_end → passes_end (before_store s loader_base loader_words done) ≡ true
+    → loading_stopped s image ≡ Some (before_store s loader_base loader_words done)
+unfolding loading_stopped
+stopped_in_store s image done less clock past =
+    let others = about_to_jump (prepared s image) loader_base ∷ order_states (begun s image) (orders_to_load image) in
+    let found = first_store s loader_base loader_words done less (λ k below. store_fits s loader_base loader_words k done below (omega (arith, less)) clock) past in
+    find-append passes_end (store_states s loader_base loader_words) others ∙ ap (λ o. option_or o (find passes_end others)) found
+
+stopped_in_jump : (s : State) (image : ImageParts)
+    → (about_to_jump (prepared s image) loader_base).clock ≤ clock_end → passes_end (about_to_jump (prepared s image) loader_base) ≡ true
+    → loading_stopped s image ≡ Some (about_to_jump (prepared s image) loader_base)
+stopped_in_jump s image clock past =
+    let jump = about_to_jump (prepared s image) loader_base in
+    behind_stores s image clock ∙ ap (λ b. cond b (Some jump) (find passes_end (order_states (begun s image) (orders_to_load image)))) past
+
+stopped_in_order : (s : State) (image : ImageParts) (done : ℕ) → done < orders_to_load image
+    → (after (begun s image) done).clock ≤ clock_end → passes_end (after (begun s image) done) ≡ true
+    → loading_stopped s image ≡ Some (after (begun s image) done)
+stopped_in_order s image done less clock past =
+    let none : (after (begun s image) 0).clock ≡ (begun s image).clock = ap (λ (t : State). t.clock) (after_none (begun s image)) in
+    let later = clock_later (begun s image) 0 done (omega arith) in
+    behind_jump s image (omega (arith, none, later, clock))
+    ∙ first_order (begun s image) (orders_to_load image) done less (λ k below. order_fits (begun s image) k done below clock) past
+
+-- a boundary of some state, and what is known of it there
+found_at : (now : Configuration) (t : State) (found : Option State) → now ≡ at_boundary t → now.state.clock ≤ clock_end → clock_end < now.state.clock + cost now.state
+    → (t.clock ≤ clock_end → passes_end t ≡ true → found ≡ Some t) → found ≡ Some now.state
+found_at now t found at within past is =
+    let clock : now.state.clock ≡ t.clock = ap (λ (c : Configuration). c.state.clock) at in
+    let end : now.state.clock + cost now.state ≡ t.clock + cost t = ap (λ (c : Configuration). c.state.clock + cost c.state) at in
+    is (omega (arith, clock, within)) (passes t (omega (arith, end, past))) ∙ ap (λ (c : Configuration). Some c.state) (sym at)
+
+-- where loading ends at the clock, it does so in the first state whose activity would pass the end: the clock goes on by what the
+-- activities cost, so none before it would
+pub stopped_first : (s : State) (image : ImageParts) (now : Configuration) → EndsLoading now s image → now.state.clock ≤ clock_end
+    → loading_stopped s image ≡ Some now.state
+stopped_first s image now ends within = elim ends.0 [
+  | inl store ↦ found_at now (before_store s loader_base loader_words store.0) (loading_stopped s image) store.2 within ends.1 (stopped_in_store s image store.0 store.1)
+  | inr later ↦ elim later [
+    | inl jump ↦ found_at now (about_to_jump (prepared s image) loader_base) (loading_stopped s image) jump within ends.1 (stopped_in_jump s image)
+    | inr order ↦ found_at now (after (begun s image) order.0) (loading_stopped s image) order.2 within ends.1 (stopped_in_order s image order.0 order.1)
+  ]
+]
+
+-- and where the clock after loading is within the end, nowhere
+pub stopped_nowhere : (s : State) (image : ImageParts) → (loaded s image).clock ≤ clock_end → loading_stopped s image ≡ None
+stopped_nowhere s image clock =
+    let time = loading_time s image in
+    behind_jump s image (omega (arith, time, clock))
+    ∙ no_order (begun s image) (orders_to_load image) (λ k less. order_fits (begun s image) k (orders_to_load image) less clock)
+
+pub ruleset loading_stops = (stopped_first, stopped_nowhere)
