@@ -1,14 +1,10 @@
 -- A run, and whether the clock's end breaks it off.
-use Rattle.std.proofs.Common.{◌≡◌, ℕ, zero, suc, ◌+◌, ◌<◌, ◌≤◌, Bool, true, false, Option, Some, None, IfSome, option_map, refl, subst, sym, ap, ◌∙◌, arith}
+use Rattle.std.proofs.Common.{◌≡◌, ℕ, zero, suc, ◌+◌, ◌<◌, ◌≤◌, Bool, true, false, Option, Some, None, option_map, refl, sym, ap, ◌∙◌, arith}
 use Rattle.std.proofs.lemmas.Bool.Decides.{nat_tests}
 use Rattle.lgp_table.specs.Activity.{cost, next}
 use Rattle.lgp_table.specs.Console.{is_at_rest}
 use Rattle.lgp_table.specs.State.{State}
-use Rattle.lgp_table.specs.Interleaving.{Configuration, at_boundary}
 use Rattle.lgp_machine.specs.Answers.{clock_end}
-use Rattle.lgp_machine.specs.Look.{shown}
-use Rattle.lgp_machine.specs.Marks.{mark_of}
-use Rattle.lgp_machine.specs.declared.mark.Mark.{Mark}
 use Rattle.lgp_history.specs.declared.step.Step.TheVariants.{Perform}
 use Rattle.lgp_debugger.specs.Debugging.{Debugging, after_step, ended_for, first_stop, one_order_more, run_of, unless_stopped}
 use Rattle.lgp_debugger.specs.declared.fault.Ran.{Ran}
@@ -20,13 +16,6 @@ use Rattle.lgp_lab.specs.declared.refusal.Refusal.TheVariants.{ClockEnd}
 
 next_clock : (s : State) → (next s).clock ≡ s.clock + cost s
 next_clock s = refl
-
--- the clock of a machine whose mark can be taken
-pub mark_within : (s : State) (now : Configuration) (found : Option Mark) → now ≡ at_boundary s → found ≡ shown now (mark_of now.state) → IfSome found (λ mark. mark.clock ≤ clock_end) → s.clock ≤ clock_end
-mark_within s now found here is within =
-    let some : found ≡ Some (mark_of s) = is ∙ ap (λ (n : Configuration). shown n (mark_of n.state)) here in
-    let P : Option Mark → Type 0 = λ o. IfSome o (λ mark. mark.clock ≤ clock_end) in
-    subst P some within
 
 module _ {A : Type 0} where
   abbrev rests : Debugging A → Bool

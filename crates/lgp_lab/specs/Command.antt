@@ -84,6 +84,7 @@ command_by verbs.Printed operands = lone commands.Printed operands
 command_by verbs.Dump operands = lone commands.Dump operands
 command_by verbs.Source operands = lone commands.Source operands
 command_by verbs.List operands = lone commands.List operands
+command_by verbs.Load operands = lone commands.Load operands
 command_by verbs.Break operands = option_map commands.Break (lone_address operands)
 command_by verbs.Watch operands = option_map commands.Watch (lone_address operands)
 command_by verbs.Drop operands = option_map commands.Drop (lone_number operands)

@@ -10,6 +10,7 @@ pub mod MachineCommands
 pub mod TapeCommands
 pub mod DrumCommands
 pub mod SourceCommands
+pub mod LoadCommand
 pub mod HistoryCommands
 pub mod Language
 pub mod Script

@@ -31,6 +31,7 @@ verb_names =
     ∷ (codes "dump", verbs.Dump)
     ∷ (codes "source", verbs.Source)
     ∷ (codes "list", verbs.List)
+    ∷ (codes "load", verbs.Load)
     ∷ (codes "break", verbs.Break)
     ∷ (codes "watch", verbs.Watch)
     ∷ (codes "drop", verbs.Drop)

@@ -10,6 +10,7 @@ use Rattle.lgp_lab.specs.HistoryCommands.{answer_to_back, answer_to_drop, answer
 use Rattle.lgp_lab.specs.Language.{Language, question_count, text_replies}
 use Rattle.lgp_lab.specs.Limits.{line_limit}
 use Rattle.lgp_lab.specs.Line.{has_no_word}
+use Rattle.lgp_lab.specs.LoadCommand.{answer_to_load}
 use Rattle.lgp_lab.specs.MachineCommands.{answer_to_orders, answer_to_panel, answer_to_press, answer_to_turn, answer_to_type}
 use Rattle.lgp_lab.specs.SourceCommands.{answer_in_source, answer_to_list, answer_to_source, closed}
 use Rattle.lgp_lab.specs.SourceText.{SourceText}
@@ -39,6 +40,7 @@ module _ {A : Type 0} where
   answer_to standing commands.Dump text = answer_to_dump standing
   answer_to standing commands.Source text = answer_to_source standing
   answer_to standing commands.List text = answer_to_list standing
+  answer_to standing commands.Load text = answer_to_load standing
   answer_to standing (commands.Break address) text = answer_to_rule standing (At address)
   answer_to standing (commands.Watch address) text = answer_to_rule standing (Changed address)
   answer_to standing (commands.Drop number) text = answer_to_drop standing number

@@ -34,6 +34,8 @@ pub enum Command {
     Source,
     /// The listing of the last source.
     List,
+    /// The last source loaded, by the keyed-in loader.
+    Load,
     /// A rule that an order taken from an address hits.
     Break(Address),
     /// A rule that an order hits which changes the word at an address.
@@ -64,6 +66,7 @@ pub enum Verb {
     Dump,
     Source,
     List,
+    Load,
     Break,
     Watch,
     Drop,
@@ -81,7 +84,7 @@ pub enum Switch {
 }
 
 /// The commands by their first word.
-const VERBS: [Named<Verb>; 19] = [
+const VERBS: [Named<Verb>; 20] = [
     Named {
         name: b"put",
         value: Verb::Put,
@@ -133,6 +136,10 @@ const VERBS: [Named<Verb>; 19] = [
     Named {
         name: b"list",
         value: Verb::List,
+    },
+    Named {
+        name: b"load",
+        value: Verb::Load,
     },
     Named {
         name: b"break",
@@ -437,6 +444,7 @@ fn command_by(verb: Verb, operands: &[u8]) -> Option<Command>
         Verb::Dump => lone(Command::Dump, operands),
         Verb::Source => lone(Command::Source, operands),
         Verb::List => lone(Command::List, operands),
+        Verb::Load => lone(Command::Load, operands),
         Verb::Break => Some(Command::Break(lone_address(operands)?)),
         Verb::Watch => Some(Command::Watch(lone_address(operands)?)),
         Verb::Drop => Some(Command::Drop(lone_number(operands)?)),

@@ -93,7 +93,8 @@ fn tape_text<A: Allocator + Copy>(alloc: A, program: &Program<A>) -> Result<Vec<
 #[tactic(auto, using(crate::proofs::FileLemmas::state_step), unfolding(crate::specs::Files::state_at))]
 fn perform<A: Allocator>(machine: &mut Machine<A>, limit: u64) -> Result<bool, AllocError>
     requires { machine.old ≡ at_boundary machine.old.state }
-    ensures whole { result ≡ Ok true → state_at limit machine.old.state ≡ Some machine.new.state }
+    ensures whole { result ≡ Ok true
+        → state_at limit machine.old.state ≡ Some machine.new.state }
     ensures boundary { machine.new ≡ at_boundary machine.new.state }
     ensures stopped { result ≡ Ok false → state_at limit machine.old.state ≡ None }
 {
@@ -263,7 +264,8 @@ pub fn run_file<A: Allocator + Copy, R: Feed, W: Sink>(
     ensures cause { IfErr result (λ fault.
         HasCause fault (R.failed reader.new) (W.failed writer.new)) }
     ensures stands { IfErr result (λ fault. IfSome (R.remaining reader.old) (λ source.
-        StandsOf (run_answer limit source).text fault (W.contents writer.old) (W.contents writer.new))) }
+        StandsOf (run_answer limit source).text fault
+        (W.contents writer.old) (W.contents writer.new))) }
 {
     let source = read_source(alloc, reader)?;
     let Ok(reply) = FileReply::run(alloc, source, limit) else {

@@ -22,6 +22,7 @@ use std::marker::Model;
 
 mod drum_commands;
 mod history_commands;
+mod load_command;
 mod machine_commands;
 mod source_commands;
 mod tape_commands;
@@ -95,6 +96,7 @@ impl<A: Allocator + Copy> Laboratory<A> {
             Command::Dump => self.dump(reply)?,
             Command::Source => self.open_source(),
             Command::List => self.list(reply)?,
+            Command::Load => self.load(reply)?,
             Command::Break(address) => self.add_rule(Rule::At(*address), reply)?,
             Command::Watch(address) => self.add_rule(Rule::Changed(*address), reply)?,
             Command::Drop(number) => self.drop_rule(*number, reply)?,
@@ -126,7 +128,8 @@ fn is_passed_over(line: &Bytes) -> bool
 impl<A: Allocator + Copy> Laboratory<A> {
     /// Answers a line outside a source.
     fn answer_command(&mut self, line: &Bytes, reply: &mut Vec<u8, A>) -> Result<(), AllocError>
-        ensures reply { (text : List ℕ) → line.now ≡ kept_of text → OnOk result (reply.new.items
+        ensures reply { (text : List ℕ) → line.now ≡ kept_of text
+            → OnOk result (reply.new.items
             ≡ reply.old.items ++ (answer_to_command self.old text).reply) }
         ensures after { (text : List ℕ) → line.now ≡ kept_of text
             → OnOk result (self.new ≡ (answer_to_command self.old text).after) }

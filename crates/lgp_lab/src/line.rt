@@ -72,7 +72,8 @@ impl Bytes {
     /// Whether the bytes are a word that a line can hold.
     pub fn is_word(&self, word: &[u8]) -> bool
         requires { length word.now ≤ line_limit }
-        ensures { (text : List ℕ) → self.now ≡ kept_of text → result ≡ bytes_eq text word.now }
+        ensures { (text : List ℕ) → self.now ≡ kept_of text
+            → result ≡ bytes_eq text word.now }
     {
         !self.longer && self.front.as_slice() == word
     }

@@ -92,8 +92,8 @@ pub fn batch_part<A: Allocator + Copy, R: Feed, W: Sink>(
     ensures cause { IfErr result (λ fault.
         HasCause fault (R.failed reader.new) (W.failed writer.new)) }
     ensures stands { IfErr result (λ fault. IfSome (R.remaining reader.old) (λ script.
-        StandsWritten (heading name.now ∷ []) (script_language {A = A}) opening_standing fault script
-        (R.remaining reader.new) (W.contents writer.old) (W.contents writer.new))) }
+        StandsWritten (heading name.now ∷ []) (script_language {A = A}) opening_standing fault
+        script (R.remaining reader.new) (W.contents writer.old) (W.contents writer.new))) }
 {
     let Ok(heading) = heading(alloc, name) else {
         return Err(LabFault::Memory);

@@ -1,4 +1,6 @@
-use crate::{Feed, FeedOf, LabFault, Sink, SinkOf, asm_file, batch_part, run_script};
+use crate::{
+    Feed, FeedOf, LabFault, Sink, SinkOf, asm_file, batch_part, run_file, run_script, tape_file,
+};
 use lgp_listing::read_dump;
 use lgp_word::Address;
 use linked_list_allocator::LocalHeap;
@@ -203,7 +205,7 @@ fn scripts_are_answered_in_pieces_of_any_length(rt: HostRuntime) -> Result<(), F
 }
 
 /// Lines in no command's form.
-const NOT_IN_FORM: [&[u8]; 36] = [
+const NOT_IN_FORM: [&[u8]; 37] = [
     b"pan",
     b"PANEL",
     b"panel 1",
@@ -240,6 +242,7 @@ const NOT_IN_FORM: [&[u8]; 36] = [
     b"show 6363 2",
     b"printed 1",
     b"dump 1",
+    b"load 1",
 ];
 
 #[test]
@@ -440,7 +443,7 @@ fn a_refused_growth_leaves_no_part_of_a_reply(rt: HostRuntime) -> Result<(), Fai
     script.extend_from_slice(&repeated(rt.alloc(), b"a", 4000)?)?;
     let mut refused = false;
     let mut answered = false;
-    for size in 128..224 {
+    for size in 96..192 {
         let heap = LocalHeap::new(rt.alloc(), 4096 * size)?;
         let mut written = Vec::new(rt.alloc());
         match run(&heap, &script, &mut written) {
@@ -479,15 +482,27 @@ fn a_dump_reads_back_without_its_first_line(rt: HostRuntime) -> Result<(), Fail>
 }
 
 /// Scripts with sources, their replies, and how many of those begin with a question mark.
-const SOURCES: [(&[u8], &[u8], u64); 10] = [
+const SOURCES: [(&[u8], &[u8], u64); 12] = [
     (
-        b"source\n org 0100\n word 00000004\n end\n.\n",
-        b"cells 1 start none\n",
+        b"source\n org 0100\n word 00000004\n end\n.\nload\npanel\nwords 0100 1\nwords 6306 1\nwords 6309 1\n",
+        b"cells 1 start none\nloaded 13\ncounter 6310 accumulator 80000000 register 80000000 status halted stop mode normal switches uuuuuu reader off tape 0 clock 11348\n0100 00000004\n6306 000k0100\n6309 80000000\n",
         0,
+    ),
+    // A program without words is loaded, and gone to.
+    (
+        b"source\n end 0100\n.\nload\norders 0\nwords 6306 1\n",
+        b"cells 0 start 0100\nloaded 5\norders 0 going\n6306 00000000\n",
+        0,
+    ),
+    // A load forgets the steps, and neither the rules nor its source.
+    (
+        b"turn 5\nput 0000 000f0000\npress start\nbreak 0000\norders 2\nsource\n end\n.\nload\nback 1\ndrop 0\nload\nlist\n",
+        b"clock 5\nok\nlive\nrule 0\norders 2 going\ncells 0 start none\nloaded 5\n? 7 TooFar 0\nok\nloaded 5\n               end\n",
+        1,
     ),
     // Each kind of fault once, but for those of bytes and of the drum's end.
     (
-        b"source\n org 6304\n b 0100\na org 0100\n z\n org 0100\n z\n q 0000\n b\n b none\n b 6363+1\na z\n9a z\n z 0 0\n word 00000001\n end\n z\n.\nlist\n",
+        b"source\n org 6304\n b 0100\na org 0100\n z\n org 0100\n z\n q 0000\n b\n b none\n b 6363+1\na z\n9a z\n z 0 0\n word 00000001\n end\n z\n.\nload\n",
         b"? 9 Faults\nline 2 InLoader\nline 6 PlaceTaken\nline 7 UnknownOrder\nline 8 MissingOperand\nline 9 UnknownName\nline 10 OutOfRange\nline 11 LabelTwice\nline 12 BadLabel\nline 13 Extra\nline 14 BadOperand\nline 16 AfterEnd\n? 10 NoImage\n",
         2,
     ),
@@ -623,6 +638,63 @@ fn a_source_file_is_listed_or_its_faults_are_told(rt: HostRuntime) -> Result<(),
     ] {
         let mut written = Vec::new(rt.alloc());
         assert_eq!(rt; assembled(rt.alloc(), source, &mut written), Ok(status));
+        assert_eq!(rt; written.as_slice(), text);
+    }
+    Ok(())
+}
+
+/// Writes what `tape_file` writes for a source behind `written`.
+fn taped<A: Allocator + Copy>(
+    alloc: A,
+    source: &[u8],
+    written: &mut Vec<u8>,
+) -> Result<u64, LabFault> {
+    let mut reader = FeedOf::new(source, READS);
+    let mut writer = SinkOf::new(written);
+    tape_file(alloc, &mut reader, &mut writer)
+}
+
+#[test]
+fn the_tape_of_a_source_file_is_written(rt: HostRuntime) -> Result<(), Fail> {
+    for (source, text, status) in [
+        (
+            b"start b one ; take\n h 0050\n z\none frac .1\n end start\n".as_slice(),
+            b"000k0000'0001000j'[16]000k0004'000j00j8'[16]000k0008'00000000'[16]000k000j'0jjjjjjj'[16]800f0000'\n".as_slice(),
+            0,
+        ),
+        (b" end 0100\n", b"800f0100'\n", 0),
+        (b" q\n", b"line 1 UnknownOrder\nline 2 NoEnd\n", 1),
+    ] {
+        let mut written = Vec::new(rt.alloc());
+        assert_eq!(rt; taped(rt.alloc(), source, &mut written), Ok(status));
+        assert_eq!(rt; written.as_slice(), text);
+    }
+    Ok(())
+}
+
+/// Writes what `run_file` writes for a source without further orders behind `written`.
+fn loaded<A: Allocator + Copy>(
+    alloc: A,
+    source: &[u8],
+    written: &mut Vec<u8>,
+) -> Result<u64, LabFault> {
+    let mut reader = FeedOf::new(source, READS);
+    let mut writer = SinkOf::new(written);
+    run_file(alloc, &mut reader, 0, &mut writer)
+}
+
+#[test]
+fn a_source_file_is_loaded_and_run(rt: HostRuntime) -> Result<(), Fail> {
+    for (source, text, status) in [
+        (
+            b" org 0100\n word 00000004\n end\n".as_slice(),
+            b"printed 0\ncounter 6310 accumulator 80000000 register 80000000 status halted stop mode normal switches uuuuuu reader off tape 0 clock 11348\n".as_slice(),
+            0,
+        ),
+        (b" q\n", b"line 1 UnknownOrder\nline 2 NoEnd\n", 1),
+    ] {
+        let mut written = Vec::new(rt.alloc());
+        assert_eq!(rt; loaded(rt.alloc(), source, &mut written), Ok(status));
         assert_eq!(rt; written.as_slice(), text);
     }
     Ok(())

@@ -124,7 +124,7 @@ fn run_command<'a>(global: Global) -> Result<Command<'a>, AllocError>
         "Assemble a source, load it into a new machine and run it",
         "Assemble a source, load it into a new machine as its operator would, by keying in the \
          loader and reading the tape, and run it until it stops or LIMIT orders were performed. \
-         Then write what was printed, and the registers and lights of the panel.",
+         Then write what was printed, and the registers, status, switches and clock.",
         "Example: run the program in sum.src for 1000 orders at most.\n  lgp_lab run sum.src 1000",
     );
     let run = with_argument(run, file(global, "The source, a text file"))?;

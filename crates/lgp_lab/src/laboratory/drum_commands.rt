@@ -163,7 +163,8 @@ impl<A: Allocator> WordLines<A> {
 fn used_words<A: Allocator>(alloc: A, machine: &Machine<A>) -> Result<WordLines<A>, AllocError>
     ensures count { IfOk result (λ lines. lines.count
         ≡ count_by is_used machine.now.state.core.words) }
-    ensures text { IfOk result (λ lines. lines.text.items ≡ dump_of machine.now.state.core.words) }
+    ensures text { IfOk result (λ lines.
+        lines.text.items ≡ dump_of machine.now.state.core.words) }
 {
     let mut lines = WordLines {
         count: 0,

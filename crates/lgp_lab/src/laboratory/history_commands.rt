@@ -108,7 +108,8 @@ fn run_within<H: History<A>, A: Allocator>(
     limit: u64,
 ) -> Result<Option<Ran>, AllocError>
     ensures ran { IfOk result (λ outcome. IfSome outcome (λ ran.
-        (broken_off limit debugger.old ≡ None) × (run_of limit debugger.old ≡ (ran, debugger.new)))) }
+        (broken_off limit debugger.old ≡ None)
+        × (run_of limit debugger.old ≡ (ran, debugger.new)))) }
     ensures broken { IfOk result (λ outcome. outcome ≡ None → (orders : ℕ)
         × (broken_off limit debugger.old ≡ Some orders)
         × (debugger.new ≡ (run_of orders debugger.old).1)) }

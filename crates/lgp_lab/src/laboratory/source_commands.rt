@@ -30,7 +30,8 @@ impl<A: Allocator + Copy> Laboratory<A> {
         line: &Bytes,
         reply: &mut Vec<u8, A>,
     ) -> Result<(), AllocError>
-        ensures reply { (text : List ℕ) → line.now ≡ kept_of text → OnOk result (reply.new.items
+        ensures reply { (text : List ℕ) → line.now ≡ kept_of text
+            → OnOk result (reply.new.items
             ≡ reply.old.items ++ (answer_in_source self.old source text).reply) }
         ensures after { (text : List ℕ) → line.now ≡ kept_of text
             → OnOk result (self.new ≡ (answer_in_source self.old source text).after) }

@@ -4,8 +4,9 @@ use Rattle.lgp_table.specs.Activity.{cost}
 use Rattle.lgp_machine.specs.Answers.{clock_end}
 use Rattle.lgp_debugger.specs.Debugging.{run_of}
 use Rattle.lgp_debugger.specs.declared.fault.Reason.TheVariants.{Limit}
+use Rattle.lgp_debugger.proofs.ClockLemmas.{mark_within}
 use Rattle.lgp_lab.specs.HistoryCommands.{passes_end}
-use Rattle.lgp_lab.proofs.RunLemmas.{mark_within, run_cut, run_whole}
+use Rattle.lgp_lab.proofs.RunLemmas.{run_cut, run_whole}
 use Rattle.lgp_lab.proofs.laboratory.history_commands.run_within.Goals as goal
 
 pub returns-in-Ok-clause-ran : goal.returns-in-Ok-clause-ran

@@ -1,0 +1,31 @@
+//! Loading.
+
+ghost use Rattle.std.specs.Prelude.{◌≡◌, ◌++◌, OnOk};
+ghost use Rattle.lgp_lab.specs.LoadCommand.{answer_to_load};
+
+use super::Laboratory;
+use crate::refusal::{Refusal, push_counted, push_refusal};
+use lgp_loader::LoadFault;
+use std::alloc::{AllocError, Allocator};
+
+impl<A: Allocator + Copy> Laboratory<A> {
+    /// Loads the last source that assembled.
+    #[tactic(auto, unfolding(crate::specs::LoadCommand::answer_to_load))]
+    pub(super) fn load(&mut self, reply: &mut Vec<u8, A>) -> Result<(), AllocError>
+        ensures reply { OnOk result (reply.new.items
+            ≡ reply.old.items ++ (answer_to_load self.old).reply) }
+        ensures after { OnOk result (self.new ≡ (answer_to_load self.old).after) }
+    {
+        let Some(program) = &self.program else {
+            push_refusal(reply, Refusal::NoImage)?;
+            return Ok(());
+        };
+        match self.debugger.load(self.alloc, program.image()) {
+            Ok(orders) => push_counted(reply, b"loaded ", orders)?,
+            Err(LoadFault::ClockEnd) => push_refusal(reply, Refusal::ClockEnd)?,
+            Err(LoadFault::Memory) => return Err(AllocError),
+            Err(LoadFault::Moving) => unreachable!(),
+        }
+        Ok(())
+    }
+}
