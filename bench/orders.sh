@@ -1,6 +1,6 @@
 #!/bin/sh
-# Instructions an order, as callgrind counts them, of the program on two loops, by the script command `orders`: a fixed run of 120,001
-# orders less one of 20,001, so that starting and ending do not count. Where SIMH's LGP-30 is installed (Debian package simh,
+# Instructions an order, as callgrind counts them, of the program on two loops, by the script commands `orders` and `run`: 120,001
+# orders less 20,001, so that starting and ending do not count. Where SIMH's LGP-30 is installed (Debian package simh,
 # program lgp), it runs the same loops in the same way. The program debugger.rt.txt, built in a copy of the repository, performs them
 # by a debugger that keeps its latest 4,096 steps by records. Needs valgrind. Nothing of this is part of the check.
 set -eu
@@ -63,11 +63,11 @@ per_order() {
     echo "$1 $2" | awk -v n=$((long - short)) '{ printf "%.1f", ($2 - $1) / n }'
 }
 
-# The script of so many orders of a loop.
+# The script of a loop's words, a command and so many orders.
 script() {
     echo "$1" | sed 's/^/put /'
     echo "press start"
-    echo "orders $2"
+    echo "$2 $3"
 }
 
 # The same for SIMH, whose digits are the usual ones.
@@ -100,13 +100,17 @@ build_debugger
 for loop in small large; do
     eval "words=\$$loop"
     for count in $short $long; do
-        script "$words" "$count" >"$work/script-$count"
+        for command in orders run; do
+            script "$words" "$command" "$count" >"$work/$command-$count"
+        done
         simh_script "$words" "$count" >"$work/simh-$count"
     done
-    a=$(instructions "$work/script-$short" "$top/crates/lgp30/out/lgp30")
-    b=$(instructions "$work/script-$long" "$top/crates/lgp30/out/lgp30")
-    tail -n 1 "$work/output" | grep -q "^orders $long going$" || { echo "the loop $loop ended" >&2; exit 1; }
-    echo "$loop: $(per_order "$a" "$b") instructions an order"
+    for command in orders run; do
+        a=$(instructions "$work/$command-$short" "$top/crates/lgp30/out/lgp30")
+        b=$(instructions "$work/$command-$long" "$top/crates/lgp30/out/lgp30")
+        tail -n 1 "$work/output" | grep -q " $long " || { echo "the loop $loop ended" >&2; exit 1; }
+        echo "$loop: $(per_order "$a" "$b") instructions an order, by $command"
+    done
     for count in $short $long; do
         debugger_input "$words" "$count" >"$work/debugger-$count"
     done
