@@ -175,6 +175,66 @@ fn a_name_after_the_end_is_none(rt: HostRuntime) {
 }
 
 #[test]
+fn an_end_with_a_bad_byte_is_no_end(rt: HostRuntime) {
+    let faults = [(1, FaultKind::BadByte), (2, FaultKind::NoEnd)];
+    expect_faults(&rt, rt.alloc(), b" end\x80", &faults);
+}
+
+/// The line ` b 0000` with a byte in its first place, and the faults of the source with that line.
+fn faults_at_the_start(byte: u8) -> &'static [(u64, FaultKind)] {
+    match byte {
+        b' ' | b'\t' | b';' => &[],
+        b'\n' => &[(2, FaultKind::UnknownOrder)],
+        b'a'..=b'z' => &[(1, FaultKind::UnknownOrder)],
+        b'!'..=b'~' => &[(1, FaultKind::BadLabel)],
+        _ => &[(1, FaultKind::BadByte)],
+    }
+}
+
+/// The same with the byte between the order and its address.
+fn faults_in_the_middle(byte: u8) -> &'static [(u64, FaultKind)] {
+    match byte {
+        b' ' | b'\t' => &[],
+        b'\n' => &[(1, FaultKind::MissingOperand), (2, FaultKind::BadLabel)],
+        b'!'..=b'~' => &[(1, FaultKind::UnknownOrder)],
+        _ => &[(1, FaultKind::BadByte)],
+    }
+}
+
+/// The same with the byte in the line's last place.
+fn faults_at_the_end(byte: u8) -> &'static [(u64, FaultKind)] {
+    match byte {
+        b'0'..=b'9' => &[],
+        b'\n' | b'\r' | b'\t' | b' '..=b'~' => &[(1, FaultKind::BadOperand)],
+        _ => &[(1, FaultKind::BadByte)],
+    }
+}
+
+/// Assembles a source that has exactly these faults, or none.
+fn expect_answer(rt: &impl Abort, alloc: Global, source: &[u8], wanted: &[(u64, FaultKind)]) {
+    if wanted.is_empty() {
+        assert!(rt; assemble(alloc, source).is_ok());
+    } else {
+        expect_faults(rt, alloc, source, wanted);
+    }
+}
+
+#[test]
+fn each_byte_anywhere_in_a_line(rt: HostRuntime) {
+    for byte in 0..=255u8 {
+        for (place, wanted) in [
+            (0, faults_at_the_start(byte)),
+            (2, faults_in_the_middle(byte)),
+            (6, faults_at_the_end(byte)),
+        ] {
+            let mut source = *b" b 0000\n end";
+            source[place] = byte;
+            expect_answer(&rt, rt.alloc(), &source, wanted);
+        }
+    }
+}
+
+#[test]
 fn lines_that_make_words(rt: HostRuntime) {
     let mut lines = Lines::new(b"a z 1 2 3\n org 0100\nlabel\n end\n");
     for wanted in [true, false, false, false] {

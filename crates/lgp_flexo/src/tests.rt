@@ -151,17 +151,63 @@ fn one_code_too_many_is_refused(rt: HostRuntime) -> Result<(), Fail> {
     Ok(())
 }
 
+/// The number of the code that a byte alone stands for in a tape's text, where it stands for one.
+fn code_of_byte(byte: u8) -> Option<u8> {
+    if byte == b'l' {
+        return Some(6);
+    }
+    let found = SIGNS.iter().find(|(_, sign)| *sign == char::from(byte));
+    found.map(|(number, _)| *number)
+}
+
 #[test]
-fn a_refused_growth_is_answered(rt: HostRuntime) -> Result<(), Fail> {
+fn each_byte_anywhere_in_a_text(rt: HostRuntime) -> Result<(), Fail> {
+    for byte in 0..=255u8 {
+        for place in 0..3usize {
+            let mut text = *b"aaa";
+            text[place] = byte;
+            let read = read_tape_text(rt.alloc(), &text);
+            if let Some(number) = code_of_byte(byte) {
+                let codes = read?;
+                assert_eq!(rt; codes.len(), 3);
+                assert_eq!(rt; codes[place].number(), number);
+            } else if matches!(byte, b'\n' | b'\r') {
+                assert_eq!(rt; read?.len(), 2);
+            } else {
+                assert!(rt; matches!(read, Err(TextFault::BadSign(bad)) if bad == place));
+            }
+        }
+    }
+    Ok(())
+}
+
+/// Whether the reading and the writing of a text of codes are refused for want of memory where there is so much room.
+fn refused(heap: &LocalHeap, room: usize, codes: &[Code]) -> Result<[bool; 2], Fail> {
+    let _filler: Vec<u8, &LocalHeap> = Vec::with_capacity(heap, heap.free().saturating_sub(room))?;
+    let read = read_tape_text(heap, b"12[16]3'");
+    Ok([
+        matches!(read, Err(TextFault::Memory(_))),
+        write_tape_text(heap, codes).is_err(),
+    ])
+}
+
+#[test]
+fn each_growth_may_be_refused(rt: HostRuntime) -> Result<(), Fail> {
     let heap = LocalHeap::new(rt.alloc(), 1024)?;
-    let filler: Vec<u8, &LocalHeap> = Vec::with_capacity(&heap, 1024)?;
-    assert!(rt; matches!(read_tape_text(&heap, b"12"), Err(TextFault::Memory(_))));
+    let codes = read_tape_text(rt.alloc(), b"12[16]3'")?;
+    assert_eq!(rt; refused(&heap, 0, codes.as_slice())?, [true, true]);
+    for room in 0..512usize {
+        refused(&heap, room, codes.as_slice())?;
+        assert_eq!(rt; heap.used(), 0);
+    }
+    assert_eq!(rt; refused(&heap, 512, codes.as_slice())?, [false, false]);
+    Ok(())
+}
+
+#[test]
+fn a_bad_sign_is_told_without_room(rt: HostRuntime) -> Result<(), Fail> {
+    let heap = LocalHeap::new(rt.alloc(), 1024)?;
+    let _filler: Vec<u8, &LocalHeap> = Vec::with_capacity(&heap, 1024)?;
     assert!(rt; matches!(read_tape_text(&heap, b"1A"), Err(TextFault::BadSign(1))));
-    assert!(rt; write_tape_text(&heap, &[code(6)?, code(0)?]).is_err());
-    drop(filler);
-    let tape = read_tape_text(&heap, b"12")?;
-    assert!(rt; tape.as_slice() == [code(6)?, code(10)?].as_slice());
-    let text = write_tape_text(&heap, tape.as_slice())?;
-    assert!(rt; text.as_slice() == b"12".as_slice());
     Ok(())
 }

@@ -105,6 +105,36 @@ fn texts_that_are_no_dump(rt: HostRuntime) {
     }
 }
 
+/// Places in the line `0100 00000004` and its line feed, each with the bytes that may stand there in a dump.
+const TAKEN: [(usize, &[u8]); 5] = [
+    (0, b"0123456"),
+    (4, b" "),
+    (8, b"0123456789fgjkqw"),
+    (12, b"2468fjq"),
+    (13, b"\n"),
+];
+
+#[test]
+fn each_byte_anywhere_in_a_line_of_a_dump(rt: HostRuntime) -> Result<(), Fail> {
+    for (place, taken) in TAKEN {
+        for byte in 0..=255u8 {
+            let mut text = *b"0100 00000004\n";
+            text[place] = byte;
+            match read_dump(rt.alloc(), &text) {
+                Ok(drum) => {
+                    assert!(rt; taken.contains(&byte), "{byte} at {place}");
+                    assert_eq!(rt; dump(rt.alloc(), &drum)?.as_slice(), text.as_slice());
+                }
+                Err(fault) => {
+                    assert!(rt; !taken.contains(&byte), "{byte} at {place}");
+                    assert_eq!(rt; fault, DumpFault::Form(1));
+                }
+            }
+        }
+    }
+    Ok(())
+}
+
 /// A drum of one word, on its own heap.
 fn small_drum<A: Allocator + Copy>(alloc: A) -> Result<Drum<A>, Fail> {
     let mut drum = Drum::new(alloc)?;
