@@ -98,7 +98,7 @@ fn room_at(tries: usize) -> usize {
     if tries < 48 {
         8 * tries
     } else {
-        4096 * (tries - 47)
+        tries.saturating_sub(47).saturating_mul(4096)
     }
 }
 
@@ -152,7 +152,11 @@ fn tried<H: History<A>, A: Allocator + Copy>(
     call: Call,
 ) -> Result<usize, Fail> {
     let mut lab = ready(alloc, history, call)?;
-    refusals(rt, &mut lab, image, heap, alloc, call)
+    let count = refusals(rt, &mut lab, image, heap, alloc, call)?;
+    if matches!(call, Call::Step) {
+        assert_eq!(rt; (clock(&lab), kept(&lab)), (451, (2, 1)));
+    }
+    Ok(count)
 }
 
 /// A program of one word.
@@ -215,7 +219,7 @@ fn run_out_of_room<H: History<A>, A: Allocator + Copy>(
         return Err(Fail::from("there was room"));
     };
     assert!(rt; refused.orders > 0 && matches!(refused.fault, RunRefusal::Memory));
-    assert_eq!(rt; kept(&lab).1, refused.orders + 1);
+    assert_eq!(rt; kept(&lab).1.checked_sub(1), Some(refused.orders));
     drop(filler);
     assert_eq!(rt;
         run(&mut lab, 2),
