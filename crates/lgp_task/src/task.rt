@@ -43,6 +43,11 @@ pub enum TaskFault<A: Allocator = Global> {
 }
 
 impl<A: Allocator> fmt::Display for TaskFault<A> {
+    ghost use Rattle.std.specs.Prelude.{Some};
+    ghost use Rattle.lgp_task.specs.Task.{fault_text};
+
+    ghost output = { λ fault. Some (fault_text fault) };
+
     fn fmt<W: fmt::Write>(&self, f: &mut fmt::Formatter<W>) -> fmt::Result {
         match self {
             TaskFault::Usage(text) | TaskFault::Help(text) => f.write_str(text.as_str()),
