@@ -1,5 +1,6 @@
 use crate::{
-    Feed, FeedOf, LabFault, Sink, SinkOf, asm_file, batch_part, run_file, run_script, tape_file,
+    Failed, Feed, FeedOf, LabFault, Sink, SinkOf, asm_file, batch_part, run_file, run_script,
+    tape_file,
 };
 use lgp_listing::read_dump;
 use lgp_word::Address;
@@ -7,6 +8,7 @@ use linked_list_allocator::LocalHeap;
 use std::alloc::{AllocError, Allocator, Global};
 use std::io;
 use std::io::{Read, Write};
+use std::process::Abort;
 use std::test::Fail;
 
 const READS: u64 = 1 << 32;
@@ -17,7 +19,7 @@ const FIRST_RUN: &[u8] =
 const FIRST_RUN_REPLIES: &[u8] =
     b"ok\nok\nok\nok\nok\nlive\norders 4 halted stop\ncounter 0004 accumulator 00000010 register 00000000 status halted stop mode normal switches uuuuuu reader off tape 0 clock 94\n0052 00000010\n";
 
-/// Gives a text in pieces of at most so many bytes, and then ends or fails.
+/// Gives a text in pieces of at most so many bytes. Then it ends, or fails once and ends after that.
 #[derive(Drop)]
 struct Pieces {
     text: &'static [u8],
@@ -28,6 +30,7 @@ struct Pieces {
 impl Read for Pieces {
     fn read(&mut self, buffer: &mut [u8]) -> io::Result<usize> {
         if self.text.is_empty() && self.fails {
+            self.fails = false;
             return Err(io::ErrorKind::Other.into());
         }
         let count = self.text.len().min(self.most).min(buffer.len());
@@ -51,7 +54,7 @@ impl Read for Semicolons {
     }
 }
 
-/// Takes at most so many bytes a call, and fails once so many calls were answered.
+/// Takes at most so many bytes a call, fails once where so many calls were answered, and takes bytes again after that.
 #[derive(Drop)]
 struct Failing {
     taken: Vec<u8>,
@@ -62,6 +65,7 @@ struct Failing {
 impl Write for Failing {
     fn write(&mut self, buffer: &[u8]) -> io::Result<usize> {
         if self.calls == 0 {
+            self.calls = usize::MAX;
             return Err(io::ErrorKind::Other.into());
         }
         self.calls -= 1;
@@ -175,31 +179,33 @@ const ROWS: [(&[u8], &[u8], u64); 14] = [
     ),
 ];
 
+/// Expects the replies to a script, and so many of them to begin with a question mark, in whatever pieces the script comes.
+fn expect_replies(
+    rt: &impl Abort,
+    alloc: Global,
+    (text, replies, faults): (&'static [u8], &[u8], u64),
+) -> Result<(), Fail> {
+    for most in [1, 7, 5000] {
+        let pieces = Pieces {
+            text,
+            most,
+            fails: false,
+        };
+        let mut written = Vec::new(alloc);
+        let mut reader = FeedOf::new(pieces, READS);
+        let mut writer = SinkOf::new(&mut written);
+        let answer = run_script(alloc, &mut reader, &mut writer);
+        assert!(rt; !reader.has_failed() && !writer.has_failed());
+        assert_eq!(rt; written.as_slice(), replies, "{text:?} in pieces of {most}");
+        assert_eq!(rt; answer, Ok(faults), "{text:?} in pieces of {most}");
+    }
+    Ok(())
+}
+
 #[test]
 fn scripts_are_answered_in_pieces_of_any_length(rt: HostRuntime) -> Result<(), Fail> {
-    for (text, replies, faults) in ROWS {
-        for most in [1, 7, 5000] {
-            let mut written = Vec::new(rt.alloc());
-            let mut reader = FeedOf::new(
-                Pieces {
-                    text,
-                    most,
-                    fails: false,
-                },
-                READS,
-            );
-            let mut writer = SinkOf::new(&mut written);
-            let answer = run_script(rt.alloc(), &mut reader, &mut writer);
-            assert_eq!(rt; answer, Ok(faults), "{} in pieces of {most}", text.len());
-            assert!(rt; !reader.has_failed());
-            assert!(rt; !writer.has_failed());
-            assert_eq!(rt;
-                written.as_slice(),
-                replies,
-                "{} in pieces of {most}",
-                text.len()
-            );
-        }
+    for row in ROWS {
+        expect_replies(&rt, rt.alloc(), row)?;
     }
     Ok(())
 }
@@ -336,6 +342,45 @@ fn lines_are_answered_one_by_one(rt: HostRuntime) -> Result<(), Fail> {
     Ok(())
 }
 
+/// The replies to the line `turn 5`, in which a byte stands in the first place, before the number, in place of the number, or
+/// behind it.
+fn wanted_at(alloc: Global, place: usize, byte: u8) -> Result<Vec<u8>, AllocError> {
+    let is_digit = place >= 5 && byte.is_ascii_digit();
+    let mut wanted = repeated(
+        alloc,
+        match (place, byte) {
+            (5, b'0'..=b'9') => b"clock ",
+            (6, b'0'..=b'9') => b"clock 5",
+            (0, b't') | (4, b' ') | (6, b' ' | b'\r' | b'\n') => b"clock 5\n",
+            (0, b';') => b"",
+            (4, b'\n') => b"? 1 Form\n? 1 Form\n",
+            _ => b"? 1 Form\n",
+        },
+        1,
+    )?;
+    if is_digit {
+        wanted.extend_from_slice(&[byte, b'\n'])?;
+    }
+    Ok(wanted)
+}
+
+#[test]
+fn each_byte_anywhere_in_a_line(rt: HostRuntime) -> Result<(), Fail> {
+    for byte in 0..=255u8 {
+        for place in [0, 4, 5, 6usize] {
+            let mut script = *b"turn 5 \n";
+            script[place] = byte;
+            let wanted = wanted_at(rt.alloc(), place, byte)?;
+            let faults = wanted.iter().filter(|byte| **byte == b'?').count() as u64;
+            let mut written = Vec::new(rt.alloc());
+            let answer = run(rt.alloc(), &script, &mut written);
+            assert_eq!(rt; answer, Ok(faults), "{byte} at {place}");
+            assert_eq!(rt; written.as_slice(), wanted.as_slice(), "{byte} at {place}");
+        }
+    }
+    Ok(())
+}
+
 #[test]
 fn a_line_has_at_most_4096_bytes(rt: HostRuntime) -> Result<(), Fail> {
     for (length, end, replies) in [
@@ -374,12 +419,20 @@ fn a_line_has_at_most_4096_bytes(rt: HostRuntime) -> Result<(), Fail> {
 
 #[test]
 fn a_read_that_fails_drops_the_open_line(rt: HostRuntime) -> Result<(), Fail> {
-    for (fails, replies, wanted) in [
-        (true, b"ok\n".as_slice(), Err(LabFault::Read)),
-        (false, b"ok\n? 1 Form\n".as_slice(), Ok(1)),
+    let orders = b"put 0000 000100j8\npan".as_slice();
+    let source = b"source\n z".as_slice();
+    for (text, fails, replies, wanted) in [
+        (orders, true, b"ok\n".as_slice(), Err(LabFault::Read)),
+        (orders, false, b"ok\n? 1 Form\n".as_slice(), Ok(1)),
+        (source, true, b"".as_slice(), Err(LabFault::Read)),
+        (
+            source,
+            false,
+            b"? 9 Faults\nline 2 NoEnd\n".as_slice(),
+            Ok(1),
+        ),
     ] {
         let mut written = Vec::new(rt.alloc());
-        let text = b"put 0000 000100j8\npan";
         let mut reader = FeedOf::new(
             Pieces {
                 text,
@@ -393,6 +446,53 @@ fn a_read_that_fails_drops_the_open_line(rt: HostRuntime) -> Result<(), Fail> {
         assert_eq!(rt; reader.has_failed(), fails);
         assert_eq!(rt; written.as_slice(), replies);
     }
+    Ok(())
+}
+
+#[test]
+fn a_feed_reads_again_after_a_failed_read(rt: HostRuntime) -> Result<(), Fail> {
+    let mut failing = Pieces {
+        text: b"",
+        most: 1,
+        fails: true,
+    };
+    let mut buffer = [0; 4];
+    let mut feed = FeedOf::new(&mut failing, 3);
+    assert_eq!(rt; feed.read(&mut buffer), Err(Failed));
+    assert!(rt; feed.has_failed());
+    assert_eq!(rt; feed.read(&mut buffer), Ok(0));
+    assert!(rt; feed.has_failed());
+    assert_eq!(rt; feed.reads_left(), 1);
+    Ok(())
+}
+
+#[test]
+fn a_feed_with_no_read_left_fails(rt: HostRuntime) -> Result<(), Fail> {
+    let mut buffer = [0; 4];
+    let mut feed = FeedOf::new(b"12".as_slice(), 1);
+    assert_eq!(rt; feed.read(&mut buffer), Ok(2));
+    assert!(rt; !feed.has_failed());
+    assert_eq!(rt; feed.read(&mut buffer), Err(Failed));
+    assert!(rt; feed.has_failed());
+    assert_eq!(rt; feed.reads_left(), 0);
+    Ok(())
+}
+
+#[test]
+fn a_sink_takes_an_empty_write(rt: HostRuntime) -> Result<(), Fail> {
+    let mut failing = Failing {
+        taken: Vec::new(rt.alloc()),
+        most: 1,
+        calls: 1,
+    };
+    let mut sink = SinkOf::new(&mut failing);
+    assert_eq!(rt; sink.write(b""), Ok(0));
+    assert!(rt; !sink.has_failed());
+    assert_eq!(rt; sink.write(b"1"), Err(Failed));
+    assert!(rt; sink.has_failed());
+    assert_eq!(rt; sink.write(b"12"), Ok(1));
+    assert!(rt; sink.has_failed());
+    assert_eq!(rt; failing.taken.as_slice(), b"1".as_slice());
     Ok(())
 }
 
@@ -543,11 +643,8 @@ const SOURCES: [(&[u8], &[u8], u64); 12] = [
 
 #[test]
 fn sources_are_assembled_and_listed(rt: HostRuntime) -> Result<(), Fail> {
-    for (script, replies, faults) in SOURCES {
-        let mut written = Vec::new(rt.alloc());
-        let answer = run(rt.alloc(), script, &mut written);
-        assert_eq!(rt; written.as_slice(), replies, "{script:?}");
-        assert_eq!(rt; answer, Ok(faults), "{script:?}");
+    for row in SOURCES {
+        expect_replies(&rt, rt.alloc(), row)?;
     }
     Ok(())
 }
@@ -700,6 +797,50 @@ fn a_source_file_is_loaded_and_run(rt: HostRuntime) -> Result<(), Fail> {
     Ok(())
 }
 
+/// A call on a source file.
+#[derive(Clone, Copy, Debug)]
+enum FileCall {
+    Listing,
+    Tape,
+    Run,
+}
+
+/// Writes what a call writes for a source of one word behind `written`, over a heap with so much room.
+fn with_room(
+    heap: &LocalHeap,
+    call: FileCall,
+    room: usize,
+    written: &mut Vec<u8>,
+) -> Result<Result<u64, LabFault>, Fail> {
+    let source = b" org 0100\n word 00000004\n end\n";
+    let _filler: Vec<u8, &LocalHeap> = Vec::with_capacity(heap, heap.free().saturating_sub(room))?;
+    Ok(match call {
+        FileCall::Listing => assembled(heap, source, written),
+        FileCall::Tape => taped(heap, source, written),
+        FileCall::Run => loaded(heap, source, written),
+    })
+}
+
+#[test]
+fn nothing_is_written_for_a_file_without_room(rt: HostRuntime) -> Result<(), Fail> {
+    let heap = LocalHeap::new(rt.alloc(), 262_144)?;
+    for call in [FileCall::Listing, FileCall::Tape, FileCall::Run] {
+        let mut written = Vec::new(rt.alloc());
+        for tries in 0..512usize {
+            let answer = with_room(&heap, call, 512 * tries, &mut written)?;
+            assert_eq!(rt; heap.used(), 0);
+            if answer.is_ok() {
+                assert!(rt; tries > 0, "{call:?}");
+                break;
+            }
+            assert_eq!(rt; answer, Err(LabFault::Memory), "{call:?}");
+            assert_eq!(rt; written.len(), 0, "{call:?}");
+        }
+        assert!(rt; !written.is_empty(), "{call:?}");
+    }
+    Ok(())
+}
+
 #[test]
 fn a_script_of_several_has_a_line_with_its_name(rt: HostRuntime) -> Result<(), Fail> {
     let mut written = Vec::new(rt.alloc());
@@ -772,11 +913,8 @@ const HISTORIES: [(&[u8], &[u8], u64); 6] = [
 
 #[test]
 fn rules_stop_a_run_and_orders_are_taken_back(rt: HostRuntime) -> Result<(), Fail> {
-    for (script, replies, faults) in HISTORIES {
-        let mut written = Vec::new(rt.alloc());
-        let answer = run(rt.alloc(), script, &mut written);
-        assert_eq!(rt; written.as_slice(), replies, "{script:?}");
-        assert_eq!(rt; answer, Ok(faults), "{script:?}");
+    for row in HISTORIES {
+        expect_replies(&rt, rt.alloc(), row)?;
     }
     Ok(())
 }

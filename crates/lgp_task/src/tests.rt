@@ -170,3 +170,24 @@ fn a_refused_growth_is_answered(rt: HostRuntime) -> Result<(), Fail> {
     assert!(rt; file_of(&task) == "sum.src");
     Ok(())
 }
+
+/// Whether the task of a batch is refused for want of memory where there is so much room.
+fn is_batch_refused(global: Global, heap: &LocalHeap, room: usize) -> Result<bool, Fail> {
+    let _filler: Vec<u8, &LocalHeap> = Vec::with_capacity(heap, heap.free().saturating_sub(room))?;
+    Ok(is_refused(global, heap, &["batch", "first", "second"]))
+}
+
+#[test]
+fn each_growth_may_be_refused(rt: HostRuntime) -> Result<(), Fail> {
+    let heap = LocalHeap::new(rt.alloc(), 4096)?;
+    for tries in 0..256usize {
+        let refused = is_batch_refused(rt.alloc(), &heap, 4 * tries)?;
+        assert_eq!(rt; heap.used(), 0);
+        if !refused {
+            assert!(rt; tries > 0);
+            break;
+        }
+    }
+    assert!(rt; !is_batch_refused(rt.alloc(), &heap, 1024)?);
+    Ok(())
+}
