@@ -59,12 +59,12 @@ loader_are_words =
     (all_more 0 from_7 zero_is (all_more (word_of U loader_base) from_8 u_is (all_more (word_of H end_cell) end e_is (all_more 0 [] zero_is all_none)))))))))
 
 -- one write over another, and two writes in either order
-set_twice : (xs : List ℕ) (i y z : ℕ) → slice_set (slice_set xs i y) i z ≡ slice_set xs i z
+pub set_twice : (xs : List ℕ) (i y z : ℕ) → slice_set (slice_set xs i y) i z ≡ slice_set xs i z
 set_twice [] i y z = refl
 set_twice (x ∷ xs) zero y z = refl
 set_twice (x ∷ xs) (suc i) y z = ap (λ more. x ∷ more) (set_twice xs i y z)
 
-set_swapped : (xs : List ℕ) (i j y z : ℕ) → i ≢ j → slice_set (slice_set xs i y) j z ≡ slice_set (slice_set xs j z) i y
+pub set_swapped : (xs : List ℕ) (i j y z : ℕ) → i ≢ j → slice_set (slice_set xs i y) j z ≡ slice_set (slice_set xs j z) i y
 set_swapped [] i j y z apart = refl
 set_swapped (x ∷ xs) zero zero y z apart = absurd (apart refl)
 set_swapped (x ∷ xs) zero (suc j) y z apart = refl
@@ -89,7 +89,7 @@ cells_overlaid ((place, word) ∷ cells) words control ((within, free, is), othe
     ∙ set_swapped words store_cell place new word (apart_from_store place free) in
     ap (λ ws. words_after_cells ws cells) here ∙ cells_overlaid cells (slice_set words place word) new others
 
-length_from : (words drum : List ℕ) (base : ℕ) → length (words_from drum base words) ≡ length drum
+pub length_from : (words drum : List ℕ) (base : ℕ) → length (words_from drum base words) ≡ length drum
 length_from [] drum base = refl
 length_from (word ∷ words) drum base = length_from words (slice_set drum base word) (base + 1) ∙ length-set drum base word
 

@@ -5,3 +5,7 @@ pub mod Through
 pub mod Law
 pub mod Ready
 pub mod Stopped
+pub mod BlockCells
+pub mod BlockWords
+pub mod Blocks
+pub mod BlockLaw

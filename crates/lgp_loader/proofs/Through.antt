@@ -1,13 +1,13 @@
 -- The loader's way through a whole tape.
 use Rattle.std.proofs.Common.{◌≡◌, ℕ, suc, ◌+◌, ◌*◌, ◌/◌, ◌%◌, ◌<◌, true, false, refl, sym, ap, ◌∙◌, subst, arith, List, [], ◌∷◌, ◌++◌, None, Some, Option, length, slice_index, slice_set, append_assoc, map}
 use Rattle.std.specs.List.{concat}
-use Rattle.std.specs.Prelude.{IfSome}
+use Rattle.std.specs.Prelude.{IfSome, unwrap_or}
 use Rattle.std.proofs.lemmas.Bool.Decides.{nat_tests}
 use Rattle.std.proofs.lemmas.List.{get_or-set_same}
-use Rattle.lgp_word.specs.Address.{IsAddress}
+use Rattle.lgp_word.specs.Address.{IsAddress, address_after}
 use Rattle.lgp_word.specs.Order.{op_of, sign_of}
 use Rattle.lgp_word.specs.Word.{IsWord}
-use Rattle.lgp_word.specs.declared.order.Op.TheVariants.{Z, I, U, T, H}
+use Rattle.lgp_word.specs.declared.order.Op.TheVariants.{Z, I, P, U, T, H}
 use Rattle.lgp_flexo.specs.Code.{stop_code}
 use Rattle.lgp_flexo.specs.WordCodes.{word_codes}
 use Rattle.lgp_table.specs.State.{Core, core_of}
@@ -15,7 +15,7 @@ use Rattle.lgp_table.specs.declared.panel.Mode.TheVariants.{Normal}
 use Rattle.lgp_table.specs.declared.panel.Switches.{Switches}
 use Rattle.lgp_assembler.specs.Parts.{AreProgramCells, is_loaders}
 use Rattle.lgp_loader.specs.LoaderTape.{carriage_return, cell_codes, control_word, end_word, stopped_word}
-use Rattle.lgp_loader.specs.Loading.{counter_after_load, status_after_load}
+use Rattle.lgp_loader.specs.Loading.{status_after_load}
 use Rattle.lgp_loader.specs.Places.{end_cell, end_place, loader_base, store_cell, word_of}
 use Rattle.lgp_loader.proofs.Orders.{Fetches, cleared, core_at, goes_on, held, jumps, off, stops, transfers_to}
 use Rattle.lgp_loader.proofs.Runs.{Runs, one_then}
@@ -66,10 +66,10 @@ end_is_negative : (start : Option ℕ) → sign_of (end_word start) ≡ true
 end_is_negative None = refl
 end_is_negative (Some address) = grind (arith, nat_tests)
 
--- the core at the end
-abbrev pub final_core : Switches → Option ℕ → List ℕ → List ℕ → Core
-final_core switches start words passed = core_of (record {
-  counter = counter_after_load start;
+-- the core at the end, where a machine that has stopped stands at this counter
+abbrev pub core_at_end : ℕ → Switches → Option ℕ → List ℕ → List ℕ → Core
+core_at_end stopped switches start words passed = core_of (record {
+  counter = unwrap_or start stopped;
   accumulator = end_word start;
   register = end_word start;
   status = status_after_load start;
@@ -77,44 +77,63 @@ final_core switches start words passed = core_of (record {
   switches = record switches { six_bit = false };
 }) words (off passed [])
 
-end_stops : (words : List ℕ) → slice_index words end_cell ≡ end_word None → Fetches words end_cell (end_word None) Z 0
+end_stops : (words : List ℕ) (cell : ℕ) → slice_index words cell ≡ end_word None → Fetches words cell (end_word None) Z 0
 unfolding op_of
-end_stops words here = record { here = here; is_op = refl; is_at = refl }
+end_stops words cell here = record { here = here; is_op = refl; is_at = refl }
 
-end_jumps : (words : List ℕ) (address : ℕ) → slice_index words end_cell ≡ end_word (Some address) → IsAddress address → Fetches words end_cell (end_word (Some address)) U address
+end_jumps : (words : List ℕ) (cell address : ℕ) → slice_index words cell ≡ end_word (Some address) → IsAddress address → Fetches words cell (end_word (Some address)) U address
 unfolding op_of
-end_jumps words address here within = record {
+end_jumps words cell address here within = record {
   here = here;
   is_op = let number : end_word (Some address) / 65536 % 16 ≡ 10 = omega (arith, within) in rw number refl;
   is_at = omega (arith, within);
 }
 
-end_performed : (switches : Switches) (start : Option ℕ) (words passed : List ℕ) → IfSome start IsAddress → slice_index words end_cell ≡ end_word start
-    → Runs 1 (core_at switches end_cell (end_word start) (word_of H end_cell) words (off passed [])) (final_core switches start words passed)
-end_performed switches None words passed is here =
-    one_then 0 (core_at switches end_cell (end_word None) (word_of H end_cell) words (off passed [])) (final_core switches None words passed) (final_core switches None words passed)
-    (stops switches end_cell (end_word None) (word_of H end_cell) words (off passed []) (end_word None) (end_stops words here)) refl
-end_performed switches (Some address) words passed is here =
-    one_then 0 (core_at switches end_cell (end_word (Some address)) (word_of H end_cell) words (off passed [])) (final_core switches (Some address) words passed) (final_core switches (Some address) words passed)
-    (jumps switches end_cell (end_word (Some address)) (word_of H end_cell) words (off passed []) (end_word (Some address)) address (end_jumps words address here is)) refl
+end_performed : (switches : Switches) (start : Option ℕ) (words passed : List ℕ) (cell register : ℕ) → IfSome start IsAddress → slice_index words cell ≡ end_word start
+    → Runs 1 (core_at switches cell (end_word start) register words (off passed [])) (core_at_end (address_after cell) switches start words passed)
+end_performed switches None words passed cell register is here =
+    let last = core_at_end (address_after cell) switches None words passed in
+    one_then 0 (core_at switches cell (end_word None) register words (off passed [])) last last
+    (stops switches cell (end_word None) register words (off passed []) (end_word None) (end_stops words cell here)) refl
+end_performed switches (Some address) words passed cell register is here =
+    let last = core_at_end (address_after cell) switches (Some address) words passed in
+    one_then 0 (core_at switches cell (end_word (Some address)) register words (off passed [])) last last
+    (jumps switches cell (end_word (Some address)) register words (off passed []) (end_word (Some address)) address (end_jumps words cell address here is)) refl
+
+-- the end word is read at the base, put into the end cell, and performed
+pub end_read : (place : ℕ) (switches : Switches) (accumulator register : ℕ) (words passed skipped : List ℕ) (start : Option ℕ)
+    → Fetches words loader_base (word_of P 0) P 0 → Fetches words (loader_base + 1) (word_of I 0) I 0
+    → Fetches words (loader_base + 2) (word_of T place) T place → Fetches words place (word_of H (address_after place)) H (address_after place)
+    → place < 4096 → length words ≡ 4096 → AreSkipped skipped → IfSome start IsAddress
+    → Runs 5 (core_at switches loader_base accumulator register words (off passed ((skipped ++ word_codes (end_word start)) ++ stop_code ∷ [])))
+    (core_at_end (address_after (address_after place)) switches start (slice_set words (address_after place) (end_word start)) (passed ++ read_codes skipped (end_word start)))
+end_read place switches accumulator register words passed skipped start p i t h within long are is =
+    let word = end_word start in
+    let cell = address_after place in
+    let passed1 = passed ++ read_codes skipped word in
+    let words1 = slice_set words cell word in
+    let last = core_at_end (address_after cell) switches start words1 passed1 in
+    let at3 = core_at switches (loader_base + 2) word (word_of I 0) words (off passed1 []) in
+    let at4 = core_at switches place word (word_of T place) words (off passed1 []) in
+    let at5 = core_at switches cell word (word_of H cell) words1 (off passed1 []) in
+    let here = get_or-set_same words cell word 0 (omega (arith, long)) in
+    let fifth = end_performed switches start words1 passed1 cell (word_of H cell) is here in
+    let fourth = one_then 1 at4 at5 last (held switches place word (word_of T place) words (off passed1 []) (word_of H cell) cell h (end_is_word start is)) fifth in
+    let plus : sign_of (word_of T place) ≡ false = grind (arith, nat_tests) in
+    let third = one_then 2 at3 at4 last (transfers_to switches (loader_base + 2) word (word_of I 0) words (off passed1 []) (word_of T place) place t plus (end_is_negative start)) fourth in
+    two_orders switches loader_base accumulator register words passed skipped [] word 3 last p i (omega arith) are (end_is_word start is) third
+
+-- the core at the end of the ten words
+abbrev pub final_core : Switches → Option ℕ → List ℕ → List ℕ → Core
+final_core = core_at_end (end_cell + 1)
 
 the_end : (switches : Switches) (accumulator register : ℕ) (words passed skipped : List ℕ) (start : Option ℕ)
     → HasLoader words → AreSkipped skipped → IfSome start IsAddress
     → Runs 5 (core_at switches loader_base accumulator register words (off passed ((skipped ++ word_codes (end_word start)) ++ stop_code ∷ [])))
     (final_core switches start (slice_set words end_cell (end_word start)) (passed ++ read_codes skipped (end_word start)))
 the_end switches accumulator register words passed skipped start has are is =
-    let word = end_word start in
-    let passed1 = passed ++ read_codes skipped word in
-    let words1 = slice_set words end_cell word in
-    let last = final_core switches start words1 passed1 in
-    let at3 = core_at switches (loader_base + 2) word (word_of I 0) words (off passed1 []) in
-    let at4 = core_at switches end_place word (word_of T end_place) words (off passed1 []) in
-    let at5 = core_at switches end_cell word (word_of H end_cell) words1 (off passed1 []) in
-    let here = get_or-set_same words end_cell word 0 (let drum = has.drum in omega arith) in
-    let fifth = end_performed switches start words1 passed1 is here in
-    let fourth = one_then 1 at4 at5 last (held switches end_place word (word_of T end_place) words (off passed1 []) (word_of H end_cell) end_cell (fetch_8 words has) (end_is_word start is)) fifth in
-    let third = one_then 2 at3 at4 last (transfers_to switches (loader_base + 2) word (word_of I 0) words (off passed1 []) (word_of T end_place) end_place (fetch_2 words has) refl (end_is_negative start)) fourth in
-    two_orders switches loader_base accumulator register words passed skipped [] word 3 last (fetch_0 words has) (fetch_1 words has) (omega arith) are (end_is_word start is) third
+    end_read end_place switches accumulator register words passed skipped start (fetch_0 words has) (fetch_1 words has) (fetch_2 words has) (fetch_8 words has)
+    (omega arith) has.drum are is
 
 -- the drum after some cells
 unfoldable pub words_after_cells : List ℕ → List (ℕ × ℕ) → List ℕ

@@ -1,5 +1,5 @@
 -- Part of the public promise. Loading: the loader is keyed in, the tape mounted, the loader started, and so many orders performed.
-use Rattle.std.specs.Prelude.{◌≡◌, ℕ, ◌+◌, ◌*◌, ◌<◌, ◌⊎◌, ◌++◌, Bool, false, nat_lt, List, [], ◌∷◌, Option, None, Some, find, fold, length, map, slice_set}
+use Rattle.std.specs.Prelude.{◌≡◌, ℕ, ◌+◌, ◌*◌, ◌<◌, ◌⊎◌, ◌++◌, Bool, false, nat_lt, List, [], ◌∷◌, Option, None, Some, find, fold, length, map, slice_set, unwrap_or}
 use Rattle.std.specs.List.{range_with_len}
 use Rattle.lgp_flexo.specs.Tape.{Tape}
 use Rattle.lgp_table.specs.State.{State, core_of}
@@ -50,8 +50,7 @@ words_after_load words image =
 
 -- where the end word leaves the counter, and the machine
 abbrev pub counter_after_load : Option ℕ → ℕ
-counter_after_load None = end_cell + 1
-counter_after_load (Some start) = start
+counter_after_load start = unwrap_or start (end_cell + 1)
 
 abbrev pub status_after_load : Option ℕ → Status
 status_after_load None = Halted Stop

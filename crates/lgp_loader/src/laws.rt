@@ -1,8 +1,11 @@
 //! What follows from the definitions, each law as the contract of a function that does nothing.
 
-ghost use Rattle.std.specs.Prelude.{◌≡◌, ◌+◌, ◌≤◌, ℕ, List, IfSome, None, Some, length, true};
+ghost use Rattle.std.specs.Prelude.{◌≡◌, ◌+◌, ◌≤◌, ℕ, List, IfSome, None, Option, Some, length, true};
 ghost use Rattle.std.specs.List.{count_by, list_all};
 ghost use Rattle.lgp_assembler.specs.Parts.{AreProgramCells, ImageParts};
+ghost use Rattle.lgp_loader.specs.BlockLoading.{blocks_begun, blocks_loaded, left_by_blocks, orders_for_blocks};
+ghost use Rattle.lgp_loader.specs.BlockPlaces.{AreFreeCells};
+ghost use Rattle.lgp_loader.specs.BlockTape.{AreBlocks, cells_of};
 ghost use Rattle.lgp_loader.specs.Loading.{EndsLoading, begun, left_by_load, loaded, loading_stopped, orders_to_load};
 ghost use Rattle.lgp_machine.specs.Answers.{clock_end};
 ghost use Rattle.lgp_table.specs.After.{total_cost};
@@ -53,4 +56,34 @@ pub fn stopped()
         → loading_stopped s image ≡ Some now.state }
     ensures nowhere { (s : State) → (image : ImageParts)
         → (loaded s image).clock ≤ clock_end → loading_stopped s image ≡ None }
+{}
+
+/// What the block loader leaves, a program of 22 words: the words of all blocks over what was on the drum, and the loader at its
+/// places, with the order that would store a word behind the last block in its store cell, no count left, and the end word in its
+/// end cell. All else is as `loading` says it, but that a machine which has stopped stands behind that end cell.
+#[tactic(auto, using(crate::proofs::BlockLaw::block_laws))]
+pub fn block_loading()
+    ensures left { (s : State) → (blocks : List (List (ℕ × ℕ))) → (start : Option ℕ)
+        → length s.core.words ≡ 4096 → AreBlocks blocks → AreFreeCells (cells_of blocks)
+        → length (cells_of blocks) ≤ 4096 → IfSome start IsAddress
+        → blocks_loaded s blocks start
+        ≡ left_by_blocks s blocks start (blocks_loaded s blocks start).clock }
+    ensures time { (s : State) → (blocks : List (List (ℕ × ℕ))) → (start : Option ℕ)
+        → (blocks_loaded s blocks start).clock ≡ (blocks_begun s blocks start).clock
+        + total_cost (blocks_begun s blocks start) (orders_for_blocks blocks) }
+{}
+
+/// Nobody's hand on BREAK POINT and TRANSFER CONTROL disturbs the block loader either.
+#[tactic(auto, using(crate::proofs::BlockLaw::block_laws))]
+pub fn blocks_undisturbed()
+    ensures { (s : State) → (blocks : List (List (ℕ × ℕ))) → (start : Option ℕ)
+        → (events : List Event)
+        → length s.core.words ≡ 4096 → AreBlocks blocks → AreFreeCells (cells_of blocks)
+        → length (cells_of blocks) ≤ 4096 → IfSome start IsAddress
+        → list_all is_time_or_switch events ≡ true
+        → count_by is_word_time events
+        ≡ total_cost (blocks_begun s blocks start) (orders_for_blocks blocks)
+        → (switches : Switches)
+        × (after_events (at_boundary (blocks_begun s blocks start)) events
+        ≡ at_boundary (with_switches (blocks_loaded s blocks start) switches)) }
 {}

@@ -8,7 +8,7 @@ mod words;
 
 pub use loading::{LoadFault, load};
 pub use tape::tape_of;
-pub use words::LOADER;
+pub use words::{LOADER, block_loader};
 
 #[cfg(test)]
 mod tests;

@@ -12,6 +12,8 @@ use std::alloc::{Allocator, Global};
 use std::process::Abort;
 use std::test::Fail;
 
+mod blocks;
+
 const CLOCK_END: u64 = 1 << 62;
 
 /// One word at 0100.

@@ -1,4 +1,7 @@
-//! The words of the loader.
+//! The words of the loaders.
+
+ghost use Rattle.std.specs.Prelude.{◌≡◌};
+ghost use Rattle.lgp_loader.specs.BlockPlaces.{block_loader_words};
 
 use lgp_word::Word;
 
@@ -25,3 +28,58 @@ pub const LOADER: [Word; 10] = [
     // 6309, the end cell: a jump to the start, or a stop
     Word { bits: 0 },
 ];
+
+/// The block loader, from 6300 on.
+const BLOCK_LOADER: [Word; 22] = [
+    // 6300 p 0000: the reader on
+    Word { bits: 0x0008_0000 },
+    // 6301 i 0000: a control word, or the end word, into the accumulator
+    Word { bits: 0x0004_0000 },
+    // 6302 t 6318: the end word is negative
+    Word { bits: 0x000B_3F48 },
+    // 6303 h 6309: a control word is the order that the cell 6309 performs
+    Word { bits: 0x000C_3F24 },
+    // 6304 p 0000: the reader on
+    Word { bits: 0x0008_0000 },
+    // 6305 i 0000: the count of the block's words into the accumulator
+    Word { bits: 0x0004_0000 },
+    // 6306 h 6321: it is kept
+    Word { bits: 0x000C_3F54 },
+    // 6307 p 0000: the reader on
+    Word { bits: 0x0008_0000 },
+    // 6308 i 0000: the next word of the block into the accumulator
+    Word { bits: 0x0004_0000 },
+    // 6309, the store cell: a `c` to the word's place
+    Word { bits: 0 },
+    // 6310 b 6309: that order
+    Word { bits: 0x0001_3F24 },
+    // 6311 a 6320: with the next place
+    Word { bits: 0x000E_3F50 },
+    // 6312 h 6309: stores the next word
+    Word { bits: 0x000C_3F24 },
+    // 6313 b 6321: the count
+    Word { bits: 0x0001_3F54 },
+    // 6314 a 6320: goes up by a word
+    Word { bits: 0x000E_3F50 },
+    // 6315 h 6321: and is kept
+    Word { bits: 0x000C_3F54 },
+    // 6316 t 6307: while it is negative words are left
+    Word { bits: 0x000B_3F1C },
+    // 6317 u 6300: the next block
+    Word { bits: 0x000A_3F00 },
+    // 6318 h 6319: the end word is the order that the cell 6319 performs
+    Word { bits: 0x000C_3F4C },
+    // 6319, the end cell: a jump to the start, or a stop
+    Word { bits: 0 },
+    // 6320, one place, and one word
+    Word { bits: 4 },
+    // 6321, the count
+    Word { bits: 0 },
+];
+
+/// The words of the block loader, as the law `block_loading` has them.
+pub fn block_loader() -> [Word; 22]
+    ensures { result ≡ block_loader_words }
+{
+    BLOCK_LOADER
+}

@@ -1,0 +1,51 @@
+-- Part of the public promise. The block loader (this project's own): 22 words from 6300 on. It stores so many words at places one
+-- after another, and counts the address up inside the order that stores them.
+use Rattle.std.specs.Prelude.{◌≡◌, ℕ, ◌+◌, ◌<◌, ◌&&◌, nat_le, nat_lt, Bool, false, List, [], ◌∷◌}
+use Rattle.lgp_word.specs.Word.{IsWord}
+use Rattle.lgp_word.specs.declared.order.Op.TheVariants.{B, I, P, U, T, H, A}
+use Rattle.lgp_loader.specs.Places.{loader_base, word_of}
+
+-- where a word of the block is read
+abbrev pub next_word : ℕ
+next_word = loader_base + 7
+
+-- the cell in which the order that stores the next word is put, performed and counted up
+abbrev pub block_store_cell : ℕ
+block_store_cell = loader_base + 9
+
+-- where the loader goes with the end word, and the cell in which the end word is put, and performed
+abbrev pub block_end_place : ℕ
+block_end_place = loader_base + 18
+
+abbrev pub block_end_cell : ℕ
+block_end_cell = loader_base + 19
+
+-- the word that counts one up, in an address and in the count
+abbrev pub one_up : ℕ
+one_up = 4
+
+abbrev pub one_up_place : ℕ
+one_up_place = loader_base + 20
+
+-- the cell of the count, which is negative while words of the block are left
+abbrev pub count_cell : ℕ
+count_cell = loader_base + 21
+
+-- the 22 words
+abbrev pub block_loader_words : List ℕ
+block_loader_words =
+    word_of P 0 ∷ word_of I 0 ∷ word_of T block_end_place ∷ word_of H block_store_cell
+    ∷ word_of P 0 ∷ word_of I 0 ∷ word_of H count_cell
+    ∷ word_of P 0 ∷ word_of I 0 ∷ 0
+    ∷ word_of B block_store_cell ∷ word_of A one_up_place ∷ word_of H block_store_cell
+    ∷ word_of B count_cell ∷ word_of A one_up_place ∷ word_of H count_cell ∷ word_of T next_word
+    ∷ word_of U loader_base ∷ word_of H block_end_cell ∷ 0 ∷ one_up ∷ 0 ∷ []
+
+-- the places of the block loader
+abbrev pub is_block_loaders : ℕ → Bool
+is_block_loaders place = nat_le loader_base place && nat_lt place (loader_base + 22)
+
+-- cells of a program, none of them at such a place
+abbrev pub AreFreeCells : List (ℕ × ℕ) → Type 0
+AreFreeCells [] = Unit {0}
+AreFreeCells (cell ∷ cells) = ((cell.0 < 4096) × (is_block_loaders cell.0 ≡ false) × IsWord cell.1) × AreFreeCells cells
