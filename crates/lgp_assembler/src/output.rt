@@ -10,8 +10,8 @@ use std::alloc::{Allocator, Global};
 use std::marker::Model;
 use std::ops::Range;
 
-/// The places of the loader, 6300 to 6309, which no program may take.
-pub const LOADER_PLACES: Range<u64> = 4032..4042;
+/// The places of the loader, 6300 to 6321, which no program may take.
+pub const LOADER_PLACES: Range<u64> = 4032..4054;
 
 /// The greatest number of bytes of a name.
 pub const NAME_LIMIT: usize = 8;

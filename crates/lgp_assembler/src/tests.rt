@@ -246,9 +246,28 @@ fn lines_that_make_words(rt: HostRuntime) {
 #[test]
 fn places_that_the_loader_keeps(rt: HostRuntime) -> Result<(), Fail> {
     let first = Address::parse(b"6300").ok_or("an address")?;
-    let last = Address::parse(b"6309").ok_or("an address")?;
+    let last = Address::parse(b"6321").ok_or("an address")?;
     assert_eq!(rt; LOADER_PLACES.start, u64::from(first.number()));
     assert_eq!(rt; LOADER_PLACES.end, u64::from(last.number()) + 1);
+    Ok(())
+}
+
+#[test]
+fn words_about_the_loader(rt: HostRuntime) -> Result<(), Fail> {
+    for source in [
+        b" org 6300\n z\n end\n",
+        b" org 6310\n z\n end\n",
+        b" org 6321\n z\n end\n",
+    ] {
+        expect_faults(&rt, rt.alloc(), source, &[(2, FaultKind::InLoader)]);
+    }
+    for (source, place) in [
+        (b" org 6263\n z\n end\n", b"6263".as_slice()),
+        (b" org 6322\n z\n end\n", b"6322"),
+    ] {
+        let image = image(rt.alloc(), source)?;
+        expect_cells(&rt, image.cells(), &[(place, b"00000000".as_slice())]);
+    }
     Ok(())
 }
 
