@@ -8,3 +8,4 @@ pub use Rattle.lgp_table.specs.Activity
 pub use Rattle.lgp_table.specs.Console
 pub use Rattle.lgp_table.specs.Interleaving
 pub use Rattle.lgp_loader.specs.Loading
+pub use Rattle.lgp_loader.specs.BlockLoading

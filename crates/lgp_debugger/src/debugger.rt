@@ -12,7 +12,8 @@ ghost use Rattle.lgp_history.specs.Steps.{orders_in};
 ghost use Rattle.lgp_flexo.specs.TapeText.{tape_limit};
 ghost use Rattle.lgp_debugger.specs.WatchInside.{watches_of};
 ghost use Rattle.lgp_debugger.specs.Debugging.{after_back, after_step, first_stop, rule_limit, run_of};
-ghost use Rattle.lgp_loader.specs.Loading.{loaded, loading_stopped, orders_to_load};
+ghost use Rattle.lgp_loader.specs.BlockLoading.{longest_load};
+ghost use Rattle.lgp_loader.specs.Loading.{loaded, loading_stopped};
 ghost use Rattle.std.specs.Result.{IsErrAnd};
 
 use crate::fault::{
@@ -478,13 +479,15 @@ fn load_machine<A: Allocator + Copy, B: Allocator>(
 ) -> Result<u64, LoadFault>
     requires { machine.old ≡ at_boundary machine.old.state }
     ensures loaded { OnOk result
-        (machine.new ≡ at_boundary (loaded machine.old.state image.now)) }
-    ensures orders { IfOk result (λ orders. orders ≡ orders_to_load image.now) }
-    ensures whole { OnOk result (loading_stopped machine.old.state image.now ≡ None) }
+        (machine.new ≡ at_boundary (loaded machine.old.state (longest_load image.now))) }
+    ensures orders { IfOk result (λ orders. orders ≡ (longest_load image.now).orders) }
+    ensures whole { OnOk result
+        (loading_stopped machine.old.state (longest_load image.now) ≡ None) }
     ensures moving { result ≢ Err LoadFault.Moving }
+    ensures bad_cut { result ≢ Err LoadFault.BadCut }
     ensures no_memory { result ≡ Err LoadFault.Memory → machine.new ≡ machine.old }
     ensures stands { result ≡ Err LoadFault.ClockEnd
-        → loading_stopped machine.old.state image.now ≡ Some machine.new.state }
+        → loading_stopped machine.old.state (longest_load image.now) ≡ Some machine.new.state }
     ensures boundary { result ≡ Err LoadFault.ClockEnd
         → machine.new ≡ at_boundary machine.new.state }
 {
@@ -497,18 +500,21 @@ fn load_machine<A: Allocator + Copy, B: Allocator>(
 impl<H: History<A>, A: Allocator + Copy> Debugger<H, A> {
     /// Loads a program by the keyed-in loader, and answers how many orders it performed. No step is kept afterwards, unless nothing
     /// was done: where there is no memory for the tape (`Memory`), all is as before. Where the clock would pass its end (`ClockEnd`),
-    /// the machine stands at the first boundary of the loading whose activity would pass it. `Moving` is never answered.
+    /// the machine stands at the first boundary of the loading whose activity would pass it. `Moving` and `BadCut` are never
+    /// answered.
     pub fn load<B: Allocator>(&mut self, alloc: A, image: &Image<B>) -> Result<u64, LoadFault>
         ensures loaded { OnOk result (self.new ≡ record self.old {
-          state = loaded self.old.state image.now;
+          state = loaded self.old.state (longest_load image.now);
           steps = [];
         }) }
-        ensures orders { IfOk result (λ orders. orders ≡ orders_to_load image.now) }
-        ensures whole { OnOk result (loading_stopped self.old.state image.now ≡ None) }
+        ensures orders { IfOk result (λ orders. orders ≡ (longest_load image.now).orders) }
+        ensures whole { OnOk result
+            (loading_stopped self.old.state (longest_load image.now) ≡ None) }
         ensures moving { result ≢ Err LoadFault.Moving }
+        ensures bad_cut { result ≢ Err LoadFault.BadCut }
         ensures no_memory { result ≡ Err LoadFault.Memory → self.new ≡ self.old }
         ensures stands { result ≡ Err LoadFault.ClockEnd
-            → loading_stopped self.old.state image.now ≡ Some self.new.state }
+            → loading_stopped self.old.state (longest_load image.now) ≡ Some self.new.state }
         ensures emptied { result ≡ Err LoadFault.ClockEnd
             → self.new ≡ record self.old { state = self.new.state; steps = [] } }
     {
@@ -522,7 +528,7 @@ impl<H: History<A>, A: Allocator + Copy> Debugger<H, A> {
                 Err(LoadFault::ClockEnd)
             }
             Err(LoadFault::Memory) => Err(LoadFault::Memory),
-            Err(LoadFault::Moving) => unreachable!(),
+            Err(LoadFault::Moving | LoadFault::BadCut) => unreachable!(),
         }
     }
 }

@@ -7,7 +7,7 @@ use Rattle.lgp_table.specs.Activity.{cost, next}
 use Rattle.lgp_table.specs.Console.{is_at_rest}
 use Rattle.lgp_table.specs.State.{State, opening}
 use Rattle.lgp_machine.specs.Answers.{clock_end}
-use Rattle.lgp_loader.specs.LoaderTape.{tape_codes}
+use Rattle.lgp_loader.specs.BlockLoading.{longest_load}
 use Rattle.lgp_loader.specs.Loading.{loaded}
 use Rattle.lgp_assembler.specs.Image.{faults_of, image_of}
 use Rattle.lgp_assembler.specs.declared.refusal.Fault.{Fault}
@@ -50,7 +50,7 @@ asm_answer source = answer_of listed (source_of source)
 
 -- tape: the text of the tape, and a line feed
 abbrev pub taped : List ℕ → FileAnswer
-taped source = record { text = written_tape (tape_codes (image_of source)) ++ codes "\n"; status = 0 }
+taped source = record { text = written_tape (longest_load (image_of source)).codes ++ codes "\n"; status = 0 }
 
 unfoldable pub tape_answer : List ℕ → FileAnswer
 tape_answer source = answer_of taped (source_of source)
@@ -69,7 +69,7 @@ ended None = record { text = refusal_text ClockEnd; status = 1 }
 ended (Some s) = record { text = printed_text s.printed ++ panel_text s; status = 0 }
 
 abbrev pub loaded_new : List ℕ → State
-loaded_new source = loaded (opening blank_words) (image_of source)
+loaded_new source = loaded (opening blank_words) (longest_load (image_of source))
 
 abbrev pub run_to : ℕ → List ℕ → FileAnswer
 run_to limit source =

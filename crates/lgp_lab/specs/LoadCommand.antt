@@ -4,14 +4,15 @@ use Rattle.std.specs.Prelude.{ℕ, ◌++◌, Option, Some, None, List, [], codes
 use Rattle.lgp_table.specs.State.{State}
 use Rattle.lgp_assembler.specs.Image.{image_of}
 use Rattle.lgp_assembler.specs.Parts.{ImageParts}
-use Rattle.lgp_loader.specs.Loading.{loaded, loading_stopped, orders_to_load}
+use Rattle.lgp_loader.specs.BlockLoading.{longest_load}
+use Rattle.lgp_loader.specs.Loading.{loaded, loading_stopped}
 use Rattle.lgp_debugger.specs.Debugging.{Debugging}
 use Rattle.lgp_lab.specs.Standing.{Answer, Standing, refused, with_debugger}
 use Rattle.lgp_lab.specs.declared.refusal.Refusal.TheVariants as refusals
 
 -- how many orders the loader performed
 abbrev pub loaded_text : ImageParts → List ℕ
-loaded_text image = codes "loaded " ++ (decimal (orders_to_load image) ++ codes "\n")
+loaded_text image = codes "loaded " ++ (decimal (longest_load image).orders ++ codes "\n")
 
 module _ {A : Type 0} where
   -- the machine in another state, with no step kept
@@ -22,7 +23,7 @@ module _ {A : Type 0} where
   abbrev pub load_by : Standing A → ImageParts → Option State → Answer A
   load_by standing image None = record {
     reply = loaded_text image;
-    after = with_debugger standing (forgotten_in (loaded standing.debugger.state image) standing.debugger);
+    after = with_debugger standing (forgotten_in (loaded standing.debugger.state (longest_load image)) standing.debugger);
   }
   load_by standing image (Some state) =
       refused refusals.ClockEnd (with_debugger standing (forgotten_in state standing.debugger))
@@ -30,7 +31,7 @@ module _ {A : Type 0} where
   abbrev pub load_of : Standing A → Option (List ℕ) → Answer A
   load_of standing None = refused refusals.NoImage standing
   load_of standing (Some source) =
-      load_by standing (image_of source) (loading_stopped standing.debugger.state (image_of source))
+      load_by standing (image_of source) (loading_stopped standing.debugger.state (longest_load (image_of source)))
 
   unfoldable pub answer_to_load : Standing A → Answer A
   answer_to_load standing = load_of standing standing.source

@@ -128,7 +128,7 @@ fn run_program<A: Allocator + Copy>(
         Ok(_) => {}
         Err(LoadFault::ClockEnd) => return Ok(None),
         Err(LoadFault::Memory) => return Err(AllocError),
-        Err(LoadFault::Moving) => unreachable!(),
+        Err(LoadFault::Moving | LoadFault::BadCut) => unreachable!(),
     }
     if perform(&mut machine, limit)? {
         Ok(Some(machine))

@@ -583,14 +583,14 @@ fn a_dump_reads_back_without_its_first_line(rt: HostRuntime) -> Result<(), Fail>
 /// Scripts with sources, their replies, and how many of those begin with a question mark.
 const SOURCES: [(&[u8], &[u8], u64); 12] = [
     (
-        b"source\n org 0100\n word 00000004\n end\n.\nload\npanel\nwords 0100 1\nwords 6306 1\nwords 6309 1\n",
-        b"cells 1 start none\nloaded 13\ncounter 6310 accumulator 80000000 register 80000000 status halted stop mode normal switches uuuuuu reader off tape 0 clock 11348\n0100 00000004\n6306 000k0100\n6309 80000000\n",
+        b"source\n org 0100\n word 00000004\n end\n.\nload\npanel\nwords 0100 1\nwords 6309 1\nwords 6319 1\nwords 6321 1\n",
+        b"cells 1 start none\nloaded 23\ncounter 6320 accumulator 80000000 register 80000000 status halted stop mode normal switches uuuuuu reader off tape 0 clock 15342\n0100 00000004\n6309 000k0104\n6319 80000000\n6321 00000000\n",
         0,
     ),
     // A program without words is loaded, and gone to.
     (
-        b"source\n end 0100\n.\nload\norders 0\nwords 6306 1\n",
-        b"cells 0 start 0100\nloaded 5\norders 0 going\n6306 00000000\n",
+        b"source\n end 0100\n.\nload\norders 0\nwords 6309 1\n",
+        b"cells 0 start 0100\nloaded 5\norders 0 going\n6309 00000000\n",
         0,
     ),
     // A load forgets the steps, and neither the rules nor its source.

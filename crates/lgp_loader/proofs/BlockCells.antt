@@ -1,5 +1,5 @@
 -- The block loader on the drum, with its cells, and the two orders by which it counts.
-use Rattle.std.proofs.Common.{◌≡◌, ◌≢◌, ℕ, zero, suc, ◌+◌, ◌-◌, ◌/◌, ◌%◌, ◌^◌, ◌<◌, ◌≤◌, true, false, refl, sym, ap, ◌∙◌, arith, List, length, slice_index, slice_set}
+use Rattle.std.proofs.Common.{◌≡◌, ◌≢◌, ℕ, zero, suc, ◌+◌, ◌/◌, ◌%◌, ◌^◌, ◌<◌, ◌≤◌, true, false, refl, sym, ap, ◌∙◌, arith, List, length, slice_index, slice_set}
 use Rattle.std.proofs.lemmas.Bool.Decides.{nat_tests}
 use Rattle.std.proofs.lemmas.Int.{ints}
 use Rattle.std.proofs.lemmas.List.{get_or-set_other, get_or-set_same, length-set}
@@ -15,11 +15,12 @@ use Rattle.lgp_table.specs.Activity.{ended}
 use Rattle.lgp_table.specs.Rows.{arithmetic_effect}
 use Rattle.lgp_table.specs.declared.panel.Status.TheVariants.{Going}
 use Rattle.lgp_table.specs.declared.panel.Switches.{Switches}
-use Rattle.lgp_loader.specs.BlockPlaces.{is_block_loaders, block_end_cell, block_loader_words, block_store_cell, count_cell, one_up, one_up_place}
+use Rattle.lgp_assembler.specs.Parts.{is_loaders}
+use Rattle.lgp_loader.specs.BlockPlaces.{block_end_cell, block_loader_words, block_store_cell, count_cell, one_up, one_up_place}
 use Rattle.lgp_loader.specs.BlockTape.{count_word}
 use Rattle.lgp_loader.specs.LoaderTape.{control_word}
 use Rattle.lgp_loader.specs.Places.{loader_base}
-use Rattle.lgp_loader.proofs.Law.{set_swapped, set_twice}
+use Rattle.lgp_loader.proofs.SingleLaw.{set_swapped, set_twice}
 use Rattle.lgp_loader.proofs.Orders.{Fetches, Leads, core_at, performs}
 
 -- a plain sum
@@ -76,7 +77,7 @@ end_cell_elsewhere k within store end count same = end (omega (arith, same))
 pub count_cell_elsewhere : IsElsewhere count_cell
 count_cell_elsewhere k within store end count same = count (omega (arith, same))
 
-pub program_elsewhere : (place : ℕ) → is_block_loaders place ≡ false → IsElsewhere place
+pub program_elsewhere : (place : ℕ) → is_loaders place ≡ false → IsElsewhere place
 program_elsewhere place free k within store end count same = grind (arith, nat_tests)
 
 -- the drum with the store cell and the count

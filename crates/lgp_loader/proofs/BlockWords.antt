@@ -10,20 +10,22 @@ use Rattle.lgp_flexo.specs.Code.{stop_code}
 use Rattle.lgp_flexo.specs.WordCodes.{word_codes}
 use Rattle.lgp_table.specs.State.{Core}
 use Rattle.lgp_table.specs.declared.panel.Switches.{Switches}
-use Rattle.lgp_loader.specs.BlockPlaces.{AreFreeCells, is_block_loaders, block_store_cell, count_cell, next_word, one_up_place}
-use Rattle.lgp_loader.specs.BlockTape.{FollowFrom, count_word, word_of_cell}
+use Rattle.lgp_assembler.specs.Parts.{AreProgramCells, is_loaders}
+use Rattle.lgp_loader.specs.BlockPlaces.{block_store_cell, count_cell, next_word, one_up_place}
+use Rattle.lgp_loader.specs.BlockTape.{count_word, word_of_cell}
 use Rattle.lgp_loader.specs.LoaderTape.{control_word, stopped_word}
 use Rattle.lgp_loader.specs.Loading.{overlay}
 use Rattle.lgp_loader.specs.Places.{loader_base, word_of}
+use Rattle.lgp_loader.proofs.Cuts.{FollowFrom}
 use Rattle.lgp_loader.proofs.Cells.{nothing_skipped, read_codes, two_orders}
 use Rattle.lgp_loader.proofs.Orders.{cleared, core_at, goes_on, held, off, transfers_to}
 use Rattle.lgp_loader.proofs.Runs.{Runs, one_then}
 use Rattle.lgp_loader.proofs.BlockCells.{HasBlockLoader, adds, block_loader_stays, brings, control_up, count_held, count_is_negative, count_is_word, count_left, count_set, counted_up, fetch_store, fetches, has_with_cells, next_control_is_word, one_up_there, program_elsewhere, store_held, store_set, with_cells, word_set}
 
-store_apart : (place : ℕ) → is_block_loaders place ≡ false → block_store_cell ≢ place
+store_apart : (place : ℕ) → is_loaders place ≡ false → block_store_cell ≢ place
 store_apart place free same = grind (arith, nat_tests)
 
-count_apart : (place : ℕ) → is_block_loaders place ≡ false → count_cell ≢ place
+count_apart : (place : ℕ) → is_loaders place ≡ false → count_cell ≢ place
 count_apart place free same = grind (arith, nat_tests)
 
 -- where the test behind a word leads: to the next word, or out of the block
@@ -105,7 +107,7 @@ moved_up switches register words passed rest place count_now has within count la
 
 -- one word: it is read and stored, and the order that stores and the count go up
 pub one_word : (switches : Switches) (accumulator register : ℕ) (words passed rest : List ℕ) (place word more : ℕ)
-    → HasBlockLoader words → place < 4096 → is_block_loaders place ≡ false → IsWord word → more < 4096
+    → HasBlockLoader words → place < 4096 → is_loaders place ≡ false → IsWord word → more < 4096
     → (count : ℕ) (last : Core)
     → Runs count (core_at switches (behind_word more) (count_left more) (word_of T next_word) (with_cells (slice_set words place word) (control_word (place + 1)) (count_left more))
     (off (passed ++ read_codes [] word) rest)) last
@@ -142,7 +144,7 @@ words_codes cells = concat (map word_of_cell cells)
 
 -- all words of a block
 pub block_words : (switches : Switches) (accumulator register : ℕ) (words passed rest : List ℕ) (place word : ℕ) (cells : List (ℕ × ℕ)) (behind : ℕ)
-    → HasBlockLoader words → AreFreeCells ((place, word) ∷ cells) → FollowFrom (place + 1) cells → length cells < 4096
+    → HasBlockLoader words → AreProgramCells ((place, word) ∷ cells) → FollowFrom (place + 1) cells → length cells < 4096
     → place + suc (length cells) ≡ behind
     → (count : ℕ) (last : Core)
     → Runs count (core_at switches (loader_base + 17) 0 (word_of T next_word) (with_cells (overlay words ((place, word) ∷ cells)) (control_word behind) 0)

@@ -1,7 +1,8 @@
 -- The block loader's way through a tape of blocks, and what it leaves.
-use Rattle.std.proofs.Common.{◌≡◌, ℕ, suc, ◌+◌, ◌*◌, ◌<◌, ◌≤◌, refl, sym, ap, ◌∙◌, subst, arith, List, [], ◌∷◌, ◌++◌, append_assoc, fold, length, length-append, slice_set, map, Option}
+use Rattle.std.proofs.Common.{◌≡◌, ℕ, suc, ◌+◌, ◌*◌, ◌<◌, ◌≤◌, refl, sym, ap, ◌∙◌, subst, arith, true, false, List, [], ◌∷◌, ◌++◌, append_assoc, length, length-append, slice_set, map, Option}
 use Rattle.std.specs.List.{concat}
 use Rattle.std.specs.Prelude.{IfSome}
+use Rattle.std.proofs.lemmas.Bool.{and_parts}
 use Rattle.std.proofs.lemmas.List.Sums.{fold-append}
 use Rattle.lgp_word.specs.Address.{IsAddress}
 use Rattle.lgp_word.specs.Order.{op_of}
@@ -11,12 +12,15 @@ use Rattle.lgp_flexo.specs.Code.{stop_code}
 use Rattle.lgp_flexo.specs.WordCodes.{word_codes}
 use Rattle.lgp_table.specs.State.{Core}
 use Rattle.lgp_table.specs.declared.panel.Switches.{Switches}
-use Rattle.lgp_loader.specs.BlockLoading.{orders_for_blocks, store_after}
-use Rattle.lgp_loader.specs.BlockPlaces.{AreFreeCells, block_end_cell, block_end_place, block_store_cell, count_cell, next_word}
-use Rattle.lgp_loader.specs.BlockTape.{AreBlocks, FollowFrom, cells_of, block_codes, count_word}
+use Rattle.lgp_assembler.specs.Parts.{AreProgramCells}
+use Rattle.lgp_loader.specs.BlockLoading.{orders_for, store_after}
+use Rattle.lgp_loader.specs.BlockPlaces.{block_end_cell, block_end_place, block_store_cell, count_cell, next_word}
+use Rattle.lgp_loader.specs.BlockTape.{block_codes, count_word}
+use Rattle.lgp_loader.specs.Cutting.{are_blocks, cells_of, is_block}
 use Rattle.lgp_loader.specs.LoaderTape.{carriage_return, control_word, end_word, stopped_word}
 use Rattle.lgp_loader.specs.Loading.{overlay}
 use Rattle.lgp_loader.specs.Places.{loader_base, word_of}
+use Rattle.lgp_loader.proofs.Cuts.{FollowFrom, places_follow}
 use Rattle.lgp_loader.proofs.Cells.{AreSkipped, control_is_positive, control_is_word, nothing_skipped, read_codes, return_skipped, two_orders}
 use Rattle.lgp_loader.proofs.Orders.{core_at, goes_on, held, jumps, off}
 use Rattle.lgp_loader.proofs.Runs.{Runs, one_then}
@@ -32,7 +36,7 @@ block_count_is_word : (more : ℕ) → more < 4096 → IsWord (count_word (suc m
 block_count_is_word more few = (omega (arith, few), omega (arith, few))
 
 pub one_block : (switches : Switches) (accumulator register : ℕ) (words passed skipped rest : List ℕ) (store0 count0 : ℕ) (place word : ℕ) (cells : List (ℕ × ℕ)) (behind : ℕ)
-    → HasBlockLoader words → AreSkipped skipped → place < 4096 → AreFreeCells ((place, word) ∷ cells) → FollowFrom (place + 1) cells → length cells < 4096
+    → HasBlockLoader words → AreSkipped skipped → place < 4096 → AreProgramCells ((place, word) ∷ cells) → FollowFrom (place + 1) cells → length cells < 4096
     → place + suc (length cells) ≡ behind
     → (count : ℕ) (last : Core)
     → Runs count (core_at switches loader_base 0 (word_of U loader_base) (with_cells (overlay words ((place, word) ∷ cells)) (control_word behind) 0)
@@ -108,12 +112,12 @@ the_end switches accumulator register words passed skipped start has are is =
     (omega arith) has.drum are is
 
 -- the program's cells leave the loader where it is
-pub overlay_stays : (words : List ℕ) (cells : List (ℕ × ℕ)) → HasBlockLoader words → AreFreeCells cells → HasBlockLoader (overlay words cells)
+pub overlay_stays : (words : List ℕ) (cells : List (ℕ × ℕ)) → HasBlockLoader words → AreProgramCells cells → HasBlockLoader (overlay words cells)
 overlay_stays words [] has are = has
 overlay_stays words ((place, word) ∷ cells) has ((within, free, is), others) =
     overlay_stays (slice_set words place word) cells (block_loader_stays words place word has (program_elsewhere place free)) others
 
-program_parts : (cells more : List (ℕ × ℕ)) → AreFreeCells (cells ++ more) → AreFreeCells cells × AreFreeCells more
+program_parts : (cells more : List (ℕ × ℕ)) → AreProgramCells (cells ++ more) → AreProgramCells cells × AreProgramCells more
 program_parts [] more are = (tt, are)
 program_parts (cell ∷ cells) more (is, are) = let (front, behind) = program_parts cells more are in ((is, front), behind)
 
@@ -133,8 +137,12 @@ block_passed passed skipped control count codes rest = simp append_assoc refl
 end_shape : (skipped word : List ℕ) → skipped ++ (word ++ stop_code ∷ []) ≡ (skipped ++ word) ++ stop_code ∷ []
 end_shape skipped word = sym (append_assoc skipped word (stop_code ∷ []))
 
+-- how many orders the loader performs for blocks
+abbrev orders_for_blocks : List (List (ℕ × ℕ)) → ℕ
+orders_for_blocks blocks = orders_for (length (cells_of blocks)) (length blocks)
+
 pub through_blocks : (switches : Switches) (accumulator register : ℕ) (words passed skipped : List ℕ) (store : ℕ) (blocks : List (List (ℕ × ℕ))) (start : Option ℕ)
-    → HasBlockLoader words → AreSkipped skipped → AreBlocks blocks → AreFreeCells (cells_of blocks) → length (cells_of blocks) ≤ 4096 → IfSome start IsAddress
+    → HasBlockLoader words → AreSkipped skipped → are_blocks blocks ≡ true → AreProgramCells (cells_of blocks) → length (cells_of blocks) ≤ 4096 → IfSome start IsAddress
     → Runs (orders_for_blocks blocks) (core_at switches loader_base accumulator register (with_cells words store 0) (off passed (blocks_left skipped blocks start)))
     (block_final_core switches start (slice_set (with_cells (overlay words (cells_of blocks)) (store_after store blocks) 0) block_end_cell (end_word start)) (passed ++ blocks_left skipped blocks start))
 unfolding store_after
@@ -144,9 +152,11 @@ through_blocks switches accumulator register words passed skipped store [] start
     (block_final_core switches start (slice_set ws block_end_cell (end_word start)) (passed ++ left)))
     (sym (end_shape skipped (word_codes (end_word start))))
     (the_end switches accumulator register ws passed skipped start (has_with_cells words store 0 has) are is)
-through_blocks switches accumulator register words passed skipped store ([] ∷ blocks) start has are ((some, follow), others) cells few is = absurd (some refl)
-through_blocks switches accumulator register words passed skipped store (((place, word) ∷ block) ∷ blocks) start has are ((some, (here, follow)), others) cells few is =
+through_blocks switches accumulator register words passed skipped store ([] ∷ blocks) start has are blocks_are cells few is = absurd (let wrong : false ≡ true = blocks_are in let no : ⊥ = cc in no)
+through_blocks switches accumulator register words passed skipped store (((place, word) ∷ block) ∷ blocks) start has are blocks_are cells few is =
     let whole : List (ℕ × ℕ) = (place, word) ∷ block in
+    let (is_one, others) = and_parts (is_block whole) (are_blocks blocks) blocks_are in
+    let follow = places_follow (place, word) block is_one in
     let control = control_word place in
     let number = count_word (suc (length block)) in
     let codes = words_codes whole in

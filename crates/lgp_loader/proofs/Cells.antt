@@ -16,14 +16,15 @@ use Rattle.lgp_table.specs.State.{Core}
 use Rattle.lgp_table.specs.declared.panel.Switches.{Switches}
 use Rattle.lgp_assembler.specs.Parts.{is_loaders}
 use Rattle.lgp_loader.specs.LoaderTape.{carriage_return, control_word}
-use Rattle.lgp_loader.specs.Places.{end_cell, end_place, loader_base, loader_words, store_cell, word_of}
+use Rattle.lgp_loader.specs.Places.{loader_base, word_of}
+use Rattle.lgp_loader.specs.SinglePlaces.{single_end_cell, single_end_place, single_loader_words, single_store_cell}
 use Rattle.lgp_loader.proofs.Orders.{Fetches, Leads, core_at, off, on, reader_starts, word_read}
 use Rattle.lgp_loader.proofs.Runs.{Runs, one_then}
 
 -- the loader lies on the drum, but for its two cells
 pub record HasLoader (words : List ℕ) : Type 0 where
   pub drum : length words ≡ 4096
-  pub fixed : (k : ℕ) → k < 10 → k ≢ 6 → k ≢ 9 → slice_index words (loader_base + k) ≡ slice_index loader_words k
+  pub fixed : (k : ℕ) → k < 10 → k ≢ 6 → k ≢ 9 → slice_index words (loader_base + k) ≡ slice_index single_loader_words k
 
 -- a place that the loader reads orders from, other than its two cells
 abbrev pub IsElsewhere : ℕ → Type 0
@@ -36,10 +37,10 @@ loader_stays words place word has elsewhere = record {
   fixed = λ k within six nine. get_or-set_other words place (loader_base + k) word 0 (λ same. elsewhere k within six nine (sym same)) ∙ has.fixed k within six nine;
 }
 
-pub store_cell_elsewhere : IsElsewhere store_cell
+pub store_cell_elsewhere : IsElsewhere single_store_cell
 store_cell_elsewhere k within six nine same = six (omega (arith, same))
 
-pub end_cell_elsewhere : IsElsewhere end_cell
+pub end_cell_elsewhere : IsElsewhere single_end_cell
 end_cell_elsewhere k within six nine same = nine (omega (arith, same))
 
 pub program_elsewhere : (place : ℕ) → is_loaders place ≡ false → IsElsewhere place
@@ -53,11 +54,11 @@ pub fetch_1 : (words : List ℕ) → HasLoader words → Fetches words (loader_b
 unfolding op_of
 fetch_1 words has = record { here = has.fixed 1 (omega arith) (omega arith) (omega arith); is_op = refl; is_at = refl }
 
-pub fetch_2 : (words : List ℕ) → HasLoader words → Fetches words (loader_base + 2) (word_of T end_place) T end_place
+pub fetch_2 : (words : List ℕ) → HasLoader words → Fetches words (loader_base + 2) (word_of T single_end_place) T single_end_place
 unfolding op_of
 fetch_2 words has = record { here = has.fixed 2 (omega arith) (omega arith) (omega arith); is_op = refl; is_at = refl }
 
-pub fetch_3 : (words : List ℕ) → HasLoader words → Fetches words (loader_base + 3) (word_of H store_cell) H store_cell
+pub fetch_3 : (words : List ℕ) → HasLoader words → Fetches words (loader_base + 3) (word_of H single_store_cell) H single_store_cell
 unfolding op_of
 fetch_3 words has = record { here = has.fixed 3 (omega arith) (omega arith) (omega arith); is_op = refl; is_at = refl }
 
@@ -73,15 +74,15 @@ pub fetch_7 : (words : List ℕ) → HasLoader words → Fetches words (loader_b
 unfolding op_of
 fetch_7 words has = record { here = has.fixed 7 (omega arith) (omega arith) (omega arith); is_op = refl; is_at = refl }
 
-pub fetch_8 : (words : List ℕ) → HasLoader words → Fetches words end_place (word_of H end_cell) H end_cell
+pub fetch_8 : (words : List ℕ) → HasLoader words → Fetches words single_end_place (word_of H single_end_cell) H single_end_cell
 unfolding op_of
 fetch_8 words has = record { here = has.fixed 8 (omega arith) (omega arith) (omega arith); is_op = refl; is_at = refl }
 
 -- the order in the store cell
-pub fetch_store : (words : List ℕ) (place : ℕ) → HasLoader words → place < 4096 → Fetches (slice_set words store_cell (control_word place)) store_cell (control_word place) C place
+pub fetch_store : (words : List ℕ) (place : ℕ) → HasLoader words → place < 4096 → Fetches (slice_set words single_store_cell (control_word place)) single_store_cell (control_word place) C place
 unfolding op_of
 fetch_store words place has within = record {
-  here = get_or-set_same words store_cell (control_word place) 0 (let drum = has.drum in omega arith);
+  here = get_or-set_same words single_store_cell (control_word place) 0 (let drum = has.drum in omega arith);
   is_op = let number : control_word place / 65536 % 16 ≡ 13 = omega arith in rw number refl;
   is_at = omega arith;
 }

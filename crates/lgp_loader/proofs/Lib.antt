@@ -2,10 +2,15 @@ pub mod Orders
 pub mod Runs
 pub mod Cells
 pub mod Through
-pub mod Law
+pub mod Begun
+pub mod SingleLaw
 pub mod Ready
 pub mod Stopped
+pub mod Cuts
+pub mod Lengths
 pub mod BlockCells
 pub mod BlockWords
 pub mod Blocks
 pub mod BlockLaw
+pub mod Undisturbed
+pub mod Loads

@@ -1,5 +1,5 @@
 -- Where loading meets the end of the clock.
-use Rattle.std.proofs.Common.{◌≡◌, ℕ, zero, suc, ◌+◌, ◌-◌, ◌<◌, ◌≤◌, true, false, cond, refl, sym, ap, ◌∙◌, arith, List, [], ◌∷◌, Option, Some, None, length, map, slice_index, take, inl, inr}
+use Rattle.std.proofs.Common.{◌≡◌, ℕ, zero, suc, ◌+◌, ◌-◌, ◌<◌, ◌≤◌, true, false, cond, refl, sym, ap, ◌∙◌, arith, List, [], ◌∷◌, Option, Some, None, length, map, slice_index, subst, take, take_all, inl, inr}
 use Rattle.std.specs.List.{find, range_with_len}
 use Rattle.std.specs.Option.{option_or}
 use Rattle.std.proofs.lemmas.Bool.Decides.{nat_tests}
@@ -12,11 +12,9 @@ use Rattle.lgp_table.proofs.After.{after_none, after_one_more}
 use Rattle.lgp_machine.specs.Answers.{clock_end}
 use Rattle.lgp_keyin.specs.KeyIn.{about_to_jump, about_to_store, keyed, with_four_bit_input, words_keyed}
 use Rattle.lgp_keyin.specs.Keyed.{before_store}
-use Rattle.lgp_assembler.specs.Parts.{ImageParts}
-use Rattle.lgp_loader.specs.Loading.{EndsLoading, begun, loaded, loading_stopped, order_states, orders_to_load, passes_end, prepared, store_states}
-use Rattle.lgp_loader.specs.Places.{loader_base, loader_words}
-use Rattle.lgp_loader.proofs.Law.{loading_time}
-use Rattle.lgp_loader.proofs.Ready.{begun_later, clock_later}
+use Rattle.lgp_loader.specs.Loading.{EndsLoading, TapeLoad, begun, loaded, loading_stopped, order_states, passes_end, prepared, store_states}
+use Rattle.lgp_loader.specs.Places.{loader_base}
+use Rattle.lgp_loader.proofs.Ready.{begun_later, clock_later, loading_time}
 
 -- an activity within the clock, and one past its end
 fits : (s : State) → s.clock + cost s ≤ clock_end → passes_end s ≡ false
@@ -128,53 +126,54 @@ order_fits s k done below clock =
     fits (after s k) (omega (arith, one, later, clock))
 
 -- no store of the loader passes the end where the clock after them all is within it
-stores_fit : (s : State) → (keyed s loader_base loader_words).clock ≤ clock_end → find passes_end (store_states s loader_base loader_words) ≡ None
-stores_fit s clock = no_store s loader_base loader_words (λ k less. store_fits s loader_base loader_words k (length loader_words) less (omega arith) clock)
+stores_fit : (s : State) (load : TapeLoad) → (keyed s loader_base load.loader).clock ≤ clock_end → find passes_end (store_states s loader_base load.loader) ≡ None
+stores_fit s load clock = no_store s loader_base load.loader (λ k less. store_fits s loader_base load.loader k (length load.loader) less (omega arith)
+    (subst (λ words. (keyed s loader_base words).clock ≤ clock_end) (sym (take_all (length load.loader) load.loader (omega arith))) clock))
 
-jump_fits : (s : State) (image : ImageParts) → (begun s image).clock ≤ clock_end → passes_end (about_to_jump (prepared s image) loader_base) ≡ false
-jump_fits s image clock = fits (about_to_jump (prepared s image) loader_base) clock
+jump_fits : (s : State) (load : TapeLoad) → (begun s load).clock ≤ clock_end → passes_end (about_to_jump (prepared s load) loader_base) ≡ false
+jump_fits s load clock = fits (about_to_jump (prepared s load) loader_base) clock
 
 -- the first of all states of loading, by the parts
-behind_stores : (s : State) (image : ImageParts) → (keyed s loader_base loader_words).clock ≤ clock_end
-    → loading_stopped s image
-    ≡ find passes_end (about_to_jump (prepared s image) loader_base ∷ order_states (begun s image) (orders_to_load image))
+behind_stores : (s : State) (load : TapeLoad) → (keyed s loader_base load.loader).clock ≤ clock_end
+    → loading_stopped s load
+    ≡ find passes_end (about_to_jump (prepared s load) loader_base ∷ order_states (begun s load) load.orders)
 unfolding loading_stopped
-behind_stores s image clock =
-    let others = about_to_jump (prepared s image) loader_base ∷ order_states (begun s image) (orders_to_load image) in
-    find-append passes_end (store_states s loader_base loader_words) others ∙ ap (λ o. option_or o (find passes_end others)) (stores_fit s clock)
+behind_stores s load clock =
+    let others = about_to_jump (prepared s load) loader_base ∷ order_states (begun s load) load.orders in
+    find-append passes_end (store_states s loader_base load.loader) others ∙ ap (λ o. option_or o (find passes_end others)) (stores_fit s load clock)
 
-behind_jump : (s : State) (image : ImageParts) → (begun s image).clock ≤ clock_end
-    → loading_stopped s image ≡ find passes_end (order_states (begun s image) (orders_to_load image))
-behind_jump s image clock =
-    let jump = about_to_jump (prepared s image) loader_base in
-    let stores : (keyed s loader_base loader_words).clock ≤ clock_end = omega (arith, begun_later s image, clock) in
-    behind_stores s image stores
-    ∙ ap (λ b. cond b (Some jump) (find passes_end (order_states (begun s image) (orders_to_load image)))) (jump_fits s image clock)
+behind_jump : (s : State) (load : TapeLoad) → (begun s load).clock ≤ clock_end
+    → loading_stopped s load ≡ find passes_end (order_states (begun s load) load.orders)
+behind_jump s load clock =
+    let jump = about_to_jump (prepared s load) loader_base in
+    let stores : (keyed s loader_base load.loader).clock ≤ clock_end = omega (arith, begun_later s load, clock) in
+    behind_stores s load stores
+    ∙ ap (λ b. cond b (Some jump) (find passes_end (order_states (begun s load) load.orders))) (jump_fits s load clock)
 
-stopped_in_store : (s : State) (image : ImageParts) (done : ℕ) → done < length loader_words
-    → (before_store s loader_base loader_words done).clock ≤ clock_end → passes_end (before_store s loader_base loader_words done) ≡ true
-    → loading_stopped s image ≡ Some (before_store s loader_base loader_words done)
+stopped_in_store : (s : State) (load : TapeLoad) (done : ℕ) → done < length load.loader
+    → (before_store s loader_base load.loader done).clock ≤ clock_end → passes_end (before_store s loader_base load.loader done) ≡ true
+    → loading_stopped s load ≡ Some (before_store s loader_base load.loader done)
 unfolding loading_stopped
-stopped_in_store s image done less clock past =
-    let others = about_to_jump (prepared s image) loader_base ∷ order_states (begun s image) (orders_to_load image) in
-    let found = first_store s loader_base loader_words done less (λ k below. store_fits s loader_base loader_words k done below (omega (arith, less)) clock) past in
-    find-append passes_end (store_states s loader_base loader_words) others ∙ ap (λ o. option_or o (find passes_end others)) found
+stopped_in_store s load done less clock past =
+    let others = about_to_jump (prepared s load) loader_base ∷ order_states (begun s load) load.orders in
+    let found = first_store s loader_base load.loader done less (λ k below. store_fits s loader_base load.loader k done below (omega (arith, less)) clock) past in
+    find-append passes_end (store_states s loader_base load.loader) others ∙ ap (λ o. option_or o (find passes_end others)) found
 
-stopped_in_jump : (s : State) (image : ImageParts)
-    → (about_to_jump (prepared s image) loader_base).clock ≤ clock_end → passes_end (about_to_jump (prepared s image) loader_base) ≡ true
-    → loading_stopped s image ≡ Some (about_to_jump (prepared s image) loader_base)
-stopped_in_jump s image clock past =
-    let jump = about_to_jump (prepared s image) loader_base in
-    behind_stores s image clock ∙ ap (λ b. cond b (Some jump) (find passes_end (order_states (begun s image) (orders_to_load image)))) past
+stopped_in_jump : (s : State) (load : TapeLoad)
+    → (about_to_jump (prepared s load) loader_base).clock ≤ clock_end → passes_end (about_to_jump (prepared s load) loader_base) ≡ true
+    → loading_stopped s load ≡ Some (about_to_jump (prepared s load) loader_base)
+stopped_in_jump s load clock past =
+    let jump = about_to_jump (prepared s load) loader_base in
+    behind_stores s load clock ∙ ap (λ b. cond b (Some jump) (find passes_end (order_states (begun s load) load.orders))) past
 
-stopped_in_order : (s : State) (image : ImageParts) (done : ℕ) → done < orders_to_load image
-    → (after (begun s image) done).clock ≤ clock_end → passes_end (after (begun s image) done) ≡ true
-    → loading_stopped s image ≡ Some (after (begun s image) done)
-stopped_in_order s image done less clock past =
-    let none : (after (begun s image) 0).clock ≡ (begun s image).clock = ap (λ (t : State). t.clock) (after_none (begun s image)) in
-    let later = clock_later (begun s image) 0 done (omega arith) in
-    behind_jump s image (omega (arith, none, later, clock))
-    ∙ first_order (begun s image) (orders_to_load image) done less (λ k below. order_fits (begun s image) k done below clock) past
+stopped_in_order : (s : State) (load : TapeLoad) (done : ℕ) → done < load.orders
+    → (after (begun s load) done).clock ≤ clock_end → passes_end (after (begun s load) done) ≡ true
+    → loading_stopped s load ≡ Some (after (begun s load) done)
+stopped_in_order s load done less clock past =
+    let none : (after (begun s load) 0).clock ≡ (begun s load).clock = ap (λ (t : State). t.clock) (after_none (begun s load)) in
+    let later = clock_later (begun s load) 0 done (omega arith) in
+    behind_jump s load (omega (arith, none, later, clock))
+    ∙ first_order (begun s load) load.orders done less (λ k below. order_fits (begun s load) k done below clock) past
 
 -- a boundary of some state, and what is known of it there
 found_at : (now : Configuration) (t : State) (found : Option State) → now ≡ at_boundary t → now.state.clock ≤ clock_end → clock_end < now.state.clock + cost now.state
@@ -186,21 +185,21 @@ found_at now t found at within past is =
 
 -- where loading ends at the clock, it does so in the first state whose activity would pass the end: the clock goes on by what the
 -- activities cost, so none before it would
-pub stopped_first : (s : State) (image : ImageParts) (now : Configuration) → EndsLoading now s image → now.state.clock ≤ clock_end
-    → loading_stopped s image ≡ Some now.state
-stopped_first s image now ends within = elim ends.0 [
-  | inl store ↦ found_at now (before_store s loader_base loader_words store.0) (loading_stopped s image) store.2 within ends.1 (stopped_in_store s image store.0 store.1)
+pub stopped_first : (s : State) (load : TapeLoad) (now : Configuration) → EndsLoading now s load → now.state.clock ≤ clock_end
+    → loading_stopped s load ≡ Some now.state
+stopped_first s load now ends within = elim ends.0 [
+  | inl store ↦ found_at now (before_store s loader_base load.loader store.0) (loading_stopped s load) store.2 within ends.1 (stopped_in_store s load store.0 store.1)
   | inr later ↦ elim later [
-    | inl jump ↦ found_at now (about_to_jump (prepared s image) loader_base) (loading_stopped s image) jump within ends.1 (stopped_in_jump s image)
-    | inr order ↦ found_at now (after (begun s image) order.0) (loading_stopped s image) order.2 within ends.1 (stopped_in_order s image order.0 order.1)
+    | inl jump ↦ found_at now (about_to_jump (prepared s load) loader_base) (loading_stopped s load) jump within ends.1 (stopped_in_jump s load)
+    | inr order ↦ found_at now (after (begun s load) order.0) (loading_stopped s load) order.2 within ends.1 (stopped_in_order s load order.0 order.1)
   ]
 ]
 
 -- and where the clock after loading is within the end, nowhere
-pub stopped_nowhere : (s : State) (image : ImageParts) → (loaded s image).clock ≤ clock_end → loading_stopped s image ≡ None
-stopped_nowhere s image clock =
-    let time = loading_time s image in
-    behind_jump s image (omega (arith, time, clock))
-    ∙ no_order (begun s image) (orders_to_load image) (λ k less. order_fits (begun s image) k (orders_to_load image) less clock)
+pub stopped_nowhere : (s : State) (load : TapeLoad) → (loaded s load).clock ≤ clock_end → loading_stopped s load ≡ None
+stopped_nowhere s load clock =
+    let time = loading_time s load in
+    behind_jump s load (omega (arith, time, clock))
+    ∙ no_order (begun s load) load.orders (λ k less. order_fits (begun s load) k load.orders less clock)
 
 pub ruleset loading_stops = (stopped_first, stopped_nowhere)

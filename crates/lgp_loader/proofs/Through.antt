@@ -14,16 +14,18 @@ use Rattle.lgp_table.specs.State.{Core, core_of}
 use Rattle.lgp_table.specs.declared.panel.Mode.TheVariants.{Normal}
 use Rattle.lgp_table.specs.declared.panel.Switches.{Switches}
 use Rattle.lgp_assembler.specs.Parts.{AreProgramCells, is_loaders}
-use Rattle.lgp_loader.specs.LoaderTape.{carriage_return, cell_codes, control_word, end_word, stopped_word}
+use Rattle.lgp_loader.specs.LoaderTape.{carriage_return, control_word, end_word, stopped_word}
+use Rattle.lgp_loader.specs.SingleTape.{cell_codes}
 use Rattle.lgp_loader.specs.Loading.{status_after_load}
-use Rattle.lgp_loader.specs.Places.{end_cell, end_place, loader_base, store_cell, word_of}
+use Rattle.lgp_loader.specs.Places.{loader_base, word_of}
+use Rattle.lgp_loader.specs.SinglePlaces.{single_end_cell, single_end_place, single_store_cell}
 use Rattle.lgp_loader.proofs.Orders.{Fetches, cleared, core_at, goes_on, held, jumps, off, stops, transfers_to}
 use Rattle.lgp_loader.proofs.Runs.{Runs, one_then}
 use Rattle.lgp_loader.proofs.Cells.{AreSkipped, HasLoader, control_is_positive, control_is_word, fetch_0, fetch_1, fetch_2, fetch_3, fetch_4, fetch_5, fetch_7, fetch_8, fetch_store, loader_stays, nothing_skipped, program_elsewhere, read_codes, return_skipped, store_cell_elsewhere, two_orders}
 
 -- the drum after a cell: the order that stores it lies in the store cell, and the word at its place
 abbrev pub words_after_cell : List ℕ → ℕ → ℕ → List ℕ
-words_after_cell words place word = slice_set (slice_set words store_cell (control_word place)) place word
+words_after_cell words place word = slice_set (slice_set words single_store_cell (control_word place)) place word
 
 -- the codes of a cell, behind some that are skipped, and all that follow
 abbrev cell_left : List ℕ → ℕ → ℕ → List ℕ → List ℕ
@@ -40,21 +42,21 @@ one_cell switches accumulator register words passed skipped rest place word coun
     let left = word_codes word ++ stop_code ∷ (carriage_return ∷ rest) in
     let passed1 = passed ++ read_codes skipped control in
     let passed2 = passed1 ++ read_codes [] word in
-    let words1 = slice_set words store_cell control in
+    let words1 = slice_set words single_store_cell control in
     let words2 = slice_set words1 place word in
-    let has1 = loader_stays words store_cell control has store_cell_elsewhere in
+    let has1 = loader_stays words single_store_cell control has store_cell_elsewhere in
     let has2 = loader_stays words1 place word has1 (program_elsewhere place free) in
     let at3 = core_at switches (loader_base + 2) control (word_of I 0) words (off passed1 left) in
-    let at4 = core_at switches (loader_base + 3) control (word_of T end_place) words (off passed1 left) in
-    let at5 = core_at switches (loader_base + 4) control (word_of H store_cell) words1 (off passed1 left) in
-    let at7 = core_at switches store_cell word (word_of I 0) words1 (off passed2 (carriage_return ∷ rest)) in
+    let at4 = core_at switches (loader_base + 3) control (word_of T single_end_place) words (off passed1 left) in
+    let at5 = core_at switches (loader_base + 4) control (word_of H single_store_cell) words1 (off passed1 left) in
+    let at7 = core_at switches single_store_cell word (word_of I 0) words1 (off passed2 (carriage_return ∷ rest)) in
     let at8 = core_at switches (loader_base + 7) 0 control words2 (off passed2 (carriage_return ∷ rest)) in
     let at9 = core_at switches loader_base 0 (word_of U loader_base) words2 (off passed2 (carriage_return ∷ rest)) in
     let eighth = one_then count at8 at9 last (jumps switches (loader_base + 7) 0 control words2 (off passed2 (carriage_return ∷ rest)) (word_of U loader_base) loader_base (fetch_7 words2 has2)) runs in
-    let seventh = one_then (suc count) at7 at8 last (cleared switches store_cell word (word_of I 0) words1 (off passed2 (carriage_return ∷ rest)) control place (fetch_store words place has within) is) eighth in
-    let fifth = two_orders switches (loader_base + 4) control (word_of H store_cell) words1 passed1 [] (carriage_return ∷ rest) word (suc (suc count)) last (fetch_4 words1 has1) (fetch_5 words1 has1) (omega arith) nothing_skipped is seventh in
-    let fourth = one_then (suc (suc (suc (suc count)))) at4 at5 last (held switches (loader_base + 3) control (word_of T end_place) words (off passed1 left) (word_of H store_cell) store_cell (fetch_3 words has) (control_is_word place within)) fifth in
-    let third = one_then (suc (suc (suc (suc (suc count))))) at3 at4 last (goes_on switches (loader_base + 2) control (word_of I 0) words (off passed1 left) (word_of T end_place) end_place (fetch_2 words has) refl (control_is_positive place within)) fourth in
+    let seventh = one_then (suc count) at7 at8 last (cleared switches single_store_cell word (word_of I 0) words1 (off passed2 (carriage_return ∷ rest)) control place (fetch_store words place has within) is) eighth in
+    let fifth = two_orders switches (loader_base + 4) control (word_of H single_store_cell) words1 passed1 [] (carriage_return ∷ rest) word (suc (suc count)) last (fetch_4 words1 has1) (fetch_5 words1 has1) (omega arith) nothing_skipped is seventh in
+    let fourth = one_then (suc (suc (suc (suc count)))) at4 at5 last (held switches (loader_base + 3) control (word_of T single_end_place) words (off passed1 left) (word_of H single_store_cell) single_store_cell (fetch_3 words has) (control_is_word place within)) fifth in
+    let third = one_then (suc (suc (suc (suc (suc count))))) at3 at4 last (goes_on switches (loader_base + 2) control (word_of I 0) words (off passed1 left) (word_of T single_end_place) single_end_place (fetch_2 words has) refl (control_is_positive place within)) fourth in
     two_orders switches loader_base accumulator register words passed skipped left control (suc (suc (suc (suc (suc (suc count)))))) last (fetch_0 words has) (fetch_1 words has) (omega arith) are (control_is_word place within) third
 
 -- the end word
@@ -125,14 +127,14 @@ end_read place switches accumulator register words passed skipped start p i t h 
 
 -- the core at the end of the ten words
 abbrev pub final_core : Switches → Option ℕ → List ℕ → List ℕ → Core
-final_core = core_at_end (end_cell + 1)
+final_core = core_at_end (single_end_cell + 1)
 
 the_end : (switches : Switches) (accumulator register : ℕ) (words passed skipped : List ℕ) (start : Option ℕ)
     → HasLoader words → AreSkipped skipped → IfSome start IsAddress
     → Runs 5 (core_at switches loader_base accumulator register words (off passed ((skipped ++ word_codes (end_word start)) ++ stop_code ∷ [])))
-    (final_core switches start (slice_set words end_cell (end_word start)) (passed ++ read_codes skipped (end_word start)))
+    (final_core switches start (slice_set words single_end_cell (end_word start)) (passed ++ read_codes skipped (end_word start)))
 the_end switches accumulator register words passed skipped start has are is =
-    end_read end_place switches accumulator register words passed skipped start (fetch_0 words has) (fetch_1 words has) (fetch_2 words has) (fetch_8 words has)
+    end_read single_end_place switches accumulator register words passed skipped start (fetch_0 words has) (fetch_1 words has) (fetch_2 words has) (fetch_8 words has)
     (omega arith) has.drum are is
 
 -- the drum after some cells
@@ -159,20 +161,20 @@ end_shape skipped word = sym (append_assoc skipped word (stop_code ∷ []))
 pub through_tape : (switches : Switches) (accumulator register : ℕ) (words passed skipped : List ℕ) (cells : List (ℕ × ℕ)) (start : Option ℕ)
     → HasLoader words → AreSkipped skipped → AreProgramCells cells → IfSome start IsAddress
     → Runs (8 * length cells + 5) (core_at switches loader_base accumulator register words (off passed (tape_left skipped cells start)))
-    (final_core switches start (slice_set (words_after_cells words cells) end_cell (end_word start)) (passed ++ tape_left skipped cells start))
+    (final_core switches start (slice_set (words_after_cells words cells) single_end_cell (end_word start)) (passed ++ tape_left skipped cells start))
 unfolding words_after_cells
 through_tape switches accumulator register words passed skipped [] start has are cells is =
     subst (λ left. Runs 5 (core_at switches loader_base accumulator register words (off passed left))
-    (final_core switches start (slice_set words end_cell (end_word start)) (passed ++ left)))
+    (final_core switches start (slice_set words single_end_cell (end_word start)) (passed ++ left)))
     (sym (end_shape skipped (word_codes (end_word start))))
     (the_end switches accumulator register words passed skipped start has are is)
 through_tape switches accumulator register words passed skipped ((place, word) ∷ cells) start has are ((within, free, is_word), others) is =
     let control = control_word place in
     let words2 = words_after_cell words place word in
-    let has2 = loader_stays (slice_set words store_cell control) place word (loader_stays words store_cell control has store_cell_elsewhere) (program_elsewhere place free) in
+    let has2 = loader_stays (slice_set words single_store_cell control) place word (loader_stays words single_store_cell control has store_cell_elsewhere) (program_elsewhere place free) in
     let passed2 = (passed ++ read_codes skipped control) ++ read_codes [] word in
     let rest = concat (map cell_codes cells) ++ stopped_word (end_word start) in
-    let words_last = slice_set (words_after_cells words2 cells) end_cell (end_word start) in
+    let words_last = slice_set (words_after_cells words2 cells) single_end_cell (end_word start) in
     let later = through_tape switches 0 (word_of U loader_base) words2 passed2 (carriage_return ∷ []) cells start has2 return_skipped others is in
     let left = shape skipped (word_codes control) (word_codes word) (concat (map cell_codes cells)) (stopped_word (end_word start)) in
     let whole : passed2 ++ (carriage_return ∷ rest) ≡ passed ++ tape_left skipped ((place, word) ∷ cells) start =

@@ -1,7 +1,6 @@
--- Part of the public promise. The block loader (this project's own): 22 words from 6300 on. It stores so many words at places one
--- after another, and counts the address up inside the order that stores them.
-use Rattle.std.specs.Prelude.{◌≡◌, ℕ, ◌+◌, ◌<◌, ◌&&◌, nat_le, nat_lt, Bool, false, List, [], ◌∷◌}
-use Rattle.lgp_word.specs.Word.{IsWord}
+-- Part of the public promise. The loader of 22 words (this project's own), for tapes of blocks. It stores so many words at places
+-- one after another, and counts the address up inside the order that stores them.
+use Rattle.std.specs.Prelude.{ℕ, ◌+◌, List, [], ◌∷◌}
 use Rattle.lgp_word.specs.declared.order.Op.TheVariants.{B, I, P, U, T, H, A}
 use Rattle.lgp_loader.specs.Places.{loader_base, word_of}
 
@@ -40,12 +39,3 @@ block_loader_words =
     ∷ word_of B block_store_cell ∷ word_of A one_up_place ∷ word_of H block_store_cell
     ∷ word_of B count_cell ∷ word_of A one_up_place ∷ word_of H count_cell ∷ word_of T next_word
     ∷ word_of U loader_base ∷ word_of H block_end_cell ∷ 0 ∷ one_up ∷ 0 ∷ []
-
--- the places of the block loader
-abbrev pub is_block_loaders : ℕ → Bool
-is_block_loaders place = nat_le loader_base place && nat_lt place (loader_base + 22)
-
--- cells of a program, none of them at such a place
-abbrev pub AreFreeCells : List (ℕ × ℕ) → Type 0
-AreFreeCells [] = Unit {0}
-AreFreeCells (cell ∷ cells) = ((cell.0 < 4096) × (is_block_loaders cell.0 ≡ false) × IsWord cell.1) × AreFreeCells cells

@@ -1,6 +1,6 @@
 -- Part of the public promise. A tape of blocks: for each block the order that stores its first word, its count, and its words; then
 -- the end word. A count is negative, so many times one as the block has words, and reaches zero behind the last of them.
-use Rattle.std.specs.Prelude.{◌≡◌, ◌≢◌, ℕ, ◌+◌, ◌-◌, ◌*◌, ◌^◌, List, [], ◌∷◌, ◌++◌, Option, length, map}
+use Rattle.std.specs.Prelude.{ℕ, ◌-◌, ◌*◌, ◌^◌, List, [], ◌∷◌, ◌++◌, Option, length, map}
 use Rattle.std.specs.List.{concat}
 use Rattle.lgp_loader.specs.BlockPlaces.{one_up}
 use Rattle.lgp_loader.specs.LoaderTape.{carriage_return, control_word, end_word, stopped_word}
@@ -9,24 +9,6 @@ use Rattle.lgp_loader.specs.LoaderTape.{carriage_return, control_word, end_word,
 abbrev pub first_place : List (ℕ × ℕ) → ℕ
 first_place [] = 0
 first_place (cell ∷ _) = cell.0
-
--- cells whose places follow one another from this one on
-abbrev pub FollowFrom : ℕ → List (ℕ × ℕ) → Type 0
-FollowFrom place [] = Unit {0}
-FollowFrom place (cell ∷ cells) = (cell.0 ≡ place) × FollowFrom (place + 1) cells
-
--- a block: one cell or more, whose places follow one another
-abbrev pub IsBlock : List (ℕ × ℕ) → Type 0
-IsBlock cells = (cells ≢ []) × FollowFrom (first_place cells) cells
-
-abbrev pub AreBlocks : List (List (ℕ × ℕ)) → Type 0
-AreBlocks [] = Unit {0}
-AreBlocks (block ∷ blocks) = IsBlock block × AreBlocks blocks
-
--- the cells of blocks, one block after another
-abbrev pub cells_of : List (List (ℕ × ℕ)) → List (ℕ × ℕ)
-cells_of [] = []
-cells_of (block ∷ blocks) = block ++ cells_of blocks
 
 -- the count of so many words that are left
 abbrev pub count_word : ℕ → ℕ

@@ -1,6 +1,10 @@
 pub mod Places
 pub mod LoaderTape
 pub mod Loading
+pub mod Cutting
 pub mod BlockPlaces
 pub mod BlockTape
 pub mod BlockLoading
+pub mod SinglePlaces
+pub mod SingleTape
+pub mod SingleLoading

@@ -1,18 +1,16 @@
--- Part of the public promise. The tape of a program: for each cell its control word and its word, then the end word. A control word
--- is the order that stores the cell, and so is positive; the end word is negative.
-use Rattle.std.specs.Prelude.{ℕ, ◌+◌, ◌^◌, List, [], ◌∷◌, ◌++◌, Option, None, Some, map}
-use Rattle.std.specs.List.{concat}
+-- Part of the public promise. The words of a loader's tape. A control word is the order that stores a word, and so is positive; the
+-- end word is negative.
+use Rattle.std.specs.Prelude.{ℕ, ◌+◌, ◌^◌, List, [], ◌∷◌, ◌++◌, Option, None, Some}
 use Rattle.lgp_word.specs.declared.order.Op.TheVariants.{U, C}
 use Rattle.lgp_flexo.specs.Code.{stop_code}
 use Rattle.lgp_flexo.specs.WordCodes.{word_codes}
-use Rattle.lgp_assembler.specs.Parts.{ImageParts}
 use Rattle.lgp_loader.specs.Places.{word_of}
 
 -- the code of a carriage return, which an input skips
 abbrev pub carriage_return : ℕ
 carriage_return = 16
 
--- the order that stores a cell
+-- the order that stores a word
 abbrev pub control_word : ℕ → ℕ
 control_word place = word_of C place
 
@@ -24,10 +22,3 @@ end_word (Some start) = 2 ^ 31 + word_of U start
 -- a word and the conditional stop behind it
 abbrev pub stopped_word : ℕ → List ℕ
 stopped_word word = word_codes word ++ stop_code ∷ []
-
-abbrev pub cell_codes : ℕ × ℕ → List ℕ
-cell_codes cell = stopped_word (control_word cell.0) ++ (stopped_word cell.1 ++ carriage_return ∷ [])
-
--- the tape of an image
-unfoldable pub tape_codes : ImageParts → List ℕ
-tape_codes image = concat (map cell_codes image.cells) ++ stopped_word (end_word image.start)

@@ -1,6 +1,6 @@
 //! Loading a program.
 
-ghost use Rattle.std.specs.Prelude.{◌≡◌, ◌+◌, ◌*◌, ◌<◌, ◌≤◌, ◌↔◌, ℕ, None, List, false, true, IfOk, IfSome, IsTrue, OnOk, Err, length, vec_len};
+ghost use Rattle.std.specs.Prelude.{◌≡◌, ◌≢◌, ◌+◌, ◌*◌, ◌<◌, ◌≤◌, ◌↔◌, ℕ, None, List, false, true, IfOk, IfSome, IsTrue, OnOk, Err, length, vec_len};
 ghost use Rattle.std.specs.Bool.{OnFalse, OnTrue};
 ghost use Rattle.lgp_flexo.specs.TapeText.{tape_limit};
 ghost use Rattle.lgp_table.specs.Activity.{cost, next, print_of};
@@ -9,18 +9,22 @@ ghost use Rattle.lgp_table.specs.Console.{is_at_rest};
 ghost use Rattle.lgp_table.specs.Interleaving.{after_mount, at_boundary, is_boundary};
 ghost use Rattle.lgp_machine.specs.Answers.{clock_end};
 ghost use Rattle.lgp_keyin.specs.KeyIn.{about_to_jump, keyed, started};
-ghost use Rattle.lgp_loader.specs.Loading.{BeginsStore, EndsLoading, loaded, orders_to_load};
+ghost use Rattle.lgp_loader.specs.BlockLoading.{cut_load, longest_load, orders_for};
+ghost use Rattle.lgp_loader.specs.Cutting.{is_cutting};
+ghost use Rattle.lgp_loader.specs.Loading.{BeginsStore, EndsLoading, IsLoader, begun, load_with, loaded};
+ghost use Rattle.lgp_loader.specs.SingleLoading.{single_load};
 ghost use Rattle.lgp_assembler.specs.Parts.{AreProgramCells};
 ghost use Rattle.lgp_word.specs.Address.{IsAddress};
-ghost use Rattle.lgp_loader.specs.Places.{loader_base, loader_words};
+ghost use Rattle.lgp_loader.specs.Places.{loader_base};
 
-use crate::tape::tape_of;
-use crate::words::LOADER;
+use crate::cutting::{Cell, count_longest};
+use crate::tape::{CutFault, single_tape_of, tape_cut, tape_of};
+use crate::words::{LOADER, LOADER_10};
 use lgp_assembler::{Image, LOADER_PLACES};
 use lgp_flexo::Code;
 use lgp_keyin::{KeyFault, Operate, actions_to_jump, key_in, press_all};
 use lgp_table::{Action, Mode};
-use lgp_word::Address;
+use lgp_word::{Address, Word};
 use std::alloc::Allocator;
 use thiserror::Error;
 
@@ -36,9 +40,12 @@ pub enum LoadFault {
     /// Nothing was pressed.
     #[error("out of memory for the tape")]
     Memory,
+    /// Nothing was pressed: the numbers do not cut the program's words into blocks.
+    #[error("these are not the lengths of blocks")]
+    BadCut,
 }
 
-/// The address at which the loader begins.
+/// The address at which a loader begins.
 fn loader_base() -> Address
     ensures { result ≡ loader_base }
 {
@@ -62,25 +69,27 @@ fn mount<A: Allocator, M: Operate<Tape = Vec<Code, A>>>(machine: &mut M, tape: V
     }
 }
 
-/// Keys the loader in and mounts a tape. Answers false where key-in meets the end of the clock.
-#[tactic(auto, using(crate::proofs::Ready::readying))]
+/// Keys a loader in and mounts a tape. Answers false where key-in meets the end of the clock.
+#[tactic(auto, using(crate::proofs::Begun::keyed_rests))]
 fn prepare<A: Allocator, M: Operate<Tape = Vec<Code, A>>>(
     machine: &mut M,
+    loader: &[Word],
     tape: Vec<Code, A>,
 ) -> bool
     requires tapes { M.codes ≡ (λ tape. tape.items) }
     requires boundary { IsTrue (is_boundary (M.configuration machine.old)) }
+    requires loader { IsLoader loader.now }
     requires short { vec_len tape ≤ tape_limit }
     ensures prepared { OnTrue result (M.configuration machine.new ≡ at_boundary (after_mount
-        (keyed (M.configuration machine.old).state loader_base loader_words) tape.items)) }
+        (keyed (M.configuration machine.old).state loader_base loader.now) tape.items)) }
     ensures stands { OnFalse result
-        (BeginsStore (M.configuration machine.new) (M.configuration machine.old).state) }
+        (BeginsStore (M.configuration machine.new) (M.configuration machine.old).state loader.now) }
     ensures clock_end { OnFalse result (clock_end < (M.configuration machine.new).state.clock
         + cost (M.configuration machine.new).state) }
     ensures past { OnFalse result (clock_end
-        < (keyed (M.configuration machine.old).state loader_base loader_words).clock) }
+        < (keyed (M.configuration machine.old).state loader_base loader.now).clock) }
 {
-    match key_in(machine, loader_base(), &LOADER) {
+    match key_in(machine, loader_base(), loader) {
         Ok(()) => {}
         Err(KeyFault::ClockEnd) => return false,
         Err(KeyFault::Moving | KeyFault::PastEnd) => unreachable!(),
@@ -153,24 +162,70 @@ fn perform<M: Operate>(machine: &mut M, orders: u64) -> bool
     true
 }
 
-/// How many orders the loader performs for an image.
-fn orders_to_load<A: Allocator>(image: &Image<A>) -> u64
-    ensures orders { result ≡ orders_to_load image.now }
+/// Keys a loader in, mounts a tape, starts the loader and performs so many orders, which are at work and print nothing. Answers
+/// false where the clock would pass its end.
+#[tactic(auto, using(crate::proofs::Ready::tape_steps))]
+fn load_tape<A: Allocator, M: Operate<Tape = Vec<Code, A>>>(
+    machine: &mut M,
+    loader: &[Word],
+    tape: Vec<Code, A>,
+    orders: u64,
+) -> bool
+    requires tapes { M.codes ≡ (λ tape. tape.items) }
+    requires boundary { IsTrue (is_boundary (M.configuration machine.old)) }
+    requires loader { IsLoader loader.now }
+    requires short { vec_len tape ≤ tape_limit }
+    requires some { 0 < orders }
+    requires work { (before : ℕ) → before < orders
+        → is_at_rest (after (begun (M.configuration machine.old).state
+        (load_with loader.now tape.items orders)) before).core.panel.status ≡ false }
+    requires silent { (before : ℕ) → before < orders
+        → print_of (after (begun (M.configuration machine.old).state
+        (load_with loader.now tape.items orders)) before).core ≡ None }
+    ensures loaded { OnTrue result (M.configuration machine.new ≡ at_boundary
+        (loaded (M.configuration machine.old).state (load_with loader.now tape.items orders))) }
+    ensures clock { OnTrue result ((M.configuration machine.new).state.clock ≤ clock_end) }
+    ensures stands { OnFalse result (EndsLoading (M.configuration machine.new)
+        (M.configuration machine.old).state (load_with loader.now tape.items orders)) }
+    ensures past { OnFalse result (clock_end < (loaded (M.configuration machine.old).state
+        (load_with loader.now tape.items orders)).clock) }
+{
+    if !prepare(machine, loader, tape) {
+        return false;
+    }
+    if !begin(machine) {
+        return false;
+    }
+    perform(machine, orders)
+}
+
+/// The cells of an image.
+fn cells_of<A: Allocator>(image: &Image<A>) -> &[Cell]
+    ensures cells { result.now ≡ image.now.cells }
     ensures few { length image.now.cells ≤ 4096 }
     ensures program { AreProgramCells image.now.cells }
     ensures start { IfSome image.now.start IsAddress }
 {
     // That a start is an address is what the clause of this call says.
     let _ = image.start();
-    8 * image.cells().len() as u64 + 5
+    image.cells()
 }
 
-/// Loads a program, as an operator does: the loader is keyed in, the tape mounted, and the loader started; it then reads the tape.
-/// Answers how many orders the loader performed, 8 for each cell and 5.
+/// How many orders the loader performs for so many words in so many blocks.
+fn orders_for(words: usize, blocks: usize) -> u64
+    requires few { words ≤ 4096 }
+    requires fewer { blocks ≤ 4096 }
+    ensures { result ≡ orders_for words blocks }
+{
+    10 * words as u64 + 8 * blocks as u64 + 5
+}
+
+/// Loads a program, as an operator does: the loader is keyed in, the tape mounted, and the loader started; it then reads the tape,
+/// which has the longest blocks. Answers how many orders the loader performed, 10 for each word, 8 for each block, and 5.
 ///
 /// Refused, in this order: within an activity (`Moving`), where there is no memory for the tape (`Memory`), both before anything
 /// is pressed; where the clock would pass its end (`ClockEnd`).
-#[tactic(auto, using(crate::proofs::Ready::loading_steps))]
+#[tactic(auto, using(crate::proofs::Loads::loading_steps))]
 pub fn load<A: Allocator + Copy, B: Allocator, M: Operate<Tape = Vec<Code, A>>>(
     alloc: A,
     machine: &mut M,
@@ -178,20 +233,21 @@ pub fn load<A: Allocator + Copy, B: Allocator, M: Operate<Tape = Vec<Code, A>>>(
 ) -> Result<u64, LoadFault>
     requires tapes { M.codes ≡ (λ tape. tape.items) }
     ensures loaded { OnOk result (M.configuration machine.new
-        ≡ at_boundary (loaded (M.configuration machine.old).state image.now)) }
-    ensures orders { IfOk result (λ orders. orders ≡ orders_to_load image.now) }
+        ≡ at_boundary (loaded (M.configuration machine.old).state (longest_load image.now))) }
+    ensures orders { IfOk result (λ orders. orders ≡ (longest_load image.now).orders) }
     ensures clock { OnOk result
-        ((loaded (M.configuration machine.old).state image.now).clock ≤ clock_end) }
+        ((loaded (M.configuration machine.old).state (longest_load image.now)).clock ≤ clock_end) }
     ensures moving { (result ≡ Err LoadFault.Moving)
         ↔ (is_boundary (M.configuration machine.old) ≡ false) }
     ensures unmoved { result ≡ Err LoadFault.Moving
         → M.configuration machine.new ≡ M.configuration machine.old }
     ensures no_memory { result ≡ Err LoadFault.Memory
         → M.configuration machine.new ≡ M.configuration machine.old }
+    ensures no_bad_cut { result ≢ Err LoadFault.BadCut }
     ensures stands { result ≡ Err LoadFault.ClockEnd → EndsLoading (M.configuration machine.new)
-        (M.configuration machine.old).state image.now }
+        (M.configuration machine.old).state (longest_load image.now) }
     ensures past { result ≡ Err LoadFault.ClockEnd → clock_end
-        < (loaded (M.configuration machine.old).state image.now).clock }
+        < (loaded (M.configuration machine.old).state (longest_load image.now)).clock }
 {
     if machine.look().is_none() {
         return Err(LoadFault::Moving);
@@ -199,14 +255,97 @@ pub fn load<A: Allocator + Copy, B: Allocator, M: Operate<Tape = Vec<Code, A>>>(
     let Ok(tape) = tape_of(alloc, image) else {
         return Err(LoadFault::Memory);
     };
-    let orders = orders_to_load(image);
-    if !prepare(machine, tape) {
+    let cells = cells_of(image);
+    let orders = orders_for(cells.len(), count_longest(cells));
+    if !load_tape(machine, &LOADER, tape, orders) {
         return Err(LoadFault::ClockEnd);
     }
-    if !begin(machine) {
+    Ok(orders)
+}
+
+/// Loads a program as `load` does, from the tape in blocks of so many words each.
+///
+/// Refused, in this order: within an activity (`Moving`), where the numbers do not cut the program's words into blocks (`BadCut`),
+/// where there is no memory for the tape (`Memory`), all before anything is pressed; where the clock would pass its end
+/// (`ClockEnd`).
+#[tactic(auto, using(crate::proofs::Loads::loading_steps))]
+pub fn load_cut<A: Allocator + Copy, B: Allocator, M: Operate<Tape = Vec<Code, A>>>(
+    alloc: A,
+    machine: &mut M,
+    image: &Image<B>,
+    counts: &[usize],
+) -> Result<u64, LoadFault>
+    requires tapes { M.codes ≡ (λ tape. tape.items) }
+    ensures loaded { OnOk result (M.configuration machine.new ≡ at_boundary
+        (loaded (M.configuration machine.old).state (cut_load image.now counts.now))) }
+    ensures orders { IfOk result (λ orders. orders ≡ (cut_load image.now counts.now).orders) }
+    ensures clock { OnOk result ((loaded (M.configuration machine.old).state
+        (cut_load image.now counts.now)).clock ≤ clock_end) }
+    ensures moving { (result ≡ Err LoadFault.Moving)
+        ↔ (is_boundary (M.configuration machine.old) ≡ false) }
+    ensures unmoved { result ≡ Err LoadFault.Moving
+        → M.configuration machine.new ≡ M.configuration machine.old }
+    ensures bad_cut { (result ≡ Err LoadFault.BadCut)
+        ↔ (IsTrue (is_boundary (M.configuration machine.old))
+        × (is_cutting counts.now image.now.cells ≡ false)) }
+    ensures uncut { result ≡ Err LoadFault.BadCut
+        → M.configuration machine.new ≡ M.configuration machine.old }
+    ensures no_memory { result ≡ Err LoadFault.Memory
+        → M.configuration machine.new ≡ M.configuration machine.old }
+    ensures stands { result ≡ Err LoadFault.ClockEnd → EndsLoading (M.configuration machine.new)
+        (M.configuration machine.old).state (cut_load image.now counts.now) }
+    ensures past { result ≡ Err LoadFault.ClockEnd → clock_end
+        < (loaded (M.configuration machine.old).state (cut_load image.now counts.now)).clock }
+{
+    if machine.look().is_none() {
+        return Err(LoadFault::Moving);
+    }
+    let tape = match tape_cut(alloc, image, counts) {
+        Ok(tape) => tape,
+        Err(CutFault::BadCut) => return Err(LoadFault::BadCut),
+        Err(CutFault::Memory) => return Err(LoadFault::Memory),
+    };
+    let orders = orders_for(cells_of(image).len(), counts.len());
+    if !load_tape(machine, &LOADER, tape, orders) {
         return Err(LoadFault::ClockEnd);
     }
-    if !perform(machine, orders) {
+    Ok(orders)
+}
+
+/// Loads a program cell by cell, by the loader of ten words. Answers how many orders it performed, 8 for each word and 5. Refused
+/// as `load` is.
+#[tactic(auto, using(crate::proofs::Loads::loading_steps))]
+pub fn load_single<A: Allocator + Copy, B: Allocator, M: Operate<Tape = Vec<Code, A>>>(
+    alloc: A,
+    machine: &mut M,
+    image: &Image<B>,
+) -> Result<u64, LoadFault>
+    requires tapes { M.codes ≡ (λ tape. tape.items) }
+    ensures loaded { OnOk result (M.configuration machine.new
+        ≡ at_boundary (loaded (M.configuration machine.old).state (single_load image.now))) }
+    ensures orders { IfOk result (λ orders. orders ≡ (single_load image.now).orders) }
+    ensures clock { OnOk result
+        ((loaded (M.configuration machine.old).state (single_load image.now)).clock ≤ clock_end) }
+    ensures moving { (result ≡ Err LoadFault.Moving)
+        ↔ (is_boundary (M.configuration machine.old) ≡ false) }
+    ensures unmoved { result ≡ Err LoadFault.Moving
+        → M.configuration machine.new ≡ M.configuration machine.old }
+    ensures no_memory { result ≡ Err LoadFault.Memory
+        → M.configuration machine.new ≡ M.configuration machine.old }
+    ensures no_bad_cut { result ≢ Err LoadFault.BadCut }
+    ensures stands { result ≡ Err LoadFault.ClockEnd → EndsLoading (M.configuration machine.new)
+        (M.configuration machine.old).state (single_load image.now) }
+    ensures past { result ≡ Err LoadFault.ClockEnd → clock_end
+        < (loaded (M.configuration machine.old).state (single_load image.now)).clock }
+{
+    if machine.look().is_none() {
+        return Err(LoadFault::Moving);
+    }
+    let Ok(tape) = single_tape_of(alloc, image) else {
+        return Err(LoadFault::Memory);
+    };
+    let orders = 8 * cells_of(image).len() as u64 + 5;
+    if !load_tape(machine, &LOADER_10, tape, orders) {
         return Err(LoadFault::ClockEnd);
     }
     Ok(orders)

@@ -1,8 +1,11 @@
 //! Tests of the loader.
 
-use crate::{LOADER, LoadFault, load, tape_of};
+use crate::{
+    CutFault, LOADER, LOADER_10, LoadFault, load, load_cut, load_single, single_tape_of, tape_cut,
+    tape_of,
+};
 use lgp_assembler::{Image, assemble};
-use lgp_flexo::write_tape_text;
+use lgp_flexo::{Code, write_tape_text};
 use lgp_keyin::{actions_to_jump, key_in};
 use lgp_machine::{Look, Machine};
 use lgp_table::{Action, Cause, Mode, Status};
@@ -12,12 +15,17 @@ use std::alloc::{Allocator, Global};
 use std::process::Abort;
 use std::test::Fail;
 
-mod blocks;
+mod cuts;
+mod single;
 
 const CLOCK_END: u64 = 1 << 62;
 
 /// One word at 0100.
 const ONE_WORD: &[u8] = b" org 0100\n word 00000004\n end\n";
+
+/// Two words at 0100 and 0101, one at 0104, and one at 0103.
+const TWO_PLACES: &[u8] =
+    b" org 0100\n word 00000004\n word 00000008\n org 0104\n word 0000000j\n org 0103\n word 00000010\n end\n";
 
 const FIVE_LINES: &[u8] = b"start b one ; take\n h 0050\n z\none frac .1\n end start\n";
 
@@ -36,8 +44,46 @@ fn image(alloc: Global, source: &[u8]) -> Result<Image, Fail> {
     Ok(assemble(alloc, source)?)
 }
 
+/// Compares the words of a loader with their digits.
+fn expect_loader(rt: &impl Abort, loader: &[Word], wanted: &[&[u8]]) -> Result<(), Fail> {
+    assert_eq!(rt; loader.len(), wanted.len());
+    for (found, digits) in loader.iter().zip(wanted) {
+        assert_eq!(rt; *found, word(digits)?);
+    }
+    Ok(())
+}
+
 #[test]
 fn the_words_of_the_loader(rt: HostRuntime) -> Result<(), Fail> {
+    let wanted: [&[u8]; 22] = [
+        b"00080000",
+        b"00040000",
+        b"000g3w48",
+        b"000j3w24",
+        b"00080000",
+        b"00040000",
+        b"000j3w54",
+        b"00080000",
+        b"00040000",
+        b"00000000",
+        b"00013w24",
+        b"000q3w50",
+        b"000j3w24",
+        b"00013w54",
+        b"000q3w50",
+        b"000j3w54",
+        b"000g3w1j",
+        b"000f3w00",
+        b"000j3w4j",
+        b"00000000",
+        b"00000004",
+        b"00000000",
+    ];
+    expect_loader(&rt, &LOADER, &wanted)
+}
+
+#[test]
+fn the_words_of_the_loader_of_ten(rt: HostRuntime) -> Result<(), Fail> {
     let wanted: [&[u8]; 10] = [
         b"00080000",
         b"00040000",
@@ -50,29 +96,34 @@ fn the_words_of_the_loader(rt: HostRuntime) -> Result<(), Fail> {
         b"000j3w24",
         b"00000000",
     ];
-    for (found, digits) in LOADER.iter().zip(wanted) {
-        assert_eq!(rt; *found, word(digits)?);
-    }
-    Ok(())
+    expect_loader(&rt, &LOADER_10, &wanted)
 }
 
-/// The tape of a source, as a text.
-fn tape_text(alloc: Global, source: &[u8]) -> Result<Vec<u8>, Fail> {
-    let tape = tape_of(alloc, &image(alloc, source)?)?;
-    Ok(write_tape_text(alloc, tape.as_slice())?)
+/// A tape, as a text.
+fn tape_text(alloc: Global, tape: Option<Vec<Code>>) -> Result<Vec<u8>, Fail> {
+    let codes = tape.ok_or("no tape")?;
+    Ok(write_tape_text(alloc, codes.as_slice())?)
 }
 
 #[test]
-fn tapes_of_programs(rt: HostRuntime) -> Result<(), Fail> {
+fn tapes_of_blocks(rt: HostRuntime) -> Result<(), Fail> {
     for (source, wanted) in [
-        (ONE_WORD, b"000k0100'00000004'[16]80000000'".as_slice()),
+        (
+            ONE_WORD,
+            b"000k0100'wwwwwwwj'00000004'[16]80000000'".as_slice(),
+        ),
         (b" end 0100\n", b"800f0100'"),
         (
             FIVE_LINES,
-            b"000k0000'0001000j'[16]000k0004'000j00j8'[16]000k0008'00000000'[16]000k000j'0jjjjjjj'[16]800f0000'",
+            b"000k0000'wwwwwww0'0001000j'000j00j8'00000000'0jjjjjjj'[16]800f0000'",
+        ),
+        (
+            TWO_PLACES,
+            b"000k0100'wwwwwww8'00000004'00000008'[16]000k0110'wwwwwwwj'0000000j'[16]000k010j'wwwwwwwj'00000010'[16]80000000'",
         ),
     ] {
-        let text = tape_text(rt.alloc(), source)?;
+        let tape = tape_of(rt.alloc(), &image(rt.alloc(), source)?).ok();
+        let text = tape_text(rt.alloc(), tape)?;
         assert_eq!(rt; text.as_slice(), wanted);
     }
     Ok(())
@@ -124,19 +175,30 @@ fn expect_look(
     assert_eq!(rt; look.clock, clock);
 }
 
+/// Compares words with their places and digits.
+fn expect_words(rt: &impl Abort, machine: &Machine, wanted: &[(&[u8], &[u8])]) -> Result<(), Fail> {
+    for (place, digits) in wanted {
+        assert_eq!(rt; word_at(machine, at(place)?), word(digits)?);
+    }
+    Ok(())
+}
+
 const STOPPED: Status = Status::Halted(Cause::Stop);
 
 #[test]
 fn one_word_is_loaded(rt: HostRuntime) -> Result<(), Fail> {
     let one_word = image(rt.alloc(), ONE_WORD)?;
     let mut machine = machine_at(rt.alloc(), 0)?;
-    assert_eq!(rt; load_image(rt.alloc(), &mut machine, &one_word), Ok(13));
+    assert_eq!(rt; load_image(rt.alloc(), &mut machine, &one_word), Ok(23));
     let end_word = word(b"80000000")?;
-    expect_look(&rt, look(&machine), at(b"6310")?, end_word, STOPPED, 11348);
-    assert_eq!(rt; word_at(&machine, at(b"0100")?), word(b"00000004")?);
-    assert_eq!(rt; word_at(&machine, at(b"6306")?), word(b"000k0100")?);
-    assert_eq!(rt; word_at(&machine, at(b"6309")?), end_word);
-    Ok(())
+    expect_look(&rt, look(&machine), at(b"6320")?, end_word, STOPPED, 15342);
+    let words = [
+        (b"0100".as_slice(), b"00000004".as_slice()),
+        (b"6309", b"000k0104"),
+        (b"6319", b"80000000"),
+        (b"6321", b"00000000"),
+    ];
+    expect_words(&rt, &machine, &words)
 }
 
 #[test]
@@ -145,16 +207,19 @@ fn a_program_without_words_is_loaded(rt: HostRuntime) -> Result<(), Fail> {
     let mut machine = machine_at(rt.alloc(), 0)?;
     assert_eq!(rt; load_image(rt.alloc(), &mut machine, &empty), Ok(5));
     let end_word = word(b"80000000")?;
-    expect_look(&rt, look(&machine), at(b"6310")?, end_word, STOPPED, 3796);
-    assert_eq!(rt; word_at(&machine, at(b"6306")?), Word::default());
-    Ok(())
+    expect_look(&rt, look(&machine), at(b"6320")?, end_word, STOPPED, 3886);
+    let words = [
+        (b"6309".as_slice(), b"00000000".as_slice()),
+        (b"6319", b"80000000"),
+    ];
+    expect_words(&rt, &machine, &words)
 }
 
 #[test]
 fn five_lines_are_loaded_and_started(rt: HostRuntime) -> Result<(), Fail> {
     let program = image(rt.alloc(), FIVE_LINES)?;
     let mut machine = machine_at(rt.alloc(), 0)?;
-    assert_eq!(rt; load_image(rt.alloc(), &mut machine, &program), Ok(37));
+    assert_eq!(rt; load_image(rt.alloc(), &mut machine, &program), Ok(53));
     let Some(look) = look(&machine) else {
         panic!(rt; "no boundary");
     };
@@ -220,7 +285,7 @@ fn nothing_is_pressed_where_the_tape_has_no_room(rt: HostRuntime) -> Result<(), 
             refused
         );
     }
-    assert_eq!(rt; load_image(&heap, &mut machine, &one_word), Ok(13));
+    assert_eq!(rt; load_image(&heap, &mut machine, &one_word), Ok(23));
     Ok(())
 }
 
@@ -235,7 +300,7 @@ fn tape_with_room(heap: &LocalHeap, image: &Image, room: usize) -> Result<Option
 fn a_tape_is_made_where_there_is_room(rt: HostRuntime) -> Result<(), Fail> {
     let heap = LocalHeap::new(rt.alloc(), 4096)?;
     let one_word = image(rt.alloc(), ONE_WORD)?;
-    for (room, length) in [(0, None), (16, None), (24, None), (1024, Some(28))] {
+    for (room, length) in [(0, None), (16, None), (24, None), (1024, Some(37))] {
         assert_eq!(rt; tape_with_room(&heap, &one_word, room)?, length);
     }
     Ok(())
@@ -300,9 +365,9 @@ fn transfer_control_does_not_disturb_loading(rt: HostRuntime) -> Result<(), Fail
     let mut machine = loader_started(rt.alloc(), &one_word)?;
     let _ = turn(&mut machine)?;
     press(&mut machine, &[Action::Transfer(true)]);
-    let_orders_end(&mut machine, 13)?;
+    let_orders_end(&mut machine, 23)?;
     let end_word = word(b"80000000")?;
-    expect_look(&rt, look(&machine), at(b"6310")?, end_word, STOPPED, 11348);
+    expect_look(&rt, look(&machine), at(b"6320")?, end_word, STOPPED, 15342);
     assert!(rt; look(&machine).is_some_and(|look| look.switches.transfer));
     Ok(())
 }

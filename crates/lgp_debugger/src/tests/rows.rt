@@ -231,11 +231,11 @@ fn a_load_keeps_no_step(rt: HostRuntime) -> Result<(), Fail> {
     put(&mut lab, 0, TRANSFER)?;
     assert_eq!(rt; kept(&lab), (1, 0));
     let source = b" org 0100\n word 00000004\n end";
-    assert_eq!(rt; load(&mut lab, rt.alloc(), source), Some(13));
+    assert_eq!(rt; load(&mut lab, rt.alloc(), source), Some(23));
     let shown = look(&lab);
     assert_eq!(rt;
         (shown.counter, shown.accumulator, shown.clock),
-        (address(4042), 0x8000_0000, 11348)
+        (address(4052), 0x8000_0000, 15342)
     );
     assert_eq!(rt; word_at(&lab, 64), 4);
     assert_eq!(rt; kept(&lab), (0, 0));

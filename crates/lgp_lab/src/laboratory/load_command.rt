@@ -24,7 +24,7 @@ impl<A: Allocator + Copy> Laboratory<A> {
             Ok(orders) => push_counted(reply, b"loaded ", orders)?,
             Err(LoadFault::ClockEnd) => push_refusal(reply, Refusal::ClockEnd)?,
             Err(LoadFault::Memory) => return Err(AllocError),
-            Err(LoadFault::Moving) => unreachable!(),
+            Err(LoadFault::Moving | LoadFault::BadCut) => unreachable!(),
         }
         Ok(())
     }

@@ -50,7 +50,7 @@ fn the_tape_of_a_source_file_is_written(rt: HostRuntime) -> Result<(), Fail> {
     for (source, text, status) in [
         (
             b"start b one ; take\n h 0050\n z\none frac .1\n end start\n".as_slice(),
-            b"000k0000'0001000j'[16]000k0004'000j00j8'[16]000k0008'00000000'[16]000k000j'0jjjjjjj'[16]800f0000'\n".as_slice(),
+            b"000k0000'wwwwwww0'0001000j'000j00j8'00000000'0jjjjjjj'[16]800f0000'\n".as_slice(),
             0,
         ),
         (b" end 0100\n", b"800f0100'\n", 0),
@@ -79,7 +79,7 @@ fn a_source_file_is_loaded_and_run(rt: HostRuntime) -> Result<(), Fail> {
     for (source, text, status) in [
         (
             b" org 0100\n word 00000004\n end\n".as_slice(),
-            b"printed 0\ncounter 6310 accumulator 80000000 register 80000000 status halted stop mode normal switches uuuuuu reader off tape 0 clock 11348\n".as_slice(),
+            b"printed 0\ncounter 6320 accumulator 80000000 register 80000000 status halted stop mode normal switches uuuuuu reader off tape 0 clock 15342\n".as_slice(),
             0,
         ),
         (b" q\n", b"line 1 UnknownOrder\nline 2 NoEnd\n", 1),

@@ -1,42 +1,76 @@
-use Rattle.lgp_loader.proofs.Ready.{begun_at, jump_at, past_by_jump, past_by_keying, past_from, silent_from, works_from}
+use Rattle.std.proofs.Common.{rules, ◌<◌, ◌≤◌, ◌∙◌, ap, length, subst, sym}
+use Rattle.lgp_flexo.specs.TapeText.{tape_limit}
+use Rattle.lgp_table.specs.Interleaving.{Configuration, at_boundary}
+use Rattle.lgp_machine.specs.Answers.{clock_end}
+use Rattle.lgp_loader.specs.BlockLoading.{longest_load}
+use Rattle.lgp_loader.specs.Loading.{EndsLoading, TapeLoad, loaded}
+use Rattle.lgp_loader.proofs.Loads.{IsReady, longest_orders, longest_ready, same_load}
 use Rattle.lgp_loader.proofs.loading.load.Goals as goal
 
-pub returns-then-not-prepare-clause-past : goal.returns-then-not-prepare-clause-past
-returns-then-not-prepare-clause-past g c =
+pub load_tape-requires-clause-short : goal.load_tape-requires-clause-short
+load_tape-requires-clause-short g c =
     let s = (g.M.Operate.configuration c.args.machine.now).state in
-    λ same. past_by_keying s c.args.image.now c.if-not-prepare.ensures.past
+    let known = c.cells_of-cells.ensures in
+    let ready = longest_ready s c.args.image.now c.look.ensures.drum known.program known.few known.start in
+    let short : length c.in-Ok.tape.items ≤ tape_limit = subst (λ codes. length codes ≤ tape_limit) (sym c.in-Ok.ensures.tape) ready.short in
+    search rules
 
-pub returns-then-not-begin-clause-past : goal.returns-then-not-begin-clause-past
-returns-then-not-begin-clause-past g c =
+pub load_tape-requires-clause-work : goal.load_tape-requires-clause-work
+load_tape-requires-clause-work g c =
     let s = (g.M.Operate.configuration c.args.machine.now).state in
-    let mid = g.M.Operate.configuration c.prepare.new.machine in
-    let now = g.M.Operate.configuration c.begin.new.machine in
-    let at = jump_at mid now s c.args.image.now c.in-Ok.tape.items c.in-Ok.ensures.tape c.if-not-prepare.ensures.prepared c.if-not-begin.ensures.stands in
-    λ same. past_by_jump now s c.args.image.now at c.if-not-begin.ensures.clock_end
+    let known = c.cells_of-cells.ensures in
+    let ready = longest_ready s c.args.image.now c.look.ensures.drum known.program known.few known.start in
+    let orders = longest_orders c.args.image.now c.cells_of-cells.result.now c.count_longest.result c.orders_for-orders.result
+    c.cells_of-cells.ensures.cells c.count_longest.ensures.count c.orders_for-orders.ensures in
+    let same = same_load (longest_load c.args.image.now) c.in-Ok.tape.items c.orders_for-orders.result c.in-Ok.ensures.tape orders in
+    (subst (IsReady s) same ready).work
 
-pub perform-requires-clause-work : goal.perform-requires-clause-work
-perform-requires-clause-work g c =
+pub load_tape-requires-clause-silent : goal.load_tape-requires-clause-silent
+load_tape-requires-clause-silent g c =
     let s = (g.M.Operate.configuration c.args.machine.now).state in
-    let mid = g.M.Operate.configuration c.prepare.new.machine in
-    let now = g.M.Operate.configuration c.begin.new.machine in
-    let begun = begun_at mid now s c.args.image.now c.in-Ok.tape.items c.in-Ok.ensures.tape c.if-not-prepare.ensures.prepared c.if-not-begin.ensures.begun in
-    let known = c.orders_to_load-orders.ensures in
-    works_from now.state s c.args.image.now c.orders_to_load-orders.result begun known.orders c.look.ensures.drum known.program known.start
+    let known = c.cells_of-cells.ensures in
+    let ready = longest_ready s c.args.image.now c.look.ensures.drum known.program known.few known.start in
+    let orders = longest_orders c.args.image.now c.cells_of-cells.result.now c.count_longest.result c.orders_for-orders.result
+    c.cells_of-cells.ensures.cells c.count_longest.ensures.count c.orders_for-orders.ensures in
+    let same = same_load (longest_load c.args.image.now) c.in-Ok.tape.items c.orders_for-orders.result c.in-Ok.ensures.tape orders in
+    (subst (IsReady s) same ready).silent
 
-pub perform-requires-clause-silent : goal.perform-requires-clause-silent
-perform-requires-clause-silent g c =
+pub returns-then-not-load_tape-clause-stands : goal.returns-then-not-load_tape-clause-stands
+returns-then-not-load_tape-clause-stands g c =
     let s = (g.M.Operate.configuration c.args.machine.now).state in
-    let mid = g.M.Operate.configuration c.prepare.new.machine in
-    let now = g.M.Operate.configuration c.begin.new.machine in
-    let begun = begun_at mid now s c.args.image.now c.in-Ok.tape.items c.in-Ok.ensures.tape c.if-not-prepare.ensures.prepared c.if-not-begin.ensures.begun in
-    let known = c.orders_to_load-orders.ensures in
-    silent_from now.state s c.args.image.now c.orders_to_load-orders.result begun known.orders c.look.ensures.drum known.program known.start
+    let orders = longest_orders c.args.image.now c.cells_of-cells.result.now c.count_longest.result c.orders_for-orders.result
+    c.cells_of-cells.ensures.cells c.count_longest.ensures.count c.orders_for-orders.ensures in
+    let same = same_load (longest_load c.args.image.now) c.in-Ok.tape.items c.orders_for-orders.result c.in-Ok.ensures.tape orders in
+    λ is. subst (λ load. EndsLoading (g.M.Operate.configuration c.load_tape.new.machine) s load) (sym same) c.if-not-load_tape.ensures.stands
 
-pub returns-then-not-perform-clause-past : goal.returns-then-not-perform-clause-past
-returns-then-not-perform-clause-past g c =
+pub returns-then-not-load_tape-clause-past : goal.returns-then-not-load_tape-clause-past
+returns-then-not-load_tape-clause-past g c =
     let s = (g.M.Operate.configuration c.args.machine.now).state in
-    let mid = g.M.Operate.configuration c.prepare.new.machine in
-    let first = g.M.Operate.configuration c.begin.new.machine in
-    let now = g.M.Operate.configuration c.perform.new.machine in
-    let begun = begun_at mid first s c.args.image.now c.in-Ok.tape.items c.in-Ok.ensures.tape c.if-not-prepare.ensures.prepared c.if-not-begin.ensures.begun in
-    λ same. past_from now first.state s c.args.image.now c.orders_to_load-orders.result begun c.orders_to_load-orders.ensures.orders c.if-not-perform.ensures.stands c.if-not-perform.ensures.clock_end
+    let orders = longest_orders c.args.image.now c.cells_of-cells.result.now c.count_longest.result c.orders_for-orders.result
+    c.cells_of-cells.ensures.cells c.count_longest.ensures.count c.orders_for-orders.ensures in
+    let same = same_load (longest_load c.args.image.now) c.in-Ok.tape.items c.orders_for-orders.result c.in-Ok.ensures.tape orders in
+    λ is. subst (λ load. clock_end < (loaded s load).clock) (sym same) c.if-not-load_tape.ensures.past
+
+pub returns-clause-loaded : goal.returns-clause-loaded
+returns-clause-loaded g c =
+    let s = (g.M.Operate.configuration c.args.machine.now).state in
+    let orders = longest_orders c.args.image.now c.cells_of-cells.result.now c.count_longest.result c.orders_for-orders.result
+    c.cells_of-cells.ensures.cells c.count_longest.ensures.count c.orders_for-orders.ensures in
+    let same = same_load (longest_load c.args.image.now) c.in-Ok.tape.items c.orders_for-orders.result c.in-Ok.ensures.tape orders in
+    c.if-not-load_tape.ensures.loaded ∙ ap (λ load. at_boundary (loaded s load)) (sym same)
+
+pub returns-clause-orders : goal.returns-clause-orders
+returns-clause-orders g c =
+    let orders = longest_orders c.args.image.now c.cells_of-cells.result.now c.count_longest.result c.orders_for-orders.result
+    c.cells_of-cells.ensures.cells c.count_longest.ensures.count c.orders_for-orders.ensures in
+    let same = same_load (longest_load c.args.image.now) c.in-Ok.tape.items c.orders_for-orders.result c.in-Ok.ensures.tape orders in
+    ap (λ (load : TapeLoad). load.orders) (sym same)
+
+pub returns-clause-clock : goal.returns-clause-clock
+returns-clause-clock g c =
+    let s = (g.M.Operate.configuration c.args.machine.now).state in
+    let orders = longest_orders c.args.image.now c.cells_of-cells.result.now c.count_longest.result c.orders_for-orders.result
+    c.cells_of-cells.ensures.cells c.count_longest.ensures.count c.orders_for-orders.ensures in
+    let same = same_load (longest_load c.args.image.now) c.in-Ok.tape.items c.orders_for-orders.result c.in-Ok.ensures.tape orders in
+    let there = c.if-not-load_tape.ensures.loaded ∙ ap (λ load. at_boundary (loaded s load)) (sym same) in
+    subst (λ (now : Configuration). now.state.clock ≤ clock_end) there c.if-not-load_tape.ensures.clock

@@ -1,0 +1,86 @@
+-- The loads of an image: their orders are at work and print nothing, and their tapes are short.
+use Rattle.std.proofs.Common.{◌≡◌, ℕ, ◌<◌, ◌≤◌, true, false, None, sym, ap, ◌∙◌, subst, arith, List, Option, length}
+use Rattle.std.specs.Prelude.{IfSome}
+use Rattle.lgp_word.specs.Address.{IsAddress}
+use Rattle.lgp_flexo.specs.TapeText.{tape_limit}
+use Rattle.lgp_table.specs.State.{State}
+use Rattle.lgp_table.specs.Activity.{print_of}
+use Rattle.lgp_table.specs.After.{after}
+use Rattle.lgp_table.specs.Console.{is_at_rest}
+use Rattle.lgp_assembler.specs.Parts.{AreProgramCells, ImageParts}
+use Rattle.lgp_loader.specs.BlockLoading.{block_load, cut_load, left_by_blocks, longest_load, orders_for}
+use Rattle.lgp_loader.specs.Cutting.{are_blocks, cells_of, is_cutting, longest_blocks, pieces_of}
+use Rattle.lgp_loader.specs.Loading.{TapeLoad, begun, load_with}
+use Rattle.lgp_loader.specs.SingleLoading.{left_by_single, single_load}
+use Rattle.lgp_loader.proofs.Begun.{calm_in_run}
+use Rattle.lgp_loader.proofs.BlockLaw.{block_is_loader, blocks_run}
+use Rattle.lgp_loader.proofs.Cuts.{as_many_pieces, longest_are_blocks, longest_have_cells, no_more_blocks, pieces_are_blocks, pieces_have_cells}
+use Rattle.lgp_loader.proofs.Lengths.{short_block_tape, short_single_tape}
+use Rattle.lgp_loader.proofs.SingleLaw.{single_is_loader, single_runs}
+
+-- each order of a load is at work and prints nothing, and its tape can be mounted
+pub record IsReady (s : State) (load : TapeLoad) : Type 0 where
+  pub work : (before : ℕ) → before < load.orders → is_at_rest (after (begun s load) before).core.panel.status ≡ false
+  pub silent : (before : ℕ) → before < load.orders → print_of (after (begun s load) before).core ≡ None
+  pub short : length load.codes ≤ tape_limit
+
+blocks_ready : (s : State) (blocks : List (List (ℕ × ℕ))) (start : Option ℕ) (cells : List (ℕ × ℕ)) → length s.core.words ≡ 4096
+    → are_blocks blocks ≡ true → cells_of blocks ≡ cells → AreProgramCells cells → length cells ≤ 4096 → IfSome start IsAddress
+    → IsReady s (block_load blocks start)
+blocks_ready s blocks start cells long are same program few is =
+    let few_cells : length (cells_of blocks) ≤ 4096 = subst (λ cells. length cells ≤ 4096) (sym same) few in
+    let runs = blocks_run s blocks start long are (subst AreProgramCells (sym same) program) few_cells is in
+    record {
+      work = λ before less. let calm = calm_in_run s (block_load blocks start) (left_by_blocks s blocks start 0).core runs before less in calm.works;
+      silent = λ before less. let calm = calm_in_run s (block_load blocks start) (left_by_blocks s blocks start 0).core runs before less in calm.silent;
+      short = short_block_tape blocks start (let more = no_more_blocks blocks are in omega (arith, more, few_cells)) few_cells;
+    }
+
+pub longest_ready : (s : State) (image : ImageParts) → length s.core.words ≡ 4096 → AreProgramCells image.cells → length image.cells ≤ 4096 → IfSome image.start IsAddress
+    → IsReady s (longest_load image)
+longest_ready s image long program few is =
+    blocks_ready s (longest_blocks image.cells) image.start image.cells long (longest_are_blocks image.cells) (longest_have_cells image.cells) program few is
+
+pub cut_ready : (s : State) (image : ImageParts) (counts : List ℕ) → length s.core.words ≡ 4096 → is_cutting counts image.cells ≡ true
+    → AreProgramCells image.cells → length image.cells ≤ 4096 → IfSome image.start IsAddress → IsReady s (cut_load image counts)
+cut_ready s image counts long cut program few is =
+    blocks_ready s (pieces_of counts image.cells) image.start image.cells long (pieces_are_blocks counts image.cells cut) (pieces_have_cells counts image.cells cut) program few is
+
+pub single_ready : (s : State) (image : ImageParts) → length s.core.words ≡ 4096 → AreProgramCells image.cells → length image.cells ≤ 4096 → IfSome image.start IsAddress
+    → IsReady s (single_load image)
+single_ready s image long program few is =
+    let runs = single_runs s image long program is in
+    record {
+      work = λ before less. let calm = calm_in_run s (single_load image) (left_by_single s image 0).core runs before less in calm.works;
+      silent = λ before less. let calm = calm_in_run s (single_load image) (left_by_single s image 0).core runs before less in calm.silent;
+      short = short_single_tape image few;
+    }
+
+-- a load by its parts
+pub same_load : (load : TapeLoad) (codes : List ℕ) (orders : ℕ) → codes ≡ load.codes → orders ≡ load.orders → load ≡ load_with load.loader codes orders
+same_load load codes orders same_codes same_orders =
+    sym (ap (λ codes. load_with load.loader codes orders) same_codes ∙ ap (λ orders. load_with load.loader load.codes orders) same_orders)
+
+-- as many orders as are answered
+pub longest_orders : (image : ImageParts) (cells : List (ℕ × ℕ)) (blocks orders : ℕ) → cells ≡ image.cells → blocks ≡ length (longest_blocks cells)
+    → orders ≡ orders_for (length cells) blocks → orders ≡ (longest_load image).orders
+longest_orders image cells blocks orders same count is =
+    is ∙ (ap (λ blocks. orders_for (length cells) blocks) count
+    ∙ (ap (λ cells. orders_for (length cells) (length (longest_blocks cells))) same
+    ∙ ap (λ words. orders_for words (length (longest_blocks image.cells))) (sym (ap length (longest_have_cells image.cells)))))
+
+pub cut_orders : (image : ImageParts) (counts : List ℕ) (cells : List (ℕ × ℕ)) (orders : ℕ) → is_cutting counts image.cells ≡ true → cells ≡ image.cells
+    → orders ≡ orders_for (length cells) (length counts) → orders ≡ (cut_load image counts).orders
+cut_orders image counts cells orders cut same is =
+    is ∙ (ap (λ cells. orders_for (length cells) (length counts)) same
+    ∙ (ap (λ words. orders_for words (length counts)) (sym (ap length (pieces_have_cells counts image.cells cut)))
+    ∙ ap (λ blocks. orders_for (length (cells_of (pieces_of counts image.cells))) blocks) (sym (as_many_pieces counts image.cells))))
+
+pub few_counts : (counts : List ℕ) (cells : List (ℕ × ℕ)) → is_cutting counts cells ≡ true → length counts ≤ length cells
+few_counts counts cells cut =
+    let more = no_more_blocks (pieces_of counts cells) (pieces_are_blocks counts cells cut) in
+    let many = as_many_pieces counts cells in
+    let same : length (cells_of (pieces_of counts cells)) ≡ length cells = ap length (pieces_have_cells counts cells cut) in
+    omega (arith, more, many, same)
+
+pub ruleset loading_steps = (block_is_loader, single_is_loader, few_counts)

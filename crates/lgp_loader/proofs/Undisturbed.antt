@@ -1,0 +1,37 @@
+-- Hands on the switches while a loader runs.
+use Rattle.std.proofs.Common.{◌≡◌, ℕ, ◌≤◌, true, List, Option, length}
+use Rattle.std.specs.List.{count_by, list_all}
+use Rattle.std.specs.Prelude.{IfSome}
+use Rattle.lgp_word.specs.Address.{IsAddress}
+use Rattle.lgp_table.specs.State.{State}
+use Rattle.lgp_table.specs.After.{total_cost}
+use Rattle.lgp_table.specs.Interleaving.{after_events, at_boundary}
+use Rattle.lgp_table.specs.SwitchPresses.{is_time_or_switch, is_word_time, with_switches}
+use Rattle.lgp_table.specs.declared.action.Event.{Event}
+use Rattle.lgp_table.specs.declared.panel.Switches.{Switches}
+use Rattle.lgp_assembler.specs.Parts.{AreProgramCells, ImageParts}
+use Rattle.lgp_loader.specs.BlockLoading.{block_load, left_by_blocks}
+use Rattle.lgp_loader.specs.Cutting.{are_blocks, cells_of}
+use Rattle.lgp_loader.specs.Loading.{begun, loaded}
+use Rattle.lgp_loader.specs.SingleLoading.{left_by_single, single_load}
+use Rattle.lgp_loader.proofs.Begun.{undisturbed_run}
+use Rattle.lgp_loader.proofs.BlockLaw.{blocks_run}
+use Rattle.lgp_loader.proofs.SingleLaw.{single_runs}
+
+pub blocks_undisturbed : (s : State) (blocks : List (List (ℕ × ℕ))) (start : Option ℕ) (events : List Event) → length s.core.words ≡ 4096
+    → are_blocks blocks ≡ true → AreProgramCells (cells_of blocks) → length (cells_of blocks) ≤ 4096 → IfSome start IsAddress
+    → list_all is_time_or_switch events ≡ true
+    → count_by is_word_time events ≡ total_cost (begun s (block_load blocks start)) (block_load blocks start).orders
+    → (switches : Switches) × (after_events (at_boundary (begun s (block_load blocks start))) events ≡ at_boundary (with_switches (loaded s (block_load blocks start)) switches))
+blocks_undisturbed s blocks start events long are program few is such times =
+    undisturbed_run s (block_load blocks start) (left_by_blocks s blocks start 0).core events (blocks_run s blocks start long are program few is) such times
+
+pub single_undisturbed : (s : State) (image : ImageParts) (events : List Event)
+    → length s.core.words ≡ 4096 → AreProgramCells image.cells → IfSome image.start IsAddress
+    → list_all is_time_or_switch events ≡ true
+    → count_by is_word_time events ≡ total_cost (begun s (single_load image)) (single_load image).orders
+    → (switches : Switches) × (after_events (at_boundary (begun s (single_load image))) events ≡ at_boundary (with_switches (loaded s (single_load image)) switches))
+single_undisturbed s image events long are is such times =
+    undisturbed_run s (single_load image) (left_by_single s image 0).core events (single_runs s image long are is) such times
+
+pub ruleset undisturbed_laws = (blocks_undisturbed, single_undisturbed)
