@@ -1,6 +1,6 @@
 //! The tapes of a program.
 
-ghost use Rattle.std.specs.Prelude.{◌≡◌, ◌++◌, ◌∷◌, [], ◌<◌, ◌≤◌, ◌↔◌, Err, IfOk, OnOk, false, length, map, true};
+ghost use Rattle.std.specs.Prelude.{◌≡◌, ◌++◌, ◌<◌, ◌≤◌, ◌↔◌, Err, IfOk, OnOk, false, length, map, true};
 ghost use Rattle.std.specs.List.{concat};
 ghost use Rattle.lgp_word.specs.Order.{};
 ghost use Rattle.lgp_loader.specs.BlockLoading.{cut_load, longest_load};

@@ -3,12 +3,12 @@
 use super::*;
 
 /// Two words at 0100 and 0101.
-const TWO_WORDS: &[u8] = b" org 0100\n word 00000004\n word 00000008\n end\n";
+pub(super) const TWO_WORDS: &[u8] = b" org 0100\n word 00000004\n word 00000008\n end\n";
 
 /// Numbers that do not cut two words at 0100 and 0101 into blocks.
 const NO_CUTS: [&[usize]; 6] = [&[2, 0], &[0, 2], &[1], &[3], &[1, 1, 1], &[]];
 
-fn load_by<A: Allocator + Copy>(
+pub(super) fn load_by<A: Allocator + Copy>(
     alloc: A,
     machine: &mut Machine<A>,
     image: &Image,
@@ -18,7 +18,7 @@ fn load_by<A: Allocator + Copy>(
 }
 
 /// How long the cut tape of a program is, or why it is not cut.
-fn cut_length<A: Allocator + Copy>(
+pub(super) fn cut_length<A: Allocator + Copy>(
     alloc: A,
     image: &Image,
     counts: &[usize],
@@ -126,58 +126,5 @@ fn a_cut_load_stops_at_the_clocks_end(rt: HostRuntime) -> Result<(), Fail> {
     };
     assert_eq!(rt; look.status, Status::Executing);
     assert_eq!(rt; word_at(&machine, at(b"6300")?), Word::default());
-    Ok(())
-}
-
-/// What a cut load answers while so many bytes of the heap are free, and what then shows.
-fn load_with_room<'a>(
-    heap: &'a LocalHeap,
-    machine: &mut Machine<&'a LocalHeap>,
-    image: &Image,
-    room: usize,
-) -> Result<(Result<u64, LoadFault>, Option<Look>), Fail> {
-    let _filler: Vec<u8, &LocalHeap> = Vec::with_capacity(heap, heap.free().saturating_sub(room))?;
-    let answer = load_by(heap, machine, image, &[1, 1]);
-    Ok((answer, look(machine)))
-}
-
-#[test]
-fn nothing_is_pressed_where_the_cut_tape_has_no_room(rt: HostRuntime) -> Result<(), Fail> {
-    let heap = LocalHeap::new(rt.alloc(), 262144)?;
-    let two_words = image(rt.alloc(), TWO_WORDS)?;
-    let mut machine = machine_at(&heap, 0)?;
-    let before = look(&machine);
-    for room in [0, 16, 24] {
-        let refused = (Err(LoadFault::Memory), before);
-        assert_eq!(rt;
-            load_with_room(&heap, &mut machine, &two_words, room)?,
-            refused
-        );
-    }
-    assert_eq!(rt; load_by(&heap, &mut machine, &two_words, &[1, 1]), Ok(41));
-    Ok(())
-}
-
-/// What cutting answers where so many bytes of the heap are free.
-fn cut_with_room(
-    heap: &LocalHeap,
-    image: &Image,
-    room: usize,
-) -> Result<Result<usize, CutFault>, Fail> {
-    let _filler: Vec<u8, &LocalHeap> = Vec::with_capacity(heap, heap.free().saturating_sub(room))?;
-    Ok(cut_length(heap, image, &[1, 1]))
-}
-
-#[test]
-fn a_tape_is_cut_where_there_is_room(rt: HostRuntime) -> Result<(), Fail> {
-    let heap = LocalHeap::new(rt.alloc(), 4096)?;
-    let two_words = image(rt.alloc(), TWO_WORDS)?;
-    for room in [0, 16, 24] {
-        assert_eq!(rt;
-            cut_with_room(&heap, &two_words, room)?,
-            Err(CutFault::Memory)
-        );
-    }
-    assert_eq!(rt; cut_with_room(&heap, &two_words, 1024)?, Ok(65));
     Ok(())
 }

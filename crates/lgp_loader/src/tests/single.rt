@@ -2,7 +2,7 @@
 
 use super::*;
 
-fn load_cells<A: Allocator + Copy>(
+pub(super) fn load_cells<A: Allocator + Copy>(
     alloc: A,
     machine: &mut Machine<A>,
     image: &Image,
@@ -66,51 +66,5 @@ fn nothing_is_loaded_singly_within_an_order(rt: HostRuntime) -> Result<(), Fail>
         load_cells(rt.alloc(), &mut machine, &one_word),
         Err(LoadFault::Moving)
     );
-    Ok(())
-}
-
-/// What loading singly answers while so many bytes of the heap are free, and what then shows.
-fn load_with_room<'a>(
-    heap: &'a LocalHeap,
-    machine: &mut Machine<&'a LocalHeap>,
-    image: &Image,
-    room: usize,
-) -> Result<(Result<u64, LoadFault>, Option<Look>), Fail> {
-    let _filler: Vec<u8, &LocalHeap> = Vec::with_capacity(heap, heap.free().saturating_sub(room))?;
-    let answer = load_cells(heap, machine, image);
-    Ok((answer, look(machine)))
-}
-
-#[test]
-fn nothing_is_pressed_where_the_single_tape_has_no_room(rt: HostRuntime) -> Result<(), Fail> {
-    let heap = LocalHeap::new(rt.alloc(), 262144)?;
-    let one_word = image(rt.alloc(), ONE_WORD)?;
-    let mut machine = machine_at(&heap, 0)?;
-    let before = look(&machine);
-    for room in [0, 16, 24] {
-        let refused = (Err(LoadFault::Memory), before);
-        assert_eq!(rt;
-            load_with_room(&heap, &mut machine, &one_word, room)?,
-            refused
-        );
-    }
-    assert_eq!(rt; load_cells(&heap, &mut machine, &one_word), Ok(13));
-    Ok(())
-}
-
-/// How long the single tape of a program is where so many bytes of the heap are free; none where it is refused.
-fn tape_with_room(heap: &LocalHeap, image: &Image, room: usize) -> Result<Option<usize>, Fail> {
-    let _filler: Vec<u8, &LocalHeap> = Vec::with_capacity(heap, heap.free().saturating_sub(room))?;
-    let tape = single_tape_of(heap, image).ok();
-    Ok(tape.map(|codes| codes.len()))
-}
-
-#[test]
-fn a_single_tape_is_made_where_there_is_room(rt: HostRuntime) -> Result<(), Fail> {
-    let heap = LocalHeap::new(rt.alloc(), 4096)?;
-    let one_word = image(rt.alloc(), ONE_WORD)?;
-    for (room, length) in [(0, None), (16, None), (24, None), (1024, Some(28))] {
-        assert_eq!(rt; tape_with_room(&heap, &one_word, room)?, length);
-    }
     Ok(())
 }
