@@ -50,7 +50,10 @@ asm_answer source = answer_of listed (source_of source)
 
 -- tape: the text of the tape, and a line feed
 abbrev pub taped : List ℕ → FileAnswer
-taped source = record { text = written_tape (longest_load (image_of source)).codes ++ codes "\n"; status = 0 }
+taped source = record {
+  text = written_tape (longest_load (image_of source)).codes ++ codes "\n";
+  status = 0;
+}
 
 unfoldable pub tape_answer : List ℕ → FileAnswer
 tape_answer source = answer_of taped (source_of source)

@@ -23,7 +23,8 @@ module _ {A : Type 0} where
   abbrev pub load_by : Standing A → ImageParts → Option State → Answer A
   load_by standing image None = record {
     reply = loaded_text image;
-    after = with_debugger standing (forgotten_in (loaded standing.debugger.state (longest_load image)) standing.debugger);
+    after = with_debugger standing
+        (forgotten_in (loaded standing.debugger.state (longest_load image)) standing.debugger);
   }
   load_by standing image (Some state) =
       refused refusals.ClockEnd (with_debugger standing (forgotten_in state standing.debugger))
@@ -31,7 +32,8 @@ module _ {A : Type 0} where
   abbrev pub load_of : Standing A → Option (List ℕ) → Answer A
   load_of standing None = refused refusals.NoImage standing
   load_of standing (Some source) =
-      load_by standing (image_of source) (loading_stopped standing.debugger.state (longest_load (image_of source)))
+      load_by standing (image_of source)
+          (loading_stopped standing.debugger.state (longest_load (image_of source)))
 
   unfoldable pub answer_to_load : Standing A → Answer A
   answer_to_load standing = load_of standing standing.source

@@ -1,5 +1,5 @@
 -- Cells cut into blocks.
-use Rattle.std.proofs.Common.{◌≡◌, ℕ, zero, suc, ◌+◌, ◌-◌, ◌<◌, ◌≤◌, ◌==◌, ◌&&◌, Bool, true, false, cond, refl, sym, ap, ◌∙◌, subst, arith, List, [], ◌∷◌, ◌++◌, append_assoc, map, None, length, length-append, length-drop, drop, drop-cons, take, take-append-drop, slice_index_or, sum}
+use Rattle.std.proofs.Common.{◌≡◌, ℕ, zero, suc, ◌+◌, ◌-◌, ◌<◌, ◌≤◌, ◌==◌, ◌&&◌, Bool, true, false, cond, refl, sym, ap, ◌∙◌, subst, arith, List, [], ◌∷◌, ◌++◌, append_assoc, map, None, length, length-append, length-drop, drop, drop-cons, drop_at, take, take_at, take-append-drop, slice_index_or, sum}
 use denote.Ref.{Bor}
 use denote.Param.Members.{Mut}
 use Rattle.std.specs.Fn.{ComputesOnPairs}
@@ -129,21 +129,13 @@ first_longest (cell ∷ (next ∷ block)) rest some (all, ends) =
     let joins : follows cell next ≡ true = all 0 cell (omega arith) in
     ap (λ blocks. with_block cell blocks) on ∙ with_block_is cell next block (longest_blocks rest) true joins
 
-taken : (block rest : List (ℕ × ℕ)) → take (length block) (block ++ rest) ≡ block
-taken [] rest = refl
-taken (cell ∷ block) rest = ap (λ more. cell ∷ more) (taken block rest)
-
-dropped : (block rest : List (ℕ × ℕ)) → drop (length block) (block ++ rest) ≡ rest
-dropped [] rest = refl
-dropped (cell ∷ block) rest = dropped block rest
-
 pub first_chunk : (cells chunks block behind front back : List (ℕ × ℕ)) → chunks ≡ cells → chunks ≡ block ++ behind → 0 < length block
     → IsChunkByPrefix follows chunks (length block) → front ≡ take (length block) cells → back ≡ drop (length block) cells
     → longest_blocks cells ≡ front ∷ longest_blocks back
 first_chunk cells chunks block behind front back same parts some is front_is back_is =
     let whole : cells ≡ block ++ behind = sym same ∙ parts in
-    let front_block : front ≡ block = front_is ∙ (ap (λ cells. take (length block) cells) whole ∙ taken block behind) in
-    let back_behind : back ≡ behind = back_is ∙ (ap (λ cells. drop (length block) cells) whole ∙ dropped block behind) in
+    let front_block : front ≡ block = front_is ∙ (ap (λ cells. take (length block) cells) whole ∙ take_at block behind (length block) refl) in
+    let back_behind : back ≡ behind = back_is ∙ (ap (λ cells. drop (length block) cells) whole ∙ drop_at block behind (length block) refl) in
     ap longest_blocks whole
     ∙ (first_longest block behind some (subst (λ cells. IsChunkByPrefix follows cells (length block)) parts is)
     ∙ (ap (λ b. b ∷ longest_blocks behind) (sym front_block) ∙ ap (λ b. front ∷ longest_blocks b) (sym back_behind)))

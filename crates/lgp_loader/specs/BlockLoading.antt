@@ -43,8 +43,8 @@ words_after_blocks words blocks start =
 -- a state after loading, at some clock
 abbrev pub left_by_blocks : State → List (List (ℕ × ℕ)) → Option ℕ → ℕ → State
 left_by_blocks s blocks start clock = record {
-  core = core_of (panel_after_load s.core.panel block_end_cell start) (words_after_blocks s.core.words blocks start)
-      (read_tape (block_tape_codes blocks start));
+  core = core_of (panel_after_load s.core.panel block_end_cell start)
+      (words_after_blocks s.core.words blocks start) (read_tape (block_tape_codes blocks start));
   printed = s.printed;
   clock = clock;
 }

@@ -23,7 +23,8 @@ cells_of (block ∷ blocks) = block ++ cells_of blocks
 -- the longest blocks: a cell belongs to the block behind it where that begins one place on, and else is a block of its own
 abbrev pub with_block : ℕ × ℕ → List (List (ℕ × ℕ)) → List (List (ℕ × ℕ))
 with_block cell ((next ∷ block) ∷ blocks) =
-    if follows cell next then (cell ∷ (next ∷ block)) ∷ blocks else (cell ∷ []) ∷ ((next ∷ block) ∷ blocks)
+    if follows cell next then (cell ∷ (next ∷ block)) ∷ blocks
+    else (cell ∷ []) ∷ ((next ∷ block) ∷ blocks)
 with_block cell blocks = (cell ∷ []) ∷ blocks
 
 abbrev pub longest_blocks : List (ℕ × ℕ) → List (List (ℕ × ℕ))

@@ -30,8 +30,8 @@ words_after_single words image =
 -- a state after loading, at some clock
 abbrev pub left_by_single : State → ImageParts → ℕ → State
 left_by_single s image clock = record {
-  core = core_of (panel_after_load s.core.panel single_end_cell image.start) (words_after_single s.core.words image)
-      (read_tape (single_tape_codes image));
+  core = core_of (panel_after_load s.core.panel single_end_cell image.start)
+      (words_after_single s.core.words image) (read_tape (single_tape_codes image));
   printed = s.printed;
   clock = clock;
 }

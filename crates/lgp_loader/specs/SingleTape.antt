@@ -5,7 +5,8 @@ use Rattle.lgp_assembler.specs.Parts.{ImageParts}
 use Rattle.lgp_loader.specs.LoaderTape.{carriage_return, control_word, end_word, stopped_word}
 
 abbrev pub cell_codes : ℕ × ℕ → List ℕ
-cell_codes cell = stopped_word (control_word cell.0) ++ (stopped_word cell.1 ++ carriage_return ∷ [])
+cell_codes cell =
+    stopped_word (control_word cell.0) ++ (stopped_word cell.1 ++ carriage_return ∷ [])
 
 -- the tape of an image
 unfoldable pub single_tape_codes : ImageParts → List ℕ

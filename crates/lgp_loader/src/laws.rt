@@ -21,9 +21,10 @@ use lgp_table::Event;
 #[tactic(auto, using(crate::proofs::Cuts::cutting_laws))]
 pub fn cuttings()
     ensures longest { (cells : List (ℕ × ℕ)) → are_blocks (longest_blocks cells) ≡ true }
-    ensures longest_cells { (cells : List (ℕ × ℕ)) → cells_of (longest_blocks cells) ≡ cells }
-    ensures pieces { (counts : List ℕ) → (cells : List (ℕ × ℕ)) → is_cutting counts cells ≡ true
-        → are_blocks (pieces_of counts cells) ≡ true }
+    ensures longest_cells { (cells : List (ℕ × ℕ))
+        → cells_of (longest_blocks cells) ≡ cells }
+    ensures pieces { (counts : List ℕ) → (cells : List (ℕ × ℕ))
+        → is_cutting counts cells ≡ true → are_blocks (pieces_of counts cells) ≡ true }
     ensures piece_cells { (counts : List ℕ) → (cells : List (ℕ × ℕ))
         → is_cutting counts cells ≡ true → cells_of (pieces_of counts cells) ≡ cells }
 {}

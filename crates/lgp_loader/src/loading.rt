@@ -200,7 +200,7 @@ fn load_tape<A: Allocator, M: Operate<Tape = Vec<Code, A>>>(
 }
 
 /// The cells of an image.
-fn cells_of<A: Allocator>(image: &Image<A>) -> &[Cell]
+fn program_cells<A: Allocator>(image: &Image<A>) -> &[Cell]
     ensures cells { result.now ≡ image.now.cells }
     ensures few { length image.now.cells ≤ 4096 }
     ensures program { AreProgramCells image.now.cells }
@@ -235,8 +235,8 @@ pub fn load<A: Allocator + Copy, B: Allocator, M: Operate<Tape = Vec<Code, A>>>(
     ensures loaded { OnOk result (M.configuration machine.new
         ≡ at_boundary (loaded (M.configuration machine.old).state (longest_load image.now))) }
     ensures orders { IfOk result (λ orders. orders ≡ (longest_load image.now).orders) }
-    ensures clock { OnOk result
-        ((loaded (M.configuration machine.old).state (longest_load image.now)).clock ≤ clock_end) }
+    ensures clock { OnOk result ((loaded (M.configuration machine.old).state
+        (longest_load image.now)).clock ≤ clock_end) }
     ensures moving { (result ≡ Err LoadFault.Moving)
         ↔ (is_boundary (M.configuration machine.old) ≡ false) }
     ensures unmoved { result ≡ Err LoadFault.Moving
@@ -255,7 +255,7 @@ pub fn load<A: Allocator + Copy, B: Allocator, M: Operate<Tape = Vec<Code, A>>>(
     let Ok(tape) = tape_of(alloc, image) else {
         return Err(LoadFault::Memory);
     };
-    let cells = cells_of(image);
+    let cells = program_cells(image);
     let orders = orders_for(cells.len(), count_longest(cells));
     if !load_tape(machine, &LOADER, tape, orders) {
         return Err(LoadFault::ClockEnd);
@@ -305,7 +305,7 @@ pub fn load_cut<A: Allocator + Copy, B: Allocator, M: Operate<Tape = Vec<Code, A
         Err(CutFault::BadCut) => return Err(LoadFault::BadCut),
         Err(CutFault::Memory) => return Err(LoadFault::Memory),
     };
-    let orders = orders_for(cells_of(image).len(), counts.len());
+    let orders = orders_for(program_cells(image).len(), counts.len());
     if !load_tape(machine, &LOADER, tape, orders) {
         return Err(LoadFault::ClockEnd);
     }
@@ -344,7 +344,7 @@ pub fn load_single<A: Allocator + Copy, B: Allocator, M: Operate<Tape = Vec<Code
     let Ok(tape) = single_tape_of(alloc, image) else {
         return Err(LoadFault::Memory);
     };
-    let orders = 8 * cells_of(image).len() as u64 + 5;
+    let orders = 8 * program_cells(image).len() as u64 + 5;
     if !load_tape(machine, &LOADER_10, tape, orders) {
         return Err(LoadFault::ClockEnd);
     }

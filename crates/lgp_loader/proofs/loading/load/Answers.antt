@@ -10,7 +10,7 @@ use Rattle.lgp_loader.proofs.loading.load.Goals as goal
 pub load_tape-requires-clause-short : goal.load_tape-requires-clause-short
 load_tape-requires-clause-short g c =
     let s = (g.M.Operate.configuration c.args.machine.now).state in
-    let known = c.cells_of-cells.ensures in
+    let known = c.program_cells-cells.ensures in
     let ready = longest_ready s c.args.image.now c.look.ensures.drum known.program known.few known.start in
     let short : length c.in-Ok.tape.items ≤ tape_limit = subst (λ codes. length codes ≤ tape_limit) (sym c.in-Ok.ensures.tape) ready.short in
     search rules
@@ -18,59 +18,59 @@ load_tape-requires-clause-short g c =
 pub load_tape-requires-clause-work : goal.load_tape-requires-clause-work
 load_tape-requires-clause-work g c =
     let s = (g.M.Operate.configuration c.args.machine.now).state in
-    let known = c.cells_of-cells.ensures in
+    let known = c.program_cells-cells.ensures in
     let ready = longest_ready s c.args.image.now c.look.ensures.drum known.program known.few known.start in
-    let orders = longest_orders c.args.image.now c.cells_of-cells.result.now c.count_longest.result c.orders_for-orders.result
-    c.cells_of-cells.ensures.cells c.count_longest.ensures.count c.orders_for-orders.ensures in
+    let orders = longest_orders c.args.image.now c.program_cells-cells.result.now c.count_longest.result c.orders_for-orders.result
+    c.program_cells-cells.ensures.cells c.count_longest.ensures.count c.orders_for-orders.ensures in
     let same = same_load (longest_load c.args.image.now) c.in-Ok.tape.items c.orders_for-orders.result c.in-Ok.ensures.tape orders in
     (subst (IsReady s) same ready).work
 
 pub load_tape-requires-clause-silent : goal.load_tape-requires-clause-silent
 load_tape-requires-clause-silent g c =
     let s = (g.M.Operate.configuration c.args.machine.now).state in
-    let known = c.cells_of-cells.ensures in
+    let known = c.program_cells-cells.ensures in
     let ready = longest_ready s c.args.image.now c.look.ensures.drum known.program known.few known.start in
-    let orders = longest_orders c.args.image.now c.cells_of-cells.result.now c.count_longest.result c.orders_for-orders.result
-    c.cells_of-cells.ensures.cells c.count_longest.ensures.count c.orders_for-orders.ensures in
+    let orders = longest_orders c.args.image.now c.program_cells-cells.result.now c.count_longest.result c.orders_for-orders.result
+    c.program_cells-cells.ensures.cells c.count_longest.ensures.count c.orders_for-orders.ensures in
     let same = same_load (longest_load c.args.image.now) c.in-Ok.tape.items c.orders_for-orders.result c.in-Ok.ensures.tape orders in
     (subst (IsReady s) same ready).silent
 
 pub returns-then-not-load_tape-clause-stands : goal.returns-then-not-load_tape-clause-stands
 returns-then-not-load_tape-clause-stands g c =
     let s = (g.M.Operate.configuration c.args.machine.now).state in
-    let orders = longest_orders c.args.image.now c.cells_of-cells.result.now c.count_longest.result c.orders_for-orders.result
-    c.cells_of-cells.ensures.cells c.count_longest.ensures.count c.orders_for-orders.ensures in
+    let orders = longest_orders c.args.image.now c.program_cells-cells.result.now c.count_longest.result c.orders_for-orders.result
+    c.program_cells-cells.ensures.cells c.count_longest.ensures.count c.orders_for-orders.ensures in
     let same = same_load (longest_load c.args.image.now) c.in-Ok.tape.items c.orders_for-orders.result c.in-Ok.ensures.tape orders in
     λ is. subst (λ load. EndsLoading (g.M.Operate.configuration c.load_tape.new.machine) s load) (sym same) c.if-not-load_tape.ensures.stands
 
 pub returns-then-not-load_tape-clause-past : goal.returns-then-not-load_tape-clause-past
 returns-then-not-load_tape-clause-past g c =
     let s = (g.M.Operate.configuration c.args.machine.now).state in
-    let orders = longest_orders c.args.image.now c.cells_of-cells.result.now c.count_longest.result c.orders_for-orders.result
-    c.cells_of-cells.ensures.cells c.count_longest.ensures.count c.orders_for-orders.ensures in
+    let orders = longest_orders c.args.image.now c.program_cells-cells.result.now c.count_longest.result c.orders_for-orders.result
+    c.program_cells-cells.ensures.cells c.count_longest.ensures.count c.orders_for-orders.ensures in
     let same = same_load (longest_load c.args.image.now) c.in-Ok.tape.items c.orders_for-orders.result c.in-Ok.ensures.tape orders in
     λ is. subst (λ load. clock_end < (loaded s load).clock) (sym same) c.if-not-load_tape.ensures.past
 
 pub returns-clause-loaded : goal.returns-clause-loaded
 returns-clause-loaded g c =
     let s = (g.M.Operate.configuration c.args.machine.now).state in
-    let orders = longest_orders c.args.image.now c.cells_of-cells.result.now c.count_longest.result c.orders_for-orders.result
-    c.cells_of-cells.ensures.cells c.count_longest.ensures.count c.orders_for-orders.ensures in
+    let orders = longest_orders c.args.image.now c.program_cells-cells.result.now c.count_longest.result c.orders_for-orders.result
+    c.program_cells-cells.ensures.cells c.count_longest.ensures.count c.orders_for-orders.ensures in
     let same = same_load (longest_load c.args.image.now) c.in-Ok.tape.items c.orders_for-orders.result c.in-Ok.ensures.tape orders in
     c.if-not-load_tape.ensures.loaded ∙ ap (λ load. at_boundary (loaded s load)) (sym same)
 
 pub returns-clause-orders : goal.returns-clause-orders
 returns-clause-orders g c =
-    let orders = longest_orders c.args.image.now c.cells_of-cells.result.now c.count_longest.result c.orders_for-orders.result
-    c.cells_of-cells.ensures.cells c.count_longest.ensures.count c.orders_for-orders.ensures in
+    let orders = longest_orders c.args.image.now c.program_cells-cells.result.now c.count_longest.result c.orders_for-orders.result
+    c.program_cells-cells.ensures.cells c.count_longest.ensures.count c.orders_for-orders.ensures in
     let same = same_load (longest_load c.args.image.now) c.in-Ok.tape.items c.orders_for-orders.result c.in-Ok.ensures.tape orders in
     ap (λ (load : TapeLoad). load.orders) (sym same)
 
 pub returns-clause-clock : goal.returns-clause-clock
 returns-clause-clock g c =
     let s = (g.M.Operate.configuration c.args.machine.now).state in
-    let orders = longest_orders c.args.image.now c.cells_of-cells.result.now c.count_longest.result c.orders_for-orders.result
-    c.cells_of-cells.ensures.cells c.count_longest.ensures.count c.orders_for-orders.ensures in
+    let orders = longest_orders c.args.image.now c.program_cells-cells.result.now c.count_longest.result c.orders_for-orders.result
+    c.program_cells-cells.ensures.cells c.count_longest.ensures.count c.orders_for-orders.ensures in
     let same = same_load (longest_load c.args.image.now) c.in-Ok.tape.items c.orders_for-orders.result c.in-Ok.ensures.tape orders in
     let there = c.if-not-load_tape.ensures.loaded ∙ ap (λ load. at_boundary (loaded s load)) (sym same) in
     subst (λ (now : Configuration). now.state.clock ≤ clock_end) there c.if-not-load_tape.ensures.clock
