@@ -33,7 +33,7 @@ module _ {A : Type 0} where
   load_of standing None = refused refusals.NoImage standing
   load_of standing (Some source) =
       load_by standing (image_of source)
-          (loading_stopped standing.debugger.state (longest_load (image_of source)))
+      (loading_stopped standing.debugger.state (longest_load (image_of source)))
 
   unfoldable pub answer_to_load : Standing A → Answer A
   answer_to_load standing = load_of standing standing.source

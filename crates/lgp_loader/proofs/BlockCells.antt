@@ -2,7 +2,7 @@
 use Rattle.std.proofs.Common.{◌≡◌, ◌≢◌, ℕ, zero, suc, ◌+◌, ◌/◌, ◌%◌, ◌^◌, ◌<◌, ◌≤◌, true, false, refl, sym, ap, ◌∙◌, arith, List, length, slice_index, slice_set}
 use Rattle.std.proofs.lemmas.Bool.Decides.{nat_tests}
 use Rattle.std.proofs.lemmas.Int.{ints}
-use Rattle.std.proofs.lemmas.List.{get_or-set_other, get_or-set_same, length-set}
+use Rattle.std.proofs.lemmas.List.{get_or-set_other, get_or-set_same, length-set, set-set, set_comm}
 use Rattle.lgp_word.specs.Address.{address_after}
 use Rattle.lgp_word.specs.Order.{address_at, op_at, op_of, sign_of}
 use Rattle.lgp_word.specs.Word.{IsWord}
@@ -20,7 +20,6 @@ use Rattle.lgp_loader.specs.BlockPlaces.{block_end_cell, block_loader_words, blo
 use Rattle.lgp_loader.specs.BlockTape.{count_word}
 use Rattle.lgp_loader.specs.LoaderTape.{control_word}
 use Rattle.lgp_loader.specs.Places.{loader_base}
-use Rattle.lgp_loader.proofs.SingleLaw.{set_swapped, set_twice}
 use Rattle.lgp_loader.proofs.Orders.{Fetches, Leads, core_at, performs}
 
 -- a plain sum
@@ -102,17 +101,17 @@ count_held words store count long =
 -- a word put into a cell, and one put elsewhere
 pub store_set : (words : List ℕ) (store count new : ℕ) → slice_set (with_cells words store count) block_store_cell new ≡ with_cells words new count
 store_set words store count new =
-    set_swapped (slice_set words block_store_cell store) count_cell block_store_cell count new (λ same. omega (arith, same))
-    ∙ ap (λ ws. slice_set ws count_cell count) (set_twice words block_store_cell store new)
+    set_comm (slice_set words block_store_cell store) count_cell block_store_cell count new (λ same. omega (arith, same))
+    ∙ ap (λ ws. slice_set ws count_cell count) (set-set words block_store_cell store new)
 
 pub count_set : (words : List ℕ) (store count new : ℕ) → slice_set (with_cells words store count) count_cell new ≡ with_cells words store new
-count_set words store count new = set_twice (slice_set words block_store_cell store) count_cell count new
+count_set words store count new = set-set (slice_set words block_store_cell store) count_cell count new
 
 pub word_set : (words : List ℕ) (store count place word : ℕ) → block_store_cell ≢ place → count_cell ≢ place
     → slice_set (with_cells words store count) place word ≡ with_cells (slice_set words place word) store count
 word_set words store count place word apart_from_store apart_from_count =
-    set_swapped (slice_set words block_store_cell store) count_cell place count word apart_from_count
-    ∙ ap (λ ws. slice_set ws count_cell count) (set_swapped words block_store_cell place store word apart_from_store)
+    set_comm (slice_set words block_store_cell store) count_cell place count word apart_from_count
+    ∙ ap (λ ws. slice_set ws count_cell count) (set_comm words block_store_cell place store word apart_from_store)
 
 -- a word of the loader with its parts
 pub fetches : (words : List ℕ) (k word : ℕ) (op : Op) (address : ℕ) → HasBlockLoader words → k < 22 → k ≢ 9 → k ≢ 19 → k ≢ 21

@@ -1,7 +1,7 @@
 -- What loading cell by cell leaves.
-use Rattle.std.proofs.Common.{◌≡◌, ◌≢◌, ℕ, zero, suc, ◌+◌, ◌<◌, false, refl, sym, ap, ◌∙◌, subst, arith, List, [], ◌∷◌, fold, length, slice_index, slice_set}
+use Rattle.std.proofs.Common.{◌≡◌, ◌≢◌, ℕ, ◌+◌, ◌<◌, false, refl, sym, ap, ◌∙◌, subst, arith, List, [], ◌∷◌, fold, length, slice_index, slice_set}
 use Rattle.std.specs.Prelude.{IfSome}
-use Rattle.std.proofs.lemmas.List.{set-get_or}
+use Rattle.std.proofs.lemmas.List.{set-get_or, set-set, set_comm}
 use Rattle.std.proofs.lemmas.Bool.Decides.{nat_tests}
 use Rattle.lgp_word.specs.Address.{IsAddress}
 use Rattle.lgp_table.specs.State.{State}
@@ -23,19 +23,6 @@ pub single_is_loader : IsLoader single_loader_words
 unfolding is_word
 single_is_loader = (all_words single_loader_words refl, omega arith, omega arith)
 
--- one write over another, and two writes in either order
-pub set_twice : (xs : List ℕ) (i y z : ℕ) → slice_set (slice_set xs i y) i z ≡ slice_set xs i z
-set_twice [] i y z = refl
-set_twice (x ∷ xs) zero y z = refl
-set_twice (x ∷ xs) (suc i) y z = ap (λ more. x ∷ more) (set_twice xs i y z)
-
-pub set_swapped : (xs : List ℕ) (i j y z : ℕ) → i ≢ j → slice_set (slice_set xs i y) j z ≡ slice_set (slice_set xs j z) i y
-set_swapped [] i j y z apart = refl
-set_swapped (x ∷ xs) zero zero y z apart = absurd (apart refl)
-set_swapped (x ∷ xs) zero (suc j) y z apart = refl
-set_swapped (x ∷ xs) (suc i) zero y z apart = refl
-set_swapped (x ∷ xs) (suc i) (suc j) y z apart = ap (λ more. x ∷ more) (set_swapped xs i j y z (λ same. apart (ap suc same)))
-
 apart_from_store : (place : ℕ) → is_loaders place ≡ false → single_store_cell ≢ place
 apart_from_store place free same = grind (arith, nat_tests)
 
@@ -50,8 +37,8 @@ cells_overlaid [] words control are = refl
 cells_overlaid ((place, word) ∷ cells) words control ((within, free, is), others) =
     let new = control_word place in
     let here : words_after_cell (slice_set words single_store_cell control) place word ≡ slice_set (slice_set words place word) single_store_cell new =
-    ap (λ ws. slice_set ws place word) (set_twice words single_store_cell control new)
-    ∙ set_swapped words single_store_cell place new word (apart_from_store place free) in
+    ap (λ ws. slice_set ws place word) (set-set words single_store_cell control new)
+    ∙ set_comm words single_store_cell place new word (apart_from_store place free) in
     ap (λ ws. words_after_cells ws cells) here ∙ cells_overlaid cells (slice_set words place word) new others
 
 loader_lies : (drum : List ℕ) (k : ℕ) → length drum ≡ 4096 → k < 10 → slice_index (with_words drum single_loader_words) (loader_base + k) ≡ slice_index single_loader_words k
