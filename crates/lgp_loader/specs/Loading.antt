@@ -24,6 +24,7 @@ pub record TapeLoad : Type 0 where
   pub codes : List ℕ
   pub orders : ℕ
 
+-- a load by its parts
 abbrev pub load_with : List ℕ → List ℕ → ℕ → TapeLoad
 load_with loader codes orders = record { loader = loader; codes = codes; orders = orders }
 
