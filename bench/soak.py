@@ -2,7 +2,7 @@
 """Feeds the proved program random bytes, and then random commands, each for so many seconds (30 without an argument). Says how many
 bytes went in and how many replies came out, and how much memory the process held after a quarter of the time and at its end. Ends
 with status 1 where a reply is none of the defined ones, where the process ends of itself, or where its memory has more than
-doubled. Build the program first, by ./lgp_lab or rt ci. No part of the check."""
+doubled. Build the program first, by ./prove or rt ci. No part of the check."""
 import os
 import random
 import re

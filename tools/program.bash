@@ -1,0 +1,132 @@
+# What ./lgp_lab, ./prove, ./try_tests and .ci/run share: which crates a program stands on, whether what is built is the proved
+# program of today's sources, and how a program is run without its proofs. It is read by them and not run by itself.
+# They set `top`, the repository's folder, and `caller`, the name in front of each line on standard error.
+
+# The status of a launcher that could not run the program, or whose run was cut off.
+UNABLE=70
+
+say() {
+    echo "$caller: $*" >&2
+}
+
+give_up() {
+    say "$*"
+    exit $UNABLE
+}
+
+# Where the proved program lies, and beside it the line of the toolchain that proved it.
+program_path() {
+    echo "$top/crates/$1/out/$1"
+}
+
+# The line that `rt version` prints; read from its file where that lies beside the command, since asking takes a while.
+toolchain_line() {
+    local command identity
+    command=$(command -v rt) || return 1
+    identity=$(dirname "$(dirname "$(readlink -f "$command")")")/KIT-ID
+    if [ -r "$identity" ]; then
+        cat "$identity"
+    else
+        rt version
+    fi
+}
+
+need_toolchain() {
+    command -v rt >/dev/null 2>&1 || give_up "there is no Rattle toolchain: the command rt was not found"
+}
+
+# The crates of this repository that a crate stands on and the crate itself, one a line, each behind those that it uses.
+crates_of() {
+    awk -v top="$1" '
+        { sub(/#.*/, "") }
+        /:/ {
+            at = index($0, ":")
+            split(substr($0, 1, at - 1), words, " ")
+            uses[words[1]] = substr($0, at + 1)
+        }
+        function visit(name,    list, count, i) {
+            if (name in seen || !(name in uses)) return
+            seen[name] = 1
+            count = split(uses[name], list, " ")
+            for (i = 1; i <= count; i++) visit(list[i])
+            print name
+        }
+        END { visit(top) }
+    ' "$top/crates.txt"
+}
+
+# Whether the proved program is there, made by this toolchain, and newer than the list of crates and all its sources. A machine
+# that has the program and no toolchain has nothing to compare, and the program is as good as it was.
+is_proved() {
+    local program crate newer
+    program=$(program_path "$1")
+    [ -x "$program" ] && [ -f "$program.toolchain" ] || return 1
+    ! command -v rt >/dev/null 2>&1 || toolchain_line | cmp -s - "$program.toolchain" || return 1
+    [ ! "$top/crates.txt" -nt "$program" ] || return 1
+    for crate in $(crates_of "$1"); do
+        newer=$(find "$top/crates/$crate/src" "$top/crates/$crate/specs" "$top/crates/$crate/proofs" -newer "$program" -print -quit 2>/dev/null)
+        [ -z "$newer" ] || return 1
+    done
+}
+
+# Notes that the program that lies there was proved by this toolchain.
+mark_proved() {
+    toolchain_line >"$(program_path "$1").toolchain"
+}
+
+# A file for a launcher's own use; it is removed when the launcher ends.
+scratch=
+make_scratch() {
+    scratch=$(mktemp -d) || give_up "no file could be made for this run: $(mktemp -d 2>&1)"
+    trap 'rm -rf "$scratch"' EXIT
+    trap 'exit 129' HUP
+    trap 'exit 130' INT
+    trap 'exit 143' TERM
+}
+
+# The words that hand the run each file that the program's words name, from the folder in which the user stands, in `data`.
+# A run without proofs takes place in a folder of its own: a file named by its whole path is found there, one named by a path
+# below the user's folder is copied, and no other one can be handed over under its name.
+data=()
+hand_over() {
+    local word plain
+    for word in "$@"; do
+        [ -f "$word" ] || continue
+        plain=${word#./}
+        case $plain in
+            /*) continue ;;
+            *=* | .. | ../* | */../* | */..) ;;
+            program | program/* | stdin | stdin/* | stdout | stdout/* | stderr | stderr/*) ;;
+            *)
+                data+=(--data "$plain=$PWD/$plain")
+                continue
+                ;;
+        esac
+        give_up "a run without proofs cannot be given a file by the name '$word': name it by its whole path, or run ./prove first"
+    done
+}
+
+# Runs a program without its proofs, with standard input from a file. What it writes comes when it has ended.
+run_unproved() {
+    local crate=$1 input=$2 status
+    shift 2
+    need_toolchain
+    hand_over "$@"
+    cd "$top/crates/$crate" || give_up "$top/crates/$crate is not there"
+    rt try "${data[@]}" -- "$@" <"$input" >"$scratch/output" 2>"$scratch/notes"
+    status=$?
+    if grep -q "^run=ended status=$status " "$scratch/notes"; then
+        # The last two lines are the toolchain's, the ones before them what the program wrote on standard error.
+        head -n -2 "$scratch/notes" >&2
+        cat "$scratch/output" || give_up "what the program wrote could not be passed on"
+        exit "$status"
+    fi
+    if grep -q '^checked: no-answer: the program wrote more than' "$scratch/notes"; then
+        give_up "a run without proofs may write 1,048,576 bytes at most, and this one writes more: ./prove makes the proved program, which has no such limit"
+    fi
+    if grep -q '^checked: no-answer: the program did not end within the time limit' "$scratch/notes"; then
+        give_up "a run without proofs may take 60 seconds at most, and this one takes longer: ./prove makes the proved program, which has no such limit"
+    fi
+    cat "$scratch/notes" >&2
+    give_up "the program was not run to its end, as said above"
+}
