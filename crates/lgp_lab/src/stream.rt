@@ -32,7 +32,7 @@ pub enum LabFault {
 
 impl LabFault {
     /// The fault of a text behind one of which so many bytes were written.
-    pub fn behind(self, bytes: u64) -> LabFault
+    pub(crate) fn behind(self, bytes: u64) -> LabFault
         ensures { result ≡ fault_behind bytes self }
     {
         match self {

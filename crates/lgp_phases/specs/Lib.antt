@@ -1,5 +1,5 @@
 pub mod Decoded
-pub mod ProcessorInside
-pub mod ProgressInside
+pub mod Processor
+pub mod Progress
 pub use Rattle.lgp_table.specs.State
 pub use Rattle.lgp_table.specs.Activity

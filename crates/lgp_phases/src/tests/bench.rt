@@ -144,7 +144,7 @@ impl<A: Allocator> Model for Bench<A> {
     ghost use Rattle.std.specs.Prelude.{ℕ};
     ghost use Rattle.lgp_table.specs.State.{core_of};
     ghost use Rattle.lgp_phases.specs.Decoded.{AreWordsOf};
-    ghost use Rattle.lgp_phases.specs.ProcessorInside.{IsWithin};
+    ghost use Rattle.lgp_phases.specs.Processor.{IsWithin};
 
     ghost Value = { ℕ };
 
