@@ -14,7 +14,4 @@ mod times;
 pub use outcome::{Ahead, Outcome, Progress};
 pub use processor::Processor;
 pub use short_order::ShortOrder;
-pub use times::ahead;
-
-#[cfg(test)]
-mod tests;
+pub use times::{act_time, ahead, seek_time, wait};

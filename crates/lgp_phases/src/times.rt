@@ -28,7 +28,8 @@ pub fn ahead<A: Allocator>(panel: &Panel, drum: &Drum<A>, reader: &Reader<A>, cl
     }
 }
 
-/// How many word times pass until the sector has been read, from so many word times after this clock.
+/// The word times from `clock + after` on until a sector has been read, the reading included: 1 to 64. `sector` is its number on its
+/// track, below 64; `clock` counts word times, and so does `after`, which is below 2^32.
 pub fn wait(sector: u16, clock: u64, after: u64) -> u64
     requires sector { sector < 64 }
     requires after { after < 2 ^ 32 }
@@ -38,7 +39,8 @@ pub fn wait(sector: u16, clock: u64, after: u64) -> u64
     1 + (9 * u64::from(sector) + 63 * (clock % 64 + after + 1)) % 64
 }
 
-/// The word times of an order's third phase, from so many word times after this clock.
+/// The word times of an order's third phase, the seek, where it begins at `clock + after`: the wait for the word at its address, or 1
+/// for the orders that use no word, which are z, i, p, u and t. `clock` and `after` count word times; `after` is below 2^32.
 #[tactic(auto, unfolding(lgp_table::specs::Activity::seek_time))]
 pub fn seek_time(op: Op, address: Address, clock: u64, after: u64) -> u64
     requires { after < 2 ^ 32 }
@@ -51,7 +53,8 @@ pub fn seek_time(op: Op, address: Address, clock: u64, after: u64) -> u64
     }
 }
 
-/// The word times of an order's last phase.
+/// The word times of an order's last phase, in which it acts: 65 for m, n and d, 385 for a p that prints, 1 and 384 for each code that
+/// passes for an i with the reader as it stands, and 1 for all else; at most 402,653,185.
 #[tactic(auto, unfolding(lgp_table::specs::Activity::act_time))]
 pub fn act_time<A: Allocator>(op: Op, address: Address, reader: &Reader<A>) -> u64
     ensures time { result ≡ act_time op address reader.now }

@@ -1,8 +1,8 @@
 //! A processor on a bench: how it stands before worked orders, and how after each.
 
-use crate::{Ahead, Outcome, Processor, Progress, ahead};
 use lgp_drum::Drum;
 use lgp_flexo::{Code, read_tape_text};
+use lgp_phases::{Ahead, Outcome, Processor, Progress, ahead};
 use lgp_reader::Reader;
 use lgp_table::{Mode, Panel, Status, Switches};
 use lgp_word::{Address, Op, Word, read_digits, write_digits};
@@ -109,13 +109,27 @@ fn drum_of<A: Allocator + Copy>(alloc: A, cells: &[Cell]) -> Result<Drum<A>, Fai
     Ok(drum)
 }
 
-/// A reader with this tape.
-fn reader_of<A: Allocator + Copy>(alloc: A, tape: &[u8]) -> Result<Reader<A>, Fail> {
-    let mut reader = Reader::new(alloc);
-    match reader.mount(read_tape_text(alloc, tape)?) {
-        Ok(()) => Ok(reader),
-        Err(_) => Err(Fail::from("the tape is too long")),
+/// Puts these codes in the reader, and switches it on where the tape is read from the console.
+fn load<A: Allocator>(
+    reader: &mut Reader<A>,
+    codes: Vec<Code, A>,
+    status: Status,
+) -> Result<(), Fail> {
+    if reader.mount(codes).is_err() {
+        return Err(Fail::from("the tape is too long"));
     }
+    if status == Status::Reading {
+        reader.start();
+    }
+    Ok(())
+}
+
+/// A reader with the tape of a case.
+fn reader_of<A: Allocator + Copy>(alloc: A, case: &Case) -> Result<Reader<A>, Fail> {
+    let codes = read_tape_text(alloc, case.tape)?;
+    let mut reader = Reader::new(alloc);
+    load(&mut reader, codes, case.status)?;
+    Ok(reader)
 }
 
 /// The registers of a case.
@@ -158,21 +172,19 @@ impl<A: Allocator> Model for Bench<A> {
 impl<A: Allocator + Copy> Bench<A> {
     /// The bench of a case, at clock 0.
     pub fn new(alloc: A, case: &Case) -> Result<Bench<A>, Fail> {
-        let mut reader = reader_of(alloc, case.tape)?;
-        if case.status == Status::Reading {
-            reader.start();
-        }
+        let panel = panel_of(case)?;
+        let processor = Processor::new(alloc)?;
+        let drum = drum_of(alloc, case.cells)?;
+        let reader = reader_of(alloc, case)?;
         Ok(Bench {
-            panel: panel_of(case)?,
-            drum: drum_of(alloc, case.cells)?,
+            panel,
+            drum,
             reader,
-            processor: Processor::new(alloc)?,
+            processor,
             clock: 0,
         })
     }
-}
 
-impl<A: Allocator + Copy> Bench<A> {
     /// Goes on with a copy of the processor.
     pub fn copy(&mut self) -> Result<(), Fail> {
         self.processor = self.processor.copy()?;
@@ -308,31 +320,33 @@ impl<A: Allocator> Bench<A> {
     }
 }
 
-/// Performs activities and compares how the machine stands after each.
+/// Performs the activities of a case, compares how the machine stands after each, and looks for the word that is then on the drum.
 fn perform_to<A: Allocator>(
     rt: &impl Abort,
     bench: &mut Bench<A>,
-    ends: &[End],
+    case: &Case,
     way: Way,
 ) -> Result<(), Fail> {
-    for end in ends {
+    for end in case.ends {
         let outcome = bench.activity(way)?;
         assert_eq!(rt; bench.end(&outcome), *end, "{way:?}");
     }
-    Ok(())
+    if bench.holds(case.stored)? {
+        Ok(())
+    } else {
+        Err(Fail::from("another word is stored"))
+    }
 }
 
 /// Performs the activities of a case.
-pub fn perform<A: Allocator + Copy>(
+fn perform<A: Allocator + Copy>(
     rt: &impl Abort,
     alloc: A,
     case: &Case,
     way: Way,
 ) -> Result<(), Fail> {
     let mut bench = Bench::new(alloc, case)?;
-    perform_to(rt, &mut bench, case.ends, way)?;
-    assert!(rt; bench.holds(case.stored)?);
-    Ok(())
+    perform_to(rt, &mut bench, case, way)
 }
 
 /// Performs the activities of a case in each way.
