@@ -13,6 +13,3 @@ pub use fault::{
 pub use look::Look;
 pub use machine::Machine;
 pub use mark::Mark;
-
-#[cfg(test)]
-mod tests;

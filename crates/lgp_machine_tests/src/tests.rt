@@ -1,0 +1,211 @@
+//! The machine by its calls.
+
+mod calls;
+mod events;
+mod marks;
+mod rooms;
+
+use lgp_flexo::{Code, read_tape_text};
+use lgp_machine::{
+    Look, Machine, MountFault, OrderFault, PlayFault, PressFault, Pressed, PutFault, RestFault,
+    TurnFault,
+};
+use lgp_table::{Action, Event, Mode, Status, Switches};
+use lgp_word::{Address, Op, Word};
+use linked_list_allocator::LocalHeap;
+use std::alloc::{AllocError, Allocator};
+use std::test::Fail;
+
+const CLOCK_END: u64 = 1 << 62;
+
+/// A transfer to itself.
+const TRANSFER: u32 = 0x000a_0000;
+
+/// An order that prints code 57.
+const PRINT: u32 = 0x0008_3900;
+
+/// An order that switches the reader on, and an input.
+const INPUT: [(u16, u32); 2] = [(0, 0x0008_0000), (1, 0x0004_0000)];
+
+// The machine's methods without their contracts, which would fill the context of each test.
+
+fn press<A: Allocator>(machine: &mut Machine<A>, action: Action) -> Result<Pressed, PressFault> {
+    machine.press(action)
+}
+
+fn turn<A: Allocator>(machine: &mut Machine<A>) -> Result<bool, TurnFault> {
+    machine.turn()
+}
+
+fn play<A: Allocator>(machine: &mut Machine<A>, events: &[Event]) -> Result<(), PlayFault> {
+    machine.play(events)
+}
+
+/// What the next activity took, the status after it and the code that it printed.
+fn next_order<A: Allocator>(
+    machine: &mut Machine<A>,
+) -> Result<(u64, Status, Option<Code>), OrderFault> {
+    let outcome = machine.next_order()?;
+    Ok((outcome.cost, outcome.status, outcome.printed))
+}
+
+/// The status after the next activity.
+fn status_after<A: Allocator>(machine: &mut Machine<A>) -> Result<Status, OrderFault> {
+    let (_, status, _) = next_order(machine)?;
+    Ok(status)
+}
+
+fn rest<A: Allocator>(machine: &mut Machine<A>, times: u64) -> Result<(), RestFault> {
+    machine.rest(times)
+}
+
+fn put<A: Allocator>(machine: &mut Machine<A>, at: u16, bits: u32) -> Result<(), PutFault> {
+    machine.put(address(at), Word::of_bits(bits))
+}
+
+/// Mounts a tape; a refused one is told by the number of codes handed back.
+fn mount<A: Allocator>(
+    machine: &mut Machine<A>,
+    codes: Vec<Code, A>,
+) -> Result<(), (MountFault, usize)> {
+    match machine.mount(codes) {
+        Ok(()) => Ok(()),
+        Err((fault, back)) => Err((fault, back.len())),
+    }
+}
+
+fn look<A: Allocator>(machine: &Machine<A>) -> Option<Look> {
+    machine.look()
+}
+
+/// What the next activity costs, and the code that it prints.
+fn ahead<A: Allocator>(machine: &Machine<A>) -> Option<(u64, Option<Code>)> {
+    let ahead = machine.ahead()?;
+    Some((ahead.cost, ahead.prints))
+}
+
+fn live<A: Allocator>(machine: &Machine<A>, action: Action) -> Option<bool> {
+    machine.live(action)
+}
+
+/// How many codes are left on the tape.
+fn tape_left<A: Allocator>(machine: &Machine<A>) -> Option<usize> {
+    let codes = machine.tape_left()?;
+    Some(codes.len())
+}
+
+/// How many codes have passed the reader.
+fn tape_passed<A: Allocator>(machine: &Machine<A>) -> Option<usize> {
+    let codes = machine.tape_passed()?;
+    Some(codes.len())
+}
+
+/// How many codes are printed, and the first one.
+fn printed<A: Allocator>(machine: &Machine<A>) -> (usize, Option<Code>) {
+    let codes = machine.printed();
+    (codes.len(), codes.first().copied())
+}
+
+fn word_at<A: Allocator>(machine: &Machine<A>, at: u16) -> u32 {
+    machine.word(address(at)).get()
+}
+
+fn parts_at<A: Allocator>(machine: &Machine<A>, at: u16) -> (bool, Op, Address) {
+    machine.parts(address(at))
+}
+
+/// The address of that number, or 0000 above all.
+fn address(number: u16) -> Address {
+    Address::new(number).unwrap_or_default()
+}
+
+/// What shows in Normal, with all switches up and the reader off.
+fn shown(
+    counter: u16,
+    accumulator: u32,
+    register: u32,
+    status: Status,
+    clock: u64,
+) -> Option<Look> {
+    Some(Look {
+        counter: address(counter),
+        accumulator,
+        register: Word::of_bits(register),
+        status,
+        mode: Mode::Normal,
+        switches: Switches::default(),
+        reader_on: false,
+        clock,
+    })
+}
+
+/// What shows behind the order that switches the reader on.
+fn shown_at_input() -> Option<Look> {
+    let mut look = shown(1, 0, 0x0008_0000, Status::Going, 67)?;
+    look.reader_on = true;
+    Some(look)
+}
+
+/// Puts words on the drum.
+fn put_all<A: Allocator>(machine: &mut Machine<A>, words: &[(u16, u32)]) -> Result<(), PutFault> {
+    for (at, bits) in words {
+        put(machine, *at, *bits)?;
+    }
+    Ok(())
+}
+
+/// A machine with these words.
+fn with_words<A: Allocator + Copy>(alloc: A, words: &[(u16, u32)]) -> Result<Machine<A>, Fail> {
+    let mut machine = Machine::new(alloc)?;
+    put_all(&mut machine, words)?;
+    Ok(machine)
+}
+
+/// A machine with these words, started.
+fn started<A: Allocator + Copy>(alloc: A, words: &[(u16, u32)]) -> Result<Machine<A>, Fail> {
+    let mut machine = with_words(alloc, words)?;
+    press(&mut machine, Action::Start)?;
+    Ok(machine)
+}
+
+/// Mounts the tape of a text, and starts.
+fn start_with_tape<A: Allocator + Copy>(
+    machine: &mut Machine<A>,
+    alloc: A,
+    text: &[u8],
+) -> Result<(), Fail> {
+    let codes = read_tape_text(alloc, text)?;
+    mount(machine, codes)?;
+    press(machine, Action::Start)?;
+    Ok(())
+}
+
+/// A machine that switches the reader on and performs an input of this tape, started.
+fn with_input<A: Allocator + Copy>(alloc: A, text: &[u8]) -> Result<Machine<A>, Fail> {
+    let mut machine = with_words(alloc, &INPUT)?;
+    start_with_tape(&mut machine, alloc, text)?;
+    Ok(machine)
+}
+
+/// A transfer to itself, one word time after its start.
+fn within_an_order<A: Allocator + Copy>(alloc: A) -> Result<Machine<A>, Fail> {
+    let mut machine = started(alloc, &[(0, TRANSFER)])?;
+    turn(&mut machine)?;
+    Ok(machine)
+}
+
+/// Word times until one ends at a boundary or is refused: how many there were, and what the last one answered.
+fn turns<A: Allocator>(machine: &mut Machine<A>, limit: u64) -> (u64, Result<bool, TurnFault>) {
+    for count in 1..limit {
+        let answer = turn(machine);
+        if answer != Ok(false) {
+            return (count, answer);
+        }
+    }
+    (limit, turn(machine))
+}
+
+/// All the room that a heap has left, in one block, but for so many bytes.
+fn filler_beside(heap: &LocalHeap, room: usize) -> Result<Vec<u8, &LocalHeap>, AllocError> {
+    Vec::with_capacity(heap, heap.free().saturating_sub(room))
+}

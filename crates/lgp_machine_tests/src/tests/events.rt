@@ -1,0 +1,137 @@
+//! Presses within an order, and word times and presses played in one call.
+
+use super::{
+    CLOCK_END, PRINT, TRANSFER, filler_beside, look, play, press, printed, rest, shown, turns,
+    with_words, within_an_order,
+};
+use lgp_flexo::Code;
+use lgp_machine::{Look, Machine, PlayFault, PressFault, Pressed, TurnFault};
+use lgp_table::{Action, Cause, Event, Mode, Status, Which};
+use linked_list_allocator::LocalHeap;
+use std::alloc::{AllocError, Allocator};
+use std::test::Fail;
+
+/// Seventeen actions. The first sixteen leave BREAK POINT 4 down only where the oldest one acts first; for the last, which would
+/// leave it up, there is no place.
+fn seventeen_actions() -> [Action; 17] {
+    let mut actions = [Action::BreakPoint(Which::B4, true); 17];
+    actions[0] = Action::BreakPoint(Which::B4, false);
+    actions[15] = Action::Mode(Mode::OneOperation);
+    actions[16] = Action::BreakPoint(Which::B4, false);
+    actions
+}
+
+/// What shows where the sixteen actions have acted at the end of the first transfer.
+fn shown_after_sixteen() -> Option<Look> {
+    let mut look = shown(0, 0, TRANSFER, Status::Halted(Cause::Operator), 67)?;
+    look.mode = Mode::OneOperation;
+    look.switches.b4 = true;
+    Some(look)
+}
+
+/// How many of these actions are kept before one is not, and what became of that one.
+fn keep<A: Allocator>(
+    machine: &mut Machine<A>,
+    actions: &[Action],
+) -> (usize, Result<Pressed, PressFault>) {
+    for (count, action) in actions.iter().enumerate() {
+        let answer = press(machine, *action);
+        if answer != Ok(Pressed::Kept) {
+            return (count, answer);
+        }
+    }
+    (actions.len(), Ok(Pressed::Kept))
+}
+
+#[test]
+fn sixteen_actions_act_at_the_end(rt: HostRuntime) -> Result<(), Fail> {
+    let mut machine = within_an_order(rt.alloc())?;
+    let kept = keep(&mut machine, &seventeen_actions());
+    let turned = turns(&mut machine, 100);
+    assert_eq!(rt;
+        (kept, turned, look(&machine)),
+        (
+            (16, Err(PressFault::Full)),
+            (66, Ok(true)),
+            shown_after_sixteen()
+        )
+    );
+    Ok(())
+}
+
+/// A start, a word time, these actions and as many word times as given.
+fn events_of<A: Allocator>(
+    alloc: A,
+    actions: &[Action],
+    times: usize,
+) -> Result<Vec<Event, A>, AllocError> {
+    let count = actions.len().saturating_add(times).saturating_add(2);
+    let mut events = vec![in alloc; Event::WordTime; count]?;
+    if let Some(first) = events.first_mut() {
+        *first = Event::Press(Action::Start);
+    }
+    for (event, action) in events.iter_mut().skip(2).zip(actions) {
+        *event = Event::Press(*action);
+    }
+    Ok(events)
+}
+
+#[test]
+fn a_play_is_the_same_turns_and_presses(rt: HostRuntime) -> Result<(), Fail> {
+    let mut machine = with_words(rt.alloc(), &[(0, TRANSFER)])?;
+    let events = events_of(rt.alloc(), &seventeen_actions(), 66)?;
+    let played = play(&mut machine, events.as_slice());
+    assert_eq!(rt; (played, look(&machine)), (Ok(()), shown_after_sixteen()));
+    Ok(())
+}
+
+/// A print to be played over a small heap.
+fn printing<A: Allocator + Copy>(alloc: A) -> Result<Machine<A>, Fail> {
+    with_words(alloc, &[(0, PRINT)])
+}
+
+/// What becomes of a play where the machine's heap has no room.
+fn play_without_room(
+    heap: &LocalHeap,
+    machine: &mut Machine<&LocalHeap>,
+    events: &[Event],
+) -> Result<Result<(), PlayFault>, AllocError> {
+    let filler = filler_beside(heap, 0)?;
+    let played = play(machine, events);
+    drop(filler);
+    Ok(played)
+}
+
+#[test]
+fn a_play_stops_at_the_clocks_end(rt: HostRuntime) -> Result<(), Fail> {
+    let events = events_of(rt.alloc(), &[], 2)?;
+    let heap = LocalHeap::new(rt.alloc(), 262144)?;
+    let mut machine = printing(&heap)?;
+    rest(&mut machine, CLOCK_END - 2)?;
+    let played = play_without_room(&heap, &mut machine, events.as_slice())?;
+    let stopped = PlayFault {
+        done: 3,
+        fault: TurnFault::ClockEnd,
+    };
+    assert_eq!(rt; played, Err(stopped));
+    Ok(())
+}
+
+#[test]
+fn a_play_stops_where_there_is_no_room(rt: HostRuntime) -> Result<(), Fail> {
+    let events = events_of(rt.alloc(), &[], 450)?;
+    let heap = LocalHeap::new(rt.alloc(), 262144)?;
+    let mut machine = printing(&heap)?;
+    let first = play_without_room(&heap, &mut machine, events.as_slice())?;
+    let before = (printed(&machine), look(&machine));
+    let second = play(&mut machine, &[Event::WordTime]);
+    let stopped = PlayFault {
+        done: 451,
+        fault: TurnFault::Memory,
+    };
+    assert_eq!(rt;
+        (first, before, second, printed(&machine)),
+        (Err(stopped), ((0, None), None), Ok(()), (1, Code::new(57)))
+    );
+    Ok(())
+}
