@@ -165,7 +165,6 @@ impl<H: History<A>, A: Allocator> Debugger<H, A> {
     }
 
     /// An order of a run; then the number of the first rule that stops the run there.
-    #[tactic(auto, using(crate::proofs::WatchLemmas::watched_stop))]
     fn go_on(&mut self) -> Result<Option<u8>, StepFault>
         ensures performed { OnOk result (self.new ≡ after_step self.old Step.Perform) }
         ensures stop { IfOk result (λ stop. stop ≡ first_stop self.old.rules self.old.state) }
@@ -180,10 +179,29 @@ impl<H: History<A>, A: Allocator> Debugger<H, A> {
         ensures unchanged { OnErr result (self.new ≡ self.old) }
     {
         if self.rules.is_empty() {
-            self.step()?;
-            return Ok(None);
+            return self.go_on_freely();
         }
         self.go_on_by_rules()
+    }
+
+    /// The same where there are no rules.
+    #[inline(always)]
+    fn go_on_freely(&mut self) -> Result<Option<u8>, StepFault>
+        requires { self.old.rules ≡ [] }
+        ensures performed { OnOk result (self.new ≡ after_step self.old Step.Perform) }
+        ensures stop { IfOk result (λ stop. stop ≡ first_stop self.old.rules self.old.state) }
+        ensures at_work { OnOk result (is_at_rest self.old.state.core.panel.status ≡ false) }
+        ensures memory { result ≡ Err StepFault.Memory
+            → is_at_rest self.old.state.core.panel.status ≡ false }
+        ensures at_rest { (result ≡ Err StepFault.AtRest)
+            ↔ IsTrue (is_at_rest self.old.state.core.panel.status) }
+        ensures clock_end { (result ≡ Err StepFault.ClockEnd)
+            ↔ ((is_at_rest self.old.state.core.panel.status ≡ false)
+            × (clock_end < self.old.state.clock + cost self.old.state)) }
+        ensures unchanged { OnErr result (self.new ≡ self.old) }
+    {
+        self.step()?;
+        Ok(None)
     }
 
     /// The same where there are rules, out of the way of a run without any.
@@ -192,6 +210,9 @@ impl<H: History<A>, A: Allocator> Debugger<H, A> {
     fn go_on_by_rules(&mut self) -> Result<Option<u8>, StepFault>
         ensures performed { OnOk result (self.new ≡ after_step self.old Step.Perform) }
         ensures stop { IfOk result (λ stop. stop ≡ first_stop self.old.rules self.old.state) }
+        ensures at_work { OnOk result (is_at_rest self.old.state.core.panel.status ≡ false) }
+        ensures memory { result ≡ Err StepFault.Memory
+            → is_at_rest self.old.state.core.panel.status ≡ false }
         ensures at_rest { (result ≡ Err StepFault.AtRest)
             ↔ IsTrue (is_at_rest self.old.state.core.panel.status) }
         ensures clock_end { (result ≡ Err StepFault.ClockEnd)

@@ -10,6 +10,3 @@ pub use fault::{
     HitFault, IdleFault, MountFault, PutFault, Ran, Reason, RuleFault, RunFault, RunRefusal,
     StepFault,
 };
-
-#[cfg(test)]
-mod tests;

@@ -1,0 +1,5 @@
+//! The debugger by its calls. A test is a table of calls and their answers.
+
+mod calls;
+mod growths;
+mod rows;

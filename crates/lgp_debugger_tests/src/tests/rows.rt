@@ -1,0 +1,389 @@
+//! Worked examples: what is called, and what each call answers.
+
+use super::calls::{Answer, Button, Call, Named, Shown, Sight, answer_to, with_order};
+use lgp_debugger::{Debugger, HitFault, IdleFault, Ran, Reason, RuleFault, StepFault};
+use lgp_history::{BackFault, Checkpoints, History, Records};
+use lgp_loader::LoadFault;
+use lgp_table::{Cause, Status};
+use std::alloc::{AllocError, Allocator};
+use std::process::Abort;
+use std::test::Fail;
+
+/// The order that transfers to 0000.
+const TRANSFER: u32 = 0x000a_0000;
+
+/// The order that prints the code 57.
+const PRINT: u32 = 0x0008_3900;
+
+/// The word that stands at 0000 at first, and then calls with what each has to answer.
+type Example = (u32, &'static [(Call, Answer)]);
+
+/// A printed code goes back, and so does the clock.
+const PRINT_GOES_BACK: Example = (
+    0,
+    &[
+        (Call::Put(0, PRINT), Answer::Put(Ok(()))),
+        (Call::Press(Button::Start), Answer::Press(Ok(true))),
+        (Call::Step, Answer::Step(Ok(451))),
+        (Call::See(Sight::Printed), Answer::Printed((1, Some(57)))),
+        (Call::Idle(1), Answer::Idle(Err(IdleFault::AtWork))),
+        (Call::Back(0), Answer::Back(Ok(()))),
+        (Call::See(Sight::Clock), Answer::Clock(451)),
+        (Call::Back(1), Answer::Back(Ok(()))),
+        (Call::See(Sight::Clock), Answer::Clock(0)),
+        (Call::See(Sight::Printed), Answer::Printed((0, None))),
+        (Call::Back(1), Answer::Back(Err(BackFault::TooFar(0)))),
+    ],
+);
+
+/// Four steps are kept of eleven.
+const LATEST_STEPS: Example = (
+    TRANSFER,
+    &[
+        (Call::Press(Button::Start), Answer::Press(Ok(true))),
+        (Call::Steps(10), Answer::Done(10)),
+        (Call::See(Sight::Clock), Answer::Clock(643)),
+        (Call::Back(5), Answer::Back(Err(BackFault::TooFar(4)))),
+        (Call::See(Sight::Clock), Answer::Clock(643)),
+        (Call::Back(4), Answer::Back(Ok(()))),
+        (
+            Call::See(Sight::All),
+            Answer::All(Shown {
+                status: Status::Going,
+                counter: 0,
+                accumulator: 0,
+                register: TRANSFER,
+                reader_on: false,
+                clock: 387,
+            }),
+        ),
+        (Call::See(Sight::Kept), Answer::Kept((0, 0))),
+    ],
+);
+
+/// Rules stop runs, and the last hits are found again: the program adds the word at 0051 to that at 0050, again and again.
+const RULES: Example = (
+    0x0001_00c8,
+    &[
+        (Call::Put(1, 0x000e_00cc), Answer::Put(Ok(()))),
+        (Call::Put(2, 0x000c_00c8), Answer::Put(Ok(()))),
+        (Call::Put(3, TRANSFER), Answer::Put(Ok(()))),
+        (Call::Put(51, 2), Answer::Put(Ok(()))),
+        (Call::Press(Button::Start), Answer::Press(Ok(true))),
+        (Call::AddRule(Named::At(2)), Answer::AddRule(Ok(0))),
+        (
+            Call::Run(100),
+            Answer::Run(Ok(Ran {
+                orders: 2,
+                reason: Reason::Rule(0),
+            })),
+        ),
+        (Call::RemoveRule(0), Answer::RemoveRule(Some(Named::At(2)))),
+        (Call::AddRule(Named::Changed(50)), Answer::AddRule(Ok(0))),
+        (
+            Call::Run(100),
+            Answer::Run(Ok(Ran {
+                orders: 1,
+                reason: Reason::Rule(0),
+            })),
+        ),
+        (
+            Call::Run(100),
+            Answer::Run(Ok(Ran {
+                orders: 4,
+                reason: Reason::Rule(0),
+            })),
+        ),
+        (Call::LastHit, Answer::LastHit(Ok((1, 0)))),
+        (Call::See(Sight::WordAt(50)), Answer::WordAt(2)),
+        (Call::LastHit, Answer::LastHit(Ok((4, 0)))),
+        (Call::LastHit, Answer::LastHit(Err(HitFault::NoHit(2)))),
+        (Call::RemoveRule(1), Answer::RemoveRule(None)),
+    ],
+);
+
+/// A hundred steps, and back to the first order.
+const HUNDRED_STEPS: Example = (
+    TRANSFER,
+    &[
+        (Call::Press(Button::Start), Answer::Press(Ok(true))),
+        (Call::Steps(99), Answer::Done(99)),
+        (Call::See(Sight::Kept), Answer::Kept((100, 99))),
+        (Call::See(Sight::Clock), Answer::Clock(6339)),
+        (Call::Back(99), Answer::Back(Ok(()))),
+        (
+            Call::See(Sight::All),
+            Answer::All(Shown {
+                status: Status::Going,
+                counter: 0,
+                accumulator: 0,
+                register: 0,
+                reader_on: false,
+                clock: 0,
+            }),
+        ),
+        (Call::See(Sight::Kept), Answer::Kept((1, 0))),
+        (Call::Step, Answer::Step(Ok(67))),
+        (Call::See(Sight::Kept), Answer::Kept((2, 1))),
+    ],
+);
+
+/// An input taken back: the codes are left again, and the reader is on.
+const INPUT_GOES_BACK: Example = (
+    0x0008_0000,
+    &[
+        (Call::Put(1, 0x0004_0000), Answer::Put(Ok(()))),
+        (Call::Mount(b"12[16]3'"), Answer::Mount(Some(Ok(())))),
+        (Call::Press(Button::Start), Answer::Press(Ok(true))),
+        (Call::Steps(2), Answer::Done(2)),
+        (Call::See(Sight::TapeLeft), Answer::TapeLeft(0)),
+        (Call::Back(1), Answer::Back(Ok(()))),
+        (
+            Call::See(Sight::All),
+            Answer::All(Shown {
+                status: Status::Going,
+                counter: 1,
+                accumulator: 0,
+                register: 0x0008_0000,
+                reader_on: true,
+                clock: 67,
+            }),
+        ),
+        (Call::See(Sight::TapeLeft), Answer::TapeLeft(5)),
+    ],
+);
+
+/// A word put and a tape mounted are taken back with the orders before them.
+const PUTS_AND_MOUNTS: Example = (
+    0,
+    &[
+        (Call::Put(0, TRANSFER), Answer::Put(Ok(()))),
+        (Call::Press(Button::Start), Answer::Press(Ok(true))),
+        (Call::Steps(2), Answer::Done(2)),
+        (Call::Press(Button::Manual), Answer::Press(Ok(true))),
+        (Call::Put(64, 4), Answer::Put(Ok(()))),
+        (Call::Mount(b"a"), Answer::Mount(Some(Ok(())))),
+        (Call::Press(Button::Normal), Answer::Press(Ok(true))),
+        (Call::Press(Button::Start), Answer::Press(Ok(true))),
+        (Call::Steps(1), Answer::Done(1)),
+        (Call::Back(2), Answer::Back(Ok(()))),
+        (Call::See(Sight::Clock), Answer::Clock(67)),
+        (Call::See(Sight::WordAt(64)), Answer::WordAt(0)),
+        (Call::See(Sight::TapeLeft), Answer::TapeLeft(0)),
+        (Call::Back(1), Answer::Back(Ok(()))),
+        (Call::See(Sight::Clock), Answer::Clock(0)),
+        (Call::Back(1), Answer::Back(Err(BackFault::TooFar(0)))),
+    ],
+);
+
+/// A load takes 23 orders, and no step is kept behind it.
+const LOAD: Example = (
+    0,
+    &[
+        (Call::Put(0, TRANSFER), Answer::Put(Ok(()))),
+        (Call::See(Sight::Kept), Answer::Kept((1, 0))),
+        (
+            Call::Load(b" org 0100\n word 00000004\n end"),
+            Answer::Load(Some(Ok(23))),
+        ),
+        (
+            Call::See(Sight::All),
+            Answer::All(Shown {
+                status: Status::Halted(Cause::Stop),
+                counter: 4052,
+                accumulator: 0x8000_0000,
+                register: 0x8000_0000,
+                reader_on: false,
+                clock: 15342,
+            }),
+        ),
+        (Call::See(Sight::WordAt(64)), Answer::WordAt(4)),
+        (Call::See(Sight::Kept), Answer::Kept((0, 0))),
+    ],
+);
+
+/// One word time before the clock's end the order that stores the loader's first word is keyed in, and not performed.
+const LOAD_AT_THE_END: Example = (
+    0,
+    &[
+        (Call::Idle((1 << 62) - 1), Answer::Idle(Ok(()))),
+        (
+            Call::Load(b" end"),
+            Answer::Load(Some(Err(LoadFault::ClockEnd))),
+        ),
+        (
+            Call::See(Sight::All),
+            Answer::All(Shown {
+                status: Status::Executing,
+                counter: 0,
+                accumulator: 0x0008_0000,
+                register: 0x000c_3f00,
+                reader_on: false,
+                clock: (1 << 62) - 1,
+            }),
+        ),
+        (Call::See(Sight::WordAt(4032)), Answer::WordAt(0)),
+        (Call::See(Sight::Kept), Answer::Kept((0, 0))),
+    ],
+);
+
+/// Word times at rest, and calls that do nothing.
+const AT_REST: Example = (
+    0,
+    &[
+        (Call::Step, Answer::Step(Err(StepFault::AtRest))),
+        (Call::Idle(0), Answer::Idle(Ok(()))),
+        (Call::See(Sight::Kept), Answer::Kept((0, 0))),
+        (Call::Idle(5), Answer::Idle(Ok(()))),
+        (Call::See(Sight::Clock), Answer::Clock(5)),
+        (Call::See(Sight::Kept), Answer::Kept((1, 0))),
+        (Call::Press(Button::StartCompute), Answer::Press(Ok(false))),
+        (Call::See(Sight::Kept), Answer::Kept((1, 0))),
+        (
+            Call::Run(10),
+            Answer::Run(Ok(Ran {
+                orders: 0,
+                reason: Reason::Rest,
+            })),
+        ),
+    ],
+);
+
+/// There are at most 64 rules.
+const MANY_RULES: Example = (
+    0,
+    &[
+        (Call::AddRules(Named::At(7), 100), Answer::Done(64)),
+        (
+            Call::AddRule(Named::At(1)),
+            Answer::AddRule(Err(RuleFault::Full)),
+        ),
+        (Call::RemoveRule(64), Answer::RemoveRule(None)),
+        (Call::RemoveRule(63), Answer::RemoveRule(Some(Named::At(7)))),
+        (Call::AddRule(Named::At(1)), Answer::AddRule(Ok(63))),
+    ],
+);
+
+/// Calls one after another, and expects what each answers.
+fn expect_answers<H: History<A>, A: Allocator + Copy>(
+    rt: &impl Abort,
+    lab: &mut Debugger<H, A>,
+    alloc: A,
+    rows: &[(Call, Answer)],
+) {
+    for (place, (call, wanted)) in rows.iter().enumerate() {
+        assert_eq!(rt;
+            answer_to(lab, alloc, *call),
+            *wanted,
+            "row {place}, {call:?}"
+        );
+    }
+}
+
+/// Goes through an example over a history.
+fn expect<H: History<A>, A: Allocator + Copy>(
+    rt: &impl Abort,
+    alloc: A,
+    history: H,
+    (first, rows): Example,
+) -> Result<(), AllocError> {
+    let mut lab = with_order(alloc, history, first)?;
+    expect_answers(rt, &mut lab, alloc, rows);
+    Ok(())
+}
+
+#[test]
+fn records_take_a_print_back(rt: HostRuntime) -> Result<(), Fail> {
+    let history = Records::new(rt.alloc(), 4096)?;
+    Ok(expect(&rt, rt.alloc(), history, PRINT_GOES_BACK)?)
+}
+
+#[test]
+fn records_keep_the_latest_steps(rt: HostRuntime) -> Result<(), Fail> {
+    let history = Records::new(rt.alloc(), 4)?;
+    Ok(expect(&rt, rt.alloc(), history, LATEST_STEPS)?)
+}
+
+#[test]
+fn records_find_hits(rt: HostRuntime) -> Result<(), Fail> {
+    let history = Records::new(rt.alloc(), 4096)?;
+    Ok(expect(&rt, rt.alloc(), history, RULES)?)
+}
+
+#[test]
+fn records_keep_a_hundred_steps(rt: HostRuntime) -> Result<(), Fail> {
+    let history = Records::new(rt.alloc(), 100)?;
+    Ok(expect(&rt, rt.alloc(), history, HUNDRED_STEPS)?)
+}
+
+#[test]
+fn records_take_an_input_back(rt: HostRuntime) -> Result<(), Fail> {
+    let history = Records::new(rt.alloc(), 100)?;
+    Ok(expect(&rt, rt.alloc(), history, INPUT_GOES_BACK)?)
+}
+
+#[test]
+fn records_take_puts_and_mounts_back(rt: HostRuntime) -> Result<(), Fail> {
+    let history = Records::new(rt.alloc(), 100)?;
+    Ok(expect(&rt, rt.alloc(), history, PUTS_AND_MOUNTS)?)
+}
+
+#[test]
+fn checkpoints_take_a_print_back(rt: HostRuntime) -> Result<(), Fail> {
+    let history = Checkpoints::new(rt.alloc(), 4096)?;
+    Ok(expect(&rt, rt.alloc(), history, PRINT_GOES_BACK)?)
+}
+
+#[test]
+fn checkpoints_keep_the_latest_steps(rt: HostRuntime) -> Result<(), Fail> {
+    let history = Checkpoints::new(rt.alloc(), 4)?;
+    Ok(expect(&rt, rt.alloc(), history, LATEST_STEPS)?)
+}
+
+#[test]
+fn checkpoints_find_hits(rt: HostRuntime) -> Result<(), Fail> {
+    let history = Checkpoints::new(rt.alloc(), 4096)?;
+    Ok(expect(&rt, rt.alloc(), history, RULES)?)
+}
+
+#[test]
+fn checkpoints_keep_a_hundred_steps(rt: HostRuntime) -> Result<(), Fail> {
+    let history = Checkpoints::new(rt.alloc(), 100)?;
+    Ok(expect(&rt, rt.alloc(), history, HUNDRED_STEPS)?)
+}
+
+#[test]
+fn checkpoints_take_an_input_back(rt: HostRuntime) -> Result<(), Fail> {
+    let history = Checkpoints::new(rt.alloc(), 100)?;
+    Ok(expect(&rt, rt.alloc(), history, INPUT_GOES_BACK)?)
+}
+
+#[test]
+fn checkpoints_take_puts_and_mounts_back(rt: HostRuntime) -> Result<(), Fail> {
+    let history = Checkpoints::new(rt.alloc(), 100)?;
+    Ok(expect(&rt, rt.alloc(), history, PUTS_AND_MOUNTS)?)
+}
+
+#[test]
+fn a_load_keeps_no_step(rt: HostRuntime) -> Result<(), Fail> {
+    let history = Records::new(rt.alloc(), 8)?;
+    Ok(expect(&rt, rt.alloc(), history, LOAD)?)
+}
+
+#[test]
+fn a_load_stops_at_the_clocks_end(rt: HostRuntime) -> Result<(), Fail> {
+    let history = Records::new(rt.alloc(), 8)?;
+    Ok(expect(&rt, rt.alloc(), history, LOAD_AT_THE_END)?)
+}
+
+#[test]
+fn word_times_at_rest_pass(rt: HostRuntime) -> Result<(), Fail> {
+    let history = Records::new(rt.alloc(), 4)?;
+    Ok(expect(&rt, rt.alloc(), history, AT_REST)?)
+}
+
+#[test]
+fn there_are_64_rules(rt: HostRuntime) -> Result<(), Fail> {
+    let history = Records::new(rt.alloc(), 4)?;
+    Ok(expect(&rt, rt.alloc(), history, MANY_RULES)?)
+}
