@@ -86,6 +86,3 @@ pub fn assemble<A: Allocator + Copy>(alloc: A, source: &[u8]) -> Result<Image<A>
     add_missing_end(&mut draft.faults, scan.ended, scan.lines)?;
     image_or_faults(draft)
 }
-
-#[cfg(test)]
-mod tests;
