@@ -16,9 +16,9 @@ use crate::marks::{is_marked, mark, no_marks};
 use crate::name_table::Names;
 use crate::operands::{Meaning, OperandFault, in_range};
 use crate::operations::Operation;
-use crate::output::Name;
+use crate::output::{Name, Parts};
 use crate::passes::Scan;
-use crate::refusal::Fault;
+use crate::refusal::{Fault, FaultKind};
 use lgp_source::Lines;
 use lgp_word::{Address, Word};
 use std::alloc::{AllocError, Allocator};
@@ -30,9 +30,23 @@ pub struct Draft<A: Allocator> {
     /// For each place of the drum whether a word lies there.
     pub taken: Vec<bool, A>,
     pub faults: Vec<Fault, A>,
-    pub cells: Vec<(Address, Word), A>,
-    pub start: Option<Address>,
-    pub symbols: Vec<(Name, u16), A>,
+    pub parts: Parts<A>,
+}
+
+/// Adds the fault of a line, if it has one.
+fn add_fault<A: Allocator>(
+    faults: &mut Vec<Fault, A>,
+    line: u64,
+    kind: Option<FaultKind>,
+) -> Result<(), AllocError>
+    ensures { let more = option_to_list (option_map (numbered_fault line) kind) in
+        OnOk result (faults.new.items ≡ faults.old.items ++ more) }
+{
+    let Some(kind) = kind else {
+        return Ok(());
+    };
+    faults.push(Fault { line, kind })?;
+    Ok(())
 }
 
 /// Adds the word of a line, if it has one.
@@ -93,6 +107,34 @@ fn start_at(
     }
 }
 
+impl<A: Allocator> Parts<A> {
+    /// Adds what a line without a fault gives in its place.
+    fn add(
+        &mut self,
+        fields: &Fields,
+        place: u64,
+        meaning: &Result<Meaning, OperandFault>,
+    ) -> Result<(), AllocError>
+        ensures cells { let more = option_to_list (spec.cell_at place meaning.now) in
+            OnOk result (CellFits place meaning.now
+            → self.new.cells.items ≡ self.old.cells.items ++ more) }
+        ensures words { OnOk result (IfCell meaning.now IsWord) }
+        ensures start { let start = spec.start_at fields.now.operation meaning.now in
+            OnOk result (self.new.start ≡ option_or self.old.start start) }
+        ensures symbols { let label = option_copied fields.now.label in
+            let more = option_to_list (symbol_at label place) in
+            OnOk result (SymbolFits label place
+            → self.new.symbols.items ≡ self.old.symbols.items ++ more) }
+    {
+        add_cell(&mut self.cells, place, meaning)?;
+        add_symbol(&mut self.symbols, fields.label, place)?;
+        if self.start.is_none() {
+            self.start = start_at(fields.operation, meaning);
+        }
+        Ok(())
+    }
+}
+
 impl<A: Allocator> Draft<A> {
     /// Adds what the line that comes gives in its place, with the names of the whole source.
     pub fn add<'a>(
@@ -113,38 +155,29 @@ impl<A: Allocator> Draft<A> {
         ensures cells { let meaning = line_meaning names.now place (fields_seen fields.now) in
             let more = option_to_list (spec.cell_at place meaning) in
             OnOk result (self.new.faults.items ≡ [] → CellFits place meaning
-            → self.new.cells.items ≡ self.old.cells.items ++ more) }
+            → self.new.parts.cells.items ≡ self.old.parts.cells.items ++ more) }
         ensures words { let meaning = line_meaning names.now place (fields_seen fields.now) in
             OnOk result (self.new.faults.items ≡ [] → IfCell meaning IsWord) }
         ensures start { let meaning = line_meaning names.now place (fields_seen fields.now) in
             let start = spec.start_at fields.now.operation meaning in
             OnOk result (self.new.faults.items ≡ []
-            → self.new.start ≡ option_or self.old.start start) }
+            → self.new.parts.start ≡ option_or self.old.parts.start start) }
         ensures symbols { let label = option_copied fields.now.label in
             let more = option_to_list (symbol_at label place) in
             OnOk result (self.new.faults.items ≡ [] → SymbolFits label place
-            → self.new.symbols.items ≡ self.old.symbols.items ++ more) }
+            → self.new.parts.symbols.items ≡ self.old.parts.symbols.items ++ more) }
     {
         let meaning = line_meaning(names, place, fields);
         let is_taken = is_marked(&self.taken, place);
         if fields.has_word() {
             mark(&mut self.taken, place);
         }
-        if let Some(kind) = fault_of(scan, fields, place, is_taken, &meaning) {
-            self.faults.push(Fault {
-                line: fields.number,
-                kind,
-            })?;
-            return Ok(());
-        }
+        let kind = fault_of(scan, fields, place, is_taken, &meaning);
+        add_fault(&mut self.faults, fields.number, kind)?;
         if !self.faults.is_empty() {
             return Ok(());
         }
-        add_cell(&mut self.cells, place, &meaning)?;
-        add_symbol(&mut self.symbols, fields.label, place)?;
-        if self.start.is_none() {
-            self.start = start_at(fields.operation, &meaning);
-        }
+        self.parts.add(fields, place, &meaning)?;
         Ok(())
     }
 }
@@ -154,16 +187,14 @@ impl<A: Allocator + Copy> Draft<A> {
     pub fn new(alloc: A) -> Result<Draft<A>, AllocError>
         ensures taken { IfOk result (λ draft. AreMarks draft.taken.items []) }
         ensures faults { IfOk result (λ draft. draft.faults.items ≡ []) }
-        ensures cells { IfOk result (λ draft. draft.cells.items ≡ []) }
-        ensures start { IfOk result (λ draft. draft.start ≡ None) }
-        ensures symbols { IfOk result (λ draft. draft.symbols.items ≡ []) }
+        ensures cells { IfOk result (λ draft. draft.parts.cells.items ≡ []) }
+        ensures start { IfOk result (λ draft. draft.parts.start ≡ None) }
+        ensures symbols { IfOk result (λ draft. draft.parts.symbols.items ≡ []) }
     {
         Ok(Draft {
             taken: no_marks(alloc)?,
             faults: Vec::new(alloc),
-            cells: Vec::new(alloc),
-            start: None,
-            symbols: Vec::new(alloc),
+            parts: Parts::new(alloc),
         })
     }
 }
@@ -175,10 +206,10 @@ pub fn draft_source<'a, A: Allocator + Copy>(
     names: &Names<'a, A>,
 ) -> Result<Draft<A>, AllocError>
     ensures draft { let lines = all_lines source.now in
-        IfOk result (λ draft. IsDraftOf
-        names.now draft.faults.items draft.cells.items draft.start draft.symbols.items lines) }
+        IfOk result (λ draft. IsDraftOf names.now draft.faults.items
+        draft.parts.cells.items draft.parts.start draft.parts.symbols.items lines) }
     ensures few { IfOk result (λ draft.
-        draft.faults.items ≡ [] → length draft.cells.items ≤ 4096) }
+        draft.faults.items ≡ [] → length draft.parts.cells.items ≤ 4096) }
 {
     let mut scan = Scan::new(alloc);
     let mut draft = Draft::new(alloc)?;

@@ -47,29 +47,23 @@ fn add_missing_end<A: Allocator>(
 
 /// The image of a draft without faults, or else its faults.
 fn image_or_faults<A: Allocator>(draft: Draft<A>) -> Result<Image<A>, AssembleError<A>>
-    requires program { draft.faults.items ≡ [] → AreProgramCells draft.cells.items }
-    requires few { draft.faults.items ≡ [] → length draft.cells.items ≤ 4096 }
+    requires program { draft.faults.items ≡ [] → AreProgramCells draft.parts.cells.items }
+    requires few { draft.faults.items ≡ [] → length draft.parts.cells.items ≤ 4096 }
     ensures image { IfOk result (λ image. image ≡ record {
-      cells = draft.cells.items;
-      start = draft.start;
-      symbols = draft.symbols.items;
+      cells = draft.parts.cells.items;
+      start = draft.parts.start;
+      symbols = draft.parts.symbols.items;
     }) }
     ensures faultless { OnOk result (draft.faults.items ≡ []) }
     ensures faults { IfErr result (λ error.
         IfFaults error (λ faults. faults ≡ draft.faults.items)) }
     ensures faulty { IfErr result (λ error. IfFaults error (λ faults. faults ≢ [])) }
 {
-    let Draft {
-        faults,
-        cells,
-        start,
-        symbols,
-        ..
-    } = draft;
+    let Draft { faults, parts, .. } = draft;
     if !faults.is_empty() {
         return Err(AssembleError::Faults(FaultList::new(faults)));
     }
-    Ok(Image::new(cells, start, symbols))
+    Ok(Image::new(parts))
 }
 
 /// Assembles a source: its words with their addresses, its start and its names, where no line has a
@@ -86,6 +80,3 @@ pub fn assemble<A: Allocator + Copy>(alloc: A, source: &[u8]) -> Result<Image<A>
     add_missing_end(&mut draft.faults, scan.ended, scan.lines)?;
     image_or_faults(draft)
 }
-
-#[cfg(test)]
-mod tests;

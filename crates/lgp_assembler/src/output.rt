@@ -1,6 +1,6 @@
 //! What a source assembles to.
 
-ghost use Rattle.std.specs.Prelude.{◌≡◌, ◌≤◌, ◌↔◌, ◌++◌, length, IsSome, IfSome};
+ghost use Rattle.std.specs.Prelude.{◌≡◌, ◌≤◌, ◌↔◌, ◌++◌, [], None, length, IsSome, IfSome};
 ghost use Rattle.lgp_word.specs.Address.{IsAddress};
 ghost use Rattle.lgp_assembler.specs.Parts.{AreProgramCells};
 
@@ -51,12 +51,33 @@ impl Name {
     }
 }
 
+/// The parts of an image, to which lines are added.
+#[derive(Drop)]
+pub struct Parts<A: Allocator> {
+    pub cells: Vec<(Address, Word), A>,
+    pub start: Option<Address>,
+    pub symbols: Vec<(Name, u16), A>,
+}
+
+impl<A: Allocator + Copy> Parts<A> {
+    /// Nothing yet.
+    pub fn new(alloc: A) -> Parts<A>
+        ensures cells { result.cells.items ≡ [] }
+        ensures start { result.start ≡ None }
+        ensures symbols { result.symbols.items ≡ [] }
+    {
+        Parts {
+            cells: Vec::new(alloc),
+            start: None,
+            symbols: Vec::new(alloc),
+        }
+    }
+}
+
 /// What a source assembles to. Clauses see its three parts.
 #[derive(Drop)]
 pub struct Image<A: Allocator = Global> {
-    cells: Vec<(Address, Word), A>,
-    start: Option<Address>,
-    symbols: Vec<(Name, u16), A>,
+    parts: Parts<A>,
 }
 
 impl<A: Allocator> Model for Image<A> {
@@ -66,30 +87,26 @@ impl<A: Allocator> Model for Image<A> {
     ghost Value = { ImageParts };
 
     ghost view = { λ image. record {
-      cells = image.cells.items;
-      start = image.start;
-      symbols = image.symbols.items;
+      cells = image.parts.cells.items;
+      start = image.parts.start;
+      symbols = image.parts.symbols.items;
     } };
 
     ghost invariant = { λ image.
-        AreProgramCells image.cells.items × (length image.cells.items ≤ 4096) };
+        AreProgramCells image.parts.cells.items × (length image.parts.cells.items ≤ 4096) };
 }
 
 impl<A: Allocator> Image<A> {
-    pub(crate) fn new(
-        cells: Vec<(Address, Word), A>,
-        start: Option<Address>,
-        symbols: Vec<(Name, u16), A>,
-    ) -> Image<A>
-        requires program { AreProgramCells cells.items }
-        requires few { length cells.items ≤ 4096 }
-        ensures { result ≡ record { cells = cells.items; start = start; symbols = symbols.items } }
+    pub(crate) fn new(parts: Parts<A>) -> Image<A>
+        requires program { AreProgramCells parts.cells.items }
+        requires few { length parts.cells.items ≤ 4096 }
+        ensures { result ≡ record {
+          cells = parts.cells.items;
+          start = parts.start;
+          symbols = parts.symbols.items;
+        } }
     {
-        Image {
-            cells,
-            start,
-            symbols,
-        }
+        Image { parts }
     }
 
     /// The words of the program with their addresses, in order of the source's lines. None lies at
@@ -99,7 +116,7 @@ impl<A: Allocator> Image<A> {
         ensures program { AreProgramCells self.now.cells }
         ensures few { length self.now.cells ≤ 4096 }
     {
-        self.cells.as_slice()
+        self.parts.cells.as_slice()
     }
 
     /// The address at which the program starts, where the source gives one.
@@ -107,7 +124,7 @@ impl<A: Allocator> Image<A> {
         ensures value { result ≡ self.now.start }
         ensures address { IfSome result IsAddress }
     {
-        let start = self.start?;
+        let start = self.parts.start?;
         // That its number is an address is what the clause says of it.
         let _ = start.number();
         Some(start)
@@ -117,6 +134,6 @@ impl<A: Allocator> Image<A> {
     pub fn symbols(&self) -> &[(Name, u16)]
         ensures { result.now ≡ self.now.symbols }
     {
-        self.symbols.as_slice()
+        self.parts.symbols.as_slice()
     }
 }

@@ -10,11 +10,11 @@ returns g c =
     let scan = c.in_ok-scan.scan in
     let draft = c.in_ok-draft.draft in
     let last = c.in_ok-add_missing_end.ensures in
-    let told = faults_told source scan.lines scan.place scan.ended scan.names draft.faults.items draft.cells.items draft.start draft.symbols.items c.in_ok-scan.ensures.stands c.in_ok-draft.ensures.draft in
-    let made = image_made source scan.lines scan.place scan.ended scan.names draft.faults.items draft.cells.items draft.start draft.symbols.items c.in_ok-scan.ensures.stands c.in_ok-draft.ensures.draft in
+    let told = faults_told source scan.lines scan.place scan.ended scan.names draft.faults.items draft.parts.cells.items draft.parts.start draft.parts.symbols.items c.in_ok-scan.ensures.stands c.in_ok-draft.ensures.draft in
+    let made = image_made source scan.lines scan.place scan.ended scan.names draft.faults.items draft.parts.cells.items draft.parts.start draft.parts.symbols.items c.in_ok-scan.ensures.stands c.in_ok-draft.ensures.draft in
     let r = c.image_or_faults.result in
     let answer = c.image_or_faults.ensures in
-    let parts : ImageParts = record { cells = draft.cells.items; start = draft.start; symbols = draft.symbols.items } in
+    let parts : ImageParts = record { cells = draft.parts.cells.items; start = draft.parts.start; symbols = draft.parts.symbols.items } in
     record {
       image = ok_image r parts (image_of source) _ answer.image answer.faultless (λ none. made (sym last ∙ none));
       faultless = ok_faultless r _ (faults_of source) answer.faultless (last ∙ told);
@@ -26,7 +26,7 @@ pub image_or_faults-requires-clause-program : goal.image_or_faults-requires-clau
 image_or_faults-requires-clause-program g c =
     let scan = c.in_ok-scan.scan in
     let draft = c.in_ok-draft.draft in
-    λ none. cells_clear c.args.source.now scan.names draft.faults.items _ _ draft.cells.items draft.start draft.symbols.items c.in_ok-draft.ensures.draft c.in_ok-add_missing_end.ensures none
+    λ none. cells_clear c.args.source.now scan.names draft.faults.items _ _ draft.parts.cells.items draft.parts.start draft.parts.symbols.items c.in_ok-draft.ensures.draft c.in_ok-add_missing_end.ensures none
 
 pub image_or_faults-requires-clause-few : goal.image_or_faults-requires-clause-few
 image_or_faults-requires-clause-few g c = λ none. c.in_ok-draft.ensures.few (first_none _ _ (sym c.in_ok-add_missing_end.ensures ∙ none))

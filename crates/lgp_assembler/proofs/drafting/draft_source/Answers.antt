@@ -63,12 +63,12 @@ loop-line-preserved g c =
       marks = subst (λ f. AreMarks draft.taken.items (f ∷ before.earlier)) c.fields_of-fields.ensures
           (marks_step old.taken.items draft.taken.items before.earlier line before.marks
           (added.taken ∙ ap (λ h. if has_word line then slice_set old.taken.items h true else old.taken.items) (place_is ∙ ap (place_by line) before.stands.place_is)));
-      draft = subst (λ f. IsDraftOf names draft.faults.items draft.cells.items draft.start draft.symbols.items (f ∷ before.earlier)) c.fields_of-fields.ensures
+      draft = subst (λ f. IsDraftOf names draft.faults.items draft.parts.cells.items draft.parts.start draft.parts.symbols.items (f ∷ before.earlier)) c.fields_of-fields.ensures
           (draft_step names line c.loop-line.scan.lines c.loop-line.scan.place c.loop-line.scan.ended c.loop-line.scan.names old.taken.items before.earlier
-          old.faults.items draft.faults.items old.cells.items draft.cells.items old.start draft.start old.symbols.items draft.symbols.items
+          old.faults.items draft.faults.items old.parts.cells.items draft.parts.cells.items old.parts.start draft.parts.start old.parts.symbols.items draft.parts.symbols.items
           c.place_of-place.result place_is before.stands before.marks before.draft added.faults added.cells added.start added.symbols added.words);
       few_cells = counted_step names line c.place_of-place.result c.loop-line.scan.ended c.loop-line.scan.names old.taken.items draft.taken.items
-          old.faults.items draft.faults.items old.cells.items draft.cells.items before.marks.length_is added.faults added.cells added.taken before.few_cells;
+          old.faults.items draft.faults.items old.parts.cells.items draft.parts.cells.items before.marks.length_is added.faults added.cells added.taken before.few_cells;
       rest = ap (λ lines. passed_lines before.earlier (map fields_of lines)) (sym step) ∙ before.rest;
     }
 
@@ -77,7 +77,7 @@ returns-clause-draft g c =
     let done = c.loop-line.invariant in
     let draft = c.loop-line.draft in
     let all = ap (λ lines. passed_lines done.earlier (map fields_of lines)) (sym c.in-None.ensures.steps.0) ∙ done.rest in
-    subst (IsDraftOf c.args.names.now draft.faults.items draft.cells.items draft.start draft.symbols.items) all done.draft
+    subst (IsDraftOf c.args.names.now draft.faults.items draft.parts.cells.items draft.parts.start draft.parts.symbols.items) all done.draft
 
 pub returns-clause-few : goal.returns-clause-few
 returns-clause-few g c = λ none.

@@ -13,7 +13,7 @@ invariant-loop-line g l = record {
   earlier : List LineFields;
   stands : Stands l.scan.lines l.scan.place l.scan.ended l.scan.names earlier;
   marks : AreMarks l.draft.taken.items earlier;
-  draft : IsDraftOf l.names l.draft.faults.items l.draft.cells.items l.draft.start l.draft.symbols.items earlier;
-  few_cells : l.draft.faults.items ≡ [] → length l.draft.cells.items ≤ marked_count l.draft.taken.items;
+  draft : IsDraftOf l.names l.draft.faults.items l.draft.parts.cells.items l.draft.parts.start l.draft.parts.symbols.items earlier;
+  few_cells : l.draft.faults.items ≡ [] → length l.draft.parts.cells.items ≤ marked_count l.draft.taken.items;
   rest : passed_lines earlier (map fields_of l.line-iterator) ≡ all_lines l.source;
 }
