@@ -2,7 +2,6 @@
 use Rattle.std.specs.Prelude.{◌≡◌, ℕ, Bool, true, false, List, [], Option, Some, None, codes, if◌then◌else◌, unwrap_or}
 use Rattle.std.specs.Option.{option_map_or}
 use Rattle.std.specs.Str.{bytes_eq}
-use Rattle.std.specs.String.{string_bytes}
 use Rattle.std.specs.Str.Parse.{digits_value, without_leading_plus}
 use Rattle.clap.specs.ValueTests.{is_unsigned_in}
 use Rattle.clap.specs.Words.{IsAmong, Kinds, Row, Text, all_of, first_of, one_of}
@@ -55,9 +54,3 @@ abbrev pub IsRefusalOf : {A : Type 0} → Kinds → TaskFault A → Type 0
 IsRefusalOf kinds (Usage text) = (kind : ErrorKind) × IsAmong kind kinds × (is_request kind ≡ false)
 IsRefusalOf kinds (Help text) = (kind : ErrorKind) × IsAmong kind kinds × (is_request kind ≡ true)
 IsRefusalOf kinds Memory = Unit {0}
-
--- what a fault is told by: the usage or the help, or the want of memory
-abbrev pub fault_text : {A : Type 0} → TaskFault A → List ℕ
-fault_text (Usage text) = string_bytes text
-fault_text (Help text) = string_bytes text
-fault_text Memory = codes "out of memory"

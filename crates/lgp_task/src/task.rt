@@ -12,7 +12,7 @@ use crate::files::{FileName, FileNames};
 use clap::error::ErrorKind;
 use clap::{ArgMatches, Error};
 use std::alloc::{AllocError, Allocator, Global};
-use std::fmt;
+use thiserror::Error;
 
 /// What the program is to do.
 #[derive(Debug, Drop)]
@@ -32,28 +32,17 @@ pub enum Task<A: Allocator = Global> {
 }
 
 /// Why the words hold no task.
-#[derive(Debug, Drop)]
+#[derive(Debug, Drop, Error)]
 pub enum TaskFault<A: Allocator = Global> {
     /// The words are mistaken: the text says how, and how the program is called.
+    #[error("{0}")]
     Usage(String<A>),
     /// The words ask for help: the text is the help.
+    #[error("{0}")]
     Help(String<A>),
     /// A growth was refused.
+    #[error("out of memory")]
     Memory,
-}
-
-impl<A: Allocator> fmt::Display for TaskFault<A> {
-    ghost use Rattle.std.specs.Prelude.{Some};
-    ghost use Rattle.lgp_task.specs.Task.{fault_text};
-
-    ghost output = { λ fault. Some (fault_text fault) };
-
-    fn fmt<W: fmt::Write>(&self, f: &mut fmt::Formatter<W>) -> fmt::Result {
-        match self {
-            TaskFault::Usage(text) | TaskFault::Help(text) => f.write_str(text.as_str()),
-            TaskFault::Memory => f.write_str("out of memory"),
-        }
-    }
 }
 
 impl<A: Allocator> From<AllocError> for TaskFault<A> {
