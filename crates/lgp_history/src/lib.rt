@@ -14,6 +14,3 @@ pub use history::{BackFault, History};
 pub use records::{CAPACITY_LIMIT, Records};
 pub use rule::Rule;
 pub use step::{Step, Tape};
-
-#[cfg(test)]
-mod tests;

@@ -9,6 +9,3 @@ mod operate;
 pub use actions::{actions_to_jump, actions_to_start, actions_to_store};
 pub use keying::{KeyFault, key_in};
 pub use operate::{Operate, press_all};
-
-#[cfg(test)]
-mod tests;

@@ -1,0 +1,4 @@
+//! Both histories by their calls.
+
+mod memory;
+mod rows;
