@@ -1,10 +1,12 @@
 //! What the program's commands write for a file.
 
-ghost use Rattle.std.specs.Prelude.{◌≡◌, ℕ, List, None, Some, Ok, true, option_map, IfErr, IfOk, IfSome, OnOk, false};
+ghost use Rattle.std.specs.Prelude.{◌≡◌, ◌++◌, ℕ, List, None, Some, Ok, true, option_map, IfErr, IfOk, IfSome, OnOk, false};
 ghost use Rattle.std.specs.Io.KnownBytes.{Appends, IsAtEnd};
 ghost use Rattle.lgp_lab.specs.Files.{FileAnswer, StandsOf, answer_of, asm_answer, ended, listed, run_answer, run_to, state_at, tape_answer, taped};
 ghost use Rattle.lgp_table.specs.Interleaving.{at_boundary};
 ghost use Rattle.lgp_lab.specs.Language.{HasCause};
+ghost use Rattle.lgp_lab.specs.Refusal.{refusal_text};
+ghost use Rattle.lgp_lab.specs.SourceCommands.{faults_text};
 ghost use Rattle.lgp_lab.specs.SourceText.{source_of};
 
 use crate::feed::Feed;
@@ -14,7 +16,7 @@ use crate::refusal::{Refusal, push_refusal};
 use crate::sink::Sink;
 use crate::source_text::SourceText;
 use crate::stream::{CHUNK, LabFault, write_whole};
-use lgp_assembler::AssembleError;
+use lgp_assembler::{AssembleError, Fault};
 use lgp_flexo::write_tape_text;
 use lgp_loader::{LoadFault, load, tape_of};
 use lgp_machine::{Machine, OrderFault};
@@ -53,6 +55,28 @@ struct FileReply<A: Allocator> {
     status: u64,
 }
 
+impl<A: Allocator + Copy> FileReply<A> {
+    /// A refusal, and 1.
+    fn refused(alloc: A, refusal: Refusal) -> Result<FileReply<A>, AllocError>
+        ensures text { IfOk result (λ reply. reply.text.items ≡ refusal_text refusal) }
+        ensures status { IfOk result (λ reply. reply.status ≡ 1) }
+    {
+        let mut text = Vec::new(alloc);
+        push_refusal(&mut text, refusal)?;
+        Ok(FileReply { text, status: 1 })
+    }
+
+    /// A line for each fault, and 1.
+    fn faulty(alloc: A, faults: &[Fault]) -> Result<FileReply<A>, AllocError>
+        ensures text { IfOk result (λ reply. reply.text.items ≡ faults_text faults.now) }
+        ensures status { IfOk result (λ reply. reply.status ≡ 1) }
+    {
+        let mut text = Vec::new(alloc);
+        push_faults(&mut text, faults)?;
+        Ok(FileReply { text, status: 1 })
+    }
+}
+
 /// Assembles a source; where it has a fault or is too long, what is written for it.
 fn assembled<A: Allocator + Copy>(
     alloc: A,
@@ -64,17 +88,12 @@ fn assembled<A: Allocator + Copy>(
         (λ reply. answer_of answer source
         ≡ record { text = reply.text.items; status = reply.status })) }
 {
-    let mut text = Vec::new(alloc);
     if source.is_too_long() {
-        push_refusal(&mut text, Refusal::TooLong)?;
-        return Ok(Err(FileReply { text, status: 1 }));
+        return Ok(Err(FileReply::refused(alloc, Refusal::TooLong)?));
     }
     match Program::new(alloc, source.into_text()) {
         Ok(program) => Ok(Ok(program)),
-        Err(AssembleError::Faults(list)) => {
-            push_faults(&mut text, list.faults())?;
-            Ok(Err(FileReply { text, status: 1 }))
-        }
+        Err(AssembleError::Faults(list)) => Ok(Err(FileReply::faulty(alloc, list.faults())?)),
         Err(AssembleError::Memory) => Err(AllocError),
     }
 }
@@ -137,6 +156,20 @@ fn run_program<A: Allocator + Copy>(
     }
 }
 
+/// Appends what a machine has printed, and its panel.
+fn push_left<A: Allocator + Copy>(
+    alloc: A,
+    text: &mut Vec<u8, A>,
+    machine: &Machine<A>,
+) -> Result<(), AllocError>
+    requires { machine.now ≡ at_boundary machine.now.state }
+    ensures { OnOk result
+        (text.new.items ≡ text.old.items ++ (ended (Some machine.now.state)).text) }
+{
+    push_printed(alloc, text, machine.printed())?;
+    push_panel(text, machine)
+}
+
 impl<A: Allocator + Copy> FileReply<A> {
     /// The listing of a source, or why there is none.
     fn listing(alloc: A, source: SourceText<A>) -> Result<FileReply<A>, AllocError>
@@ -166,6 +199,30 @@ impl<A: Allocator + Copy> FileReply<A> {
         }
     }
 
+    /// What a machine has printed, and its panel.
+    fn left_by(alloc: A, machine: &Machine<A>) -> Result<FileReply<A>, AllocError>
+        requires { machine.now ≡ at_boundary machine.now.state }
+        ensures text { IfOk result (λ reply.
+            reply.text.items ≡ (ended (Some machine.now.state)).text) }
+        ensures status { IfOk result (λ reply. reply.status ≡ 0) }
+    {
+        let mut text = Vec::new(alloc);
+        push_left(alloc, &mut text, machine)?;
+        Ok(FileReply { text, status: 0 })
+    }
+
+    /// What a run of a program prints and leaves, or that the clock's end stopped it.
+    fn ran(alloc: A, program: &Program<A>, limit: u64) -> Result<FileReply<A>, AllocError>
+        ensures text { IfOk result (λ reply.
+            reply.text.items ≡ (run_to limit program.now).text) }
+        ensures status { IfOk result (λ reply. reply.status ≡ (run_to limit program.now).status) }
+    {
+        match run_program(alloc, program, limit)? {
+            Some(machine) => FileReply::left_by(alloc, &machine),
+            None => FileReply::refused(alloc, Refusal::ClockEnd),
+        }
+    }
+
     /// What a run of a source prints and leaves, or why there is none.
     fn run(alloc: A, source: SourceText<A>, limit: u64) -> Result<FileReply<A>, AllocError>
         ensures text { IfOk result (λ reply.
@@ -173,18 +230,10 @@ impl<A: Allocator + Copy> FileReply<A> {
         ensures status { IfOk result (λ reply.
             reply.status ≡ (answer_of (run_to limit) source).status) }
     {
-        let program = match assembled(alloc, source)? {
-            Ok(program) => program,
-            Err(reply) => return Ok(reply),
-        };
-        let mut text = Vec::new(alloc);
-        let Some(machine) = run_program(alloc, &program, limit)? else {
-            push_refusal(&mut text, Refusal::ClockEnd)?;
-            return Ok(FileReply { text, status: 1 });
-        };
-        push_printed(alloc, &mut text, machine.printed())?;
-        push_panel(&mut text, &machine)?;
-        Ok(FileReply { text, status: 0 })
+        match assembled(alloc, source)? {
+            Ok(program) => FileReply::ran(alloc, &program, limit),
+            Err(reply) => Ok(reply),
+        }
     }
 }
 
