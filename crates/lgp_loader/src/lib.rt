@@ -5,6 +5,7 @@
 mod cutting;
 pub mod laws;
 mod loading;
+mod reading;
 mod tape;
 mod words;
 
