@@ -1,28 +1,19 @@
 -- The loads of an image: their orders are at work and print nothing, and their tapes are short.
-use Rattle.std.proofs.Common.{◌≡◌, ℕ, ◌<◌, ◌≤◌, true, false, None, sym, ap, ◌∙◌, subst, arith, List, Option, length}
+use Rattle.std.proofs.Common.{◌≡◌, ℕ, ◌≤◌, true, sym, ap, ◌∙◌, subst, arith, List, Option, length}
 use Rattle.std.specs.Prelude.{IfSome}
 use Rattle.lgp_word.specs.Address.{IsAddress}
-use Rattle.lgp_flexo.specs.TapeText.{tape_limit}
 use Rattle.lgp_table.specs.State.{State}
-use Rattle.lgp_table.specs.Activity.{print_of}
-use Rattle.lgp_table.specs.After.{after}
-use Rattle.lgp_table.specs.Console.{is_at_rest}
 use Rattle.lgp_assembler.specs.Parts.{AreProgramCells, ImageParts}
 use Rattle.lgp_loader.specs.BlockLoading.{block_load, cut_load, left_by_blocks, longest_load, orders_for}
 use Rattle.lgp_loader.specs.Cutting.{are_blocks, cells_of, is_cutting, longest_blocks, pieces_of}
-use Rattle.lgp_loader.specs.Loading.{TapeLoad, begun, load_with}
+use Rattle.lgp_loader.specs.Loading.{TapeLoad, load_with}
+use Rattle.lgp_loader.specs.ReadyInside.{IsReady}
 use Rattle.lgp_loader.specs.SingleLoading.{left_by_single, single_load}
 use Rattle.lgp_loader.proofs.Begun.{calm_in_run}
 use Rattle.lgp_loader.proofs.BlockLaw.{block_is_loader, blocks_run}
 use Rattle.lgp_loader.proofs.Cuts.{as_many_pieces, longest_are_blocks, longest_have_cells, no_more_blocks, pieces_are_blocks, pieces_have_cells}
 use Rattle.lgp_loader.proofs.Lengths.{short_block_tape, short_single_tape}
 use Rattle.lgp_loader.proofs.SingleLaw.{single_is_loader, single_runs}
-
--- each order of a load is at work and prints nothing, and its tape can be mounted
-pub record IsReady (s : State) (load : TapeLoad) : Type 0 where
-  pub work : (before : ℕ) → before < load.orders → is_at_rest (after (begun s load) before).core.panel.status ≡ false
-  pub silent : (before : ℕ) → before < load.orders → print_of (after (begun s load) before).core ≡ None
-  pub short : length load.codes ≤ tape_limit
 
 blocks_ready : (s : State) (blocks : List (List (ℕ × ℕ))) (start : Option ℕ) (cells : List (ℕ × ℕ)) → length s.core.words ≡ 4096
     → are_blocks blocks ≡ true → cells_of blocks ≡ cells → AreProgramCells cells → length cells ≤ 4096 → IfSome start IsAddress
@@ -31,6 +22,8 @@ blocks_ready s blocks start cells long are same program few is =
     let few_cells : length (cells_of blocks) ≤ 4096 = subst (λ cells. length cells ≤ 4096) (sym same) few in
     let runs = blocks_run s blocks start long are (subst AreProgramCells (sym same) program) few_cells is in
     record {
+      fits = block_is_loader;
+      some = omega arith;
       work = λ before less. let calm = calm_in_run s (block_load blocks start) (left_by_blocks s blocks start 0).core runs before less in calm.works;
       silent = λ before less. let calm = calm_in_run s (block_load blocks start) (left_by_blocks s blocks start 0).core runs before less in calm.silent;
       short = short_block_tape blocks start (let more = no_more_blocks blocks are in omega (arith, more, few_cells)) few_cells;
@@ -51,6 +44,8 @@ pub single_ready : (s : State) (image : ImageParts) → length s.core.words ≡ 
 single_ready s image long program few is =
     let runs = single_runs s image long program is in
     record {
+      fits = single_is_loader;
+      some = omega arith;
       work = λ before less. let calm = calm_in_run s (single_load image) (left_by_single s image 0).core runs before less in calm.works;
       silent = λ before less. let calm = calm_in_run s (single_load image) (left_by_single s image 0).core runs before less in calm.silent;
       short = short_single_tape image few;
@@ -82,5 +77,3 @@ few_counts counts cells cut =
     let many = as_many_pieces counts cells in
     let same : length (cells_of (pieces_of counts cells)) ≡ length cells = ap length (pieces_have_cells counts cells cut) in
     omega (arith, more, many, same)
-
-pub ruleset loading_steps = (block_is_loader, single_is_loader, few_counts)

@@ -8,3 +8,4 @@ pub mod BlockLoading
 pub mod SinglePlaces
 pub mod SingleTape
 pub mod SingleLoading
+pub mod ReadyInside

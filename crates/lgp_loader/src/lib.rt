@@ -5,12 +5,10 @@
 mod cutting;
 pub mod laws;
 mod loading;
+mod reading;
 mod tape;
 mod words;
 
 pub use loading::{LoadFault, load, load_cut, load_single};
 pub use tape::{CutFault, single_tape_of, tape_cut, tape_of};
 pub use words::{LOADER, LOADER_10};
-
-#[cfg(test)]
-mod tests;

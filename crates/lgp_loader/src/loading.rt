@@ -1,6 +1,6 @@
 //! Loading a program.
 
-ghost use Rattle.std.specs.Prelude.{◌≡◌, ◌≢◌, ◌+◌, ◌<◌, ◌≤◌, ◌↔◌, ℕ, None, false, true, IfOk, IfSome, IsTrue, OnOk, Err, length, vec_len};
+ghost use Rattle.std.specs.Prelude.{◌≡◌, ◌≢◌, ◌+◌, ◌<◌, ◌≤◌, ◌↔◌, ℕ, None, false, true, IfNone, IfOk, IfSome, IsTrue, OnOk, OnSome, Err, vec_len};
 ghost use Rattle.std.specs.Bool.{OnFalse, OnTrue};
 ghost use Rattle.lgp_flexo.specs.TapeText.{tape_limit};
 ghost use Rattle.lgp_table.specs.Activity.{cost, next, print_of};
@@ -9,16 +9,17 @@ ghost use Rattle.lgp_table.specs.Console.{is_at_rest};
 ghost use Rattle.lgp_table.specs.Interleaving.{after_mount, at_boundary, is_boundary};
 ghost use Rattle.lgp_machine.specs.Answers.{clock_end};
 ghost use Rattle.lgp_keyin.specs.KeyIn.{about_to_jump, keyed, started};
-ghost use Rattle.lgp_loader.specs.BlockLoading.{cut_load, longest_load, orders_for};
+ghost use Rattle.lgp_loader.specs.BlockLoading.{cut_load, longest_load};
+ghost use Rattle.lgp_loader.specs.BlockPlaces.{block_loader_words};
 ghost use Rattle.lgp_loader.specs.Cutting.{is_cutting};
-ghost use Rattle.lgp_loader.specs.Loading.{BeginsStore, EndsLoading, IsLoader, begun, load_with, loaded};
+ghost use Rattle.lgp_loader.specs.Loading.{BeginsStore, EndsLoading, IsLoader, load_with, loaded};
+ghost use Rattle.lgp_loader.specs.ReadyInside.{IsReady};
 ghost use Rattle.lgp_loader.specs.SingleLoading.{single_load};
-ghost use Rattle.lgp_assembler.specs.Parts.{AreProgramCells};
-ghost use Rattle.lgp_word.specs.Address.{IsAddress};
+ghost use Rattle.lgp_loader.specs.SinglePlaces.{single_loader_words};
 ghost use Rattle.lgp_loader.specs.Places.{loader_base};
 
-use crate::cutting::{Cell, count_longest};
-use crate::tape::{CutFault, single_tape_of, tape_cut, tape_of};
+use crate::reading::{Reading, in_cut, in_longest, in_single};
+use crate::tape::CutFault;
 use crate::words::{LOADER, LOADER_10};
 use lgp_assembler::{Image, LOADER_PLACES};
 use lgp_flexo::Code;
@@ -173,18 +174,12 @@ fn load_tape<A: Allocator, M: Operate<Tape = Vec<Code, A>>>(
 ) -> bool
     requires tapes { M.codes ≡ (λ tape. tape.items) }
     requires boundary { IsTrue (is_boundary (M.configuration machine.old)) }
-    requires loader { IsLoader loader.now }
-    requires short { vec_len tape ≤ tape_limit }
-    requires some { 0 < orders }
-    requires work { (before : ℕ) → before < orders
-        → is_at_rest (after (begun (M.configuration machine.old).state
-        (load_with loader.now tape.items orders)) before).core.panel.status ≡ false }
-    requires silent { (before : ℕ) → before < orders
-        → print_of (after (begun (M.configuration machine.old).state
-        (load_with loader.now tape.items orders)) before).core ≡ None }
+    requires ready { IsReady (M.configuration machine.old).state
+        (load_with loader.now tape.items orders) }
     ensures loaded { OnTrue result (M.configuration machine.new ≡ at_boundary
         (loaded (M.configuration machine.old).state (load_with loader.now tape.items orders))) }
-    ensures clock { OnTrue result ((M.configuration machine.new).state.clock ≤ clock_end) }
+    ensures clock { OnTrue result ((loaded (M.configuration machine.old).state
+        (load_with loader.now tape.items orders)).clock ≤ clock_end) }
     ensures stands { OnFalse result (EndsLoading (M.configuration machine.new)
         (M.configuration machine.old).state (load_with loader.now tape.items orders)) }
     ensures past { OnFalse result (clock_end < (loaded (M.configuration machine.old).state
@@ -199,25 +194,60 @@ fn load_tape<A: Allocator, M: Operate<Tape = Vec<Code, A>>>(
     perform(machine, orders)
 }
 
-/// The cells of an image.
-fn program_cells<A: Allocator>(image: &Image<A>) -> &[Cell]
-    ensures cells { result.now ≡ image.now.cells }
-    ensures few { length image.now.cells ≤ 4096 }
-    ensures program { AreProgramCells image.now.cells }
-    ensures start { IfSome image.now.start IsAddress }
+/// Loads by the loader of 22 words. Answers how many orders it has performed; none where the clock would pass its end.
+fn read_blocks<A: Allocator, M: Operate<Tape = Vec<Code, A>>>(
+    machine: &mut M,
+    reading: Reading<A>,
+) -> Option<u64>
+    requires tapes { M.codes ≡ (λ tape. tape.items) }
+    requires boundary { IsTrue (is_boundary (M.configuration machine.old)) }
+    requires ready { IsReady (M.configuration machine.old).state
+        (load_with block_loader_words reading.tape.items reading.orders) }
+    ensures loaded { OnSome result (M.configuration machine.new
+        ≡ at_boundary (loaded (M.configuration machine.old).state
+        (load_with block_loader_words reading.tape.items reading.orders))) }
+    ensures orders { IfSome result (λ orders. orders ≡ reading.orders) }
+    ensures clock { OnSome result ((loaded (M.configuration machine.old).state
+        (load_with block_loader_words reading.tape.items reading.orders)).clock ≤ clock_end) }
+    ensures stands { IfNone result (EndsLoading (M.configuration machine.new)
+        (M.configuration machine.old).state
+        (load_with block_loader_words reading.tape.items reading.orders)) }
+    ensures past { IfNone result (clock_end < (loaded (M.configuration machine.old).state
+        (load_with block_loader_words reading.tape.items reading.orders)).clock) }
 {
-    // That a start is an address is what the clause of this call says.
-    let _ = image.start();
-    image.cells()
+    let Reading { tape, orders } = reading;
+    if !load_tape(machine, &LOADER, tape, orders) {
+        return None;
+    }
+    Some(orders)
 }
 
-/// How many orders the loader performs for so many words in so many blocks.
-fn orders_for(words: usize, blocks: usize) -> u64
-    requires few { words ≤ 4096 }
-    requires fewer { blocks ≤ 4096 }
-    ensures { result ≡ orders_for words blocks }
+/// The same by the loader of ten words.
+fn read_cells<A: Allocator, M: Operate<Tape = Vec<Code, A>>>(
+    machine: &mut M,
+    reading: Reading<A>,
+) -> Option<u64>
+    requires tapes { M.codes ≡ (λ tape. tape.items) }
+    requires boundary { IsTrue (is_boundary (M.configuration machine.old)) }
+    requires ready { IsReady (M.configuration machine.old).state
+        (load_with single_loader_words reading.tape.items reading.orders) }
+    ensures loaded { OnSome result (M.configuration machine.new
+        ≡ at_boundary (loaded (M.configuration machine.old).state
+        (load_with single_loader_words reading.tape.items reading.orders))) }
+    ensures orders { IfSome result (λ orders. orders ≡ reading.orders) }
+    ensures clock { OnSome result ((loaded (M.configuration machine.old).state
+        (load_with single_loader_words reading.tape.items reading.orders)).clock ≤ clock_end) }
+    ensures stands { IfNone result (EndsLoading (M.configuration machine.new)
+        (M.configuration machine.old).state
+        (load_with single_loader_words reading.tape.items reading.orders)) }
+    ensures past { IfNone result (clock_end < (loaded (M.configuration machine.old).state
+        (load_with single_loader_words reading.tape.items reading.orders)).clock) }
 {
-    10 * words as u64 + 8 * blocks as u64 + 5
+    let Reading { tape, orders } = reading;
+    if !load_tape(machine, &LOADER_10, tape, orders) {
+        return None;
+    }
+    Some(orders)
 }
 
 /// Loads a program, as an operator does: the loader is keyed in, the tape mounted, and the loader started; it then reads the tape,
@@ -225,7 +255,6 @@ fn orders_for(words: usize, blocks: usize) -> u64
 ///
 /// Refused, in this order: within an activity (`Moving`), where there is no memory for the tape (`Memory`), both before anything
 /// is pressed; where the clock would pass its end (`ClockEnd`).
-#[tactic(auto, using(crate::proofs::Loads::loading_steps))]
 pub fn load<A: Allocator + Copy, B: Allocator, M: Operate<Tape = Vec<Code, A>>>(
     alloc: A,
     machine: &mut M,
@@ -252,14 +281,12 @@ pub fn load<A: Allocator + Copy, B: Allocator, M: Operate<Tape = Vec<Code, A>>>(
     if machine.look().is_none() {
         return Err(LoadFault::Moving);
     }
-    let Ok(tape) = tape_of(alloc, image) else {
+    let Ok(reading) = in_longest(alloc, image) else {
         return Err(LoadFault::Memory);
     };
-    let cells = program_cells(image);
-    let orders = orders_for(cells.len(), count_longest(cells));
-    if !load_tape(machine, &LOADER, tape, orders) {
+    let Some(orders) = read_blocks(machine, reading) else {
         return Err(LoadFault::ClockEnd);
-    }
+    };
     Ok(orders)
 }
 
@@ -268,7 +295,6 @@ pub fn load<A: Allocator + Copy, B: Allocator, M: Operate<Tape = Vec<Code, A>>>(
 /// Refused, in this order: within an activity (`Moving`), where the numbers do not cut the program's words into blocks (`BadCut`),
 /// where there is no memory for the tape (`Memory`), all before anything is pressed; where the clock would pass its end
 /// (`ClockEnd`).
-#[tactic(auto, using(crate::proofs::Loads::loading_steps))]
 pub fn load_cut<A: Allocator + Copy, B: Allocator, M: Operate<Tape = Vec<Code, A>>>(
     alloc: A,
     machine: &mut M,
@@ -300,21 +326,19 @@ pub fn load_cut<A: Allocator + Copy, B: Allocator, M: Operate<Tape = Vec<Code, A
     if machine.look().is_none() {
         return Err(LoadFault::Moving);
     }
-    let tape = match tape_cut(alloc, image, counts) {
-        Ok(tape) => tape,
+    let reading = match in_cut(alloc, image, counts) {
+        Ok(reading) => reading,
         Err(CutFault::BadCut) => return Err(LoadFault::BadCut),
         Err(CutFault::Memory) => return Err(LoadFault::Memory),
     };
-    let orders = orders_for(program_cells(image).len(), counts.len());
-    if !load_tape(machine, &LOADER, tape, orders) {
+    let Some(orders) = read_blocks(machine, reading) else {
         return Err(LoadFault::ClockEnd);
-    }
+    };
     Ok(orders)
 }
 
 /// Loads a program cell by cell, by the loader of ten words. Answers how many orders it performed, 8 for each word and 5. Refused
 /// as `load` is.
-#[tactic(auto, using(crate::proofs::Loads::loading_steps))]
 pub fn load_single<A: Allocator + Copy, B: Allocator, M: Operate<Tape = Vec<Code, A>>>(
     alloc: A,
     machine: &mut M,
@@ -341,12 +365,11 @@ pub fn load_single<A: Allocator + Copy, B: Allocator, M: Operate<Tape = Vec<Code
     if machine.look().is_none() {
         return Err(LoadFault::Moving);
     }
-    let Ok(tape) = single_tape_of(alloc, image) else {
+    let Ok(reading) = in_single(alloc, image) else {
         return Err(LoadFault::Memory);
     };
-    let orders = 8 * program_cells(image).len() as u64 + 5;
-    if !load_tape(machine, &LOADER_10, tape, orders) {
+    let Some(orders) = read_cells(machine, reading) else {
         return Err(LoadFault::ClockEnd);
-    }
+    };
     Ok(orders)
 }

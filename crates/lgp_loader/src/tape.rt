@@ -1,6 +1,6 @@
 //! The tapes of a program.
 
-ghost use Rattle.std.specs.Prelude.{◌≡◌, ◌++◌, ◌<◌, ◌≤◌, ◌↔◌, Err, IfOk, OnOk, false, length, map, true};
+ghost use Rattle.std.specs.Prelude.{◌≡◌, ◌++◌, [], ◌<◌, ◌≤◌, ◌↔◌, Err, IfOk, OnOk, false, length, map, true};
 ghost use Rattle.std.specs.List.{concat};
 ghost use Rattle.lgp_word.specs.Order.{};
 ghost use Rattle.lgp_loader.specs.BlockLoading.{cut_load, longest_load};
@@ -103,10 +103,23 @@ fn push_longest<A: Allocator>(codes: &mut Vec<Code, A>, cells: &[Cell]) -> Resul
     Ok(())
 }
 
+/// Punches an image in the longest blocks, on an empty tape.
+#[tactic(auto, unfolding(crate::specs::BlockTape::block_tape_codes))]
+fn punch_longest<A: Allocator, B: Allocator>(
+    codes: &mut Vec<Code, A>,
+    image: &Image<B>,
+) -> Result<(), AllocError>
+    requires empty { codes.old.items ≡ [] }
+    ensures { OnOk result (codes.new.items ≡ (longest_load image.now).codes) }
+{
+    push_longest(codes, image.cells())?;
+    push_word(codes, end_word(image.start()))?;
+    Ok(())
+}
+
 /// The tape of an image in the longest blocks: for each block the digits of the order that stores its first word, those of its
 /// count and of each word, a conditional stop behind each, and a carriage return; then the end word's digits and the conditional
 /// stop. A block goes on while the next cell lies one place behind the last.
-#[tactic(auto, unfolding(crate::specs::BlockTape::block_tape_codes))]
 pub fn tape_of<A: Allocator + Copy, B: Allocator>(
     alloc: A,
     image: &Image<B>,
@@ -114,8 +127,7 @@ pub fn tape_of<A: Allocator + Copy, B: Allocator>(
     ensures tape { IfOk result (λ codes. codes.items ≡ (longest_load image.now).codes) }
 {
     let mut codes = Vec::new(alloc);
-    push_longest(&mut codes, image.cells())?;
-    push_word(&mut codes, end_word(image.start()))?;
+    punch_longest(&mut codes, image)?;
     Ok(codes)
 }
 
@@ -139,12 +151,27 @@ fn push_blocks<A: Allocator>(
     Ok(())
 }
 
+/// Punches an image in blocks of so many cells each, on an empty tape.
+#[tactic(auto, unfolding(crate::specs::BlockTape::block_tape_codes))]
+fn punch_cut<A: Allocator, B: Allocator>(
+    codes: &mut Vec<Code, A>,
+    image: &Image<B>,
+    counts: &[usize],
+) -> Result<(), AllocError>
+    requires empty { codes.old.items ≡ [] }
+    requires cutting { is_cutting counts.now image.now.cells ≡ true }
+    ensures { OnOk result (codes.new.items ≡ (cut_load image.now counts.now).codes) }
+{
+    push_blocks(codes, counts, image.cells())?;
+    push_word(codes, end_word(image.start()))?;
+    Ok(())
+}
+
 /// The tape of an image in blocks of so many cells each.
 ///
 /// Refused, in this order: where the numbers do not cut the cells into blocks (`BadCut`), that is where one is 0, where they are
 /// not as many as there are cells, or where the places of a block do not follow one another; where there is no memory for the tape
 /// (`Memory`).
-#[tactic(auto, unfolding(crate::specs::BlockTape::block_tape_codes))]
 pub fn tape_cut<A: Allocator + Copy, B: Allocator>(
     alloc: A,
     image: &Image<B>,
@@ -158,8 +185,7 @@ pub fn tape_cut<A: Allocator + Copy, B: Allocator>(
         return Err(CutFault::BadCut);
     }
     let mut codes = Vec::new(alloc);
-    let punched = push_blocks(&mut codes, counts, image.cells());
-    if punched.is_err() || push_word(&mut codes, end_word(image.start())).is_err() {
+    if punch_cut(&mut codes, image, counts).is_err() {
         return Err(CutFault::Memory);
     }
     Ok(codes)
@@ -175,10 +201,34 @@ fn push_cell<A: Allocator>(codes: &mut Vec<Code, A>, cell: &Cell) -> Result<(), 
     Ok(())
 }
 
+/// Punches cells one by one.
+fn push_cells<A: Allocator>(codes: &mut Vec<Code, A>, cells: &[Cell]) -> Result<(), AllocError>
+    ensures { OnOk result (codes.new.items
+        ≡ codes.old.items ++ concat (map cell_codes cells.now)) }
+{
+    for cell in cells {
+        push_cell(codes, cell)?;
+    }
+    Ok(())
+}
+
+/// Punches an image cell by cell, on an empty tape.
+#[tactic(auto, unfolding(crate::specs::SingleTape::single_tape_codes))]
+fn punch_single<A: Allocator, B: Allocator>(
+    codes: &mut Vec<Code, A>,
+    image: &Image<B>,
+) -> Result<(), AllocError>
+    requires empty { codes.old.items ≡ [] }
+    ensures { OnOk result (codes.new.items ≡ single_tape_codes image.now) }
+{
+    push_cells(codes, image.cells())?;
+    push_word(codes, end_word(image.start()))?;
+    Ok(())
+}
+
 /// The tape of an image cell by cell, for the loader of ten words: for each cell the digits of the order that stores it, the
 /// conditional stop, the word's digits, the conditional stop and a carriage return; then the end word's digits and the conditional
 /// stop.
-#[tactic(auto, unfolding(crate::specs::SingleTape::single_tape_codes))]
 pub fn single_tape_of<A: Allocator + Copy, B: Allocator>(
     alloc: A,
     image: &Image<B>,
@@ -186,9 +236,6 @@ pub fn single_tape_of<A: Allocator + Copy, B: Allocator>(
     ensures tape { IfOk result (λ codes. codes.items ≡ single_tape_codes image.now) }
 {
     let mut codes = Vec::new(alloc);
-    for cell in image.cells() {
-        push_cell(&mut codes, cell)?;
-    }
-    push_word(&mut codes, end_word(image.start()))?;
+    punch_single(&mut codes, image)?;
     Ok(codes)
 }

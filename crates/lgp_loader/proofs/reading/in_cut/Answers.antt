@@ -1,0 +1,20 @@
+use Rattle.std.proofs.Common.{arith, true, ◌≡◌, subst}
+use Rattle.std.proofs.lemmas.Grind.{common_steps}
+use Rattle.lgp_loader.specs.BlockLoading.{cut_load}
+use Rattle.lgp_loader.specs.Cutting.{is_cutting}
+use Rattle.lgp_loader.specs.ReadyInside.{IsReady}
+use Rattle.lgp_loader.proofs.Loads.{cut_orders, cut_ready, same_load}
+use Rattle.lgp_loader.proofs.reading.in_cut.Goals as goal
+
+pub returns-clause-orders : goal.returns-clause-orders
+returns-clause-orders g c =
+    let cut : is_cutting c.args.counts.now c.args.image.now.cells ≡ true = grind (arith, common_steps) in
+    cut_orders c.args.image.now c.args.counts.now c.program_cells.result.now c.orders_for.result cut c.program_cells.ensures.cells c.orders_for.ensures
+
+pub returns-clause-ready : goal.returns-clause-ready
+returns-clause-ready g c =
+    let known = c.program_cells.ensures in
+    let cut : is_cutting c.args.counts.now c.args.image.now.cells ≡ true = grind (arith, common_steps) in
+    let orders = cut_orders c.args.image.now c.args.counts.now c.program_cells.result.now c.orders_for.result cut c.program_cells.ensures.cells c.orders_for.ensures in
+    let same = same_load (cut_load c.args.image.now c.args.counts.now) c.in_ok-tape.tape.items c.orders_for.result c.in_ok-tape.ensures.tape orders in
+    λ s long. subst (IsReady s) same (cut_ready s c.args.image.now c.args.counts.now long cut known.program known.few known.start)

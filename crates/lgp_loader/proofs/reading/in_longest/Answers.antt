@@ -1,0 +1,18 @@
+use Rattle.std.proofs.Common.{subst}
+use Rattle.lgp_loader.specs.BlockLoading.{longest_load}
+use Rattle.lgp_loader.specs.ReadyInside.{IsReady}
+use Rattle.lgp_loader.proofs.Loads.{longest_orders, longest_ready, same_load}
+use Rattle.lgp_loader.proofs.reading.in_longest.Goals as goal
+
+pub returns-clause-orders : goal.returns-clause-orders
+returns-clause-orders g c =
+    longest_orders c.args.image.now c.program_cells-cells.result.now c.count_longest.result c.orders_for-orders.result
+    c.program_cells-cells.ensures.cells c.count_longest.ensures.count c.orders_for-orders.ensures
+
+pub returns-clause-ready : goal.returns-clause-ready
+returns-clause-ready g c =
+    let known = c.program_cells-cells.ensures in
+    let orders = longest_orders c.args.image.now c.program_cells-cells.result.now c.count_longest.result c.orders_for-orders.result
+    known.cells c.count_longest.ensures.count c.orders_for-orders.ensures in
+    let same = same_load (longest_load c.args.image.now) c.in_ok-tape.tape.items c.orders_for-orders.result c.in_ok-tape.ensures.tape orders in
+    λ s long. subst (IsReady s) same (longest_ready s c.args.image.now long known.program known.few known.start)

@@ -1,0 +1,5 @@
+//! Tests of the loader.
+#![tactic(auto)]
+
+#[cfg(test)]
+mod tests;

@@ -1,0 +1,192 @@
+//! Tapes and loads of small programs, by both loaders.
+
+use lgp_assembler::{Image, assemble};
+use lgp_flexo::{Code, write_tape_text};
+use lgp_keyin::{actions_to_jump, key_in};
+use lgp_loader::{
+    CutFault, LOADER, LOADER_10, LoadFault, load, load_cut, load_single, single_tape_of, tape_cut,
+    tape_of,
+};
+use lgp_machine::{Look, Machine};
+use lgp_table::{Action, Cause, Mode, Status, Switches};
+use lgp_word::{Address, Word, read_digits};
+use std::alloc::{Allocator, Global};
+use std::test::Fail;
+
+mod growths;
+mod loads;
+mod refusals;
+mod tapes;
+
+/// One word at 0100.
+const ONE_WORD: &[u8] = b" org 0100\n word 00000004\n end\n";
+
+/// Two words at 0100 and 0101.
+const TWO_WORDS: &[u8] = b" org 0100\n word 00000004\n word 00000008\n end\n";
+
+/// Two words at 0100 and 0101, one at 0104, and one at 0103.
+const TWO_PLACES: &[u8] =
+    b" org 0100\n word 00000004\n word 00000008\n org 0104\n word 0000000j\n org 0103\n word 00000010\n end\n";
+
+const FIVE_LINES: &[u8] = b"start b one ; take\n h 0050\n z\none frac .1\n end start\n";
+
+/// No word, and no start.
+const NO_WORDS: &[u8] = b" end\n";
+
+/// Numbers that do not cut two words at 0100 and 0101 into blocks.
+const NO_CUTS: [&[usize]; 6] = [&[2, 0], &[0, 2], &[1], &[3], &[1, 1, 1], &[]];
+
+/// How a program is loaded: in the longest blocks, in blocks of these lengths, or cell by cell.
+#[derive(Clone, Copy)]
+enum Way<'a> {
+    Longest,
+    Cut(&'a [usize]),
+    Single,
+}
+
+// The calls without their contracts, which would fill the context of each test.
+
+fn image(alloc: Global, source: &[u8]) -> Result<Image, Fail> {
+    Ok(assemble(alloc, source)?)
+}
+
+fn tape_by<A: Allocator + Copy>(
+    alloc: A,
+    image: &Image,
+    way: Way,
+) -> Result<Vec<Code, A>, CutFault> {
+    let tape = match way {
+        Way::Longest => tape_of(alloc, image),
+        Way::Cut(counts) => return tape_cut(alloc, image, counts),
+        Way::Single => single_tape_of(alloc, image),
+    };
+    tape.map_err(|_| CutFault::Memory)
+}
+
+fn load_by<A: Allocator + Copy>(
+    alloc: A,
+    machine: &mut Machine<A>,
+    image: &Image,
+    way: Way,
+) -> Result<u64, LoadFault> {
+    match way {
+        Way::Longest => load(alloc, machine, image),
+        Way::Cut(counts) => load_cut(alloc, machine, image, counts),
+        Way::Single => load_single(alloc, machine, image),
+    }
+}
+
+fn look<A: Allocator>(machine: &Machine<A>) -> Option<Look> {
+    machine.look()
+}
+
+fn press<A: Allocator>(machine: &mut Machine<A>, actions: &[Action]) {
+    for action in actions {
+        let _ = machine.press(*action);
+    }
+}
+
+/// Whether a word time ends at a boundary.
+fn turn<A: Allocator>(machine: &mut Machine<A>) -> Result<bool, Fail> {
+    Ok(machine.turn()?)
+}
+
+/// A new machine after so many word times at rest.
+fn machine_at<A: Allocator + Copy>(alloc: A, clock: u64) -> Result<Machine<A>, Fail> {
+    let mut machine = Machine::new(alloc)?;
+    machine.rest(clock)?;
+    Ok(machine)
+}
+
+/// Whether the word at this place of the drum has these digits.
+fn has_word(machine: &Machine, place: &[u8], digits: &[u8]) -> bool {
+    match (Address::parse(place), read_digits(digits)) {
+        (Some(place), Some(word)) => machine.word(place) == word,
+        _ => false,
+    }
+}
+
+/// Whether the drum has these digits at these places.
+fn has_words(machine: &Machine, wanted: &[(&[u8], &[u8])]) -> bool {
+    for (place, digits) in wanted {
+        if !has_word(machine, place, digits) {
+            return false;
+        }
+    }
+    true
+}
+
+/// A machine at the boundary of this counter in Normal, with the reader off, no switch down, and the word of these digits in
+/// accumulator and register.
+fn shown(counter: &[u8], digits: &[u8], status: Status, clock: u64) -> Option<Look> {
+    let (Some(counter), Some(word)) = (Address::parse(counter), read_digits(digits)) else {
+        return None;
+    };
+    Some(Look {
+        counter,
+        accumulator: word.get(),
+        register: word,
+        status,
+        mode: Mode::Normal,
+        switches: Switches::default(),
+        reader_on: false,
+        clock,
+    })
+}
+
+/// Whether the words of a loader have these digits.
+fn are_words(loader: &[Word], wanted: &[&[u8]]) -> bool {
+    for (found, digits) in loader.iter().zip(wanted) {
+        if Some(*found) != read_digits(digits) {
+            return false;
+        }
+    }
+    loader.len() == wanted.len()
+}
+
+const BLOCK_LOADER: [&[u8]; 22] = [
+    b"00080000",
+    b"00040000",
+    b"000g3w48",
+    b"000j3w24",
+    b"00080000",
+    b"00040000",
+    b"000j3w54",
+    b"00080000",
+    b"00040000",
+    b"00000000",
+    b"00013w24",
+    b"000q3w50",
+    b"000j3w24",
+    b"00013w54",
+    b"000q3w50",
+    b"000j3w54",
+    b"000g3w1j",
+    b"000f3w00",
+    b"000j3w4j",
+    b"00000000",
+    b"00000004",
+    b"00000000",
+];
+
+const SINGLE_LOADER: [&[u8]; 10] = [
+    b"00080000",
+    b"00040000",
+    b"000g3w20",
+    b"000j3w18",
+    b"00080000",
+    b"00040000",
+    b"00000000",
+    b"000f3w00",
+    b"000j3w24",
+    b"00000000",
+];
+
+#[test]
+fn the_words_of_the_loaders(rt: HostRuntime) {
+    let found = [
+        are_words(&LOADER, &BLOCK_LOADER),
+        are_words(&LOADER_10, &SINGLE_LOADER),
+    ];
+    assert_eq!(rt; found, [true; 2]);
+}
