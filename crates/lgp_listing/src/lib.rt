@@ -12,5 +12,3 @@ mod dumping;
 mod laws;
 mod listed;
 mod reading;
-#[cfg(test)]
-mod tests;

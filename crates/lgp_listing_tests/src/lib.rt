@@ -1,0 +1,5 @@
+//! Tests of listings and dumps.
+#![tactic(auto)]
+
+#[cfg(test)]
+mod tests;

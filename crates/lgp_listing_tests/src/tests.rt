@@ -1,0 +1,87 @@
+//! Disassembly, listings and dumps.
+
+use lgp_assembler::{AssembleError, FaultKind};
+use lgp_drum::Drum;
+use lgp_listing::{
+    DumpFault, disassemble, dump, each_word_assembles, first_faults_are_first, listing, read_dump,
+};
+use lgp_word::{Address, Word, read_digits};
+use std::alloc::{Allocator, Global};
+use std::test::Fail;
+
+mod dumps;
+mod growths;
+
+const FIRST_PROGRAM: &[u8] = b"start b one ; take\n h 0050\n z\none frac .1\n end start\n";
+
+const FIRST_LISTING: &[u8] =
+    b"0000 0001000j start b one ; take\n0001 000j00j8  h 0050\n0002 00000000  z\n0003 0jjjjjjj one frac .1\n               end start\n";
+
+/// The word of these digits.
+fn word(digits: &[u8]) -> Result<Word, Fail> {
+    Ok(read_digits(digits).ok_or("no word")?)
+}
+
+/// The address of this text.
+fn at(text: &[u8]) -> Result<Address, Fail> {
+    Ok(Address::parse(text).ok_or("no address")?)
+}
+
+/// Whether the word of these digits is written so.
+fn is_written(digits: &[u8], text: &[u8]) -> Result<bool, Fail> {
+    let word = word(digits)?;
+    Ok(disassemble(word).as_slice() == text)
+}
+
+const WORDS: &[(&[u8], &[u8])] = &[
+    (b"800g3w20", b"-t 6308"),
+    (b"000g3w20", b"t 6308"),
+    (b"00100000", b"word 00100000"),
+    (b"80000000", b"word 80000000"),
+    (b"00000000", b"z 0000"),
+];
+
+#[test]
+fn words_as_a_source_has_them(rt: HostRuntime) -> Result<(), Fail> {
+    for (index, (digits, text)) in WORDS.iter().enumerate() {
+        let found = is_written(digits, text)?;
+        assert!(rt; found, "word {index}");
+    }
+    Ok(())
+}
+
+/// Whether a source has this listing.
+fn has_listing<A: Allocator + Copy>(alloc: A, source: &[u8], wanted: &[u8]) -> bool {
+    match listing(alloc, source) {
+        Ok(text) => text.as_slice() == wanted,
+        Err(_) => false,
+    }
+}
+
+#[test]
+fn a_listing_of_five_lines(rt: HostRuntime) {
+    assert!(rt; has_listing(rt.alloc(), FIRST_PROGRAM, FIRST_LISTING));
+}
+
+/// The faults of a source that has one, its line and its kind.
+fn only_fault(alloc: Global, source: &[u8]) -> Option<(u64, FaultKind)> {
+    match listing(alloc, source) {
+        Err(AssembleError::Faults(list)) => match list.faults() {
+            [fault] => Some((fault.line, fault.kind)),
+            _ => None,
+        },
+        _ => None,
+    }
+}
+
+#[test]
+fn a_faulty_source_has_no_listing(rt: HostRuntime) {
+    let found = only_fault(rt.alloc(), b" b none\n end\n");
+    assert_eq!(rt; found, Some((1, FaultKind::UnknownName)));
+}
+
+#[test]
+fn laws_do_nothing(_rt: HostRuntime) {
+    each_word_assembles();
+    first_faults_are_first();
+}
