@@ -23,5 +23,3 @@ mod sink;
 mod source_text;
 mod span;
 mod stream;
-#[cfg(test)]
-mod tests;

@@ -1,0 +1,67 @@
+//! Scripts and files by what is written for them. A helper without clauses stands around each call, and a test is a table of texts
+//! with what is written for each.
+
+mod files;
+mod growths;
+mod lengths;
+mod scripts;
+mod streams;
+
+use lgp_lab::{Feed, FeedOf, LabFault, Sink, SinkOf, run_script};
+use std::alloc::{AllocError, Allocator, Global};
+use std::io::{Read, Write};
+use std::process::Abort;
+
+/// How often a reader is read at most.
+const READS: u64 = 1 << 32;
+
+const FIRST_RUN: &[u8] =
+    b"put 0000 000100j8\nput 0001 000q00jj\nput 0002 000j00k0\nput 0050 00000006\nput 0051 0000000f\npress start\norders 10\npanel\nwords 0052 1\n";
+
+const FIRST_RUN_REPLIES: &[u8] =
+    b"ok\nok\nok\nok\nok\nlive\norders 4 halted stop\ncounter 0004 accumulator 00000010 register 00000000 status halted stop mode normal switches uuuuuu reader off tape 0 clock 94\n0052 00000010\n";
+
+/// How a call ended: its answer, and whether the reader and the writer have failed.
+type Ended = (Result<u64, LabFault>, bool, bool);
+
+/// Runs a script.
+fn run_between<A: Allocator + Copy, R: Read + Drop, W: Write + Drop>(
+    alloc: A,
+    reader: R,
+    writer: W,
+) -> Ended {
+    let mut feed = FeedOf::new(reader, READS);
+    let mut sink = SinkOf::new(writer);
+    let answer = run_script(alloc, &mut feed, &mut sink);
+    (answer, feed.has_failed(), sink.has_failed())
+}
+
+/// Runs a script; its replies are written behind `written`.
+fn run<A: Allocator + Copy>(
+    alloc: A,
+    script: &[u8],
+    written: &mut Vec<u8>,
+) -> Result<u64, LabFault> {
+    run_between(alloc, script, written).0
+}
+
+/// Expects the replies to a script, and how many of them begin with a question mark.
+fn expect(rt: &impl Abort, alloc: Global, script: &[u8], replies: &[u8], faults: u64) {
+    let mut written = Vec::new(alloc);
+    let answer = run(alloc, script, &mut written);
+    let front = script.get(..80).unwrap_or(script);
+    assert_eq!(rt;
+        (answer, written.as_slice()),
+        (Ok(faults), replies),
+        "{front:?}"
+    );
+}
+
+/// A text as many times as told.
+fn repeated(alloc: Global, text: &[u8], times: usize) -> Result<Vec<u8>, AllocError> {
+    let mut all = Vec::new(alloc);
+    for _ in 0..times {
+        all.extend_from_slice(text)?;
+    }
+    Ok(all)
+}

@@ -1,0 +1,410 @@
+//! Scripts and their replies.
+
+use super::streams::Pieces;
+use super::{FIRST_RUN, FIRST_RUN_REPLIES, expect, repeated, run, run_between};
+use lgp_lab::LabFault;
+use lgp_listing::read_dump;
+use lgp_word::Address;
+use std::alloc::{AllocError, Global};
+use std::process::Abort;
+use std::test::Fail;
+
+/// A script, its replies, and how many of those begin with a question mark.
+type Row = (&'static [u8], &'static [u8], u64);
+
+/// The first five are those of `examples/`, without their comments.
+const ROWS: [Row; 14] = [
+    (FIRST_RUN, FIRST_RUN_REPLIES, 0),
+    // A program that changes its own orders: the sum of a table.
+    (
+        b"put 0000 00030044\nput 0001 000f0010\nput 0002 000j0064\nput 0003 00000000\nput 0004 00010050\nput 0005 00020024\nput 0006 0001005j\nput 0007 000j0060\nput 0008 00010060\nput 0009 000q0000\nput 0010 000j0060\nput 0011 00010024\nput 0012 000q0058\nput 0013 00020024\nput 0014 000w0054\nput 0015 000g0020\nput 0016 00010060\nput 0017 000f0000\nput 0020 00000100\nput 0021 000q0110\nput 0022 00000004\nput 0023 00000000\nput 0100 00000002\nput 0101 00000004\nput 0102 00000006\nput 0103 00000008\npress start\norders 8\nwords 0009 1\norders 8\nwords 0009 1\norders 100\nwords 0025 1\nwords 0009 1\nwords 0017 1\npanel\n",
+        b"ok\nok\nok\nok\nok\nok\nok\nok\nok\nok\nok\nok\nok\nok\nok\nok\nok\nok\nok\nok\nok\nok\nok\nok\nok\nok\nlive\norders 8 going\n0009 000q0100\norders 8 going\n0009 000q0104\norders 26 halted stop\n0025 00000014\n0009 000q0110\n0017 000f0008\ncounter 0004 accumulator 00000014 register 00000000 status halted stop mode normal switches uuuuuu reader off tape 0 clock 2910\n",
+        0,
+    ),
+    // A number read from tape, and a word printed.
+    (
+        b"put 0000 00080000\nput 0001 00040000\nput 0002 000j00j8\nput 0003 00081500\nput 0004 00080k00\nput 0005 00082900\nput 0006 00081k00\nput 0007 00000000\nmount 12[16]34'\npanel\npress start\norders 100\nwords 0050 1\nprinted\npanel\nmount 5\npress clear\npress start\norders 100\ntype 68'\norders 100\nwords 0050 1\nprinted\n",
+        b"ok\nok\nok\nok\nok\nok\nok\nok\nok 6\ncounter 0000 accumulator 00000000 register 00000000 status halted operator mode normal switches uuuuuu reader off tape 6 clock 0\nlive\norders 8 halted stop\n0050 00001234\nprinted 4 drum\ncounter 0008 accumulator 00001234 register 00000000 status halted stop mode normal switches uuuuuu reader off tape 0 clock 4034\nok 1\nlive\nlive\norders 2 waiting\nlive 3 dead 0\norders 6 halted stop\n0050 01234568\nprinted 8 drumdrum\n",
+        0,
+    ),
+    // An order stored by hand from the console.
+    (
+        b"type 0\npress manual\ntype 000j0100\npress fill\ntype 00083900\npress oneop\npress execute\norders 1\nwords 0100 1\npanel\npress manual\ntype 000f0100\npress fill\npress oneop\npress execute\norders 1\npanel\npress normal\npress start\norders 10\nprinted\npanel\n",
+        b"live 0 dead 1\nlive\nlive 8 dead 0\nlive\nlive 8 dead 0\nlive\nlive\norders 1 halted step\n0100 00083900\ncounter 0000 accumulator 00083900 register 000j0100 status halted step mode oneop switches uuuuuu reader off tape 0 clock 65\nlive\nlive 8 dead 0\nlive\nlive\nlive\norders 1 halted step\ncounter 0100 accumulator 000f0100 register 000f0100 status halted step mode oneop switches uuuuuu reader off tape 0 clock 67\nlive\nlive\norders 2 halted stop\nprinted 1 a\ncounter 0102 accumulator 000f0100 register 00000000 status halted stop mode normal switches uuuuuu reader off tape 0 clock 524\n",
+        0,
+    ),
+    // The same words as orders, as digits and in a dump.
+    (
+        b"put 0000 000100j8\nput 0001 000q00jj\nput 0002 000j00k0\nput 0050 00000006\nput 0051 0000000f\nshow 0000 4\nshow 0050 2\npress start\norders 10\nwords 0052 1\nshow 0052 1\ndump\n",
+        b"ok\nok\nok\nok\nok\n0000 b 0050\n0001 a 0051\n0002 h 0052\n0003 z 0000\n0050 word 00000006\n0051 word 0000000f\nlive\norders 4 halted stop\n0052 00000010\n0052 z 0004\ndump 6\n0000 000100j8\n0001 000q00jj\n0002 000j00k0\n0050 00000006\n0051 0000000f\n0052 00000010\n",
+        0,
+    ),
+    (
+        b"dump\nput 6308 800g3w20\nshow 6308 1\ndump\nput 6363 80000000\nput 0100 00000004\nshow 6362 2\ndump\nput 6308 00000000\ndump\n",
+        b"dump 0\nok\n6308 -t 6308\ndump 1\n6308 800g3w20\nok\nok\n6362 z 0000\n6363 word 80000000\ndump 3\n0100 00000004\n6308 800g3w20\n6363 80000000\nok\ndump 2\n0100 00000004\n6363 80000000\n",
+        0,
+    ),
+    (
+        b"put 0000 000100j8\nput 0001 000q00jj\nput 0002 000j00k0\nput 0050 7wwwwwwq\nput 0051 00000002\npress start\norders 10\npanel\n",
+        b"ok\nok\nok\nok\nok\nlive\norders 2 halted overflow\ncounter 0002 accumulator 80000000 register 000q00jj status halted overflow mode normal switches uuuuuu reader off tape 0 clock 76\n",
+        0,
+    ),
+    (
+        b"put 0000 00080000\nput 0001 00040000\nmount 12[16]3'\npress start\norders 2\npanel\n",
+        b"ok\nok\nok 5\nlive\norders 2 going\ncounter 0002 accumulator 00000123 register 00040000 status going mode normal switches uuuuuu reader off tape 0 clock 1996\n",
+        0,
+    ),
+    (
+        b"put 0000 00080000\nput 0001 00040000\nmount 12[16]3\npress start\norders 9\npanel\ntype '\norders 1\n",
+        b"ok\nok\nok 4\nlive\norders 2 waiting\ncounter 0002 accumulator 00000123 register 00040000 status waiting mode normal switches uuuuuu reader off tape 0 clock 1612\nlive 1 dead 0\norders 1 halted stop\n",
+        0,
+    ),
+    (
+        b"printed\nput 0000 00083900\npress start\norders 1\nprinted\nturn 1\n",
+        b"printed 0\nok\nlive\norders 1 going\nprinted 1 a\n? 3 AtWork\n",
+        1,
+    ),
+    (b"turn 5\n", b"clock 5\n", 0),
+    (
+        b"put 0000 00002000\npress bp32 down\npress start\norders 1\n",
+        b"ok\nlive\nlive\norders 1 going\n",
+        0,
+    ),
+    (
+        b"put 0000 00002000\npress bp32 down\npress bp32 up\npress start\norders 1\n",
+        b"ok\nlive\nlive\nlive\norders 1 halted stop\n",
+        0,
+    ),
+    (
+        b"mount 12A\npress start\npress start\nput 0000 00000001\nput 0000 00000002\nmount 12A\nmount 1\n",
+        b"? 12 BadSign 2\nlive\ndead\n? 1 Form\n? 2 Moving\n? 12 BadSign 2\n? 2 Moving\n",
+        5,
+    ),
+];
+
+/// Expects the replies to a script, and so many of them to begin with a question mark, in whatever pieces the script comes.
+fn expect_replies(rt: &impl Abort, alloc: Global, (text, replies, faults): Row) {
+    for most in [1, 7, 5000] {
+        let mut written = Vec::new(alloc);
+        let ended = run_between(alloc, Pieces::whole(text, most), &mut written);
+        assert_eq!(rt;
+            (ended, written.as_slice()),
+            ((Ok(faults), false, false), replies),
+            "{text:?} in pieces of {most}"
+        );
+    }
+}
+
+#[test]
+fn scripts_are_answered_in_pieces_of_any_length(rt: HostRuntime) {
+    for row in ROWS {
+        expect_replies(&rt, rt.alloc(), row);
+    }
+}
+
+/// Lines in no command's form.
+const NOT_IN_FORM: [&[u8]; 37] = [
+    b"pan",
+    b"PANEL",
+    b"panel 1",
+    b"\tpanel",
+    b"panel\t",
+    b" ; a comment",
+    b"put",
+    b"put 0000",
+    b"put 6400 00000000",
+    b"put 0064 00000000",
+    b"put 0000 0000000",
+    b"put 0000 00000001",
+    b"put 0000 a0000000",
+    b"put 0000 00000004 1",
+    b"press",
+    b"press halt",
+    b"press start down",
+    b"press bp8",
+    b"press bp8 left",
+    b"press bp8 up up",
+    b"turn",
+    b"turn -1",
+    b"turn 12345678901",
+    b"orders x",
+    b"orders 1 2",
+    b"words 0000",
+    b"words 0000 0",
+    b"words 0000 65",
+    b"words 6363 2",
+    b"show",
+    b"show 0000",
+    b"show 0000 0",
+    b"show 0000 65",
+    b"show 6363 2",
+    b"printed 1",
+    b"dump 1",
+    b"load 1",
+];
+
+#[test]
+fn lines_not_in_form_are_refused(rt: HostRuntime) {
+    for line in NOT_IN_FORM {
+        expect(&rt, rt.alloc(), line, b"? 1 Form\n", 1);
+    }
+}
+
+/// Scripts of a few lines, and their replies.
+const LINES: [(&[u8], &[u8]); 20] = [
+    (b"", b""),
+    (b"\n\r\n   \n; turn 5\n;\n", b""),
+    (b"turn 5\r\nturn 1\n", b"clock 5\nclock 6\n"),
+    (b"turn 5\r\r\nturn 5\rturn 5\n", b"? 1 Form\n? 1 Form\n"),
+    (b"turn 5", b"clock 5\n"),
+    (b"turn 5\r", b"? 1 Form\n"),
+    (b"   turn    0000000005   \n", b"clock 5\n"),
+    (
+        b"mount [6\nmount [64]\n",
+        b"? 12 BadSign 0\n? 12 BadSign 0\n",
+    ),
+    (
+        b"mount\nmount \nmount  a\nmount a \nmount l[00]\n",
+        b"ok 0\nok 0\nok 2\nok 2\nok 2\n",
+    ),
+    (
+        b"type\ntype 12\ntype *\n",
+        b"live 0 dead 0\nlive 0 dead 2\n? 12 BadSign 0\n",
+    ),
+    (b"orders 5\n", b"orders 0 halted operator\n"),
+    (
+        b"press manual\ntype 00000004'[16]\npress fill\npress execute\n",
+        b"live\nlive 8 dead 2\nlive\ndead\n",
+    ),
+    (
+        b"press oneop\npress execute\norders 2\n",
+        b"live\nlive\norders 1 halted stop\n",
+    ),
+    (
+        b"press manual\npress read\norders 1\n",
+        b"live\nlive\norders 1 halted operator\n",
+    ),
+    (
+        b"press read\npress compute\npress clear\npress normal\npress transfer down\npress sixbit up\n",
+        b"dead\ndead\nlive\nlive\nlive\nlive\n",
+    ),
+    (
+        b"press bp32 down\npress bp8 down\npress transfer down\npanel\npress bp8 up\npress bp16 down\npress bp4 down\npress sixbit down\npanel\n",
+        b"live\nlive\nlive\ncounter 0000 accumulator 00000000 register 00000000 status halted operator mode normal switches dududu reader off tape 0 clock 0\nlive\nlive\nlive\nlive\ncounter 0000 accumulator 00000000 register 00000000 status halted operator mode normal switches dduddd reader off tape 0 clock 0\n",
+    ),
+    (
+        b"put 6363 wwwwwwwq\nwords 6362 2\n",
+        b"ok\n6362 00000000\n6363 wwwwwwwq\n",
+    ),
+    (
+        b"put 0063 80000000\nput 0100 00000004\nwords 0062 3\n",
+        b"ok\nok\n0062 00000000\n0063 80000000\n0100 00000004\n",
+    ),
+    (
+        b"turn 9999999999\nturn 1\n",
+        b"clock 9999999999\nclock 10000000000\n",
+    ),
+    (
+        b"press manual\npress start\nturn 0\n",
+        b"live\ndead\nclock 0\n",
+    ),
+];
+
+/// How many question marks a text has.
+fn question_marks(text: &[u8]) -> u64 {
+    text.iter().filter(|byte| **byte == b'?').count() as u64
+}
+
+#[test]
+fn lines_are_answered_one_by_one(rt: HostRuntime) {
+    for (script, replies) in LINES {
+        expect(&rt, rt.alloc(), script, replies, question_marks(replies));
+    }
+}
+
+/// The replies to the line `turn 5`, in which a byte stands in the first place, before the number, in place of the number, or
+/// behind it.
+fn wanted_at(alloc: Global, place: usize, byte: u8) -> Result<Vec<u8>, AllocError> {
+    let is_digit = place >= 5 && byte.is_ascii_digit();
+    let mut wanted = repeated(
+        alloc,
+        match (place, byte) {
+            (5, b'0'..=b'9') => b"clock ",
+            (6, b'0'..=b'9') => b"clock 5",
+            (0, b't') | (4, b' ') | (6, b' ' | b'\r' | b'\n') => b"clock 5\n",
+            (0, b';') => b"",
+            (4, b'\n') => b"? 1 Form\n? 1 Form\n",
+            _ => b"? 1 Form\n",
+        },
+        1,
+    )?;
+    if is_digit {
+        wanted.extend_from_slice(&[byte, b'\n'])?;
+    }
+    Ok(wanted)
+}
+
+/// Expects the replies to the line `turn 5` with a byte in one of its places.
+fn expect_at(rt: &impl Abort, alloc: Global, place: usize, byte: u8) -> Result<(), AllocError> {
+    let mut script = *b"turn 5 \n";
+    if let Some(at) = script.get_mut(place) {
+        *at = byte;
+    }
+    let wanted = wanted_at(alloc, place, byte)?;
+    expect(rt, alloc, &script, &wanted, question_marks(&wanted));
+    Ok(())
+}
+
+#[test]
+fn each_byte_anywhere_in_a_line(rt: HostRuntime) -> Result<(), Fail> {
+    for byte in 0..=255u8 {
+        for place in [0, 4, 5, 6usize] {
+            expect_at(&rt, rt.alloc(), place, byte)?;
+        }
+    }
+    Ok(())
+}
+
+/// The words at 0100, 6363 and 0000 of a dump that stands behind two replies and its own first line.
+fn dumped(alloc: Global, written: &[u8]) -> Option<[u32; 3]> {
+    let text = written.strip_prefix(b"ok\nok\ndump 2\n")?;
+    let drum = read_dump(alloc, text).ok()?;
+    Some([64, 4095, 0].map(|number| drum.word(Address::new(number).unwrap_or_default()).get()))
+}
+
+#[test]
+fn a_dump_reads_back_without_its_first_line(rt: HostRuntime) {
+    let mut written = Vec::new(rt.alloc());
+    let script = b"put 0100 00000004\nput 6363 80000000\ndump\n";
+    let answer = run(rt.alloc(), script, &mut written);
+    assert_eq!(rt;
+        (answer, dumped(rt.alloc(), &written)),
+        (Ok(0), Some([4, 1 << 31, 0]))
+    );
+}
+
+/// Scripts with sources.
+const SOURCES: [Row; 12] = [
+    (
+        b"source\n org 0100\n word 00000004\n end\n.\nload\npanel\nwords 0100 1\nwords 6309 1\nwords 6319 1\nwords 6321 1\n",
+        b"cells 1 start none\nloaded 23\ncounter 6320 accumulator 80000000 register 80000000 status halted stop mode normal switches uuuuuu reader off tape 0 clock 15342\n0100 00000004\n6309 000k0104\n6319 80000000\n6321 00000000\n",
+        0,
+    ),
+    // A program without words is loaded, and gone to.
+    (
+        b"source\n end 0100\n.\nload\norders 0\nwords 6309 1\n",
+        b"cells 0 start 0100\nloaded 5\norders 0 going\n6309 00000000\n",
+        0,
+    ),
+    // A load forgets the steps, and neither the rules nor its source.
+    (
+        b"turn 5\nput 0000 000f0000\npress start\nbreak 0000\norders 2\nsource\n end\n.\nload\nback 1\ndrop 0\nload\nlist\n",
+        b"clock 5\nok\nlive\nrule 0\norders 2 going\ncells 0 start none\nloaded 5\n? 7 TooFar 0\nok\nloaded 5\n               end\n",
+        1,
+    ),
+    // Each kind of fault once, but for those of bytes and of the drum's end.
+    (
+        b"source\n org 6304\n b 0100\na org 0100\n z\n org 0100\n z\n q 0000\n b\n b none\n b 6363+1\na z\n9a z\n z 0 0\n word 00000001\n end\n z\n.\nload\n",
+        b"? 9 Faults\nline 2 InLoader\nline 6 PlaceTaken\nline 7 UnknownOrder\nline 8 MissingOperand\nline 9 UnknownName\nline 10 OutOfRange\nline 11 LabelTwice\nline 12 BadLabel\nline 13 Extra\nline 14 BadOperand\nline 16 AfterEnd\n? 10 NoImage\n",
+        2,
+    ),
+    (
+        b"source\nstart b one ; take\n h 0050\n z\none frac .1\n end start\n.\nlist\n",
+        b"cells 4 start 0000\n0000 0001000j start b one ; take\n0001 000j00j8  h 0050\n0002 00000000  z\n0003 0jjjjjjj one frac .1\n               end start\n",
+        0,
+    ),
+    // The script's end closes a source; a last line without its line feed is a line.
+    (b"source\n z\n end", b"cells 1 start none\n", 0),
+    (b"source", b"? 9 Faults\nline 1 NoEnd\n", 1),
+    // An empty line and a comment are lines of the source, and count.
+    (
+        b"source\n\n; a comment\n   \n q\n end\n.\n",
+        b"? 9 Faults\nline 4 UnknownOrder\n",
+        1,
+    ),
+    // Two points are no point, and a carriage return before the line feed is not the line's.
+    (
+        b"source\r\n..\r\n end\r\n.\r\nturn 1\n",
+        b"? 9 Faults\nline 1 BadLabel\nclock 1\n",
+        1,
+    ),
+    (b"source x\n z\n.\n", b"? 1 Form\n? 1 Form\n? 1 Form\n", 3),
+    // A source with a fault leaves the one before it.
+    (
+        b"list\nsource\n z\n end\n.\nsource\n q\n.\nlist\n",
+        b"? 10 NoImage\ncells 1 start none\n? 9 Faults\nline 1 UnknownOrder\nline 2 NoEnd\n0000 00000000  z\n               end\n",
+        2,
+    ),
+    // Nothing is a command within a source.
+    (
+        b"source\nturn 5\n end\n.\nturn 1\n",
+        b"? 9 Faults\nline 1 UnknownOrder\nclock 1\n",
+        1,
+    ),
+];
+
+#[test]
+fn sources_are_assembled_and_listed(rt: HostRuntime) {
+    for row in SOURCES {
+        expect_replies(&rt, rt.alloc(), row);
+    }
+}
+
+/// Scripts with rules and steps back.
+const HISTORIES: [Row; 6] = [
+    (
+        b"put 0000 00083900\npress start\norders 1\nprinted\nturn 1\nback 0\nback 1\nprinted\nback 1\n",
+        b"ok\nlive\norders 1 going\nprinted 1 a\n? 3 AtWork\nclock 451\nclock 0\nprinted 0\n? 7 TooFar 0\n",
+        2,
+    ),
+    (
+        b"put 0000 000100j8\nput 0001 000q00jj\nput 0002 000j00j8\nput 0003 000f0000\nput 0051 00000002\npress start\nbreak 0002\nrun 100\ndrop 0\nwatch 0050\nrun 100\nrun 100\nlast\nwords 0050 1\nlast\nlast\ndrop 1\n",
+        b"ok\nok\nok\nok\nok\nlive\nrule 0\nran 2 rule 0\nok\nrule 0\nran 1 rule 0\nran 4 rule 0\nback 1 rule 0\n0050 00000002\nback 4 rule 0\n? 8 NoHit 2\n? 6 NoRule\n",
+        2,
+    ),
+    // A mounting and a word put are taken back like any step.
+    (
+        b"put 0000 000f0000\npress start\norders 2\npress manual\nput 0100 00000004\nmount a\npress normal\npress start\norders 1\nback 2\npanel\nwords 0100 1\nback 1\nback 1\n",
+        b"ok\nlive\norders 2 going\nlive\nok\nok 1\nlive\nlive\norders 1 going\nclock 67\ncounter 0000 accumulator 00000000 register 000f0000 status going mode normal switches uuuuuu reader off tape 0 clock 67\n0100 00000000\nclock 0\n? 7 TooFar 0\n",
+        1,
+    ),
+    // A word that was stored anew is decoded anew.
+    (
+        b"put 0000 000f0000\npress start\norders 1\npress manual\nput 0000 00000000\npress normal\npress start\norders 1\nturn 0\n",
+        b"ok\nlive\norders 1 going\nlive\nok\nlive\nlive\norders 1 halted stop\nclock 131\n",
+        0,
+    ),
+    // The numbers of later rules move down; a run ends at its limit or at rest.
+    (
+        b"break 0001\nwatch 6363\nbreak 0000\ndrop 0\ndrop 1\ndrop 1\ndrop 64\nput 0000 000f0000\nrun 5\npress start\nrun 2\nrun 0\n",
+        b"rule 0\nrule 1\nrule 2\nok\nok\n? 6 NoRule\n? 6 NoRule\nok\nran 0 rest\nlive\nran 2 limit\nran 0 limit\n",
+        2,
+    ),
+    (
+        b"break\nbreak 6400\nwatch 0000 1\ndrop x\nrun\nrun 1 1\nback\nlast 1\nlast\nback 1\n",
+        b"? 1 Form\n? 1 Form\n? 1 Form\n? 1 Form\n? 1 Form\n? 1 Form\n? 1 Form\n? 1 Form\n? 8 NoHit 0\n? 7 TooFar 0\n",
+        10,
+    ),
+];
+
+#[test]
+fn rules_stop_a_run_and_orders_are_taken_back(rt: HostRuntime) {
+    for row in HISTORIES {
+        expect_replies(&rt, rt.alloc(), row);
+    }
+}
+
+/// The answer to a script, and whether its replies end in this text.
+fn last_replies(alloc: Global, script: &[u8], end: &[u8]) -> (Result<u64, LabFault>, bool) {
+    let mut written = Vec::new(alloc);
+    let answer = run(alloc, script, &mut written);
+    (answer, written.ends_with(end))
+}
+
+#[test]
+fn there_are_at_most_64_rules(rt: HostRuntime) -> Result<(), Fail> {
+    let script = repeated(rt.alloc(), b"watch 0000\n", 65)?;
+    let end = b"rule 62\nrule 63\n? 5 Full\n";
+    assert_eq!(rt; last_replies(rt.alloc(), &script, end), (Ok(1), true));
+    Ok(())
+}

@@ -1,0 +1,216 @@
+//! Readers and writers that fail, and how often they are read.
+
+use super::{Ended, FIRST_RUN, FIRST_RUN_REPLIES, READS, run_between};
+use lgp_lab::{Failed, Feed, FeedOf, LabFault, Sink, SinkOf, run_script};
+use std::alloc::{Allocator, Global};
+use std::io;
+use std::io::{Read, Write};
+use std::process::Abort;
+
+/// Gives a text in pieces of at most so many bytes. Then it ends, or fails once and ends after that.
+#[derive(Drop)]
+pub struct Pieces {
+    text: &'static [u8],
+    most: usize,
+    fails: bool,
+}
+
+impl Pieces {
+    /// Gives a text and then ends.
+    pub fn whole(text: &'static [u8], most: usize) -> Pieces {
+        Pieces {
+            text,
+            most,
+            fails: false,
+        }
+    }
+}
+
+impl Read for Pieces {
+    fn read(&mut self, buffer: &mut [u8]) -> io::Result<usize> {
+        if self.text.is_empty() && self.fails {
+            self.fails = false;
+            return Err(io::ErrorKind::Other.into());
+        }
+        let count = self.text.len().min(self.most).min(buffer.len());
+        buffer[..count].copy_from_slice(&self.text[..count]);
+        self.text = &self.text[count..];
+        Ok(count)
+    }
+}
+
+/// Gives semicolons for ever, one a call.
+#[derive(Drop)]
+struct Semicolons;
+
+impl Read for Semicolons {
+    fn read(&mut self, buffer: &mut [u8]) -> io::Result<usize> {
+        if buffer.is_empty() {
+            return Ok(0);
+        }
+        buffer[0] = b';';
+        Ok(1)
+    }
+}
+
+/// Takes at most so many bytes a call, fails once where so many calls were answered, and takes bytes again after that.
+#[derive(Drop)]
+pub struct Failing {
+    taken: Vec<u8>,
+    most: usize,
+    calls: usize,
+}
+
+impl Failing {
+    /// Fails once so many calls were answered, and has taken nothing yet.
+    pub fn after(alloc: Global, calls: usize, most: usize) -> Failing {
+        Failing {
+            taken: Vec::new(alloc),
+            most,
+            calls,
+        }
+    }
+}
+
+impl Write for Failing {
+    fn write(&mut self, buffer: &[u8]) -> io::Result<usize> {
+        if self.calls == 0 {
+            self.calls = usize::MAX;
+            return Err(io::ErrorKind::Other.into());
+        }
+        self.calls -= 1;
+        let count = buffer.len().min(self.most);
+        self.taken.extend_from_slice(&buffer[..count])?;
+        Ok(count)
+    }
+
+    fn flush(&mut self) -> io::Result<()> {
+        Ok(())
+    }
+}
+
+/// A text, whether a read fails behind it, the replies, and the answer.
+const OPEN_LINES: [(&[u8], bool, &[u8], Result<u64, LabFault>); 4] = [
+    (
+        b"put 0000 000100j8\npan",
+        true,
+        b"ok\n",
+        Err(LabFault::Read),
+    ),
+    (b"put 0000 000100j8\npan", false, b"ok\n? 1 Form\n", Ok(1)),
+    (b"source\n z", true, b"", Err(LabFault::Read)),
+    (b"source\n z", false, b"? 9 Faults\nline 2 NoEnd\n", Ok(1)),
+];
+
+#[test]
+fn a_read_that_fails_drops_the_open_line(rt: HostRuntime) {
+    for (text, fails, replies, wanted) in OPEN_LINES {
+        let mut written = Vec::new(rt.alloc());
+        let reader = Pieces {
+            text,
+            most: 7,
+            fails,
+        };
+        let ended = run_between(rt.alloc(), reader, &mut written);
+        assert_eq!(rt;
+            (ended, written.as_slice()),
+            ((wanted, fails, false), replies)
+        );
+    }
+}
+
+/// What two reads answer, each with whether a read has failed by then and how many are left.
+fn two_reads<R: Read + Drop>(reader: R, reads: u64) -> [(Result<usize, Failed>, bool, u64); 2] {
+    let mut buffer = [0; 4];
+    let mut feed = FeedOf::new(reader, reads);
+    let first = feed.read(&mut buffer);
+    let first = (first, feed.has_failed(), feed.reads_left());
+    let second = feed.read(&mut buffer);
+    [first, (second, feed.has_failed(), feed.reads_left())]
+}
+
+#[test]
+fn a_feed_reads_again_after_a_failed_read(rt: HostRuntime) {
+    let failing = Pieces {
+        text: b"",
+        most: 1,
+        fails: true,
+    };
+    assert_eq!(rt;
+        two_reads(failing, 3),
+        [(Err(Failed), true, 2), (Ok(0), true, 1)]
+    );
+}
+
+#[test]
+fn a_feed_with_no_read_left_fails(rt: HostRuntime) {
+    let reads = two_reads(b"12".as_slice(), 1);
+    assert_eq!(rt; reads, [(Ok(2), false, 0), (Err(Failed), true, 0)]);
+}
+
+/// What three writes answer, each with whether a write has failed by then.
+fn three_writes<W: Write + Drop>(writer: W) -> [(Result<usize, Failed>, bool); 3] {
+    let mut sink = SinkOf::new(writer);
+    let first = (sink.write(b""), sink.has_failed());
+    let second = (sink.write(b"1"), sink.has_failed());
+    [first, second, (sink.write(b"12"), sink.has_failed())]
+}
+
+#[test]
+fn a_sink_takes_an_empty_write(rt: HostRuntime) {
+    let mut failing = Failing::after(rt.alloc(), 1, 1);
+    let writes = three_writes(&mut failing);
+    assert_eq!(rt;
+        (writes, failing.taken.as_slice()),
+        (
+            [(Ok(0), false), (Err(Failed), true), (Ok(1), true)],
+            b"1".as_slice()
+        )
+    );
+}
+
+/// How a script of semicolons without an end goes that is read so many times: how many reads are left before and after, the answer,
+/// whether the reader has failed, and how many bytes are written.
+fn run_semicolons(global: Global, reads: u64) -> (u64, u64, Result<u64, LabFault>, bool, usize) {
+    let mut written = Vec::new(global);
+    let mut feed = FeedOf::new(Semicolons, reads);
+    let before = feed.reads_left();
+    let answer = run_script(global, &mut feed, &mut SinkOf::new(&mut written));
+    (
+        before,
+        feed.reads_left(),
+        answer,
+        feed.has_failed(),
+        written.len(),
+    )
+}
+
+#[test]
+fn reads_are_counted_down(rt: HostRuntime) {
+    assert_eq!(rt;
+        run_semicolons(rt.alloc(), 10),
+        (10, 0, Err(LabFault::Read), true, 0)
+    );
+}
+
+/// Expects of a write that fails that as many bytes as told were taken of the replies.
+fn expect_taken(rt: &impl Abort, global: Global, most: usize, calls: usize) {
+    let mut failing = Failing::after(global, calls, most);
+    let ended = run_between(global, FIRST_RUN, &mut failing);
+    let taken = most.saturating_mul(calls);
+    let front = FIRST_RUN_REPLIES.get(..taken).unwrap_or_default();
+    assert_eq!(rt;
+        (ended, failing.taken.as_slice()),
+        ((Err(LabFault::Write(taken as u64)), false, true), front),
+        "{most} {calls}"
+    );
+}
+
+#[test]
+fn a_write_that_fails_tells_how_many_bytes_were_taken(rt: HostRuntime) {
+    for most in [0, 1] {
+        for calls in 0..FIRST_RUN_REPLIES.len() {
+            expect_taken(&rt, rt.alloc(), most, calls);
+        }
+    }
+}
