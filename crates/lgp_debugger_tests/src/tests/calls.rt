@@ -21,7 +21,7 @@ pub enum Named {
 }
 
 /// A button of the console.
-#[derive(Clone, Copy, Debug)]
+#[derive(Clone, Copy)]
 pub enum Button {
     Start,
     StartCompute,
@@ -30,7 +30,7 @@ pub enum Button {
 }
 
 /// A call of a debugger, or a look at it.
-#[derive(Clone, Copy, Debug)]
+#[derive(Clone, Copy)]
 pub enum Call {
     Put(u16, u32),
     Press(Button),
@@ -53,7 +53,7 @@ pub enum Call {
 }
 
 /// What is looked at.
-#[derive(Clone, Copy, Debug)]
+#[derive(Clone, Copy)]
 pub enum Sight {
     All,
     Clock,

@@ -2,7 +2,7 @@
 
 use super::calls::{Answer, Button, Call, Named, Shown, Sight, answer_to, with_order};
 use lgp_debugger::{Debugger, HitFault, IdleFault, Ran, Reason, RuleFault, StepFault};
-use lgp_history::{BackFault, Checkpoints, History, Records};
+use lgp_history::{BackFault, CAPACITY_LIMIT, Checkpoints, History, Records};
 use lgp_loader::LoadFault;
 use lgp_table::{Cause, Status};
 use std::alloc::{AllocError, Allocator};
@@ -15,13 +15,23 @@ const TRANSFER: u32 = 0x000a_0000;
 /// The order that prints the code 57.
 const PRINT: u32 = 0x0008_3900;
 
-/// The word that stands at 0000 at first, and then calls with what each has to answer.
-type Example = (u32, &'static [(Call, Answer)]);
+/// Calls of a debugger over a new machine, with what each has to answer.
+#[derive(Clone, Copy)]
+struct Example {
+    name: &'static str,
+    /// How many steps the history keeps at most.
+    capacity: usize,
+    /// The word that stands at 0000 at first.
+    first: u32,
+    rows: &'static [(Call, Answer)],
+}
 
 /// A printed code goes back, and so does the clock.
-const PRINT_GOES_BACK: Example = (
-    0,
-    &[
+const PRINT_GOES_BACK: Example = Example {
+    name: "a print goes back",
+    capacity: 4096,
+    first: 0,
+    rows: &[
         (Call::Put(0, PRINT), Answer::Put(Ok(()))),
         (Call::Press(Button::Start), Answer::Press(Ok(true))),
         (Call::Step, Answer::Step(Ok(451))),
@@ -34,12 +44,14 @@ const PRINT_GOES_BACK: Example = (
         (Call::See(Sight::Printed), Answer::Printed((0, None))),
         (Call::Back(1), Answer::Back(Err(BackFault::TooFar(0)))),
     ],
-);
+};
 
 /// Four steps are kept of eleven.
-const LATEST_STEPS: Example = (
-    TRANSFER,
-    &[
+const LATEST_STEPS: Example = Example {
+    name: "the latest steps are kept",
+    capacity: 4,
+    first: TRANSFER,
+    rows: &[
         (Call::Press(Button::Start), Answer::Press(Ok(true))),
         (Call::Steps(10), Answer::Done(10)),
         (Call::See(Sight::Clock), Answer::Clock(643)),
@@ -59,12 +71,14 @@ const LATEST_STEPS: Example = (
         ),
         (Call::See(Sight::Kept), Answer::Kept((0, 0))),
     ],
-);
+};
 
 /// Rules stop runs, and the last hits are found again: the program adds the word at 0051 to that at 0050, again and again.
-const RULES: Example = (
-    0x0001_00c8,
-    &[
+const RULES: Example = Example {
+    name: "rules stop and are found",
+    capacity: 4096,
+    first: 0x0001_00c8,
+    rows: &[
         (Call::Put(1, 0x000e_00cc), Answer::Put(Ok(()))),
         (Call::Put(2, 0x000c_00c8), Answer::Put(Ok(()))),
         (Call::Put(3, TRANSFER), Answer::Put(Ok(()))),
@@ -100,12 +114,14 @@ const RULES: Example = (
         (Call::LastHit, Answer::LastHit(Err(HitFault::NoHit(2)))),
         (Call::RemoveRule(1), Answer::RemoveRule(None)),
     ],
-);
+};
 
 /// A hundred steps, and back to the first order.
-const HUNDRED_STEPS: Example = (
-    TRANSFER,
-    &[
+const HUNDRED_STEPS: Example = Example {
+    name: "a hundred steps",
+    capacity: 100,
+    first: TRANSFER,
+    rows: &[
         (Call::Press(Button::Start), Answer::Press(Ok(true))),
         (Call::Steps(99), Answer::Done(99)),
         (Call::See(Sight::Kept), Answer::Kept((100, 99))),
@@ -126,12 +142,14 @@ const HUNDRED_STEPS: Example = (
         (Call::Step, Answer::Step(Ok(67))),
         (Call::See(Sight::Kept), Answer::Kept((2, 1))),
     ],
-);
+};
 
 /// An input taken back: the codes are left again, and the reader is on.
-const INPUT_GOES_BACK: Example = (
-    0x0008_0000,
-    &[
+const INPUT_GOES_BACK: Example = Example {
+    name: "an input goes back",
+    capacity: 100,
+    first: 0x0008_0000,
+    rows: &[
         (Call::Put(1, 0x0004_0000), Answer::Put(Ok(()))),
         (Call::Mount(b"12[16]3'"), Answer::Mount(Some(Ok(())))),
         (Call::Press(Button::Start), Answer::Press(Ok(true))),
@@ -151,12 +169,14 @@ const INPUT_GOES_BACK: Example = (
         ),
         (Call::See(Sight::TapeLeft), Answer::TapeLeft(5)),
     ],
-);
+};
 
 /// A word put and a tape mounted are taken back with the orders before them.
-const PUTS_AND_MOUNTS: Example = (
-    0,
-    &[
+const PUTS_AND_MOUNTS: Example = Example {
+    name: "puts and mounts go back",
+    capacity: 100,
+    first: 0,
+    rows: &[
         (Call::Put(0, TRANSFER), Answer::Put(Ok(()))),
         (Call::Press(Button::Start), Answer::Press(Ok(true))),
         (Call::Steps(2), Answer::Done(2)),
@@ -174,12 +194,14 @@ const PUTS_AND_MOUNTS: Example = (
         (Call::See(Sight::Clock), Answer::Clock(0)),
         (Call::Back(1), Answer::Back(Err(BackFault::TooFar(0)))),
     ],
-);
+};
 
 /// A load takes 23 orders, and no step is kept behind it.
-const LOAD: Example = (
-    0,
-    &[
+const LOAD: Example = Example {
+    name: "a load keeps no step",
+    capacity: 8,
+    first: 0,
+    rows: &[
         (Call::Put(0, TRANSFER), Answer::Put(Ok(()))),
         (Call::See(Sight::Kept), Answer::Kept((1, 0))),
         (
@@ -200,12 +222,14 @@ const LOAD: Example = (
         (Call::See(Sight::WordAt(64)), Answer::WordAt(4)),
         (Call::See(Sight::Kept), Answer::Kept((0, 0))),
     ],
-);
+};
 
 /// One word time before the clock's end the order that stores the loader's first word is keyed in, and not performed.
-const LOAD_AT_THE_END: Example = (
-    0,
-    &[
+const LOAD_AT_THE_END: Example = Example {
+    name: "a load at the clock's end",
+    capacity: 8,
+    first: 0,
+    rows: &[
         (Call::Idle((1 << 62) - 1), Answer::Idle(Ok(()))),
         (
             Call::Load(b" end"),
@@ -225,12 +249,14 @@ const LOAD_AT_THE_END: Example = (
         (Call::See(Sight::WordAt(4032)), Answer::WordAt(0)),
         (Call::See(Sight::Kept), Answer::Kept((0, 0))),
     ],
-);
+};
 
 /// Word times at rest, and calls that do nothing.
-const AT_REST: Example = (
-    0,
-    &[
+const AT_REST: Example = Example {
+    name: "at rest",
+    capacity: 4,
+    first: 0,
+    rows: &[
         (Call::Step, Answer::Step(Err(StepFault::AtRest))),
         (Call::Idle(0), Answer::Idle(Ok(()))),
         (Call::See(Sight::Kept), Answer::Kept((0, 0))),
@@ -247,12 +273,14 @@ const AT_REST: Example = (
             })),
         ),
     ],
-);
+};
 
 /// There are at most 64 rules.
-const MANY_RULES: Example = (
-    0,
-    &[
+const MANY_RULES: Example = Example {
+    name: "64 rules",
+    capacity: 4,
+    first: 0,
+    rows: &[
         (Call::AddRules(Named::At(7), 100), Answer::Done(64)),
         (
             Call::AddRule(Named::At(1)),
@@ -262,20 +290,35 @@ const MANY_RULES: Example = (
         (Call::RemoveRule(63), Answer::RemoveRule(Some(Named::At(7)))),
         (Call::AddRule(Named::At(1)), Answer::AddRule(Ok(63))),
     ],
-);
+};
+
+/// Over each history.
+const EXAMPLES: [Example; 10] = [
+    PRINT_GOES_BACK,
+    LATEST_STEPS,
+    RULES,
+    HUNDRED_STEPS,
+    INPUT_GOES_BACK,
+    PUTS_AND_MOUNTS,
+    LOAD,
+    LOAD_AT_THE_END,
+    AT_REST,
+    MANY_RULES,
+];
 
 /// Calls one after another, and expects what each answers.
 fn expect_answers<H: History<A>, A: Allocator + Copy>(
     rt: &impl Abort,
     lab: &mut Debugger<H, A>,
     alloc: A,
-    rows: &[(Call, Answer)],
+    example: Example,
 ) {
-    for (place, (call, wanted)) in rows.iter().enumerate() {
+    let name = example.name;
+    for (place, (call, wanted)) in example.rows.iter().enumerate() {
         assert_eq!(rt;
             answer_to(lab, alloc, *call),
             *wanted,
-            "row {place}, {call:?}"
+            "{name}, row {place}"
         );
     }
 }
@@ -285,105 +328,27 @@ fn expect<H: History<A>, A: Allocator + Copy>(
     rt: &impl Abort,
     alloc: A,
     history: H,
-    (first, rows): Example,
+    example: Example,
 ) -> Result<(), AllocError> {
-    let mut lab = with_order(alloc, history, first)?;
-    expect_answers(rt, &mut lab, alloc, rows);
+    let mut lab = with_order(alloc, history, example.first)?;
+    expect_answers(rt, &mut lab, alloc, example);
     Ok(())
 }
 
 #[test]
-fn records_take_a_print_back(rt: HostRuntime) -> Result<(), Fail> {
-    let history = Records::new(rt.alloc(), 4096)?;
-    Ok(expect(&rt, rt.alloc(), history, PRINT_GOES_BACK)?)
+fn over_records(rt: HostRuntime) -> Result<(), Fail> {
+    for example in EXAMPLES {
+        let history = Records::new(rt.alloc(), example.capacity.clamp(1, CAPACITY_LIMIT))?;
+        expect(&rt, rt.alloc(), history, example)?;
+    }
+    Ok(())
 }
 
 #[test]
-fn records_keep_the_latest_steps(rt: HostRuntime) -> Result<(), Fail> {
-    let history = Records::new(rt.alloc(), 4)?;
-    Ok(expect(&rt, rt.alloc(), history, LATEST_STEPS)?)
-}
-
-#[test]
-fn records_find_hits(rt: HostRuntime) -> Result<(), Fail> {
-    let history = Records::new(rt.alloc(), 4096)?;
-    Ok(expect(&rt, rt.alloc(), history, RULES)?)
-}
-
-#[test]
-fn records_keep_a_hundred_steps(rt: HostRuntime) -> Result<(), Fail> {
-    let history = Records::new(rt.alloc(), 100)?;
-    Ok(expect(&rt, rt.alloc(), history, HUNDRED_STEPS)?)
-}
-
-#[test]
-fn records_take_an_input_back(rt: HostRuntime) -> Result<(), Fail> {
-    let history = Records::new(rt.alloc(), 100)?;
-    Ok(expect(&rt, rt.alloc(), history, INPUT_GOES_BACK)?)
-}
-
-#[test]
-fn records_take_puts_and_mounts_back(rt: HostRuntime) -> Result<(), Fail> {
-    let history = Records::new(rt.alloc(), 100)?;
-    Ok(expect(&rt, rt.alloc(), history, PUTS_AND_MOUNTS)?)
-}
-
-#[test]
-fn checkpoints_take_a_print_back(rt: HostRuntime) -> Result<(), Fail> {
-    let history = Checkpoints::new(rt.alloc(), 4096)?;
-    Ok(expect(&rt, rt.alloc(), history, PRINT_GOES_BACK)?)
-}
-
-#[test]
-fn checkpoints_keep_the_latest_steps(rt: HostRuntime) -> Result<(), Fail> {
-    let history = Checkpoints::new(rt.alloc(), 4)?;
-    Ok(expect(&rt, rt.alloc(), history, LATEST_STEPS)?)
-}
-
-#[test]
-fn checkpoints_find_hits(rt: HostRuntime) -> Result<(), Fail> {
-    let history = Checkpoints::new(rt.alloc(), 4096)?;
-    Ok(expect(&rt, rt.alloc(), history, RULES)?)
-}
-
-#[test]
-fn checkpoints_keep_a_hundred_steps(rt: HostRuntime) -> Result<(), Fail> {
-    let history = Checkpoints::new(rt.alloc(), 100)?;
-    Ok(expect(&rt, rt.alloc(), history, HUNDRED_STEPS)?)
-}
-
-#[test]
-fn checkpoints_take_an_input_back(rt: HostRuntime) -> Result<(), Fail> {
-    let history = Checkpoints::new(rt.alloc(), 100)?;
-    Ok(expect(&rt, rt.alloc(), history, INPUT_GOES_BACK)?)
-}
-
-#[test]
-fn checkpoints_take_puts_and_mounts_back(rt: HostRuntime) -> Result<(), Fail> {
-    let history = Checkpoints::new(rt.alloc(), 100)?;
-    Ok(expect(&rt, rt.alloc(), history, PUTS_AND_MOUNTS)?)
-}
-
-#[test]
-fn a_load_keeps_no_step(rt: HostRuntime) -> Result<(), Fail> {
-    let history = Records::new(rt.alloc(), 8)?;
-    Ok(expect(&rt, rt.alloc(), history, LOAD)?)
-}
-
-#[test]
-fn a_load_stops_at_the_clocks_end(rt: HostRuntime) -> Result<(), Fail> {
-    let history = Records::new(rt.alloc(), 8)?;
-    Ok(expect(&rt, rt.alloc(), history, LOAD_AT_THE_END)?)
-}
-
-#[test]
-fn word_times_at_rest_pass(rt: HostRuntime) -> Result<(), Fail> {
-    let history = Records::new(rt.alloc(), 4)?;
-    Ok(expect(&rt, rt.alloc(), history, AT_REST)?)
-}
-
-#[test]
-fn there_are_64_rules(rt: HostRuntime) -> Result<(), Fail> {
-    let history = Records::new(rt.alloc(), 4)?;
-    Ok(expect(&rt, rt.alloc(), history, MANY_RULES)?)
+fn over_checkpoints(rt: HostRuntime) -> Result<(), Fail> {
+    for example in EXAMPLES {
+        let history = Checkpoints::new(rt.alloc(), example.capacity.clamp(1, CAPACITY_LIMIT))?;
+        expect(&rt, rt.alloc(), history, example)?;
+    }
+    Ok(())
 }
