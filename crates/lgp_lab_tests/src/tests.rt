@@ -57,11 +57,19 @@ fn expect(rt: &impl Abort, alloc: Global, script: &[u8], replies: &[u8], faults:
     );
 }
 
-/// A text as many times as told.
-fn repeated(alloc: Global, text: &[u8], times: usize) -> Result<Vec<u8>, AllocError> {
-    let mut all = Vec::new(alloc);
-    for _ in 0..times {
-        all.extend_from_slice(text)?;
+/// A text of pieces, each as many times as told.
+fn built(alloc: Global, pieces: &[(&[u8], usize)]) -> Result<Vec<u8>, AllocError> {
+    let mut text = Vec::new(alloc);
+    for (piece, times) in pieces {
+        push_times(&mut text, piece, *times)?;
     }
-    Ok(all)
+    Ok(text)
+}
+
+/// Appends a piece as many times as told.
+fn push_times(text: &mut Vec<u8>, piece: &[u8], times: usize) -> Result<(), AllocError> {
+    for _ in 0..times {
+        text.extend_from_slice(piece)?;
+    }
+    Ok(())
 }

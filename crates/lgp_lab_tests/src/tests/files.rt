@@ -1,7 +1,7 @@
 //! What is written for files.
 
 use super::streams::Failing;
-use super::{FIRST_RUN, FIRST_RUN_REPLIES, READS, repeated};
+use super::{FIRST_RUN, FIRST_RUN_REPLIES, READS, built};
 use lgp_lab::{FeedOf, LabFault, SinkOf, asm_file, batch_part, run_file, tape_file};
 use std::alloc::{Allocator, Global};
 use std::io::Write;
@@ -104,7 +104,7 @@ fn a_source_file_is_listed_taped_and_run_or_its_faults_are_told(rt: HostRuntime)
 
 #[test]
 fn a_source_file_has_at_most_1048576_bytes(rt: HostRuntime) -> Result<(), Fail> {
-    let long = repeated(rt.alloc(), b";", 1_048_577)?;
+    let long = built(rt.alloc(), &[(b";", 1_048_577)])?;
     expect_written(
         &rt,
         rt.alloc(),

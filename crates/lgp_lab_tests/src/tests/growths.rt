@@ -1,7 +1,7 @@
 //! Scripts and files over a small heap, which refuses a growth.
 
 use super::files::{FileCall, write_for};
-use super::{repeated, run};
+use super::{built, run};
 use lgp_lab::LabFault;
 use linked_list_allocator::LocalHeap;
 use std::alloc::{AllocError, Global};
@@ -45,8 +45,10 @@ fn run_over_heap(rt: &impl Abort, global: Global, size: usize, script: &[u8]) ->
 
 #[test]
 fn a_refused_growth_leaves_no_part_of_a_reply(rt: HostRuntime) -> Result<(), Fail> {
-    let mut script = repeated(rt.alloc(), b"put 0000 000f0000\nmount ", 1)?;
-    script.extend_from_slice(&repeated(rt.alloc(), b"a", 4000)?)?;
+    let script = built(
+        rt.alloc(),
+        &[(b"put 0000 000f0000\nmount ", 1), (b"a", 4000)],
+    )?;
     let mut first = false;
     let mut both = false;
     for size in 96..192 {

@@ -1,16 +1,16 @@
 //! Lines and sources that are just short enough, and just too long.
 
-use super::{expect, repeated};
+use super::{built, expect, push_times};
 use std::alloc::{AllocError, Global};
 use std::test::Fail;
 
 /// A line of so many bytes that is `turn 5` with spaces behind it, and a line behind that.
 fn padded(alloc: Global, length: usize, end: &[u8]) -> Result<Vec<u8>, AllocError> {
-    let mut script = repeated(alloc, b"turn 5", 1)?;
-    script.extend_from_slice(&repeated(alloc, b" ", length.saturating_sub(6))?)?;
-    script.extend_from_slice(end)?;
-    script.extend_from_slice(b"turn 1\n")?;
-    Ok(script)
+    let spaces = length.saturating_sub(6);
+    built(
+        alloc,
+        &[(b"turn 5", 1), (b" ", spaces), (end, 1), (b"turn 1\n", 1)],
+    )
 }
 
 /// How long a line is, how it ends, the replies to it and a line behind it, and how many of those begin with a question mark.
@@ -34,8 +34,7 @@ fn a_line_has_at_most_4096_bytes(rt: HostRuntime) -> Result<(), Fail> {
 #[test]
 fn a_blank_line_and_a_comment_have_any_length(rt: HostRuntime) -> Result<(), Fail> {
     for text in [b" ", b";"] {
-        let mut script = repeated(rt.alloc(), text, 9000)?;
-        script.extend_from_slice(b"\nturn 1")?;
+        let script = built(rt.alloc(), &[(text, 9000), (b"\nturn 1", 1)])?;
         expect(&rt, rt.alloc(), &script, b"clock 1\n", 0);
     }
     Ok(())
@@ -43,10 +42,15 @@ fn a_blank_line_and_a_comment_have_any_length(rt: HostRuntime) -> Result<(), Fai
 
 /// A script with a source of one line of so many bytes, which is a comment, and of an end line.
 fn long_source(alloc: Global, length: usize) -> Result<Vec<u8>, AllocError> {
-    let mut script = repeated(alloc, b"source\n;", 1)?;
-    script.extend_from_slice(&repeated(alloc, b"a", length.saturating_sub(1))?)?;
-    script.extend_from_slice(b"\n end\n.\nturn 1\n")?;
-    Ok(script)
+    let signs = length.saturating_sub(1);
+    built(
+        alloc,
+        &[
+            (b"source\n;", 1),
+            (b"a", signs),
+            (b"\n end\n.\nturn 1\n", 1),
+        ],
+    )
 }
 
 #[test]
@@ -61,21 +65,18 @@ fn a_line_of_a_source_has_at_most_4096_bytes(rt: HostRuntime) -> Result<(), Fail
     Ok(())
 }
 
-/// A script with a source of comment lines of 1,024 bytes each, line feed included, so many of them; then so many bytes of a
-/// comment, and this text.
+/// A script with a source of this line so many times; then so many bytes of a comment, and this text.
 fn many_lines(
     alloc: Global,
+    line: &[u8],
     lines: usize,
     more: usize,
     last: &[u8],
 ) -> Result<Vec<u8>, AllocError> {
-    let mut line = repeated(alloc, b";", 1023)?;
-    line.push(b'\n')?;
-    let mut script = repeated(alloc, b"source\n", 1)?;
-    script.extend_from_slice(&repeated(alloc, &line, lines)?)?;
-    script.extend_from_slice(&repeated(alloc, b";", more)?)?;
-    script.extend_from_slice(last)?;
-    script.extend_from_slice(b".\nturn 1\n")?;
+    let mut script = built(alloc, &[(b"source\n", 1), (line, lines)])?;
+    push_times(&mut script, b";", more)?;
+    push_times(&mut script, last, 1)?;
+    push_times(&mut script, b".\nturn 1\n", 1)?;
     Ok(script)
 }
 
@@ -90,8 +91,9 @@ const SOURCES: [(usize, usize, &[u8], &[u8], u64); 4] = [
 
 #[test]
 fn a_source_has_at_most_1048576_bytes(rt: HostRuntime) -> Result<(), Fail> {
+    let line = built(rt.alloc(), &[(b";", 1023), (b"\n", 1)])?;
     for (lines, more, last, replies, faults) in SOURCES {
-        let script = many_lines(rt.alloc(), lines, more, last)?;
+        let script = many_lines(rt.alloc(), &line, lines, more, last)?;
         expect(&rt, rt.alloc(), &script, replies, faults);
     }
     Ok(())

@@ -1,7 +1,7 @@
 //! Scripts and their replies.
 
 use super::streams::Pieces;
-use super::{FIRST_RUN, FIRST_RUN_REPLIES, expect, repeated, run, run_between};
+use super::{FIRST_RUN, FIRST_RUN_REPLIES, built, expect, run, run_between};
 use lgp_lab::LabFault;
 use lgp_listing::read_dump;
 use lgp_word::Address;
@@ -225,23 +225,16 @@ fn lines_are_answered_one_by_one(rt: HostRuntime) {
 /// The replies to the line `turn 5`, in which a byte stands in the first place, before the number, in place of the number, or
 /// behind it.
 fn wanted_at(alloc: Global, place: usize, byte: u8) -> Result<Vec<u8>, AllocError> {
-    let is_digit = place >= 5 && byte.is_ascii_digit();
-    let mut wanted = repeated(
-        alloc,
-        match (place, byte) {
-            (5, b'0'..=b'9') => b"clock ",
-            (6, b'0'..=b'9') => b"clock 5",
-            (0, b't') | (4, b' ') | (6, b' ' | b'\r' | b'\n') => b"clock 5\n",
-            (0, b';') => b"",
-            (4, b'\n') => b"? 1 Form\n? 1 Form\n",
-            _ => b"? 1 Form\n",
-        },
-        1,
-    )?;
-    if is_digit {
-        wanted.extend_from_slice(&[byte, b'\n'])?;
-    }
-    Ok(wanted)
+    let front: &[u8] = match (place, byte) {
+        (5, b'0'..=b'9') => b"clock ",
+        (6, b'0'..=b'9') => b"clock 5",
+        (0, b't') | (4, b' ') | (6, b' ' | b'\r' | b'\n') => b"clock 5\n",
+        (0, b';') => b"",
+        (4, b'\n') => b"? 1 Form\n? 1 Form\n",
+        _ => b"? 1 Form\n",
+    };
+    let digits = usize::from(place >= 5 && byte.is_ascii_digit());
+    built(alloc, &[(front, 1), (&[byte, b'\n'], digits)])
 }
 
 /// Expects the replies to the line `turn 5` with a byte in one of its places.
@@ -403,7 +396,7 @@ fn last_replies(alloc: Global, script: &[u8], end: &[u8]) -> (Result<u64, LabFau
 
 #[test]
 fn there_are_at_most_64_rules(rt: HostRuntime) -> Result<(), Fail> {
-    let script = repeated(rt.alloc(), b"watch 0000\n", 65)?;
+    let script = built(rt.alloc(), &[(b"watch 0000\n", 65)])?;
     let end = b"rule 62\nrule 63\n? 5 Full\n";
     assert_eq!(rt; last_replies(rt.alloc(), &script, end), (Ok(1), true));
     Ok(())

@@ -170,26 +170,25 @@ fn a_sink_takes_an_empty_write(rt: HostRuntime) {
 }
 
 /// How a script of semicolons without an end goes that is read so many times: how many reads are left before and after, the answer,
-/// whether the reader has failed, and how many bytes are written.
-fn run_semicolons(global: Global, reads: u64) -> (u64, u64, Result<u64, LabFault>, bool, usize) {
-    let mut written = Vec::new(global);
+/// and whether the reader has failed.
+fn run_semicolons(
+    global: Global,
+    reads: u64,
+    written: &mut Vec<u8>,
+) -> (u64, u64, Result<u64, LabFault>, bool) {
     let mut feed = FeedOf::new(Semicolons, reads);
     let before = feed.reads_left();
-    let answer = run_script(global, &mut feed, &mut SinkOf::new(&mut written));
-    (
-        before,
-        feed.reads_left(),
-        answer,
-        feed.has_failed(),
-        written.len(),
-    )
+    let answer = run_script(global, &mut feed, &mut SinkOf::new(written));
+    (before, feed.reads_left(), answer, feed.has_failed())
 }
 
 #[test]
 fn reads_are_counted_down(rt: HostRuntime) {
+    let mut written = Vec::new(rt.alloc());
+    let ended = run_semicolons(rt.alloc(), 10, &mut written);
     assert_eq!(rt;
-        run_semicolons(rt.alloc(), 10),
-        (10, 0, Err(LabFault::Read), true, 0)
+        (ended, written.len()),
+        ((10, 0, Err(LabFault::Read), true), 0)
     );
 }
 
