@@ -108,9 +108,9 @@ const TAKEN: [(usize, &[u8]); 5] = [
 /// line's form.
 fn is_dump(alloc: Global, text: &[u8]) -> Option<bool> {
     match read_dump(alloc, text) {
-        Ok(drum) if has_dump(alloc, &drum, text) => Some(true),
+        Ok(drum) => has_dump(alloc, &drum, text).then_some(true),
         Err(DumpFault::Form(1)) => Some(false),
-        _ => None,
+        Err(_) => None,
     }
 }
 

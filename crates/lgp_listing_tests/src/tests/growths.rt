@@ -6,14 +6,24 @@ use linked_list_allocator::LocalHeap;
 
 const SMALL_DUMP: &[u8] = b"0050 00000006\n";
 
+/// Whether a listing is refused for want of memory.
+fn lacks_listing(heap: &LocalHeap) -> bool {
+    matches!(listing(heap, FIRST_PROGRAM), Err(AssembleError::Memory))
+}
+
+/// Whether a dump is.
+fn lacks_dump(heap: &LocalHeap, drum: &Drum) -> bool {
+    dump(heap, drum).is_err()
+}
+
 /// Which of listing, dump and its reading are refused for want of memory while so many bytes of the
 /// heap are taken.
 fn refused(heap: &LocalHeap, taken: usize, drum: &Drum) -> Result<[bool; 3], Fail> {
     let _filler: Vec<u8, &LocalHeap> = Vec::with_capacity(heap, taken)?;
     Ok([
-        matches!(listing(heap, FIRST_PROGRAM), Err(AssembleError::Memory)),
-        dump(heap, drum).is_err(),
-        matches!(read_dump(heap, SMALL_DUMP), Err(DumpFault::Memory)),
+        lacks_listing(heap),
+        lacks_dump(heap, drum),
+        fault_of(heap, SMALL_DUMP) == Some(DumpFault::Memory),
     ])
 }
 
