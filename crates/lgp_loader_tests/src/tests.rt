@@ -116,9 +116,9 @@ fn has_words(machine: &Machine, wanted: &[(&[u8], &[u8])]) -> bool {
     true
 }
 
-/// A machine at the boundary of this counter in Normal, with the reader off, no switch down, and the word of these digits in
-/// accumulator and register.
-fn shown(counter: &[u8], digits: &[u8], status: Status, clock: u64) -> Option<Look> {
+/// A machine stopped at the boundary of this counter in Normal, with the reader off, and the word of these digits in accumulator
+/// and register.
+fn stopped(counter: &[u8], digits: &[u8], switches: Switches, clock: u64) -> Option<Look> {
     let (Some(counter), Some(word)) = (Address::parse(counter), read_digits(digits)) else {
         return None;
     };
@@ -126,9 +126,9 @@ fn shown(counter: &[u8], digits: &[u8], status: Status, clock: u64) -> Option<Lo
         counter,
         accumulator: word.get(),
         register: word,
-        status,
+        status: Status::Halted(Cause::Stop),
         mode: Mode::Normal,
-        switches: Switches::default(),
+        switches,
         reader_on: false,
         clock,
     })

@@ -16,10 +16,10 @@ struct Load<'a> {
 
 /// Whether a load has answered so, the machine shows so, and the words are these.
 fn has_ended(machine: &Machine, load: &Load, answer: Result<u64, LoadFault>) -> [bool; 3] {
-    let stopped = Status::Halted(Cause::Stop);
+    let wanted = stopped(load.counter, b"80000000", Switches::default(), load.clock);
     [
         answer == Ok(load.orders),
-        look(machine) == shown(load.counter, b"80000000", stopped, load.clock),
+        look(machine) == wanted,
         has_words(machine, load.words),
     ]
 }
@@ -190,20 +190,22 @@ fn disturbed(machine: &mut Machine, tape: Vec<Code>) -> Result<Option<Look>, Fai
     Ok(look(machine))
 }
 
-/// The loader stopped at its end, with TRANSFER CONTROL set.
-fn stopped_with_transfer() -> Option<Look> {
-    let stopped = Status::Halted(Cause::Stop);
-    let mut look = shown(b"6320", b"80000000", stopped, 15342)?;
-    look.switches.transfer = true;
-    Some(look)
-}
+/// TRANSFER CONTROL set, and no other switch.
+const TRANSFER: Switches = Switches {
+    b32: false,
+    b16: false,
+    b8: false,
+    b4: false,
+    transfer: true,
+    six_bit: false,
+};
 
 /// Whether an image that is loaded so leaves what it leaves with no switch touched.
 fn is_undisturbed(alloc: Global, image: &Image) -> Result<bool, Fail> {
     let mut machine = machine_at(alloc, 0)?;
     let tape = tape_by(alloc, image, Way::Longest)?;
     let found = disturbed(&mut machine, tape)?;
-    Ok(found == stopped_with_transfer())
+    Ok(found == stopped(b"6320", b"80000000", TRANSFER, 15342))
 }
 
 #[test]
