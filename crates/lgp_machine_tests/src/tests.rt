@@ -2,8 +2,8 @@
 
 mod calls;
 mod events;
+mod growths;
 mod marks;
-mod rooms;
 
 use lgp_flexo::{Code, read_tape_text};
 use lgp_machine::{
@@ -12,8 +12,7 @@ use lgp_machine::{
 };
 use lgp_table::{Action, Event, Mode, Status, Switches};
 use lgp_word::{Address, Op, Word};
-use linked_list_allocator::LocalHeap;
-use std::alloc::{AllocError, Allocator};
+use std::alloc::Allocator;
 use std::test::Fail;
 
 const CLOCK_END: u64 = 1 << 62;
@@ -203,9 +202,4 @@ fn turns<A: Allocator>(machine: &mut Machine<A>, limit: u64) -> (u64, Result<boo
         }
     }
     (limit, turn(machine))
-}
-
-/// All the room that a heap has left, in one block, but for so many bytes.
-fn filler_beside(heap: &LocalHeap, room: usize) -> Result<Vec<u8, &LocalHeap>, AllocError> {
-    Vec::with_capacity(heap, heap.free().saturating_sub(room))
 }

@@ -1,13 +1,13 @@
 //! Presses within an order, and word times and presses played in one call.
 
 use super::{
-    CLOCK_END, PRINT, TRANSFER, filler_beside, look, play, press, printed, rest, shown, turns,
-    with_words, within_an_order,
+    CLOCK_END, PRINT, TRANSFER, look, play, press, printed, rest, shown, turns, with_words,
+    within_an_order,
 };
 use lgp_flexo::Code;
 use lgp_machine::{Look, Machine, PlayFault, PressFault, Pressed, TurnFault};
+use lgp_scarce::Scarce;
 use lgp_table::{Action, Cause, Event, Mode, Status, Which};
-use linked_list_allocator::LocalHeap;
 use std::alloc::{AllocError, Allocator};
 use std::test::Fail;
 
@@ -85,44 +85,42 @@ fn a_play_is_the_same_turns_and_presses(rt: HostRuntime) -> Result<(), Fail> {
     Ok(())
 }
 
-/// A print to be played over a small heap.
+/// A print to be played.
 fn printing<A: Allocator + Copy>(alloc: A) -> Result<Machine<A>, Fail> {
     with_words(alloc, &[(0, PRINT)])
 }
 
-/// What becomes of a play where the machine's heap has no room.
-fn play_without_room(
-    heap: &LocalHeap,
-    machine: &mut Machine<&LocalHeap>,
+/// What becomes of a play whose first growth is refused, and whether it came to one.
+fn play_refused<B: Allocator>(
+    scarce: &Scarce<B>,
+    machine: &mut Machine<&Scarce<B>>,
     events: &[Event],
-) -> Result<Result<(), PlayFault>, AllocError> {
-    let filler = filler_beside(heap, 0)?;
-    let played = play(machine, events);
-    drop(filler);
-    Ok(played)
+) -> (Result<(), PlayFault>, bool) {
+    scarce.refuse(1);
+    (play(machine, events), scarce.was_refused())
 }
 
 #[test]
 fn a_play_stops_at_the_clocks_end(rt: HostRuntime) -> Result<(), Fail> {
     let events = events_of(rt.alloc(), &[], 2)?;
-    let heap = LocalHeap::new(rt.alloc(), 262144)?;
-    let mut machine = printing(&heap)?;
+    let scarce = Scarce::new(rt.alloc());
+    let mut machine = printing(&scarce)?;
     rest(&mut machine, CLOCK_END - 2)?;
-    let played = play_without_room(&heap, &mut machine, events.as_slice())?;
+    let played = play_refused(&scarce, &mut machine, events.as_slice());
     let stopped = PlayFault {
         done: 3,
         fault: TurnFault::ClockEnd,
     };
-    assert_eq!(rt; played, Err(stopped));
+    assert_eq!(rt; played, (Err(stopped), false));
     Ok(())
 }
 
 #[test]
 fn a_play_stops_where_there_is_no_room(rt: HostRuntime) -> Result<(), Fail> {
     let events = events_of(rt.alloc(), &[], 450)?;
-    let heap = LocalHeap::new(rt.alloc(), 262144)?;
-    let mut machine = printing(&heap)?;
-    let first = play_without_room(&heap, &mut machine, events.as_slice())?;
+    let scarce = Scarce::new(rt.alloc());
+    let mut machine = printing(&scarce)?;
+    let first = play_refused(&scarce, &mut machine, events.as_slice());
     let before = (printed(&machine), look(&machine));
     let second = play(&mut machine, &[Event::WordTime]);
     let stopped = PlayFault {
@@ -131,7 +129,12 @@ fn a_play_stops_where_there_is_no_room(rt: HostRuntime) -> Result<(), Fail> {
     };
     assert_eq!(rt;
         (first, before, second, printed(&machine)),
-        (Err(stopped), ((0, None), None), Ok(()), (1, Code::new(57)))
+        (
+            (Err(stopped), true),
+            ((0, None), None),
+            Ok(()),
+            (1, Code::new(57))
+        )
     );
     Ok(())
 }

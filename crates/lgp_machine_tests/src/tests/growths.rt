@@ -1,0 +1,221 @@
+//! Growths refused one after the other.
+
+use super::{
+    PRINT, address, look, next_order, printed, shown, start_with_tape, started, turn, turns,
+    with_words, word_at,
+};
+use lgp_drum::Drum;
+use lgp_flexo::Code;
+use lgp_machine::{Look, Machine, OrderFault, TurnFault};
+use lgp_scarce::Scarce;
+use lgp_table::{Cause, Status};
+use lgp_word::Word;
+use linked_list_allocator::LocalHeap;
+use std::alloc::{AllocError, Allocator};
+use std::test::Fail;
+
+/// More growths than any call has.
+const MOST: u64 = 100;
+
+/// How many codes there are, and the numbers of the first three.
+type Codes = (usize, [u8; 3]);
+
+/// What shows, how many words are not 0 and the first three words, the printed codes, and the codes of the tape that have passed
+/// and that are left.
+type Whole = (Look, (u16, [u32; 3]), Codes, Codes, Codes);
+
+fn codes(codes: &[Code]) -> Codes {
+    let mut numbers = [0; 3];
+    for (number, code) in numbers.iter_mut().zip(codes) {
+        *number = code.number();
+    }
+    (codes.len(), numbers)
+}
+
+fn words<A: Allocator>(machine: &Machine<A>) -> (u16, [u32; 3]) {
+    let mut count = 0u16;
+    for at in 0..4096 {
+        if word_at(machine, at) != 0 {
+            count = count.saturating_add(1);
+        }
+    }
+    (count, [0, 1, 2].map(|at| word_at(machine, at)))
+}
+
+/// All that a machine has; `None` within an activity.
+fn whole<A: Allocator>(machine: &Machine<A>) -> Option<Whole> {
+    Some((
+        look(machine)?,
+        words(machine),
+        codes(machine.printed()),
+        codes(machine.tape_passed()?),
+        codes(machine.tape_left()?),
+    ))
+}
+
+/// A machine in its opening state with these words, as many as are not 0.
+fn opening(words: (u16, [u32; 3])) -> Option<Whole> {
+    let look = shown(0, 0, 0, Status::Halted(Cause::Operator), 0)?;
+    Some((look, words, (0, [0; 3]), (0, [0; 3]), (0, [0; 3])))
+}
+
+/// Makes a machine with each growth refused in turn. What it has; `None` where a growth is refused and it is made, or where none
+/// is and it is not.
+fn made<B: Allocator>(scarce: &Scarce<B>) -> Option<Whole> {
+    for nth in 1..MOST {
+        scarce.refuse(nth);
+        let made = Machine::new(scarce);
+        if made.is_ok() == scarce.was_refused() {
+            return None;
+        }
+        if let Ok(machine) = made {
+            return if nth > 1 { whole(&machine) } else { None };
+        }
+    }
+    None
+}
+
+#[test]
+fn each_growth_of_a_new_machine_is_refused(rt: HostRuntime) -> Result<(), Fail> {
+    let heap = LocalHeap::new(rt.alloc(), 262144)?;
+    let scarce = Scarce::new(&heap);
+    assert_eq!(rt; (made(&scarce), heap.used()), (opening((0, [0; 3])), 0));
+    Ok(())
+}
+
+/// A drum with two words.
+fn drum_of_two<A: Allocator + Copy>(alloc: A) -> Result<Drum<A>, AllocError> {
+    let mut drum = Drum::new(alloc)?;
+    drum.put(address(1), Word::of_bits(4));
+    drum.put(address(4095), Word::of_bits(6));
+    Ok(drum)
+}
+
+/// Makes a machine that begins with a drum, with each growth refused in turn; a drum that is handed back is tried again. What it
+/// has; `None` as above.
+fn made_with<'s, B: Allocator>(scarce: &'s Scarce<B>, drum: Drum<&'s Scarce<B>>) -> Option<Whole> {
+    let mut drum = drum;
+    for nth in 1..MOST {
+        scarce.refuse(nth);
+        match Machine::with_drum(scarce, drum) {
+            Ok(machine) if nth > 1 && !scarce.was_refused() => return whole(&machine),
+            Ok(_) => return None,
+            Err(refused) => drum = refused.value,
+        }
+        if !scarce.was_refused() {
+            return None;
+        }
+    }
+    None
+}
+
+#[test]
+fn each_growth_beside_a_drum_is_refused(rt: HostRuntime) -> Result<(), Fail> {
+    let scarce = Scarce::new(rt.alloc());
+    let drum = drum_of_two(&scarce)?;
+    assert_eq!(rt; made_with(&scarce, drum), opening((2, [0, 4, 0])));
+    Ok(())
+}
+
+/// A print, and then an input.
+const PRINT_AND_INPUT: [(u16, u32); 3] = [(0, PRINT), (1, 0x0008_0000), (2, 0x0004_0000)];
+
+/// A machine that has printed, and has read the first three of the five codes on its tape.
+fn within_a_tape<A: Allocator + Copy>(alloc: A) -> Result<Machine<A>, Fail> {
+    let mut machine = with_words(alloc, &PRINT_AND_INPUT)?;
+    start_with_tape(&mut machine, alloc, b"12'3'")?;
+    for _ in 0..3 {
+        next_order(&mut machine)?;
+    }
+    Ok(machine)
+}
+
+/// What it has. The print ends at 451, the order that switches the reader on at 460, and the input at 468 and three codes later.
+fn shown_within_a_tape() -> Option<Whole> {
+    let look = shown(3, 0x12, 0x0004_0000, Status::Going, 1621)?;
+    let words = (3, [PRINT, 0x0008_0000, 0x0004_0000]);
+    Some((
+        look,
+        words,
+        (1, [57, 0, 0]),
+        (3, [6, 10, 32]),
+        (2, [14, 32, 0]),
+    ))
+}
+
+/// Copies a machine with each growth refused in turn. What the copy has; `None` as above, and where the machine is another one
+/// after a refusal.
+fn copied<B: Allocator>(scarce: &Scarce<B>, machine: &Machine<&Scarce<B>>) -> Option<Whole> {
+    for nth in 1..MOST {
+        scarce.refuse(nth);
+        let copied = machine.copy();
+        if copied.is_ok() == scarce.was_refused() || whole(machine) != shown_within_a_tape() {
+            return None;
+        }
+        if let Ok(copy) = copied {
+            return if nth > 1 { whole(&copy) } else { None };
+        }
+    }
+    None
+}
+
+#[test]
+fn each_growth_of_a_copy_is_refused(rt: HostRuntime) -> Result<(), Fail> {
+    let scarce = Scarce::new(rt.alloc());
+    let machine = within_a_tape(&scarce)?;
+    assert_eq!(rt; copied(&scarce, &machine), shown_within_a_tape());
+    Ok(())
+}
+
+/// What the next order answers: its word times, the status after it and what it prints.
+type Answer = Result<(u64, Status, Option<Code>), OrderFault>;
+
+/// A print whose growth is refused: the answer, and what the machine has then; and the same by word times.
+type Refused = (Answer, Option<Whole>, (u64, Result<bool, TurnFault>), bool);
+
+/// Prints in one call and then by its word times, with the first growth refused.
+fn print_refused<B: Allocator>(scarce: &Scarce<B>, machine: &mut Machine<&Scarce<B>>) -> Refused {
+    scarce.refuse(1);
+    let answer = next_order(machine);
+    let after = whole(machine);
+    scarce.refuse(1);
+    let turned = turns(machine, 500);
+    (answer, after, turned, scarce.was_refused())
+}
+
+/// The last word time of the print with the second growth refused, which does not come; and what the machine has then.
+fn print_ended<B: Allocator>(
+    scarce: &Scarce<B>,
+    machine: &mut Machine<&Scarce<B>>,
+) -> (Result<bool, TurnFault>, bool, Option<Whole>) {
+    scarce.refuse(2);
+    let answer = turn(machine);
+    (answer, scarce.was_refused(), whole(machine))
+}
+
+/// A machine that is started on a print, and has printed so many codes.
+fn shown_at_print(printed: usize, look: Option<Look>) -> Option<Whole> {
+    let codes = (printed, if printed > 0 { [57, 0, 0] } else { [0; 3] });
+    Some((look?, (1, [PRINT, 0, 0]), codes, (0, [0; 3]), (0, [0; 3])))
+}
+
+#[test]
+fn a_code_without_room_is_not_printed(rt: HostRuntime) -> Result<(), Fail> {
+    let scarce = Scarce::new(rt.alloc());
+    let mut machine = started(&scarce, &[(0, PRINT)])?;
+    let refused = print_refused(&scarce, &mut machine);
+    let still = (printed(&machine), look(&machine));
+    let ended = print_ended(&scarce, &mut machine);
+    let before = shown_at_print(0, shown(0, 0, 0, Status::Going, 0));
+    let after = shown_at_print(1, shown(1, 0, PRINT, Status::Going, 451));
+    let by_turns = (451, Err(TurnFault::Memory));
+    assert_eq!(rt;
+        (refused, still, ended),
+        (
+            (Err(OrderFault::Memory), before, by_turns, true),
+            ((0, None), None),
+            (Ok(true), false, after)
+        )
+    );
+    Ok(())
+}
