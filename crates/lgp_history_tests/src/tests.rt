@@ -1,4 +1,181 @@
-//! Both histories by their calls.
+//! Histories beside a machine.
 
-mod memory;
+ghost use Rattle.std.specs.Prelude.{◌≡◌, ◌≤◌, IsTrue, IfOk, OnOk, OnErr};
+ghost use Rattle.lgp_table.specs.Interleaving.{at_boundary};
+ghost use Rattle.lgp_history.specs.Steps.{CanStep, stepped};
+
+mod growths;
 mod rows;
+
+use lgp_flexo::TAPE_LIMIT;
+use lgp_history::{BackFault, Checkpoints, History, Records, Step};
+use lgp_machine::Machine;
+use lgp_table::Status;
+use lgp_word::{Address, Word};
+use std::alloc::{AllocError, Allocator};
+use std::marker::Model;
+use std::test::Fail;
+
+const CLOCK_END: u64 = 1 << 62;
+
+/// A transfer to 0000.
+const TRANSFER: u32 = 0x000a_0000;
+
+/// A machine at a boundary and a history of it. Nothing is said of it but that its calls can be made.
+#[derive(Drop)]
+struct Session<A: Allocator, H: History<A>> {
+    machine: Machine<A>,
+    history: H,
+}
+
+impl<A: Allocator, H: History<A>> Model for Session<A, H> {
+    ghost use Rattle.std.specs.Prelude.{◌≡◌, ℕ};
+    ghost use Rattle.lgp_table.specs.Interleaving.{at_boundary};
+    ghost use Rattle.lgp_history.specs.Steps.{Leads};
+
+    ghost Value = { ℕ };
+
+    ghost view = { λ session. session.machine.state.clock };
+
+    ghost invariant = { λ session. (session.machine ≡ at_boundary session.machine.state)
+        × Leads (H.steps session.history session.machine.state) session.machine.state };
+}
+
+/// A machine with these words at 0000 and 0001.
+fn programmed<A: Allocator + Copy>(alloc: A, first: u32, second: u32) -> Result<Machine<A>, Fail>
+    ensures { IfOk result (λ machine. machine ≡ at_boundary machine.state) }
+{
+    let mut machine = Machine::new(alloc)?;
+    machine.put(address(0), Word::of_bits(first))?;
+    machine.put(address(1), Word::of_bits(second))?;
+    Ok(machine)
+}
+
+/// The address of that number, or 0000 above all.
+fn address(number: u16) -> Address {
+    Address::new(number).unwrap_or_default()
+}
+
+/// A session of this machine, with nothing kept.
+fn begin<A: Allocator, H: History<A>>(machine: Machine<A>, history: H) -> Session<A, H>
+    requires { machine ≡ at_boundary machine.state }
+{
+    let mut history = history;
+    history.clear();
+    Session { machine, history }
+}
+
+/// A session with records of at most `capacity` steps, of a machine with these words at 0000 and 0001.
+fn recording<A: Allocator + Copy>(
+    alloc: A,
+    capacity: usize,
+    words: [u32; 2],
+) -> Result<Session<A, Records<A>>, Fail>
+    requires some { 1 ≤ capacity }
+    requires few { capacity ≤ 65536 }
+{
+    let history = Records::new(alloc, capacity)?;
+    let machine = programmed(alloc, words[0], words[1])?;
+    Ok(begin(machine, history))
+}
+
+/// The same with checkpoints.
+fn checkpointing<A: Allocator + Copy>(
+    alloc: A,
+    capacity: usize,
+    words: [u32; 2],
+) -> Result<Session<A, Checkpoints<A>>, Fail>
+    requires some { 1 ≤ capacity }
+    requires few { capacity ≤ 65536 }
+{
+    let history = Checkpoints::new(alloc, capacity)?;
+    let machine = programmed(alloc, words[0], words[1])?;
+    Ok(begin(machine, history))
+}
+
+/// Whether a step can be taken.
+fn can_step<A: Allocator>(machine: &Machine<A>, step: &Step<A>) -> bool
+    requires { machine.now ≡ at_boundary machine.now.state }
+    ensures { IsTrue result → CanStep step.now machine.now.state }
+{
+    let (Some(ahead), Some(look)) = (machine.ahead(), machine.look()) else {
+        return false;
+    };
+    match step {
+        Step::Perform => {
+            !look.status.is_at_rest()
+                && look.clock <= CLOCK_END
+                && ahead.cost <= CLOCK_END - look.clock
+        }
+        Step::Press(action) => machine.live(*action) == Some(true),
+        Step::Idle(times) => {
+            look.status.is_at_rest() && look.clock <= CLOCK_END && *times <= CLOCK_END - look.clock
+        }
+        Step::Mount(tape) => look.status.is_at_rest() && tape.codes().len() <= TAPE_LIMIT,
+        Step::Put(..) => look.status.is_at_rest(),
+    }
+}
+
+/// Takes a step that can be taken, without keeping it.
+fn do_step<A: Allocator + Clone>(machine: &mut Machine<A>, step: &Step<A>) -> Result<(), AllocError>
+    requires boundary { machine.old ≡ at_boundary machine.old.state }
+    requires possible { CanStep step.now machine.old.state }
+    ensures done { OnOk result (machine.new ≡ at_boundary (stepped step.now machine.old.state)) }
+    ensures unchanged { OnErr result (machine.new ≡ machine.old) }
+{
+    let done = match step {
+        Step::Perform => machine.next_order().is_ok(),
+        Step::Press(action) => machine.press(*action).is_ok(),
+        Step::Idle(times) => machine.rest(*times).is_ok(),
+        Step::Mount(tape) => machine.mount(tape.copy()?.into_codes()).is_ok(),
+        Step::Put(address, word) => machine.put(*address, *word).is_ok(),
+    };
+    if done { Ok(()) } else { Err(AllocError) }
+}
+
+/// Takes a step and keeps it; false, and nothing changes, where it cannot be taken. A refused growth changes nothing either.
+fn take<A: Allocator + Clone, H: History<A>>(
+    session: &mut Session<A, H>,
+    step: &Step<A>,
+) -> Result<bool, AllocError> {
+    if !can_step(&session.machine, step) {
+        return Ok(false);
+    }
+    let note = session.history.prepare(&session.machine, step)?;
+    do_step(&mut session.machine, step)?;
+    session.history.note(note);
+    Ok(true)
+}
+
+/// Goes back `orders` orders, at least 1.
+fn back<A: Allocator, H: History<A>>(
+    session: &mut Session<A, H>,
+    orders: u64,
+) -> Result<(), BackFault>
+    requires some { 1 ≤ orders }
+{
+    session.history.back(orders, &mut session.machine)
+}
+
+/// Performs so many orders; `None` where one is refused.
+fn orders<A: Allocator + Clone, H: History<A>>(
+    session: &mut Session<A, H>,
+    count: u64,
+) -> Option<()> {
+    for _ in 0..count {
+        if take(session, &Step::Perform) != Ok(true) {
+            return None;
+        }
+    }
+    Some(())
+}
+
+/// The clock, the status, how many steps are kept and how many orders.
+type Seen = (u64, Status, u64, u64);
+
+/// What is seen at a boundary; `None` within an activity.
+fn seen<A: Allocator, H: History<A>>(session: &Session<A, H>) -> Option<Seen> {
+    let look = session.machine.look()?;
+    let (steps, orders) = (session.history.kept(), session.history.orders_kept());
+    Some((look.clock, look.status, steps, orders))
+}
