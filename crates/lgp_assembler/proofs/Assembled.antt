@@ -1,5 +1,5 @@
 -- What the draft of a whole source is.
-use Rattle.std.proofs.Common.{◌≡◌, ◌++◌, ℕ, Bool, List, [], ◌∷◌, Option, refl, sym, ap, ◌∙◌}
+use Rattle.std.proofs.Common.{◌≡◌, ◌++◌, ℕ, Bool, List, [], ◌∷◌, Option, refl, sym, ap, subst, ◌∙◌}
 use Rattle.std.proofs.Common.{Result, Ok, Err, IfOk, OnOk, IfErr}
 use Rattle.lgp_assembler.specs.declared.refusal.AssembleError.{AssembleError}
 use Rattle.lgp_assembler.specs.declared.refusal.AssembleError.TheVariants.{Faults, Memory}
@@ -7,9 +7,10 @@ use Rattle.lgp_assembler.specs.Answers.{IfFaults}
 use Rattle.lgp_assembler.specs.declared.refusal.Fault.{Fault}
 use Rattle.lgp_assembler.specs.Places.{has_ended, names_of}
 use Rattle.lgp_assembler.specs.Faults.{end_fault, faults_in}
-use Rattle.lgp_assembler.specs.Parts.{ImageParts, AreProgramCells}
+use Rattle.lgp_assembler.specs.Parts.{ImageParts, AreProgramCells, HaveOwnPlaces}
 use Rattle.lgp_assembler.specs.Image.{all_lines, cells_in, start_in, faults_of, image_of}
 use Rattle.lgp_assembler.specs.ScanInside.{Stands, IsDraftOf}
+use Rattle.lgp_assembler.proofs.OwnPlaces.{own_places}
 
 pub first_none : (xs ys : List Fault) → xs ++ ys ≡ [] → xs ≡ []
 first_none [] ys e = refl
@@ -39,6 +40,13 @@ pub cells_clear : (source : List ℕ) (names : List (List ℕ × ℕ)) (faults m
     → IsDraftOf names faults cells start symbols (all_lines source) → all ≡ faults ++ more → all ≡ [] → AreProgramCells cells
 cells_clear source names faults more all cells start symbols d e none =
     (d.image (first_none faults more (sym e ∙ none))).program
+
+-- which lie at places of their own
+pub cells_apart : (source : List ℕ) (names : List (List ℕ × ℕ)) (faults more all : List Fault) (cells : List (ℕ × ℕ)) (start : Option ℕ) (symbols : List (List ℕ × ℕ))
+    → IsDraftOf names faults cells start symbols (all_lines source) → all ≡ faults ++ more → all ≡ [] → HaveOwnPlaces cells
+cells_apart source names faults more all cells start symbols d e none =
+    let clear = first_none faults more (sym e ∙ none) in
+    subst HaveOwnPlaces (sym (d.image clear).cells_are) (own_places names (all_lines source) (sym d.faults_are ∙ clear))
 
 -- what an image is, where it is that of a draft without faults
 pub ok_image : {E : Type 0} (r : Result ImageParts E) (draft image : ImageParts) (P : Type 0) → IfOk r (λ i. i ≡ draft) → OnOk r P → (P → draft ≡ image) → IfOk r (λ i. i ≡ image)

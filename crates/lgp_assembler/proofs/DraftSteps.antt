@@ -10,7 +10,6 @@ use Rattle.std.proofs.lemmas.Option.{none-some, cond_some}
 use Rattle.lgp_word.specs.Digits.{address_text, two_at}
 use Rattle.lgp_assembler.specs.declared.operations.Operation.{Operation}
 use Rattle.lgp_assembler.specs.declared.operations.Operation.TheVariants.{Order, MinusT, Org, Word, Frac, Int, End}
-use Rattle.lgp_assembler.specs.declared.output.TheConstants.{NAME_LIMIT}
 use Rattle.lgp_assembler.specs.declared.operands.Meaning.{Meaning}
 use Rattle.lgp_assembler.specs.declared.operands.Meaning.TheVariants.{Cell, Place, Nothing}
 use Rattle.lgp_assembler.specs.declared.operands.OperandFault.{OperandFault}
@@ -137,7 +136,7 @@ line_fits (Some operation) names here place line small = meaning_fits names here
 
 -- ---- the cell of a line is one of a program
 
-word_free : (line : LineFields) (place : ℕ) → (has_word line && is_loaders place) ≡ false → has_word line ≡ true → is_loaders place ≡ false
+pub word_free : (line : LineFields) (place : ℕ) → (has_word line && is_loaders place) ≡ false → has_word line ≡ true → is_loaders place ≡ false
 word_free line place e word = sym (ap (λ w. w && is_loaders place) word) ∙ e
 
 one_cell : (place : ℕ) (r : Result Meaning OperandFault) → CellFits place r → IfCell r (λ word. is_loaders place ≡ false) → IfCell r IsWord → AreProgramCells (option_to_list (cell_at place r))
@@ -178,12 +177,12 @@ cells_append (cell ∷ one) other all more = (all.0, cells_append one other all.
 
 -- ---- a label that is new
 
-label_short : (label : List ℕ) → is_bad_label (Some label) ≡ false → length label ≤ NAME_LIMIT
+label_short : (label : List ℕ) → is_bad_label (Some label) ≡ false → length label ≤ 8
 unfolding is_name
 label_short label e =
     let name : is_name label ≡ true = not-false (is_name label) e in
     let parts = and_parts _ _ name in
-    leb-true (length label) NAME_LIMIT parts.1
+    leb-true (length label) 8 parts.1
 
 symbol_fits : (label : Option (List ℕ)) (place : ℕ) → is_bad_label label ≡ false → place ≤ 4096 → SymbolFits label place
 symbol_fits None place e within = tt

@@ -4,7 +4,7 @@ pub mod FieldReads
 pub mod ScanSteps
 pub mod Rows
 pub mod DraftSteps
-pub mod Assembled
 pub mod PlaceLaws
 pub mod LineCells
-pub mod Counted
+pub mod OwnPlaces
+pub mod Assembled

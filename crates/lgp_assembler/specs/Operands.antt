@@ -14,7 +14,6 @@ use Rattle.lgp_fraction.specs.declared.fraction.FractionFault.TheVariants.{Form,
 use Rattle.lgp_fraction.specs.Arithmetic.{low_bits}
 use Rattle.lgp_fraction.specs.Decimal.{decimal_fraction}
 use Rattle.lgp_flexo.specs.Code.{code_at}
-use Rattle.lgp_assembler.specs.declared.output.TheConstants.{NAME_LIMIT}
 use Rattle.lgp_assembler.specs.declared.operations.Operation.{Operation}
 use Rattle.lgp_assembler.specs.declared.operations.Operation.TheVariants.{Order, MinusT, Org, Word, Frac, Int, End}
 use Rattle.lgp_assembler.specs.declared.operands.OperandFault.{OperandFault}
@@ -29,7 +28,7 @@ is_name_byte b = is_ascii_lowercase b || is_ascii_digit b
 
 -- a name: a letter from a to z, then at most seven letters or digits
 unfoldable pub is_name : List ℕ → Bool
-is_name text = is_ascii_lowercase (slice_index text 0) && list_all is_name_byte text && nat_le (length text) NAME_LIMIT
+is_name text = is_ascii_lowercase (slice_index text 0) && list_all is_name_byte text && nat_le (length text) 8
 
 -- ---- address operands
 

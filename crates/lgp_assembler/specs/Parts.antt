@@ -1,7 +1,7 @@
--- Part of the public promise: what an image is, and which places the loader keeps. This project's own choice.
-use Rattle.std.specs.Prelude.{◌≡◌, ℕ, ◌<◌, ◌&&◌, nat_le, nat_lt, Bool, false, List, [], ◌∷◌, Option}
+-- Part of the public promise: what an image is, where its words lie, and which places the loader keeps. This project's own choice.
+use Rattle.std.specs.Prelude.{◌≡◌, ◌≢◌, ◌⊎◌, ℕ, ◌<◌, ◌≤◌, ◌&&◌, nat_le, nat_lt, Bool, false, List, [], ◌∷◌, Option, length}
+use Rattle.std.specs.List.{All, AllPairs}
 use Rattle.lgp_word.specs.Word.{IsWord}
-use Rattle.lgp_assembler.specs.declared.output.TheConstants.{LOADER_PLACES}
 
 -- the words with their places in order of the lines, the start, and the names with their values in order of the lines
 pub record ImageParts : Type 0 where
@@ -9,9 +9,9 @@ pub record ImageParts : Type 0 where
   pub start : Option ℕ
   pub symbols : List (List ℕ × ℕ)
 
--- the places of the loader
+-- the places of the loader, 6300 to 6321: 4032 to 4053
 abbrev pub is_loaders : ℕ → Bool
-is_loaders place = nat_le LOADER_PLACES.start place && nat_lt place LOADER_PLACES.end
+is_loaders place = nat_le 4032 place && nat_lt place 4054
 
 -- a cell of a program: a word on the drum, at no place of the loader
 abbrev pub IsProgramCell : ℕ × ℕ → Type 0
@@ -20,3 +20,11 @@ IsProgramCell cell = (cell.0 < 4096) × (is_loaders cell.0 ≡ false) × IsWord 
 abbrev pub AreProgramCells : List (ℕ × ℕ) → Type 0
 AreProgramCells [] = Unit {0}
 AreProgramCells (cell ∷ cells) = IsProgramCell cell × AreProgramCells cells
+
+-- where the words of a source lie: each at a place of its own, on the drum, at none of the loader's 22 places; so they are at most
+-- 4,074
+pub record HaveOwnPlaces (cells : List (ℕ × ℕ)) : Type 0 where
+  pub apart : AllPairs (λ one other. one.0 ≢ other.0) cells
+  pub on_drum : All (λ cell. cell.0 < 4096) cells
+  pub free : All (λ cell. (cell.0 < 4032) ⊎ (4053 < cell.0)) cells
+  pub few : length cells ≤ 4074

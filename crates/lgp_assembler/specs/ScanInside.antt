@@ -1,7 +1,6 @@
 -- Serves proofs only: what the assembler keeps of the lines that it has passed, the nearest first.
-use Rattle.std.specs.Prelude.{◌≡◌, ℕ, ◌<◌, ◌≤◌, Bool, false, List, length, slice_index_or, ◌+◌, ◌∷◌, if◌then◌else◌}
+use Rattle.std.specs.Prelude.{◌≡◌, ℕ, ◌<◌, ◌≤◌, Bool, false, List, length, slice_index_or}
 use Rattle.std.specs.Prelude.{[], Option, None, Some, Result, Ok}
-use Rattle.lgp_assembler.specs.declared.output.TheConstants.{NAME_LIMIT}
 use Rattle.lgp_assembler.specs.declared.operands.Meaning.{Meaning}
 use Rattle.lgp_assembler.specs.declared.operands.Meaning.TheVariants.{Cell}
 use Rattle.lgp_assembler.specs.declared.operands.OperandFault.{OperandFault}
@@ -24,11 +23,6 @@ pub record AreMarks (taken : List Bool) (earlier : List LineFields) : Type 0 whe
   pub length_is : length taken ≡ 4096
   pub marks_are : (p : ℕ) → p < 4096 → slice_index_or taken p false ≡ is_taken p earlier
 
--- how many places are marked
-abbrev pub marked_count : List Bool → ℕ
-marked_count [] = 0
-marked_count (mark ∷ taken) = (if mark then 1 else 0) + marked_count taken
-
 -- the fault of the line that comes, by what is kept of the lines before it
 abbrev pub kept_fault : LineFields → Result Meaning OperandFault → ℕ → Bool → List (List ℕ × ℕ) → List Bool → Option FaultKind
 kept_fault line meaning place ended before taken =
@@ -47,7 +41,7 @@ IfCell _ P = Unit {0}
 -- a label has at most eight bytes, and its value is at most one past the drum
 abbrev pub SymbolFits : Option (List ℕ) → ℕ → Type 0
 SymbolFits None place = Unit {0}
-SymbolFits (Some label) place = (length label ≤ NAME_LIMIT) × (place ≤ 4096)
+SymbolFits (Some label) place = (length label ≤ 8) × (place ≤ 4096)
 
 abbrev pub symbol_at : Option (List ℕ) → ℕ → Option (List ℕ × ℕ)
 symbol_at None place = None

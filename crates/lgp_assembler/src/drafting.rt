@@ -205,11 +205,9 @@ pub fn draft_source<'a, A: Allocator + Copy>(
     source: &'a [u8],
     names: &Names<'a, A>,
 ) -> Result<Draft<A>, AllocError>
-    ensures draft { let lines = all_lines source.now in
+    ensures { let lines = all_lines source.now in
         IfOk result (λ draft. IsDraftOf names.now draft.faults.items
         draft.parts.cells.items draft.parts.start draft.parts.symbols.items lines) }
-    ensures few { IfOk result (λ draft.
-        draft.faults.items ≡ [] → length draft.parts.cells.items ≤ 4096) }
 {
     let mut scan = Scan::new(alloc);
     let mut draft = Draft::new(alloc)?;

@@ -5,7 +5,7 @@ ghost use Rattle.std.specs.Prelude.{◌≡◌, ◌≢◌, ◌+◌, ◌++◌, ◌
 ghost use Rattle.lgp_assembler.specs.Answers.{IfFaults};
 ghost use Rattle.lgp_assembler.specs.Faults.{end_fault};
 ghost use Rattle.lgp_assembler.specs.Image.{faults_of, image_of};
-ghost use Rattle.lgp_assembler.specs.Parts.{AreProgramCells};
+ghost use Rattle.lgp_assembler.specs.Parts.{AreProgramCells, HaveOwnPlaces};
 
 use drafting::{Draft, draft_source};
 pub use laws::{names_are_first_places, places_count_from_orgs};
@@ -48,7 +48,7 @@ fn add_missing_end<A: Allocator>(
 /// The image of a draft without faults, or else its faults.
 fn image_or_faults<A: Allocator>(draft: Draft<A>) -> Result<Image<A>, AssembleError<A>>
     requires program { draft.faults.items ≡ [] → AreProgramCells draft.parts.cells.items }
-    requires few { draft.faults.items ≡ [] → length draft.parts.cells.items ≤ 4096 }
+    requires places { draft.faults.items ≡ [] → HaveOwnPlaces draft.parts.cells.items }
     ensures image { IfOk result (λ image. image ≡ record {
       cells = draft.parts.cells.items;
       start = draft.parts.start;

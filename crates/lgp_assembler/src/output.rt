@@ -2,7 +2,7 @@
 
 ghost use Rattle.std.specs.Prelude.{◌≡◌, ◌≤◌, ◌↔◌, ◌++◌, [], None, length, IsSome, IfSome};
 ghost use Rattle.lgp_word.specs.Address.{IsAddress};
-ghost use Rattle.lgp_assembler.specs.Parts.{AreProgramCells};
+ghost use Rattle.lgp_assembler.specs.Parts.{AreProgramCells, HaveOwnPlaces};
 
 use arrayvec::ArrayVec;
 use lgp_word::{Address, Word};
@@ -81,8 +81,7 @@ pub struct Image<A: Allocator = Global> {
 }
 
 impl<A: Allocator> Model for Image<A> {
-    ghost use Rattle.std.specs.Prelude.{◌≤◌, length};
-    ghost use Rattle.lgp_assembler.specs.Parts.{ImageParts, AreProgramCells};
+    ghost use Rattle.lgp_assembler.specs.Parts.{AreProgramCells, HaveOwnPlaces, ImageParts};
 
     ghost Value = { ImageParts };
 
@@ -93,13 +92,13 @@ impl<A: Allocator> Model for Image<A> {
     } };
 
     ghost invariant = { λ image.
-        AreProgramCells image.parts.cells.items × (length image.parts.cells.items ≤ 4096) };
+        AreProgramCells image.parts.cells.items × HaveOwnPlaces image.parts.cells.items };
 }
 
 impl<A: Allocator> Image<A> {
     pub(crate) fn new(parts: Parts<A>) -> Image<A>
         requires program { AreProgramCells parts.cells.items }
-        requires few { length parts.cells.items ≤ 4096 }
+        requires places { HaveOwnPlaces parts.cells.items }
         ensures { result ≡ record {
           cells = parts.cells.items;
           start = parts.start;
@@ -109,11 +108,12 @@ impl<A: Allocator> Image<A> {
         Image { parts }
     }
 
-    /// The words of the program with their addresses, in order of the source's lines. None lies at
-    /// one of the loader's places, and there are at most 4096.
+    /// The words of the program with their addresses, in order of the source's lines. Each has an
+    /// address of its own, which is none of the loader's 22 places; so there are at most 4,074.
     pub fn cells(&self) -> &[(Address, Word)]
         ensures value { result.now ≡ self.now.cells }
         ensures program { AreProgramCells self.now.cells }
+        ensures places { HaveOwnPlaces self.now.cells }
         ensures few { length self.now.cells ≤ 4096 }
     {
         self.parts.cells.as_slice()

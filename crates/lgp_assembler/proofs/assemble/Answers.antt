@@ -1,7 +1,7 @@
 use Rattle.std.proofs.Common.{sym, ◌∙◌}
 use Rattle.lgp_assembler.specs.Parts.{ImageParts}
 use Rattle.lgp_assembler.specs.Image.{image_of, faults_of}
-use Rattle.lgp_assembler.proofs.Assembled.{faults_told, image_made, ok_image, ok_faultless, err_faults, cells_clear, first_none}
+use Rattle.lgp_assembler.proofs.Assembled.{faults_told, image_made, ok_image, ok_faultless, err_faults, cells_apart, cells_clear}
 use Rattle.lgp_assembler.proofs.assemble.Goals as goal
 
 pub returns : goal.returns
@@ -10,8 +10,8 @@ returns g c =
     let scan = c.in_ok-scan.scan in
     let draft = c.in_ok-draft.draft in
     let last = c.in_ok-add_missing_end.ensures in
-    let told = faults_told source scan.lines scan.place scan.ended scan.names draft.faults.items draft.parts.cells.items draft.parts.start draft.parts.symbols.items c.in_ok-scan.ensures.stands c.in_ok-draft.ensures.draft in
-    let made = image_made source scan.lines scan.place scan.ended scan.names draft.faults.items draft.parts.cells.items draft.parts.start draft.parts.symbols.items c.in_ok-scan.ensures.stands c.in_ok-draft.ensures.draft in
+    let told = faults_told source scan.lines scan.place scan.ended scan.names draft.faults.items draft.parts.cells.items draft.parts.start draft.parts.symbols.items c.in_ok-scan.ensures.stands c.in_ok-draft.ensures in
+    let made = image_made source scan.lines scan.place scan.ended scan.names draft.faults.items draft.parts.cells.items draft.parts.start draft.parts.symbols.items c.in_ok-scan.ensures.stands c.in_ok-draft.ensures in
     let r = c.image_or_faults.result in
     let answer = c.image_or_faults.ensures in
     let parts : ImageParts = record { cells = draft.parts.cells.items; start = draft.parts.start; symbols = draft.parts.symbols.items } in
@@ -26,7 +26,9 @@ pub image_or_faults-requires-clause-program : goal.image_or_faults-requires-clau
 image_or_faults-requires-clause-program g c =
     let scan = c.in_ok-scan.scan in
     let draft = c.in_ok-draft.draft in
-    λ none. cells_clear c.args.source.now scan.names draft.faults.items _ _ draft.parts.cells.items draft.parts.start draft.parts.symbols.items c.in_ok-draft.ensures.draft c.in_ok-add_missing_end.ensures none
+    λ none. cells_clear c.args.source.now scan.names draft.faults.items _ _ draft.parts.cells.items draft.parts.start draft.parts.symbols.items c.in_ok-draft.ensures c.in_ok-add_missing_end.ensures none
 
-pub image_or_faults-requires-clause-few : goal.image_or_faults-requires-clause-few
-image_or_faults-requires-clause-few g c = λ none. c.in_ok-draft.ensures.few (first_none _ _ (sym c.in_ok-add_missing_end.ensures ∙ none))
+pub image_or_faults-requires-clause-places : goal.image_or_faults-requires-clause-places
+image_or_faults-requires-clause-places g c =
+    let draft = c.in_ok-draft.draft in
+    λ none. cells_apart c.args.source.now c.in_ok-scan.scan.names draft.faults.items _ _ draft.parts.cells.items draft.parts.start draft.parts.symbols.items c.in_ok-draft.ensures c.in_ok-add_missing_end.ensures none

@@ -9,7 +9,6 @@ use Rattle.lgp_assembler.specs.Image.{all_lines, passed_lines, cells_in, start_i
 use Rattle.lgp_assembler.specs.ScanInside.{Stands, AreMarks, IsDraftOf}
 use Rattle.lgp_assembler.proofs.ScanSteps.{marks_step, stands_step, names_at, place_at, word_count_small}
 use Rattle.lgp_assembler.proofs.DraftSteps.{draft_step}
-use Rattle.lgp_assembler.proofs.Counted.{counted_step, count_within}
 use Rattle.lgp_assembler.proofs.drafting.draft_source.Goals as goal
 
 pub loop-line-init : goal.loop-line-init
@@ -34,7 +33,6 @@ loop-line-init g c =
           program = subst AreProgramCells (sym c.in_ok-draft.ensures.cells) tt;
         };
       };
-      few_cells = λ _. omega (arith, ap length c.in_ok-draft.ensures.cells);
       rest = ap (λ lines. passed_lines [] (map fields_of lines)) (same ∙ c.new-line-items.ensures.lines);
     }
 
@@ -67,20 +65,12 @@ loop-line-preserved g c =
           (draft_step names line c.loop-line.scan.lines c.loop-line.scan.place c.loop-line.scan.ended c.loop-line.scan.names old.taken.items before.earlier
           old.faults.items draft.faults.items old.parts.cells.items draft.parts.cells.items old.parts.start draft.parts.start old.parts.symbols.items draft.parts.symbols.items
           c.place_of-place.result place_is before.stands before.marks before.draft added.faults added.cells added.start added.symbols added.words);
-      few_cells = counted_step names line c.place_of-place.result c.loop-line.scan.ended c.loop-line.scan.names old.taken.items draft.taken.items
-          old.faults.items draft.faults.items old.parts.cells.items draft.parts.cells.items before.marks.length_is added.faults added.cells added.taken before.few_cells;
       rest = ap (λ lines. passed_lines before.earlier (map fields_of lines)) (sym step) ∙ before.rest;
     }
 
-pub returns-clause-draft : goal.returns-clause-draft
-returns-clause-draft g c =
+pub returns : goal.returns
+returns g c =
     let done = c.loop-line.invariant in
     let draft = c.loop-line.draft in
     let all = ap (λ lines. passed_lines done.earlier (map fields_of lines)) (sym c.in-None.ensures.steps.0) ∙ done.rest in
     subst (IsDraftOf c.args.names.now draft.faults.items draft.parts.cells.items draft.parts.start draft.parts.symbols.items) all done.draft
-
-pub returns-clause-few : goal.returns-clause-few
-returns-clause-few g c = λ none.
-    let done = c.loop-line.invariant in
-    let few = done.few_cells none in
-    omega (arith, few, count_within c.loop-line.draft.taken.items, done.marks.length_is)

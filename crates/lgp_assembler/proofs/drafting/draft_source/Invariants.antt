@@ -1,7 +1,7 @@
-use Rattle.std.proofs.Common.{[], ◌≡◌, ◌+◌, ◌≤◌, ◌<◌, ◌^◌, List, length, map}
+use Rattle.std.proofs.Common.{◌≡◌, ◌+◌, ◌≤◌, ◌<◌, ◌^◌, List, length, map}
 use Rattle.lgp_assembler.specs.Fields.{LineFields, fields_of}
 use Rattle.lgp_assembler.specs.Image.{all_lines, passed_lines}
-use Rattle.lgp_assembler.specs.ScanInside.{Stands, AreMarks, marked_count, IsDraftOf}
+use Rattle.lgp_assembler.specs.ScanInside.{Stands, AreMarks, IsDraftOf}
 use Rattle.lgp_assembler.proofs.drafting.draft_source.Given as goal
 
 abbrev pub invariant-loop-line : goal.invariant-loop-line
@@ -14,6 +14,5 @@ invariant-loop-line g l = record {
   stands : Stands l.scan.lines l.scan.place l.scan.ended l.scan.names earlier;
   marks : AreMarks l.draft.taken.items earlier;
   draft : IsDraftOf l.names l.draft.faults.items l.draft.parts.cells.items l.draft.parts.start l.draft.parts.symbols.items earlier;
-  few_cells : l.draft.faults.items ≡ [] → length l.draft.parts.cells.items ≤ marked_count l.draft.taken.items;
   rest : passed_lines earlier (map fields_of l.line-iterator) ≡ all_lines l.source;
 }
