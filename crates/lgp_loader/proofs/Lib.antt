@@ -13,4 +13,5 @@ pub mod BlockWords
 pub mod Blocks
 pub mod BlockLaw
 pub mod Undisturbed
+pub mod Program
 pub mod Loads

@@ -3,16 +3,18 @@ use Rattle.std.proofs.Common.{◌≡◌, ℕ, ◌≤◌, true, sym, ap, ◌∙�
 use Rattle.std.specs.Prelude.{IfSome}
 use Rattle.lgp_word.specs.Address.{IsAddress}
 use Rattle.lgp_table.specs.State.{State}
-use Rattle.lgp_assembler.specs.Parts.{AreProgramCells, ImageParts}
+use Rattle.lgp_assembler.specs.Parts.{AreProgramCells, HaveOwnPlaces, ImageParts}
 use Rattle.lgp_loader.specs.BlockLoading.{block_load, cut_load, left_by_blocks, longest_load, orders_for}
 use Rattle.lgp_loader.specs.Cutting.{are_blocks, cells_of, is_cutting, longest_blocks, pieces_of}
-use Rattle.lgp_loader.specs.Loading.{TapeLoad, load_with}
+use Rattle.lgp_loader.specs.LoadedOver.{IsLoadedOver}
+use Rattle.lgp_loader.specs.Loading.{TapeLoad, load_with, loaded}
 use Rattle.lgp_loader.specs.ReadyInside.{IsReady}
 use Rattle.lgp_loader.specs.SingleLoading.{left_by_single, single_load}
 use Rattle.lgp_loader.proofs.Begun.{calm_in_run}
 use Rattle.lgp_loader.proofs.BlockLaw.{block_is_loader, blocks_run}
 use Rattle.lgp_loader.proofs.Cuts.{as_many_pieces, longest_are_blocks, longest_have_cells, no_more_blocks, pieces_are_blocks, pieces_have_cells}
 use Rattle.lgp_loader.proofs.Lengths.{short_block_tape, short_single_tape}
+use Rattle.lgp_loader.proofs.Program.{blocks_over}
 use Rattle.lgp_loader.proofs.SingleLaw.{single_is_loader, single_runs}
 
 blocks_ready : (s : State) (blocks : List (List (ℕ × ℕ))) (start : Option ℕ) (cells : List (ℕ × ℕ)) → length s.core.words ≡ 4096
@@ -50,6 +52,25 @@ single_ready s image long program few is =
       silent = λ before less. let calm = calm_in_run s (single_load image) (left_by_single s image 0).core runs before less in calm.silent;
       short = short_single_tape image few;
     }
+
+-- what they leave
+cells_over : (s : State) (blocks : List (List (ℕ × ℕ))) (start : Option ℕ) (cells : List (ℕ × ℕ)) → length s.core.words ≡ 4096
+    → are_blocks blocks ≡ true → cells_of blocks ≡ cells → AreProgramCells cells → HaveOwnPlaces cells → IfSome start IsAddress
+    → IsLoadedOver s.core.words (loaded s (block_load blocks start)).core.words cells
+cells_over s blocks start cells long are same program own is =
+    subst (IsLoadedOver s.core.words (loaded s (block_load blocks start)).core.words) same
+    (blocks_over s blocks start long are (subst AreProgramCells (sym same) program) (subst HaveOwnPlaces (sym same) own) is)
+
+pub longest_over : (s : State) (image : ImageParts) → length s.core.words ≡ 4096 → AreProgramCells image.cells → HaveOwnPlaces image.cells → IfSome image.start IsAddress
+    → IsLoadedOver s.core.words (loaded s (longest_load image)).core.words image.cells
+longest_over s image long program own is =
+    cells_over s (longest_blocks image.cells) image.start image.cells long (longest_are_blocks image.cells) (longest_have_cells image.cells) program own is
+
+pub cut_over : (s : State) (image : ImageParts) (counts : List ℕ) → length s.core.words ≡ 4096 → is_cutting counts image.cells ≡ true
+    → AreProgramCells image.cells → HaveOwnPlaces image.cells → IfSome image.start IsAddress
+    → IsLoadedOver s.core.words (loaded s (cut_load image counts)).core.words image.cells
+cut_over s image counts long cut program own is =
+    cells_over s (pieces_of counts image.cells) image.start image.cells long (pieces_are_blocks counts image.cells cut) (pieces_have_cells counts image.cells cut) program own is
 
 -- a load by its parts
 pub same_load : (load : TapeLoad) (codes : List ℕ) (orders : ℕ) → codes ≡ load.codes → orders ≡ load.orders → load ≡ load_with load.loader codes orders

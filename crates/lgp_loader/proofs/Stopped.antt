@@ -90,7 +90,7 @@ store_more s base (word ∷ words) (suc k) less =
     ∙ ap (λ n. next (about_to_store (words_keyed t (base + 1) (take k words)) n (slice_index words k))) (let e : base + 1 + k ≡ base + suc k = omega arith in e)
 
 -- the clock while words are stored
-keyed_clock : (s : State) (base : ℕ) (words : List ℕ) (k : ℕ) → k < length words
+pub keyed_clock : (s : State) (base : ℕ) (words : List ℕ) (k : ℕ) → k < length words
     → (before_store s base words k).clock + cost (before_store s base words k) ≡ (keyed s base (take (k + 1) words)).clock
 keyed_clock s base words k less =
     ap (λ (t : State). t.clock) (sym (store_more (with_four_bit_input s) base words k less))

@@ -8,4 +8,5 @@ pub mod BlockLoading
 pub mod SinglePlaces
 pub mod SingleTape
 pub mod SingleLoading
+pub mod LoadedOver
 pub mod ReadyInside

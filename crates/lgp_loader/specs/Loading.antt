@@ -1,5 +1,5 @@
 -- Part of the public promise. Loading: a loader is keyed in, a tape mounted, the loader started, and so many orders performed.
-use Rattle.std.specs.Prelude.{◌≡◌, ℕ, ◌+◌, ◌<◌, ◌≤◌, ◌⊎◌, ◌++◌, Bool, false, nat_lt, List, ◌∷◌, [], Option, None, Some, find, fold, length, map, slice_set, unwrap_or}
+use Rattle.std.specs.Prelude.{◌≡◌, ℕ, ◌+◌, ◌<◌, ◌≤◌, ◌⊎◌, ◌++◌, Bool, false, nat_lt, List, ◌∷◌, [], Option, None, Some, find, fold, length, map, slice_set, sum_by, unwrap_or}
 use Rattle.std.specs.List.{All, range_with_len}
 use Rattle.lgp_word.specs.Word.{IsWord}
 use Rattle.lgp_flexo.specs.Tape.{Tape}
@@ -105,6 +105,10 @@ abbrev pub loading_states : State → TapeLoad → List State
 loading_states s load =
     store_states s loader_base load.loader
     ++ (about_to_jump (prepared s load) loader_base ∷ order_states (begun s load) load.orders)
+
+-- what all these activities cost
+unfoldable pub loading_cost : State → TapeLoad → ℕ
+loading_cost s load = sum_by cost (loading_states s load)
 
 -- where loading meets the end of the clock: in the first of these states whose activity would pass it; None where there is none
 unfoldable pub loading_stopped : State → TapeLoad → Option State

@@ -2,10 +2,11 @@
 
 ghost use Rattle.std.specs.Prelude.{◌≡◌, ◌+◌, ◌≤◌, ℕ, List, IfSome, None, Option, Some, length, true};
 ghost use Rattle.std.specs.List.{count_by, list_all};
-ghost use Rattle.lgp_assembler.specs.Parts.{AreProgramCells, ImageParts};
+ghost use Rattle.lgp_assembler.specs.Parts.{AreProgramCells, HaveOwnPlaces, ImageParts};
 ghost use Rattle.lgp_loader.specs.BlockLoading.{block_load, left_by_blocks};
 ghost use Rattle.lgp_loader.specs.Cutting.{are_blocks, cells_of, is_cutting, longest_blocks, pieces_of};
-ghost use Rattle.lgp_loader.specs.Loading.{EndsLoading, TapeLoad, begun, loaded, loading_stopped};
+ghost use Rattle.lgp_loader.specs.LoadedOver.{IsLoadedOver};
+ghost use Rattle.lgp_loader.specs.Loading.{EndsLoading, TapeLoad, begun, loaded, loading_cost, loading_stopped};
 ghost use Rattle.lgp_loader.specs.SingleLoading.{left_by_single, single_load};
 ghost use Rattle.lgp_machine.specs.Answers.{clock_end};
 ghost use Rattle.lgp_table.specs.After.{total_cost};
@@ -32,8 +33,8 @@ pub fn cuttings()
 /// What loading leaves, in whatever blocks: the words of all blocks over what was on the drum, and the loader at its 22 places,
 /// with the order that would store a word behind the last block in its store cell, no count left, and the end word in its end
 /// cell. The accumulator and the instruction register hold the end word; the tape is read to its end and the reader is off;
-/// nothing has been printed. Without a start the machine has stopped, with one it goes there. The clock has gone on by the sum of
-/// what the orders cost.
+/// nothing has been printed. Without a start the machine has stopped, with one it goes there. Since the loader was started, the
+/// clock has gone on by the sum of what its orders cost.
 #[tactic(auto, using(crate::proofs::BlockLaw::block_laws))]
 pub fn loading()
     ensures left { (s : State) → (blocks : List (List (ℕ × ℕ))) → (start : Option ℕ)
@@ -54,6 +55,24 @@ pub fn single_loading()
         → AreProgramCells image.cells → IfSome image.start IsAddress
         → loaded s (single_load image)
         ≡ left_by_single s image (loaded s (single_load image)).clock }
+{}
+
+/// What loading leaves, in the words of the program, whose cells have places of their own: each cell's word at its place, and
+/// everywhere else, but for the loader's 22 places, the word that was there before. Whatever is loaded, the clock has gone on by
+/// the sum of what all activities cost: the stores of the loader's words, the jump that starts it, and its orders.
+#[tactic(auto, using(crate::proofs::Program::loading_clock))]
+pub fn program_is_loaded()
+    ensures blocks { (s : State) → (blocks : List (List (ℕ × ℕ))) → (start : Option ℕ)
+        → length s.core.words ≡ 4096
+        → are_blocks blocks ≡ true → AreProgramCells (cells_of blocks)
+        → HaveOwnPlaces (cells_of blocks) → IfSome start IsAddress
+        → IsLoadedOver s.core.words (loaded s (block_load blocks start)).core.words
+        (cells_of blocks) }
+    ensures single { (s : State) → (image : ImageParts) → length s.core.words ≡ 4096
+        → AreProgramCells image.cells → HaveOwnPlaces image.cells → IfSome image.start IsAddress
+        → IsLoadedOver s.core.words (loaded s (single_load image)).core.words image.cells }
+    ensures time { (s : State) → (load : TapeLoad)
+        → (loaded s load).clock ≡ s.clock + loading_cost s load }
 {}
 
 /// From the moment a loader has been started nobody's hand on BREAK POINT and TRANSFER CONTROL disturbs it: after as many word

@@ -12,7 +12,8 @@ ghost use Rattle.lgp_keyin.specs.KeyIn.{about_to_jump, keyed, started};
 ghost use Rattle.lgp_loader.specs.BlockLoading.{cut_load, longest_load};
 ghost use Rattle.lgp_loader.specs.BlockPlaces.{block_loader_words};
 ghost use Rattle.lgp_loader.specs.Cutting.{is_cutting};
-ghost use Rattle.lgp_loader.specs.Loading.{BeginsStore, EndsLoading, IsLoader, load_with, loaded};
+ghost use Rattle.lgp_loader.specs.Loading.{BeginsStore, EndsLoading, IsLoader, load_with, loaded, loading_cost};
+ghost use Rattle.lgp_loader.specs.LoadedOver.{IsLoadedOver};
 ghost use Rattle.lgp_loader.specs.ReadyInside.{IsReady};
 ghost use Rattle.lgp_loader.specs.SingleLoading.{single_load};
 ghost use Rattle.lgp_loader.specs.SinglePlaces.{single_loader_words};
@@ -165,7 +166,7 @@ fn perform<M: Operate>(machine: &mut M, orders: u64) -> bool
 
 /// Keys a loader in, mounts a tape, starts the loader and performs so many orders, which are at work and print nothing. Answers
 /// false where the clock would pass its end.
-#[tactic(auto, using(crate::proofs::Ready::tape_steps))]
+#[tactic(auto, using(crate::proofs::Program::tape_loaded))]
 fn load_tape<A: Allocator, M: Operate<Tape = Vec<Code, A>>>(
     machine: &mut M,
     loader: &[Word],
@@ -178,6 +179,9 @@ fn load_tape<A: Allocator, M: Operate<Tape = Vec<Code, A>>>(
         (load_with loader.now tape.items orders) }
     ensures loaded { OnTrue result (M.configuration machine.new ≡ at_boundary
         (loaded (M.configuration machine.old).state (load_with loader.now tape.items orders))) }
+    ensures time { OnTrue result ((M.configuration machine.new).state.clock
+        ≡ (M.configuration machine.old).state.clock + loading_cost
+        (M.configuration machine.old).state (load_with loader.now tape.items orders)) }
     ensures clock { OnTrue result ((loaded (M.configuration machine.old).state
         (load_with loader.now tape.items orders)).clock ≤ clock_end) }
     ensures stands { OnFalse result (EndsLoading (M.configuration machine.new)
@@ -206,6 +210,10 @@ fn read_blocks<A: Allocator, M: Operate<Tape = Vec<Code, A>>>(
     ensures loaded { OnSome result (M.configuration machine.new
         ≡ at_boundary (loaded (M.configuration machine.old).state
         (load_with block_loader_words reading.tape.items reading.orders))) }
+    ensures time { OnSome result ((M.configuration machine.new).state.clock
+        ≡ (M.configuration machine.old).state.clock
+        + loading_cost (M.configuration machine.old).state
+        (load_with block_loader_words reading.tape.items reading.orders)) }
     ensures orders { IfSome result (λ orders. orders ≡ reading.orders) }
     ensures clock { OnSome result ((loaded (M.configuration machine.old).state
         (load_with block_loader_words reading.tape.items reading.orders)).clock ≤ clock_end) }
@@ -234,6 +242,10 @@ fn read_cells<A: Allocator, M: Operate<Tape = Vec<Code, A>>>(
     ensures loaded { OnSome result (M.configuration machine.new
         ≡ at_boundary (loaded (M.configuration machine.old).state
         (load_with single_loader_words reading.tape.items reading.orders))) }
+    ensures time { OnSome result ((M.configuration machine.new).state.clock
+        ≡ (M.configuration machine.old).state.clock
+        + loading_cost (M.configuration machine.old).state
+        (load_with single_loader_words reading.tape.items reading.orders)) }
     ensures orders { IfSome result (λ orders. orders ≡ reading.orders) }
     ensures clock { OnSome result ((loaded (M.configuration machine.old).state
         (load_with single_loader_words reading.tape.items reading.orders)).clock ≤ clock_end) }
@@ -251,7 +263,9 @@ fn read_cells<A: Allocator, M: Operate<Tape = Vec<Code, A>>>(
 }
 
 /// Loads a program, as an operator does: the loader is keyed in, the tape mounted, and the loader started; it then reads the tape,
-/// which has the longest blocks. Answers how many orders the loader performed, 10 for each word, 8 for each block, and 5.
+/// which has the longest blocks. Then each of the program's words lies at its place, and at every other place but the loader's 22
+/// the word that was there before; the clock has gone on by what all activities of loading cost. Answers how many orders the
+/// loader performed, 10 for each word, 8 for each block, and 5.
 ///
 /// Refused, in this order: within an activity (`Moving`), where there is no memory for the tape (`Memory`), both before anything
 /// is pressed; where the clock would pass its end (`ClockEnd`).
@@ -263,6 +277,11 @@ pub fn load<A: Allocator + Copy, B: Allocator, M: Operate<Tape = Vec<Code, A>>>(
     requires tapes { M.codes ≡ (λ tape. tape.items) }
     ensures loaded { OnOk result (M.configuration machine.new
         ≡ at_boundary (loaded (M.configuration machine.old).state (longest_load image.now))) }
+    ensures program { OnOk result (IsLoadedOver (M.configuration machine.old).state.core.words
+        (M.configuration machine.new).state.core.words image.now.cells) }
+    ensures time { OnOk result ((M.configuration machine.new).state.clock
+        ≡ (M.configuration machine.old).state.clock
+        + loading_cost (M.configuration machine.old).state (longest_load image.now)) }
     ensures orders { IfOk result (λ orders. orders ≡ (longest_load image.now).orders) }
     ensures clock { OnOk result ((loaded (M.configuration machine.old).state
         (longest_load image.now)).clock ≤ clock_end) }
@@ -304,6 +323,11 @@ pub fn load_cut<A: Allocator + Copy, B: Allocator, M: Operate<Tape = Vec<Code, A
     requires tapes { M.codes ≡ (λ tape. tape.items) }
     ensures loaded { OnOk result (M.configuration machine.new ≡ at_boundary
         (loaded (M.configuration machine.old).state (cut_load image.now counts.now))) }
+    ensures program { OnOk result (IsLoadedOver (M.configuration machine.old).state.core.words
+        (M.configuration machine.new).state.core.words image.now.cells) }
+    ensures time { OnOk result ((M.configuration machine.new).state.clock
+        ≡ (M.configuration machine.old).state.clock
+        + loading_cost (M.configuration machine.old).state (cut_load image.now counts.now)) }
     ensures orders { IfOk result (λ orders. orders ≡ (cut_load image.now counts.now).orders) }
     ensures clock { OnOk result ((loaded (M.configuration machine.old).state
         (cut_load image.now counts.now)).clock ≤ clock_end) }
@@ -347,6 +371,11 @@ pub fn load_single<A: Allocator + Copy, B: Allocator, M: Operate<Tape = Vec<Code
     requires tapes { M.codes ≡ (λ tape. tape.items) }
     ensures loaded { OnOk result (M.configuration machine.new
         ≡ at_boundary (loaded (M.configuration machine.old).state (single_load image.now))) }
+    ensures program { OnOk result (IsLoadedOver (M.configuration machine.old).state.core.words
+        (M.configuration machine.new).state.core.words image.now.cells) }
+    ensures time { OnOk result ((M.configuration machine.new).state.clock
+        ≡ (M.configuration machine.old).state.clock
+        + loading_cost (M.configuration machine.old).state (single_load image.now)) }
     ensures orders { IfOk result (λ orders. orders ≡ (single_load image.now).orders) }
     ensures clock { OnOk result
         ((loaded (M.configuration machine.old).state (single_load image.now)).clock ≤ clock_end) }

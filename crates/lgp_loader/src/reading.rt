@@ -1,12 +1,12 @@
 //! Tapes that are ready to be read.
 
 ghost use Rattle.std.specs.Prelude.{◌≡◌, ◌≤◌, ◌↔◌, Err, IfOk, IfSome, false, length};
-ghost use Rattle.lgp_assembler.specs.Parts.{AreProgramCells};
+ghost use Rattle.lgp_assembler.specs.Parts.{AreProgramCells, HaveOwnPlaces};
 ghost use Rattle.lgp_loader.specs.BlockLoading.{cut_load, longest_load, orders_for};
 ghost use Rattle.lgp_loader.specs.BlockPlaces.{block_loader_words};
 ghost use Rattle.lgp_loader.specs.Cutting.{is_cutting};
 ghost use Rattle.lgp_loader.specs.Loading.{load_with};
-ghost use Rattle.lgp_loader.specs.ReadyInside.{GoesThrough};
+ghost use Rattle.lgp_loader.specs.ReadyInside.{GoesThrough, LeavesProgram};
 ghost use Rattle.lgp_loader.specs.SingleLoading.{single_load};
 ghost use Rattle.lgp_loader.specs.SinglePlaces.{single_loader_words};
 ghost use Rattle.lgp_word.specs.Address.{IsAddress};
@@ -29,6 +29,7 @@ fn program_cells<A: Allocator>(image: &Image<A>) -> &[Cell]
     ensures cells { result.now ≡ image.now.cells }
     ensures few { length image.now.cells ≤ 4096 }
     ensures program { AreProgramCells image.now.cells }
+    ensures places { HaveOwnPlaces image.now.cells }
     ensures start { IfSome image.now.start IsAddress }
 {
     // That a start is an address is what the clause of this call says.
@@ -54,6 +55,8 @@ pub(crate) fn in_longest<A: Allocator + Copy, B: Allocator>(
     ensures orders { IfOk result (λ reading. reading.orders ≡ (longest_load image.now).orders) }
     ensures ready { IfOk result (λ reading.
         GoesThrough (load_with block_loader_words reading.tape.items reading.orders)) }
+    ensures program { IfOk result (λ reading. LeavesProgram
+        (load_with block_loader_words reading.tape.items reading.orders) image.now.cells) }
 {
     let cells = program_cells(image);
     let orders = orders_for(cells.len(), count_longest(cells));
@@ -74,6 +77,8 @@ pub(crate) fn in_cut<A: Allocator + Copy, B: Allocator>(
         reading.orders ≡ (cut_load image.now counts.now).orders) }
     ensures ready { IfOk result (λ reading.
         GoesThrough (load_with block_loader_words reading.tape.items reading.orders)) }
+    ensures program { IfOk result (λ reading. LeavesProgram
+        (load_with block_loader_words reading.tape.items reading.orders) image.now.cells) }
     ensures bad_cut { (result ≡ Err CutFault.BadCut)
         ↔ (is_cutting counts.now image.now.cells ≡ false) }
 {
@@ -93,6 +98,8 @@ pub(crate) fn in_single<A: Allocator + Copy, B: Allocator>(
     ensures orders { IfOk result (λ reading. reading.orders ≡ (single_load image.now).orders) }
     ensures ready { IfOk result (λ reading.
         GoesThrough (load_with single_loader_words reading.tape.items reading.orders)) }
+    ensures program { IfOk result (λ reading. LeavesProgram
+        (load_with single_loader_words reading.tape.items reading.orders) image.now.cells) }
 {
     let orders = 8 * program_cells(image).len() as u64 + 5;
     let tape = single_tape_of(alloc, image)?;
