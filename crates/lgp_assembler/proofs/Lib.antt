@@ -8,3 +8,4 @@ pub mod PlaceLaws
 pub mod LineCells
 pub mod OwnPlaces
 pub mod Assembled
+pub mod CellLaws

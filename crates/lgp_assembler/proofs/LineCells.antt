@@ -191,7 +191,7 @@ abbrev pub AreFaultless : List (List ℕ × ℕ) → List LineFields → List Li
 AreFaultless names earlier [] = Unit {0}
 AreFaultless names earlier (line ∷ lines) = (fault_of names line earlier ≡ None) × AreFaultless names (line ∷ earlier) lines
 
-front_faultless : (names : List (List ℕ × ℕ)) (earlier lines : List LineFields) → faults_in names (passed_lines earlier lines) ≡ [] → faults_in names earlier ≡ []
+pub front_faultless : (names : List (List ℕ × ℕ)) (earlier lines : List LineFields) → faults_in names (passed_lines earlier lines) ≡ [] → faults_in names earlier ≡ []
 unfolding faults_in
 front_faultless names earlier [] none = none
 front_faultless names earlier (line ∷ lines) none = (append_none (faults_in names earlier) _ (front_faultless names (line ∷ earlier) lines none)).0

@@ -17,7 +17,7 @@ use Rattle.lgp_assembler.specs.Laws.{org_of, HasNoOrg, word_total, PlacesCountFr
 
 -- ---- lines in order, and the nearest first
 
-passed-append : (earlier one other : List LineFields) → passed_lines earlier (one ++ other) ≡ passed_lines (passed_lines earlier one) other
+pub passed-append : (earlier one other : List LineFields) → passed_lines earlier (one ++ other) ≡ passed_lines (passed_lines earlier one) other
 passed-append earlier one other = fold-append (λ before line. line ∷ before) earlier one other
 
 -- ---- places

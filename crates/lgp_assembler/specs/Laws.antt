@@ -1,11 +1,12 @@
--- Part of the public promise: what places and names are, in the words of the source language. The lines are here in the order of
--- the source.
-use Rattle.std.specs.Prelude.{◌≡◌, ◌⊎◌, ℕ, ◌+◌, true, false, List, [], ◌∷◌, ◌++◌, Option, None, Some}
+-- Part of the public promise: what places, names and cells are, in the words of the source language. The lines are here in the
+-- order of the source.
+use Rattle.std.specs.Prelude.{◌≡◌, ◌⊎◌, ℕ, ◌+◌, true, false, List, [], ◌∷◌, ◌++◌, length, map, Option, None, Some}
 use Rattle.std.specs.Str.{bytes_eq}
 use Rattle.std.specs.Map.{lookup}
-use Rattle.lgp_assembler.specs.Fields.{LineFields}
-use Rattle.lgp_assembler.specs.Places.{org_address, word_count, place_of, has_ended, names_of}
-use Rattle.lgp_assembler.specs.Image.{passed_lines}
+use Rattle.lgp_source.specs.Source.{lines_of}
+use Rattle.lgp_assembler.specs.Fields.{LineFields, fields_of}
+use Rattle.lgp_assembler.specs.Places.{org_address, has_word, word_count, place_of, has_ended, names_of}
+use Rattle.lgp_assembler.specs.Image.{faults_of, image_of, passed_lines}
 
 -- the address of an `org` line whose first operand is one
 abbrev pub org_of : LineFields → Option ℕ
@@ -49,3 +50,20 @@ pub record NamesAreFirstPlaces : Type 0 where
   pub first : (name : List ℕ) (before after : List LineFields) (line : LineFields) → has_ended (passed_lines [] before) ≡ false → HasNotLabel name before → line.label ≡ Some name
       → value_in (before ++ line ∷ after) name ≡ Some (place_after before line)
   pub none : (name : List ℕ) (before after : List LineFields) → HasNotLabel name before → HasEnd before ⊎ (after ≡ []) → value_in (before ++ after) name ≡ None
+
+-- the lines of a source
+abbrev pub lines_in : List ℕ → List LineFields
+lines_in source = map fields_of (lines_of source)
+
+-- among some cells, behind so many others, the cell of a place
+abbrev pub HasCellAt : List (ℕ × ℕ) → ℕ → ℕ → Type 0
+HasCellAt cells place others =
+    (word : ℕ) × (front : List (ℕ × ℕ)) × (behind : List (ℕ × ℕ))
+    × (cells ≡ front ++ (place, word) ∷ behind) × (length front ≡ others)
+
+-- in a source without faults each line with a word has its cell, at the line's place and behind the cells of the lines before it;
+-- and there are as many cells as such lines
+pub record LinesHaveCells : Type 0 where
+  pub each : (source : List ℕ) (before after : List LineFields) (line : LineFields) → faults_of source ≡ [] → lines_in source ≡ before ++ line ∷ after → has_word line ≡ true
+      → HasCellAt (image_of source).cells (place_after before line) (word_total before)
+  pub count : (source : List ℕ) → faults_of source ≡ [] → length (image_of source).cells ≡ word_total (lines_in source)

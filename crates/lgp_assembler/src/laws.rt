@@ -1,6 +1,6 @@
 //! Laws, for readers and proofs: functions that do nothing, and whose contracts are the laws.
 
-ghost use Rattle.lgp_assembler.specs.Laws.{PlacesCountFromOrgs, NamesAreFirstPlaces};
+ghost use Rattle.lgp_assembler.specs.Laws.{LinesHaveCells, NamesAreFirstPlaces, PlacesCountFromOrgs};
 
 /// A law, for readers and proofs: the place of an `org` line with an address is that address. The
 /// place of any other line is the address of the nearest such line before it plus the words of the
@@ -15,4 +15,12 @@ pub fn places_count_from_orgs()
 #[tactic(auto, using(crate::proofs::PlaceLaws::names_law))]
 pub fn names_are_first_places()
     ensures { NamesAreFirstPlaces }
+{}
+
+/// A law, for readers and proofs: in a source without faults each line with a word has its cell, at
+/// the line's place and behind the cells of the lines before it, and there are as many cells as such
+/// lines.
+#[tactic(auto, using(crate::proofs::CellLaws::cells_law))]
+pub fn lines_have_cells()
+    ensures { LinesHaveCells }
 {}
