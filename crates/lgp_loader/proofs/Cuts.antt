@@ -11,7 +11,7 @@ use Rattle.std.proofs.lemmas.Bool.{and_parts}
 use Rattle.std.proofs.lemmas.Bool.Decides.{nat_tests}
 use Rattle.std.proofs.lemmas.List.Sums.{sum_by-cons}
 use Rattle.lgp_loader.specs.BlockTape.{block_codes}
-use Rattle.lgp_loader.specs.Cutting.{are_blocks, cells_of, follows, is_block, is_cutting, longest_blocks, pieces_of, with_block}
+use Rattle.lgp_loader.specs.Cutting.{StandApart, are_blocks, cells_of, follows, is_block, is_cutting, longest_blocks, pieces_of, with_block}
 
 -- places that follow one another from this one on
 abbrev pub FollowFrom : ℕ → List (ℕ × ℕ) → Type 0
@@ -80,6 +80,27 @@ with_block_blocks cell ((next ∷ block) ∷ blocks) are = by_test (follows cell
 pub longest_are_blocks : (cells : List (ℕ × ℕ)) → are_blocks (longest_blocks cells) ≡ true
 longest_are_blocks [] = refl
 longest_are_blocks (cell ∷ cells) = with_block_blocks cell (longest_blocks cells) (longest_are_blocks cells)
+
+-- and no two neighbours join
+and_false : (b : Bool) → (b && false) ≡ false
+and_false true = refl
+and_false false = refl
+
+apart_longer : (cell next : ℕ × ℕ) (block : List (ℕ × ℕ)) (blocks : List (List (ℕ × ℕ))) → StandApart ((next ∷ block) ∷ blocks) → StandApart ((cell ∷ (next ∷ block)) ∷ blocks)
+apart_longer cell next block [] apart = tt
+apart_longer cell next block (other ∷ blocks) (no_block, others) = (ap (λ b. follows cell next && b) no_block ∙ and_false (follows cell next), others)
+
+with_block_apart : (cell : ℕ × ℕ) (blocks : List (List (ℕ × ℕ))) → are_blocks blocks ≡ true → StandApart blocks → StandApart (with_block cell blocks)
+with_block_apart cell [] are apart = tt
+with_block_apart cell ([] ∷ blocks) are apart = absurd (let wrong : false ≡ true = are in let no : ⊥ = cc in no)
+with_block_apart cell ((next ∷ block) ∷ blocks) are apart = by_test (follows cell next) refl where
+  by_test : (joins : Bool) → follows cell next ≡ joins → StandApart (with_block cell ((next ∷ block) ∷ blocks))
+  by_test true same = subst StandApart (sym (with_block_is cell next block blocks true same)) (apart_longer cell next block blocks apart)
+  by_test false same = subst StandApart (sym (with_block_is cell next block blocks false same)) (ap (λ b. b && is_block (next ∷ block)) same, apart)
+
+pub longest_stand_apart : (cells : List (ℕ × ℕ)) → StandApart (longest_blocks cells)
+longest_stand_apart [] = tt
+longest_stand_apart (cell ∷ cells) = with_block_apart cell (longest_blocks cells) (longest_are_blocks cells) (longest_stand_apart cells)
 
 with_block_cells : (cell : ℕ × ℕ) (blocks : List (List (ℕ × ℕ))) → cells_of (with_block cell blocks) ≡ cell ∷ cells_of blocks
 with_block_cells cell [] = refl
@@ -217,4 +238,4 @@ pub as_many_pieces : (counts : List ℕ) (cells : List (ℕ × ℕ)) → length 
 as_many_pieces [] cells = refl
 as_many_pieces (count ∷ counts) cells = ap suc (as_many_pieces counts (drop count cells))
 
-pub ruleset cutting_laws = (longest_are_blocks, longest_have_cells, pieces_are_blocks, pieces_have_cells)
+pub ruleset cutting_laws = (longest_are_blocks, longest_stand_apart, longest_have_cells, pieces_are_blocks, pieces_have_cells)

@@ -1,5 +1,5 @@
 -- Part of the public promise. How the cells of a program are cut into blocks.
-use Rattle.std.specs.Prelude.{ℕ, ◌+◌, ◌==◌, ◌&&◌, if◌then◌else◌, Bool, true, false, List, [], ◌∷◌, ◌++◌, drop, length, sum, take}
+use Rattle.std.specs.Prelude.{◌≡◌, ℕ, ◌+◌, ◌==◌, ◌&&◌, if◌then◌else◌, Bool, true, false, List, [], ◌∷◌, ◌++◌, drop, length, sum, take}
 use Rattle.std.specs.List.{list_all}
 
 -- whether a cell lies one place behind another
@@ -30,6 +30,12 @@ with_block cell blocks = (cell ∷ []) ∷ blocks
 abbrev pub longest_blocks : List (ℕ × ℕ) → List (List (ℕ × ℕ))
 longest_blocks [] = []
 longest_blocks (cell ∷ cells) = with_block cell (longest_blocks cells)
+
+-- no two neighbours would together be one block
+abbrev pub StandApart : List (List (ℕ × ℕ)) → Type 0
+StandApart [] = Unit {0}
+StandApart (block ∷ []) = Unit {0}
+StandApart (block ∷ (next ∷ blocks)) = (is_block (block ++ next) ≡ false) × StandApart (next ∷ blocks)
 
 -- pieces of so many cells each, one after another
 abbrev pub pieces_of : List ℕ → List (ℕ × ℕ) → List (List (ℕ × ℕ))

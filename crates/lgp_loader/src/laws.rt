@@ -1,29 +1,31 @@
 //! What follows from the definitions, each law as the contract of a function that does nothing.
 
-ghost use Rattle.std.specs.Prelude.{◌≡◌, ◌+◌, ◌≤◌, ℕ, List, IfSome, None, Option, Some, length, true};
+ghost use Rattle.std.specs.Prelude.{◌≡◌, ◌+◌, ◌<◌, ◌≤◌, ℕ, List, IfSome, None, Option, Some, false, length, true};
 ghost use Rattle.std.specs.List.{count_by, list_all};
 ghost use Rattle.lgp_assembler.specs.Parts.{AreProgramCells, HaveOwnPlaces, ImageParts};
 ghost use Rattle.lgp_loader.specs.BlockLoading.{block_load, left_by_blocks};
-ghost use Rattle.lgp_loader.specs.Cutting.{are_blocks, cells_of, is_cutting, longest_blocks, pieces_of};
+ghost use Rattle.lgp_loader.specs.Cutting.{StandApart, are_blocks, cells_of, is_cutting, longest_blocks, pieces_of};
 ghost use Rattle.lgp_loader.specs.LoadedOver.{IsLoadedOver};
 ghost use Rattle.lgp_loader.specs.Loading.{EndsLoading, TapeLoad, begun, loaded, loading_cost, loading_stopped};
 ghost use Rattle.lgp_loader.specs.SingleLoading.{left_by_single, single_load};
 ghost use Rattle.lgp_machine.specs.Answers.{clock_end};
-ghost use Rattle.lgp_table.specs.After.{total_cost};
+ghost use Rattle.lgp_table.specs.After.{after, total_cost};
 ghost use Rattle.lgp_table.specs.Interleaving.{Configuration, after_events, at_boundary};
 ghost use Rattle.lgp_table.specs.State.{State};
-ghost use Rattle.lgp_table.specs.SwitchPresses.{is_time_or_switch, is_word_time, with_switches};
+ghost use Rattle.lgp_table.specs.SwitchPresses.{is_time_or_switch, is_word_time, looks_at_switches, with_switches};
 ghost use Rattle.lgp_table.specs.declared.panel.Switches.{Switches};
 ghost use Rattle.lgp_word.specs.Address.{IsAddress};
 
 use lgp_table::Event;
 
-/// The longest blocks of cells are blocks, and have these cells one after another; so are and have the pieces of each cutting.
+/// The longest blocks of cells are blocks, and have these cells one after another, and no two neighbours would together be one
+/// block; the pieces of each cutting are blocks and have these cells too.
 #[tactic(auto, using(crate::proofs::Cuts::cutting_laws))]
 pub fn cuttings()
     ensures longest { (cells : List (ℕ × ℕ)) → are_blocks (longest_blocks cells) ≡ true }
     ensures longest_cells { (cells : List (ℕ × ℕ))
         → cells_of (longest_blocks cells) ≡ cells }
+    ensures longest_apart { (cells : List (ℕ × ℕ)) → StandApart (longest_blocks cells) }
     ensures pieces { (counts : List ℕ) → (cells : List (ℕ × ℕ))
         → is_cutting counts cells ≡ true → are_blocks (pieces_of counts cells) ≡ true }
     ensures piece_cells { (counts : List ℕ) → (cells : List (ℕ × ℕ))
@@ -73,6 +75,21 @@ pub fn program_is_loaded()
         → IsLoadedOver s.core.words (loaded s (single_load image)).core.words image.cells }
     ensures time { (s : State) → (load : TapeLoad)
         → (loaded s load).clock ≡ s.clock + loading_cost s load }
+{}
+
+/// No order of either loader looks at BREAK POINT or TRANSFER CONTROL, from its start to the end word.
+#[tactic(auto, using(crate::proofs::Undisturbed::blind_laws))]
+pub fn blind_to_switches()
+    ensures blocks { (s : State) → (blocks : List (List (ℕ × ℕ))) → (start : Option ℕ)
+        → (before : ℕ) → length s.core.words ≡ 4096
+        → are_blocks blocks ≡ true → AreProgramCells (cells_of blocks)
+        → length (cells_of blocks) ≤ 4096 → IfSome start IsAddress
+        → before < (block_load blocks start).orders
+        → looks_at_switches (after (begun s (block_load blocks start)) before) ≡ false }
+    ensures single { (s : State) → (image : ImageParts) → (before : ℕ)
+        → length s.core.words ≡ 4096 → AreProgramCells image.cells → IfSome image.start IsAddress
+        → before < (single_load image).orders
+        → looks_at_switches (after (begun s (single_load image)) before) ≡ false }
 {}
 
 /// From the moment a loader has been started nobody's hand on BREAK POINT and TRANSFER CONTROL disturbs it: after as many word
