@@ -13,7 +13,8 @@ ghost use Rattle.lgp_flexo.specs.TapeText.{tape_limit};
 ghost use Rattle.lgp_debugger.specs.WatchInside.{watches_of};
 ghost use Rattle.lgp_debugger.specs.Debugging.{after_back, after_step, first_stop, rule_limit, run_of};
 ghost use Rattle.lgp_loader.specs.BlockLoading.{longest_load};
-ghost use Rattle.lgp_loader.specs.Loading.{loaded, loading_stopped};
+ghost use Rattle.lgp_loader.specs.LoadedOver.{IsLoadedOver};
+ghost use Rattle.lgp_loader.specs.Loading.{loaded, loading_cost, loading_stopped};
 ghost use Rattle.std.specs.Result.{IsErrAnd};
 
 use crate::fault::{
@@ -501,6 +502,10 @@ fn load_machine<A: Allocator + Copy, B: Allocator>(
     requires { machine.old ≡ at_boundary machine.old.state }
     ensures loaded { OnOk result
         (machine.new ≡ at_boundary (loaded machine.old.state (longest_load image.now))) }
+    ensures program { OnOk result (IsLoadedOver machine.old.state.core.words
+        machine.new.state.core.words image.now.cells) }
+    ensures time { OnOk result (machine.new.state.clock
+        ≡ machine.old.state.clock + loading_cost machine.old.state (longest_load image.now)) }
     ensures orders { IfOk result (λ orders. orders ≡ (longest_load image.now).orders) }
     ensures whole { OnOk result
         (loading_stopped machine.old.state (longest_load image.now) ≡ None) }
@@ -519,7 +524,8 @@ fn load_machine<A: Allocator + Copy, B: Allocator>(
 }
 
 impl<H: History<A>, A: Allocator + Copy> Debugger<H, A> {
-    /// Loads a program by the keyed-in loader, and answers how many orders it performed. No step is kept afterwards, unless nothing
+    /// Loads a program by the keyed-in loader, and answers how many orders it performed: the program's words then lie over what was
+    /// on the drum, and the clock has gone on by what all of it cost. No step is kept afterwards, unless nothing
     /// was done: where there is no memory for the tape (`Memory`), all is as before. Where the clock would pass its end (`ClockEnd`),
     /// the machine stands at the first boundary of the loading whose activity would pass it. `Moving` and `BadCut` are never
     /// answered.
@@ -528,6 +534,10 @@ impl<H: History<A>, A: Allocator + Copy> Debugger<H, A> {
           state = loaded self.old.state (longest_load image.now);
           steps = [];
         }) }
+        ensures program { OnOk result (IsLoadedOver self.old.state.core.words
+            self.new.state.core.words image.now.cells) }
+        ensures time { OnOk result (self.new.state.clock
+            ≡ self.old.state.clock + loading_cost self.old.state (longest_load image.now)) }
         ensures orders { IfOk result (λ orders. orders ≡ (longest_load image.now).orders) }
         ensures whole { OnOk result
             (loading_stopped self.old.state (longest_load image.now) ≡ None) }
