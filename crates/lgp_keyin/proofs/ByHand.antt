@@ -18,7 +18,7 @@ use Rattle.lgp_table.specs.State.{Core, State, core_of}
 use Rattle.lgp_table.specs.Rows.{row}
 use Rattle.lgp_table.specs.Activity.{core_after, next, print_of}
 use Rattle.lgp_table.specs.Console.{Desk, desk_after, is_at_rest, status_in_mode}
-use Rattle.lgp_table.specs.Interleaving.{after_actions, desk_of, with_desk}
+use Rattle.lgp_table.specs.Interleaving.{Configuration, after_actions, at_boundary, desk_of, with_desk}
 use Rattle.lgp_table.specs.declared.action.Action.{Action}
 use Rattle.lgp_table.specs.declared.action.Action.TheVariants as actions
 use Rattle.lgp_table.specs.declared.panel.Cause.{Cause}
@@ -153,6 +153,14 @@ store_keyed s address word up within is =
     ap (λ (desk : Desk). with_desk s desk)
     (order_filled (desk_of s) order (word_keys word ++ rest) up (store_is_word address within)
     ∙ word_struck_then (record s.core.panel { register = order }) s.core.tape cause order word rest is)
+
+-- what the panel shows then
+pub shows_store : (now : Configuration) (s : State) (address word : ℕ) → now ≡ at_boundary (about_to_store s address word) → s.core.panel.switches.six_bit ≡ false → IsAddress address → IsWord word
+    → (now.state.core.panel.status ≡ Executing) × (now.state.core.panel.register ≡ store_order address)
+shows_store now s address word at up within is =
+    let panel : now.state.core.panel ≡ executing s.core.panel (store_order address) word =
+    ap (λ (c : Configuration). c.state.core.panel) at ∙ ap (λ (t : State). t.core.panel) (store_keyed s address word up within is) in
+    (ap (λ (p : Panel). p.status) panel, ap (λ (p : Panel). p.register) panel)
 
 pub jump_keyed : (s : State) (address : ℕ) → s.core.panel.switches.six_bit ≡ false → IsAddress address
     → about_to_jump s address ≡ about_to s (jump_order address) (jump_order address)

@@ -6,9 +6,12 @@ use Rattle.lgp_table.specs.State.{State}
 use Rattle.lgp_table.specs.Activity.{cost, next}
 use Rattle.lgp_table.specs.Interleaving.{Configuration, after_press, at_boundary, is_boundary}
 use Rattle.lgp_table.specs.declared.action.Action.TheVariants as actions
+use Rattle.lgp_table.specs.declared.panel.Status.TheVariants.{Executing}
+use Rattle.lgp_word.specs.Word.{IsWord}
 use Rattle.lgp_machine.specs.Answers.{clock_end}
-use Rattle.lgp_keyin.specs.KeyIn.{about_to_store, keyed, with_four_bit_input, words_keyed}
+use Rattle.lgp_keyin.specs.KeyIn.{about_to_store, keyed, store_order, with_four_bit_input, words_keyed}
 use Rattle.lgp_keyin.specs.Keyed.{PassesClockEnd, before_store}
+use Rattle.lgp_keyin.proofs.ByHand.{shows_store}
 
 -- so many words are keyed in
 pub record IsKeyedSo (now : Configuration) (s : State) (base : ℕ) (words : List ℕ) (done address : ℕ) : Type 0 where
@@ -62,7 +65,7 @@ none_keyed old now base words boundary pressed within =
     }
 
 -- the place of the next word
-place_is : (now : Configuration) (s : State) (base : ℕ) (words : List ℕ) (done address : ℕ) → IsKeyedSo now s base words done address
+pub place_is : (now : Configuration) (s : State) (base : ℕ) (words : List ℕ) (done address : ℕ) → IsKeyedSo now s base words done address
     → done < length words → base + length words ≤ 4096 → address ≡ base + done
 place_is now s base words done address so less fits = let place = so.place in omega arith
 
@@ -107,3 +110,12 @@ passes now then s base words done address so less fits stands past =
 -- an element of a list, whatever stands in for one that is not there
 pub item_at : (words : List ℕ) (place word : ℕ) → place < length words → word ≡ slice_index_or words place word → word ≡ slice_index words place
 item_at words place word less is = is ∙ get_or_default words place word 0 less
+
+-- about to store the next word, the machine shows it
+pub shows_next : (now then : Configuration) (s : State) (base : ℕ) (words : List ℕ) (done address word : ℕ) → IsKeyedSo now s base words done address
+    → done < length words → base + length words ≤ 4096 → then ≡ at_boundary (about_to_store now.state address word) → IsWord word
+    → (then.state.core.panel.status ≡ Executing) × (then.state.core.panel.register ≡ store_order (base + done))
+shows_next now then s base words done address word so less fits stands is =
+    let place = place_is now s base words done address so less fits in
+    let shows = shows_store then now.state address word stands so.up (omega (arith, place, less, fits)) is in
+    (shows.0, shows.1 ∙ ap store_order place)

@@ -1,11 +1,13 @@
 //! Keying words in.
 
-ghost use Rattle.std.specs.Prelude.{◌≡◌, ◌+◌, ◌<◌, ◌≤◌, ◌↔◌, true, false, IsTrue, OnOk, Ok, Err, length};
+ghost use Rattle.std.specs.Prelude.{◌≡◌, ◌+◌, ◌<◌, ◌≤◌, ◌↔◌, true, false, ℕ, IsTrue, OnOk, Ok, Err, length};
 ghost use Rattle.std.specs.Bool.{OnFalse, OnTrue};
 ghost use Rattle.lgp_table.specs.Activity.{cost, next};
 ghost use Rattle.lgp_table.specs.Interleaving.{at_boundary, is_boundary};
+ghost use Rattle.lgp_table.specs.declared.panel.Status.TheVariants.{Executing};
+ghost use Rattle.lgp_word.specs.Word.{IsWord};
 ghost use Rattle.lgp_machine.specs.Answers.{clock_end};
-ghost use Rattle.lgp_keyin.specs.KeyIn.{about_to_store, keyed};
+ghost use Rattle.lgp_keyin.specs.KeyIn.{about_to_store, keyed, store_order};
 ghost use Rattle.lgp_keyin.specs.Keyed.{EndsBeforeStore, PassesClockEnd};
 
 use crate::actions::actions_to_store;
@@ -43,6 +45,7 @@ fn store<M: Operate>(machine: &mut M, address: Address, word: Word) -> bool
         ≡ at_boundary (about_to_store (M.configuration machine.old).state address word)) }
     ensures clock_end { OnFalse result (clock_end < (M.configuration machine.new).state.clock
         + cost (M.configuration machine.new).state) }
+    ensures word { IsWord word }
 {
     press_all(machine, &actions_to_store(address, word));
     machine.next_order().is_ok()
@@ -52,7 +55,8 @@ fn store<M: Operate>(machine: &mut M, address: Address, word: Word) -> bool
 /// order.
 ///
 /// Refused, in this order: within an activity (`Moving`), and where the words would go past 6363 (`PastEnd`), both before
-/// anything is pressed; where the clock would pass its end (`ClockEnd`).
+/// anything is pressed; where the clock would pass its end (`ClockEnd`): the words so far are stored, and the order to store the
+/// next one stands in the instruction register, about to be executed.
 pub fn key_in<M: Operate>(machine: &mut M, base: Address, words: &[Word]) -> Result<(), KeyFault>
     ensures keyed { OnOk result (M.configuration machine.new
         ≡ at_boundary (keyed (M.configuration machine.old).state base words.now)) }
@@ -68,6 +72,10 @@ pub fn key_in<M: Operate>(machine: &mut M, base: Address, words: &[Word]) -> Res
     ensures stands { result ≡ Err KeyFault.ClockEnd
         → EndsBeforeStore (M.configuration machine.new)
         (M.configuration machine.old).state base words.now }
+    ensures executing { result ≡ Err KeyFault.ClockEnd
+        → (M.configuration machine.new).state.core.panel.status ≡ Executing }
+    ensures register { result ≡ Err KeyFault.ClockEnd → (done : ℕ) × (done < length words.now)
+        × ((M.configuration machine.new).state.core.panel.register ≡ store_order (base + done)) }
     ensures not_moving { result ≡ Err KeyFault.Moving
         → M.configuration machine.new ≡ M.configuration machine.old }
     ensures not_past { result ≡ Err KeyFault.PastEnd
