@@ -10,3 +10,4 @@ pub mod UsedLemmas
 pub mod SourceLemmas
 pub mod RunLemmas
 pub mod FileLemmas
+pub mod BatchLemmas

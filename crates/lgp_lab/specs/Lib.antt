@@ -15,6 +15,7 @@ pub mod HistoryCommands
 pub mod Language
 pub mod Script
 pub mod Files
+pub mod Tasks
 pub mod LineInside
 pub mod NamesInside
 pub mod PieceInside

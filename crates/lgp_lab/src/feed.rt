@@ -6,6 +6,9 @@ ghost use Rattle.std.specs.Io.KnownBytes.{ReadConsumes};
 
 use std::io::Read;
 
+/// How often the program reads a file or standard input at most.
+pub const READS: u64 = 1 << 32;
+
 /// A read or a write that failed, and gave or took no byte.
 #[derive(Clone, Copy, Debug, PartialEq, Eq)]
 pub struct Failed;

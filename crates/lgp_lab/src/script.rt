@@ -73,6 +73,35 @@ fn heading<A: Allocator>(alloc: A, name: &str) -> Result<Vec<u8, A>, AllocError>
     Ok(text)
 }
 
+/// Runs a script of several, wherever reader and writer stand.
+pub(crate) fn answer_part<A: Allocator + Copy, R: Feed, W: Sink>(
+    alloc: A,
+    name: &str,
+    reader: &mut R,
+    writer: &mut W,
+) -> Result<u64, LabFault>
+    ensures read { OnOk result (IsAtEnd (R.remaining reader.new)) }
+    ensures text { OnOk result (IfSome (R.remaining reader.old) (λ script.
+        Appends (W.contents writer.old) (W.contents writer.new)
+        (heading name.now ++ script_text A script))) }
+    ensures faults { IfOk result (λ faults. IfSome (R.remaining reader.old) (λ script.
+        faults ≡ script_faults A script)) }
+    ensures cause { IfErr result (λ fault.
+        HasCause fault (R.failed reader.new) (W.failed writer.new)) }
+    ensures stands { IfErr result (λ fault. IfSome (R.remaining reader.old) (λ script.
+        StandsWritten (heading name.now ∷ []) (script_language {A = A}) opening_standing fault
+        script (R.remaining reader.new) (W.contents writer.old) (W.contents writer.new))) }
+{
+    let Ok(heading) = heading(alloc, name) else {
+        return Err(LabFault::Memory);
+    };
+    write_whole(writer, &heading)?;
+    match answer_script(alloc, reader, writer) {
+        Ok(faults) => Ok(faults),
+        Err(fault) => Err(fault.behind(heading.len() as u64)),
+    }
+}
+
 /// Runs a script of several: writes a line that names its file, and then does as `run_script`. The bytes of that line are counted
 /// among those of a failed write.
 pub fn batch_part<A: Allocator + Copy, R: Feed, W: Sink>(
@@ -95,12 +124,5 @@ pub fn batch_part<A: Allocator + Copy, R: Feed, W: Sink>(
         StandsWritten (heading name.now ∷ []) (script_language {A = A}) opening_standing fault
         script (R.remaining reader.new) (W.contents writer.old) (W.contents writer.new))) }
 {
-    let Ok(heading) = heading(alloc, name) else {
-        return Err(LabFault::Memory);
-    };
-    write_whole(writer, &heading)?;
-    match answer_script(alloc, reader, writer) {
-        Ok(faults) => Ok(faults),
-        Err(fault) => Err(fault.behind(heading.len() as u64)),
-    }
+    answer_part(alloc, name, reader, writer)
 }

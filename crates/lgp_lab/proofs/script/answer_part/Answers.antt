@@ -4,7 +4,7 @@ use Rattle.lgp_lab.specs.Script.{script_language}
 use Rattle.lgp_lab.specs.Standing.{opening_standing}
 use Rattle.lgp_lab.specs.StreamInside.{fault_behind}
 use Rattle.lgp_lab.proofs.StreamLemmas.{StandsWritten-heading, StandsWritten-part, StandsWritten-unnamed}
-use Rattle.lgp_lab.proofs.script.batch_part.Goals as goal
+use Rattle.lgp_lab.proofs.script.answer_part.Goals as goal
 
 pub returns-in_default-clause-stands : goal.returns-in_default-clause-stands
 returns-in_default-clause-stands g c =
