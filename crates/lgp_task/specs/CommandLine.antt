@@ -1,5 +1,5 @@
 -- Part of the public promise: the command line as `clap` is given it: each command with its arguments, one definition each.
-use Rattle.std.specs.Prelude.{pos, true, Some, codes}
+use Rattle.std.specs.Prelude.{pos, true, Some, [], codes}
 use Rattle.clap.specs.Lexer.{usize_max}
 use Rattle.clap.specs.Words.{App, Rule, new_app, new_rule, with_rule, with_subcommand}
 use Rattle.clap.specs.declared.builder.value_parser.ValueParser.TheVariants.{Signed}
@@ -37,9 +37,13 @@ script_command = with_rule (new_app (codes "script")) file_rule
 abbrev pub batch_command : App
 batch_command = with_rule (new_app (codes "batch")) files_rule
 
+-- `lgp_lab`, which knows its version
+abbrev pub bare_line : App
+bare_line = record { top = record (new_app (codes "lgp_lab")).top { has_version = true }; subs = [] }
+
 -- the command line: `lgp_lab`, which takes one of the five commands, or none
 unfoldable pub command_line : App
 command_line =
     with_subcommand (with_subcommand (with_subcommand (with_subcommand (with_subcommand
-    (new_app (codes "lgp_lab"))
+    bare_line
     asm_command.top) tape_command.top) run_command.top) script_command.top) batch_command.top

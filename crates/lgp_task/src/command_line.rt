@@ -1,15 +1,18 @@
 //! The command line as `clap` is given it, with its help.
 
-ghost use Rattle.std.specs.Prelude.{◌≡◌, IfOk, codes, false};
+ghost use Rattle.std.specs.Prelude.{◌≡◌, IfOk, false};
 ghost use Rattle.clap.specs.Words.{app_of, new_app, rule_of, with_rule, with_subcommand};
 ghost use Rattle.clap.specs.declared.builder.command.Command.TheViews.{out-Command as fields_of};
-ghost use Rattle.lgp_task.specs.CommandLine.{asm_command, batch_command, command_line, file_rule, files_rule, limit_rule, run_command, script_command, tape_command};
+ghost use Rattle.lgp_task.specs.CommandLine.{asm_command, bare_line, batch_command, command_line, file_rule, files_rule, limit_rule, run_command, script_command, tape_command};
 
 use clap::{Arg, Command, value_parser};
 use std::alloc::{AllocError, Global};
 
 /// How the argument is called that names a file.
 pub(crate) const FILE: &str = "FILE";
+
+/// The version of the program, and of all its crates.
+const VERSION: &str = "0.1.0";
 
 /// How the argument is called that limits a run.
 pub(crate) const LIMIT: &str = "LIMIT";
@@ -163,9 +166,9 @@ fn batch_command<'a>(global: Global) -> Result<Command<'a>, AllocError>
     with_argument(batch, files(global, "The scripts, text files"))
 }
 
-/// `lgp_lab`, without its commands.
+/// `lgp_lab`, without its commands, which knows its version.
 fn bare_line<'a>(global: Global) -> Result<Command<'a>, AllocError>
-    ensures { IfOk result (λ line. app_of line ≡ new_app (codes "lgp_lab")) }
+    ensures { IfOk result (λ line. app_of line ≡ bare_line) }
 {
     let line = command(
         global,
@@ -177,7 +180,7 @@ fn bare_line<'a>(global: Global) -> Result<Command<'a>, AllocError>
         "Example: run a script, and then a program.\n  lgp_lab < first-day.txt\n  \
          lgp_lab run sum.src 1000",
     );
-    line.bin_name("lgp_lab")
+    line.version(VERSION).bin_name("lgp_lab")
 }
 
 /// The whole command line.

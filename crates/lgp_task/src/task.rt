@@ -37,7 +37,7 @@ pub enum TaskFault<A: Allocator = Global> {
     /// The words are mistaken: the text says how, and how the program is called.
     #[error("{0}")]
     Usage(String<A>),
-    /// The words ask for help: the text is the help.
+    /// The words ask for help or for the version: the text is that.
     #[error("{0}")]
     Help(String<A>),
     /// A growth was refused.

@@ -155,6 +155,28 @@ fn help_is_given(rt: HostRuntime) {
     assert!(rt; is_helped(rt.alloc(), &["help", "tape"], "Usage: lgp_lab tape <FILE>"));
 }
 
+/// Whether the words ask for a text that is this one, whole.
+fn is_answered(global: Global, typed: &[&str], answer: &str) -> bool {
+    match read(global, global, typed) {
+        Err(TaskFault::Help(text)) => text.as_str() == answer,
+        _ => false,
+    }
+}
+
+#[test]
+fn name_and_version_are_told(rt: HostRuntime) {
+    let told = [
+        is_answered(rt.alloc(), &["--version"], "lgp_lab 0.1.0\n"),
+        is_answered(rt.alloc(), &["-V"], "lgp_lab 0.1.0\n"),
+        is_mistaken(
+            rt.alloc(),
+            &["asm", "--version"],
+            "Usage: lgp_lab asm <FILE>",
+        ),
+    ];
+    assert_eq!(rt; told, [true; 3]);
+}
+
 #[test]
 fn a_refused_growth_is_answered(rt: HostRuntime) -> Result<(), Fail> {
     let heap = LocalHeap::new(rt.alloc(), 4096)?;
