@@ -52,10 +52,12 @@ module _ (names : List (List ℕ × ℕ)) where
   cell_of_line earlier after line none has =
       let place = place_of line earlier in
       let own = (each_faultless names earlier (line ∷ after) none).0 in
-      let (word, is) = the_cell place (line_meaning names place line) (cell_there names earlier line own has) in
-      (word, cells_in_order names (line ∷ earlier) after
-      ∙ (ap (λ o. (cells_in names earlier ++ option_to_list o) ++ cells_behind names (line ∷ earlier) after) is
-      ∙ append_assoc (cells_in names earlier) ((place, word) ∷ []) (cells_behind names (line ∷ earlier) after)))
+      let (word, is) = the_cell place (line_meaning names place line) (cell_there names earlier line own has) in (
+        word,
+        cells_in_order names (line ∷ earlier) after
+            ∙ (ap (λ o. (cells_in names earlier ++ option_to_list o) ++ cells_behind names (line ∷ earlier) after) is
+            ∙ append_assoc (cells_in names earlier) ((place, word) ∷ []) (cells_behind names (line ∷ earlier) after)),
+      )
 
 faultless_lines : (source : List ℕ) → faults_of source ≡ [] → faults_in (names_of (all_lines source)) (all_lines source) ≡ []
 faultless_lines source none = first_none (faults_in (names_of (all_lines source)) (all_lines source)) (missing_end (all_lines source)) none
@@ -68,9 +70,13 @@ each_cell source before after line none parts has =
     let earlier = passed_lines [] before in
     let whole : all_lines source ≡ passed_lines earlier (line ∷ after) = ap (passed_lines []) parts ∙ passed-append [] before (line ∷ after) in
     let clear : faults_in names (passed_lines earlier (line ∷ after)) ≡ [] = sym (ap (faults_in names) whole) ∙ faultless_lines source none in
-    let (word, cells) = cell_of_line names earlier after line clear has in
-    (word, cells_in names earlier, cells_behind names (line ∷ earlier) after, ap (cells_in names) whole ∙ cells,
-    as_many_at_all names before (front_faultless names earlier (line ∷ after) clear))
+    let (word, cells) = cell_of_line names earlier after line clear has in (
+      word,
+      cells_in names earlier,
+      cells_behind names (line ∷ earlier) after,
+      ap (cells_in names) whole ∙ cells,
+      as_many_at_all names before (front_faultless names earlier (line ∷ after) clear),
+    )
 
 pub cells_law : LinesHaveCells
 unfolding all_lines

@@ -49,4 +49,5 @@ single_blind s image before long are is less =
     calm.blind
 
 pub ruleset blind_laws = (blocks_blind, single_blind)
+
 pub ruleset undisturbed_laws = (blocks_undisturbed, single_undisturbed)
