@@ -1,5 +1,5 @@
 -- What loading leaves of the program, and how long all of it takes.
-use Rattle.std.proofs.Common.{◌≡◌, ◌≢◌, ◌⊎◌, ℕ, zero, suc, ◌+◌, ◌<◌, ◌≤◌, true, refl, sym, ap, ◌∙◌, subst, arith, ⊎_elim, List, [], ◌∷◌, ◌++◌, Option, length, map, slice_index, slice_index_or, slice_set, take, take_all}
+use Rattle.std.proofs.Common.{◌≡◌, ◌≢◌, ℕ, zero, suc, ◌+◌, ◌<◌, ◌≤◌, true, refl, sym, ap, ◌∙◌, subst, arith, ⊎_elim, List, [], ◌∷◌, ◌++◌, Option, length, map, slice_index, slice_index_or, slice_set, take, take_all}
 use Rattle.std.specs.Prelude.{IfSome, sum_by}
 use Rattle.std.specs.List.{All, AllPairs, range_with_len}
 use Rattle.std.proofs.lemmas.List.{get_or-set_other, get_or-set_same, length-set}
@@ -15,7 +15,7 @@ use Rattle.lgp_keyin.specs.KeyIn.{about_to_jump, keyed, words_keyed}
 use Rattle.lgp_keyin.specs.Keyed.{before_store}
 use Rattle.lgp_keyin.proofs.Placed.{after_words, before_words}
 use Rattle.lgp_assembler.specs.Parts.{AreProgramCells, HaveOwnPlaces, ImageParts}
-use Rattle.lgp_loader.specs.BlockLoading.{block_load, left_by_blocks, store_after, words_after_blocks}
+use Rattle.lgp_loader.specs.BlockLoading.{block_load, store_after, words_after_blocks}
 use Rattle.lgp_loader.specs.BlockPlaces.{block_end_cell, block_loader_words, block_store_cell, count_cell}
 use Rattle.lgp_loader.specs.Cutting.{are_blocks, cells_of}
 use Rattle.lgp_loader.specs.LoadedOver.{IsLoadedOver}
@@ -23,7 +23,7 @@ use Rattle.lgp_loader.specs.LoaderTape.{end_word}
 use Rattle.lgp_loader.specs.Loading.{TapeLoad, begun, loaded, loading_cost, order_states, overlay, prepared, store_states}
 use Rattle.lgp_loader.specs.Places.{loader_base}
 use Rattle.lgp_loader.specs.ReadyInside.{LeavesProgram}
-use Rattle.lgp_loader.specs.SingleLoading.{last_control, left_by_single, single_load, words_after_single}
+use Rattle.lgp_loader.specs.SingleLoading.{last_control, single_load, words_after_single}
 use Rattle.lgp_loader.specs.SinglePlaces.{single_end_cell, single_loader_words, single_store_cell}
 use Rattle.lgp_loader.proofs.Begun.{keyed_up, length_from, with_words}
 use Rattle.lgp_loader.proofs.BlockLaw.{blocks_leave}
