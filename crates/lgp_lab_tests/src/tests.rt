@@ -6,14 +6,12 @@ mod growths;
 mod lengths;
 mod scripts;
 mod streams;
+mod tasks;
 
-use lgp_lab::{Feed, FeedOf, LabFault, Sink, SinkOf, run_script};
+use lgp_lab::{Feed, FeedOf, LabFault, READS, Sink, SinkOf, run_script};
 use std::alloc::{AllocError, Allocator, Global};
 use std::io::{Read, Write};
 use std::process::Abort;
-
-/// How often a reader is read at most.
-const READS: u64 = 1 << 32;
 
 const FIRST_RUN: &[u8] =
     b"put 0000 000100j8\nput 0001 000q00jj\nput 0002 000j00k0\nput 0050 00000006\nput 0051 0000000f\npress start\norders 10\npanel\nwords 0052 1\n";

@@ -1,8 +1,8 @@
 //! What is written for files.
 
 use super::streams::Failing;
-use super::{FIRST_RUN, FIRST_RUN_REPLIES, READS, built};
-use lgp_lab::{FeedOf, LabFault, SinkOf, asm_file, batch_part, run_file, tape_file};
+use super::{FIRST_RUN, FIRST_RUN_REPLIES, built};
+use lgp_lab::{FeedOf, LabFault, READS, SinkOf, asm_file, batch_part, run_file, tape_file};
 use std::alloc::{Allocator, Global};
 use std::io::Write;
 use std::process::Abort;

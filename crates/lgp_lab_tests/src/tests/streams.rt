@@ -1,6 +1,6 @@
 //! Readers and writers that fail, and how often they are read.
 
-use super::{Ended, FIRST_RUN, FIRST_RUN_REPLIES, READS, run_between};
+use super::{Ended, FIRST_RUN, FIRST_RUN_REPLIES, run_between};
 use lgp_lab::{Failed, Feed, FeedOf, LabFault, Sink, SinkOf, run_script};
 use std::alloc::{Allocator, Global};
 use std::io;
@@ -16,6 +16,11 @@ pub struct Pieces {
 }
 
 impl Pieces {
+    /// Gives a text, and then ends or fails.
+    pub fn new(text: &'static [u8], most: usize, fails: bool) -> Pieces {
+        Pieces { text, most, fails }
+    }
+
     /// Gives a text and then ends.
     pub fn whole(text: &'static [u8], most: usize) -> Pieces {
         Pieces {

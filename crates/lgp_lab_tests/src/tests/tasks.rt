@@ -1,0 +1,347 @@
+//! What the program does for a task, over files that a test makes.
+
+ghost use Rattle.std.specs.Prelude.{None};
+
+use super::streams::{Failing, Pieces};
+use lgp_lab::{
+    FeedOf, FileFault, FileName, FileNames, Folder, LabFault, NotOpened, READS, SinkOf, Task,
+    TaskFault, perform, refuse, status_of,
+};
+use std::alloc::{AllocError, Global};
+use std::io::Write;
+use std::process::Abort;
+
+#[test]
+fn what_became_of_a_file_gives_the_status(rt: HostRuntime) {
+    let broken = |fault| status_of(Err(FileFault::Broken(fault)));
+    let statuses = [
+        status_of(Ok(0)),
+        status_of(Ok(1)),
+        status_of(Ok(u64::MAX)),
+        status_of(Err(FileFault::NotOpened)),
+        broken(LabFault::Read),
+        broken(LabFault::Write(3)),
+        broken(LabFault::Memory),
+    ];
+    assert_eq!(rt; statuses, [0, 1, 1, 2, 2, 2, 3]);
+}
+
+#[test]
+fn a_file_is_read_at_most_so_many_times(rt: HostRuntime) {
+    assert_eq!(rt; READS, 4_294_967_296);
+}
+
+/// Four files, and none else. Of `fails` two lines are read, and then a read fails.
+#[derive(Clone, Copy, Drop)]
+struct Made;
+
+/// The bytes of a file.
+fn text_of(name: &str) -> Option<&'static [u8]> {
+    if name == "one" {
+        return Some(b"turn 5\n");
+    }
+    if name == "two" {
+        return Some(b"foo\n");
+    }
+    if name == "tenth" {
+        return Some(b"start b one ; take\n h 0050\n z\none frac .1\n end start\n");
+    }
+    if name == "long" {
+        return Some(LONG);
+    }
+    if name == "fails" {
+        return Some(b"turn 5\nturn");
+    }
+    None
+}
+
+/// A source that takes 2 from 128 until the rest is negative, in 196 orders.
+const LONG: &[u8] =
+    b"start b many\nloop s two\n t done\n u loop\ndone z\nmany word 00000080\ntwo word 00000002\n end start\n";
+
+impl Folder for Made {
+    type Reader = FeedOf<Pieces>;
+
+    ghost opens = { λ folder name. None };
+
+    ghost contents = { λ folder name. None };
+
+    fn open(&self, name: &str) -> Result<FeedOf<Pieces>, NotOpened> {
+        match text_of(name) {
+            Some(text) => Ok(FeedOf::new(Pieces::new(text, 7, name == "fails"), READS)),
+            None => Err(NotOpened),
+        }
+    }
+}
+
+/// A command of the program.
+#[derive(Clone, Copy, Debug)]
+enum Command {
+    Stdin,
+    Asm,
+    Tape,
+    Run(u64),
+    Script,
+}
+
+/// The task of a command on the file of a name.
+fn task_on(alloc: Global, command: Command, name: &str) -> Result<Task, AllocError> {
+    let name = FileName::new(alloc, name)?;
+    Ok(match command {
+        Command::Stdin => Task::Stdin,
+        Command::Asm => Task::Asm(name),
+        Command::Tape => Task::Tape(name),
+        Command::Run(limit) => Task::Run(name, limit),
+        Command::Script => Task::Script(name),
+    })
+}
+
+/// The task of a batch on the files of these names.
+fn batch_on(alloc: Global, names: &[&str]) -> Result<Task, AllocError> {
+    let mut all = FileNames::new(alloc);
+    for name in names {
+        all.push(FileName::new(alloc, name)?)?;
+    }
+    Ok(Task::Batch(all))
+}
+
+/// The status of a task where standard input is a line that is no command. What is written goes to `writer`.
+fn status_into<W: Write + Drop>(
+    alloc: Global,
+    task: Result<Task, AllocError>,
+    writer: W,
+) -> Option<u8> {
+    let mut input = FeedOf::new(b"bar".as_slice(), READS);
+    let mut output = SinkOf::new(writer);
+    match task {
+        Ok(task) => Some(perform(alloc, &task, &Made, &mut input, &mut output)),
+        Err(_) => None,
+    }
+}
+
+/// Expects the status of a command on the file of a name, and what is written.
+fn expect(rt: &impl Abort, alloc: Global, (command, name): (Command, &str), wanted: (&[u8], u8)) {
+    let mut written = Vec::new(alloc);
+    let status = status_into(alloc, task_on(alloc, command, name), &mut written);
+    assert_eq!(rt;
+        (written.as_slice(), status),
+        (wanted.0, Some(wanted.1)),
+        "{command:?} {name}"
+    );
+}
+
+/// Commands, each with the name of its file, what is written, and the status.
+const COMMANDS: [(Command, &str, &[u8], u8); 12] = [
+    (Command::Stdin, "", b"? 1 Form\n", 1),
+    (Command::Script, "one", b"clock 5\n", 0),
+    (Command::Script, "two", b"? 1 Form\n", 1),
+    (Command::Script, "none", b"", 2),
+    (Command::Script, "fails", b"clock 5\n", 2),
+    (
+        Command::Tape,
+        "tenth",
+        b"000k0000'wwwwwww0'0001000j'000j00j8'00000000'0jjjjjjj'[16]800f0000'\n",
+        0,
+    ),
+    (Command::Tape, "fails", b"", 2),
+    (
+        Command::Asm,
+        "tenth",
+        b"0000 0001000j start b one ; take\n0001 000j00j8  h 0050\n0002 00000000  z\n0003 0jjjjjjj one frac .1\n               end start\n",
+        0,
+    ),
+    (Command::Asm, "fails", b"", 2),
+    (Command::Asm, "", b"", 2),
+    (
+        Command::Run(10),
+        "tenth",
+        b"printed 0\ncounter 0003 accumulator 0jjjjjjj register 00000000 status halted stop mode normal switches uuuuuu reader off tape 0 clock 27605\n",
+        0,
+    ),
+    (Command::Run(10), "fails", b"", 2),
+];
+
+#[test]
+fn a_command_reads_its_file_and_writes_what_is_defined(rt: HostRuntime) {
+    for (command, name, text, status) in COMMANDS {
+        expect(&rt, rt.alloc(), (command, name), (text, status));
+    }
+}
+
+/// Whether the source of 196 orders, run for so many, leaves a panel that begins so.
+fn is_left_with(alloc: Global, limit: u64, panel: &[u8]) -> bool {
+    let mut written = Vec::new(alloc);
+    let status = status_into(
+        alloc,
+        task_on(alloc, Command::Run(limit), "long"),
+        &mut written,
+    );
+    status == Some(0) && written.starts_with(panel)
+}
+
+#[test]
+fn a_run_ends_at_its_limit_or_at_rest(rt: HostRuntime) {
+    let none: &[u8] = b"printed 0\ncounter 0000 ";
+    let first: &[u8] = b"printed 0\ncounter 0001 accumulator 00000080 ";
+    let second: &[u8] = b"printed 0\ncounter 0002 accumulator 0000007q ";
+    let last: &[u8] = b"printed 0\ncounter 0004 accumulator wwwwwwwq ";
+    let rest: &[u8] =
+        b"printed 0\ncounter 0005 accumulator wwwwwwwq register 00000000 status halted stop ";
+    let left = [
+        is_left_with(rt.alloc(), 0, none),
+        is_left_with(rt.alloc(), 1, first),
+        is_left_with(rt.alloc(), 2, second),
+        is_left_with(rt.alloc(), 195, last),
+        is_left_with(rt.alloc(), 196, rest),
+        is_left_with(rt.alloc(), 4_294_967_295, rest),
+    ];
+    assert_eq!(rt; left, [true; 6]);
+}
+
+/// Expects the status of a batch, and what is written.
+fn expect_batch(rt: &impl Abort, alloc: Global, names: &[&str], (text, status): (&[u8], u8)) {
+    let mut written = Vec::new(alloc);
+    let ended = status_into(alloc, batch_on(alloc, names), &mut written);
+    assert_eq!(rt;
+        (written.as_slice(), ended),
+        (text, Some(status)),
+        "{names:?}"
+    );
+}
+
+/// The names of a batch, what is written, and the status.
+const BATCHES: [(&[&str], &[u8], u8); 8] = [
+    (&[], b"", 0),
+    (
+        &["one", "one"],
+        b"file one\nclock 5\nfile one\nclock 5\n",
+        0,
+    ),
+    (
+        &["one", "two"],
+        b"file one\nclock 5\nfile two\n? 1 Form\n",
+        1,
+    ),
+    (
+        &["two", "one"],
+        b"file two\n? 1 Form\nfile one\nclock 5\n",
+        1,
+    ),
+    (&["none", "one"], b"", 2),
+    (&["two", "none", "one"], b"file two\n? 1 Form\n", 2),
+    (&["fails", "one"], b"file fails\nclock 5\n", 2),
+    (
+        &["one", "fails", "two"],
+        b"file one\nclock 5\nfile fails\nclock 5\n",
+        2,
+    ),
+];
+
+#[test]
+fn a_batch_ends_at_a_bad_file_and_gives_the_greatest_status(rt: HostRuntime) {
+    for (names, text, status) in BATCHES {
+        expect_batch(&rt, rt.alloc(), names, (text, status));
+    }
+}
+
+/// The status of a command on a file where the first write fails.
+fn unwritten(alloc: Global, command: Command, name: &str) -> Option<u8> {
+    status_into(
+        alloc,
+        task_on(alloc, command, name),
+        Failing::after(alloc, 0, 1),
+    )
+}
+
+#[test]
+fn a_write_that_fails_gives_status_2(rt: HostRuntime) {
+    let statuses = [
+        unwritten(rt.alloc(), Command::Stdin, ""),
+        unwritten(rt.alloc(), Command::Script, "one"),
+        unwritten(rt.alloc(), Command::Asm, "tenth"),
+        unwritten(rt.alloc(), Command::Tape, "tenth"),
+        unwritten(rt.alloc(), Command::Run(1), "tenth"),
+        status_into(
+            rt.alloc(),
+            batch_on(rt.alloc(), &["one", "two"]),
+            Failing::after(rt.alloc(), 0, 1),
+        ),
+    ];
+    assert_eq!(rt; statuses, [Some(2); 6]);
+}
+
+/// A fault of the words on the command line, with this text.
+fn fault_of(alloc: Global, is_mistake: bool, text: &str) -> Result<TaskFault, AllocError> {
+    let text = String::from_str(alloc, text)?;
+    Ok(if is_mistake {
+        TaskFault::Usage(text)
+    } else {
+        TaskFault::Help(text)
+    })
+}
+
+/// The status where the words hold no task. What is written goes to `output` and `messages`.
+fn refusal_into<W: Write + Drop, M: Write + Drop>(
+    fault: Result<TaskFault, AllocError>,
+    output: W,
+    messages: M,
+) -> Option<u8> {
+    let mut output = SinkOf::new(output);
+    let mut messages = SinkOf::new(messages);
+    match fault {
+        Ok(fault) => Some(refuse(&fault, &mut output, &mut messages)),
+        Err(_) => None,
+    }
+}
+
+/// Expects the status where the words hold no task, and what is written to each of the two.
+fn expect_refused(
+    rt: &impl Abort,
+    alloc: Global,
+    fault: Result<TaskFault, AllocError>,
+    wanted: (&[u8], &[u8], u8),
+) {
+    let mut output = Vec::new(alloc);
+    let mut messages = Vec::new(alloc);
+    let status = refusal_into(fault, &mut output, &mut messages);
+    assert_eq!(rt;
+        (output.as_slice(), messages.as_slice(), status),
+        (wanted.0, wanted.1, Some(wanted.2))
+    );
+}
+
+#[test]
+fn help_goes_to_the_output_and_a_mistake_to_the_messages(rt: HostRuntime) {
+    let alloc = rt.alloc();
+    expect_refused(
+        &rt,
+        alloc,
+        fault_of(alloc, false, "help\n"),
+        (b"help\n", b"", 0),
+    );
+    expect_refused(
+        &rt,
+        alloc,
+        fault_of(alloc, true, "wrong\n"),
+        (b"", b"wrong\n", 64),
+    );
+    expect_refused(&rt, alloc, Ok(TaskFault::Memory), (b"", b"", 3));
+}
+
+#[test]
+fn help_or_a_mistake_that_cannot_be_written_gives_status_2(rt: HostRuntime) {
+    let alloc = rt.alloc();
+    let statuses = [
+        refusal_into(
+            fault_of(alloc, false, "help\n"),
+            Failing::after(alloc, 2, 1),
+            Vec::new(alloc),
+        ),
+        refusal_into(
+            fault_of(alloc, true, "wrong\n"),
+            Vec::new(alloc),
+            Failing::after(alloc, 2, 1),
+        ),
+    ];
+    assert_eq!(rt; statuses, [Some(2); 2]);
+}
