@@ -1,5 +1,5 @@
 -- One script more of a batch.
-use Rattle.std.proofs.Common.{◌≡◌, ℕ, ◌+◌, ◌<◌, ◌≤◌, max, List, [], ◌∷◌, Option, Bool, Result, drop, get_or, length, inl, inr, refl}
+use Rattle.std.proofs.Common.{◌≡◌, ℕ, ◌+◌, ◌<◌, ◌≤◌, max, List, Option, Bool, Result, drop, get_or, length, inl, inr, refl}
 use Rattle.std.proofs.lemmas.List.{drop_all, drop_more}
 use Rattle.lgp_lab.specs.Tasks.{HasDonePart, IsBatch, IsOpenedAs, status_for}
 use Rattle.lgp_lab.specs.declared.tasks.FileFault.{FileFault}

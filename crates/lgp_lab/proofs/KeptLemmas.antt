@@ -1,23 +1,17 @@
 -- What is kept of a line tells as much of it as its answer depends on.
-use Rattle.std.proofs.Common.{◌≡◌, ℕ, ◌<◌, ◌≤◌, ◌==◌, ◌||◌, ◌++◌, Bool, true, false, Option, Some, None, List, [], codes, length, take, get_or, refl, sym, ap, ◌∙◌, nat_lt, arith}
+use Rattle.std.proofs.Common.{◌≡◌, ℕ, ◌==◌, ◌||◌, ◌++◌, true, false, Option, Some, None, List, [], codes, get_or, refl, sym, ap, ◌∙◌, arith}
 use Rattle.std.specs.List.{list_all}
-use Rattle.std.specs.Str.{byte, bytes_eq}
-use Rattle.std.proofs.lemmas.Slice.Eq.{bytes_eq-Decides}
-use Rattle.std.proofs.lemmas.Bool.{ltb-false, ltb-true}
-use Rattle.std.proofs.lemmas.List.{get_or-take, take_all}
+use Rattle.std.specs.Str.{byte}
+use Rattle.lgp_stream.specs.KeptLine.{Kept, kept_of, line_limit}
+use Rattle.lgp_stream.specs.LineWords.{has_no_word, is_space}
+use Rattle.lgp_stream.proofs.FrontLemmas.{first-take, front_kept, front_whole, longer_kept}
 use Rattle.lgp_lab.specs.Command.{command_of, text_behind}
-use Rattle.lgp_lab.specs.Limits.{line_limit}
-use Rattle.lgp_lab.specs.Line.{has_no_word, is_space}
-use Rattle.lgp_lab.specs.LineInside.{Kept, kept_of}
 use Rattle.lgp_lab.specs.Script.{answer_by, answer_in, answer_to, answer_to_command, answer_to_line, is_passed_over}
 use Rattle.lgp_lab.specs.SourceCommands.{answer_in_source, answer_to_end, closed, closed_by, is_point}
 use Rattle.lgp_lab.specs.SourceText.{SourceText, with_bytes, with_line}
 use Rattle.lgp_lab.specs.Standing.{Standing, refused, silent, with_opened}
 use Rattle.lgp_lab.specs.declared.refusal.Refusal.TheVariants.{Form, TooLong}
 use Rattle.lgp_lab.specs.declared.command.Command.{Command}
-
-first-take : (limit : ℕ) (line : List ℕ) → 0 < limit → get_or (take limit line) 0 0 ≡ get_or line 0 0
-first-take limit line some = get_or-take limit line 0 0 some
 
 passed_over : (line : List ℕ) → ((kept_of line).blank || (get_or (kept_of line).front 0 0 == byte ";")) ≡ is_passed_over line
 unfolding kept_of has_no_word
@@ -39,9 +33,6 @@ longer_line s line other longer = rw (other, longer) refl
 pub answer_longer : {A : Type 0} (s : Standing A) (kept : Kept) (line : List ℕ) → kept ≡ kept_of line → is_passed_over line ≡ false → kept.longer ≡ true → answer_to_command s line ≡ refused TooLong s
 answer_longer s kept line e other longer = longer_line s line other (sym (ap (λ (k : Kept). k.longer) e) ∙ longer)
 
-front_kept : (limit : ℕ) (line : List ℕ) → nat_lt limit (length line) ≡ false → take limit line ≡ line
-front_kept limit line short = let fits : length line ≤ limit = ltb-false limit (length line) short in take_all limit line fits
-
 short_line : {A : Type 0} (s : Standing A) (line : List ℕ) → is_passed_over line ≡ false → (kept_of line).longer ≡ false → answer_to_command s line ≡ answer_by s (command_of (kept_of line).front) (text_behind (kept_of line).front)
 unfolding kept_of answer_to_command
 short_line s line other short = rw (other, short, front_kept line_limit line short) refl
@@ -49,33 +40,6 @@ short_line s line other short = rw (other, short, front_kept line_limit line sho
 pub answer_within : {A : Type 0} (s : Standing A) (kept : Kept) (line : List ℕ) → kept ≡ kept_of line → is_passed_over line ≡ false → kept.longer ≡ false → answer_to_command s line ≡ answer_by s (command_of kept.front) (text_behind kept.front)
 answer_within s kept line e other short =
     short_line s line other (sym (ap (λ (k : Kept). k.longer) e) ∙ short) ∙ ap (λ (k : Kept). answer_by s (command_of k.front) (text_behind k.front)) (sym e)
-
--- whether a line is longer, and that it is kept whole where it is not
-longer_of : (line : List ℕ) → (kept_of line).longer ≡ nat_lt line_limit (length line)
-unfolding kept_of
-longer_of line = refl
-
-whole_front : (line : List ℕ) → (kept_of line).longer ≡ false → (kept_of line).front ≡ line
-unfolding kept_of
-whole_front line short = front_kept line_limit line short
-
-pub longer_kept : (kept : Kept) (line : List ℕ) → kept ≡ kept_of line → nat_lt line_limit (length line) ≡ kept.longer
-longer_kept kept line e = sym (longer_of line) ∙ sym (ap (λ (k : Kept). k.longer) e)
-
-pub front_whole : (kept : Kept) (line : List ℕ) → kept ≡ kept_of line → kept.longer ≡ false → kept.front ≡ line
-front_whole kept line e short = ap (λ (k : Kept). k.front) e ∙ whole_front line (sym (ap (λ (k : Kept). k.longer) e) ∙ short)
-
--- a line that is longer than a word is another
-longer_differs : (line word : List ℕ) → length word < length line → bytes_eq line word ≡ false
-longer_differs line word longer = by_result (bytes_eq line word) refl where
-  by_result : (b : Bool) → bytes_eq line word ≡ b → bytes_eq line word ≡ false
-  by_result true e = let same : length line ≡ length word = ap length ((bytes_eq-Decides line word).0 e) in absurd (omega arith)
-  by_result false e = e
-
-pub longer_is_no_word : (kept : Kept) (line word : List ℕ) → kept ≡ kept_of line → kept.longer ≡ true → length word ≤ line_limit → bytes_eq line word ≡ false
-longer_is_no_word kept line word e longer short =
-    let above : line_limit < length line = ltb-true line_limit (length line) (longer_kept kept line e ∙ longer) in
-    longer_differs line word (omega arith)
 
 -- a source with one line more
 pub with_line_longer : (source : SourceText) (kept : Kept) (line : List ℕ) → kept ≡ kept_of line → kept.longer ≡ true → record { text = []; too_long = true } ≡ with_line source line

@@ -7,7 +7,7 @@ use Rattle.std.proofs.lemmas.List.{append-nil}
 use Rattle.lgp_lab.specs.Limits.{source_limit}
 use Rattle.lgp_lab.specs.SourceText.{SourceText, source_of, with_bytes}
 use Rattle.lgp_lab.specs.FilesInside.{HasGathered}
-use Rattle.lgp_lab.proofs.KnownLemmas.{Consumes-none, Consumes-trans}
+use Rattle.lgp_stream.proofs.KnownLemmas.{Consumes-none, Consumes-trans}
 
 gathered_so : (limit : ℕ) (text bytes : List ℕ) (too_long : Bool) → nat_lt limit (length text) ≡ too_long
     → (too_long || nat_lt limit (length (cond too_long [] text) + length bytes)) ≡ nat_lt limit (length (text ++ bytes))

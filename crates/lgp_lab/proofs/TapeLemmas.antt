@@ -3,7 +3,7 @@ use Rattle.std.proofs.Common.{ℕ, ◌<◌, ◌≤◌, Result, Ok, Err, IfOk, Li
 use Rattle.std.specs.Result.{IsOkAnd}
 use Rattle.lgp_flexo.specs.TapeText.{codes_of_text, tape_limit}
 use Rattle.lgp_flexo.proofs.Lengths.{codes_of_text-short}
-use Rattle.lgp_lab.specs.Limits.{line_limit}
+use Rattle.lgp_stream.specs.KeptLine.{line_limit}
 
 pub line_fits : (text : List ℕ) → length text ≤ line_limit → IsOkAnd (codes_of_text text) (λ codes. tape_limit < length codes) → ⊥
 line_fits text short long = by_reading (codes_of_text text) (codes_of_text-short text) long where

@@ -3,8 +3,9 @@ use Rattle.std.specs.Prelude.{ℕ, Bool, if◌then◌else◌, Option, Some, None
 use Rattle.lgp_word.specs.Decimal.{decimal_number}
 use Rattle.lgp_word.specs.Digits.{address_text, word_of_digits}
 use Rattle.lgp_lab.specs.Limits.{digit_limit}
-use Rattle.lgp_lab.specs.Line.{behind_word, first_word, has_no_word}
-use Rattle.lgp_lab.specs.Names.{button_names, named, position_names, switch_names, verb_names}
+use Rattle.lgp_stream.specs.LineWords.{behind_word, first_word, has_no_word}
+use Rattle.lgp_text.specs.NamedValues.{named}
+use Rattle.lgp_lab.specs.Names.{button_names, position_names, switch_names, verb_names}
 use Rattle.lgp_lab.specs.Span.{WordRange, range_of}
 use Rattle.lgp_lab.specs.declared.command.Command.{Command}
 use Rattle.lgp_lab.specs.declared.command.Command.TheVariants as commands

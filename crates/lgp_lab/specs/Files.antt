@@ -1,6 +1,5 @@
 -- Part of the public promise: what is written for a whole file, of a source or of a script.
 use Rattle.std.specs.Prelude.{ℕ, zero, suc, ◌+◌, ◌++◌, if◌then◌else◌, nat_lt, Option, Some, None, List, [], ◌∷◌, codes}
-use Rattle.std.specs.Io.KnownBytes.{Appends}
 use Rattle.lgp_word.specs.Drum.{blank_words}
 use Rattle.lgp_flexo.specs.TapeText.{written_tape}
 use Rattle.lgp_table.specs.Activity.{cost, next}
@@ -12,15 +11,12 @@ use Rattle.lgp_loader.specs.Loading.{loaded}
 use Rattle.lgp_assembler.specs.Image.{faults_of, image_of}
 use Rattle.lgp_assembler.specs.declared.refusal.Fault.{Fault}
 use Rattle.lgp_listing.specs.Listing.{listing_of}
-use Rattle.lgp_lab.specs.Language.{HasWrittenBytes}
 use Rattle.lgp_lab.specs.MachineCommands.{panel_text}
 use Rattle.lgp_lab.specs.TapeCommands.{printed_text}
 use Rattle.lgp_lab.specs.Refusal.{refusal_text}
 use Rattle.lgp_lab.specs.SourceCommands.{faults_text}
 use Rattle.lgp_lab.specs.SourceText.{SourceText, source_of}
 use Rattle.lgp_lab.specs.declared.refusal.Refusal.TheVariants.{ClockEnd, TooLong}
-use Rattle.lgp_lab.specs.declared.stream.LabFault.{LabFault}
-use Rattle.lgp_lab.specs.declared.stream.LabFault.TheVariants.{Read, Write, Memory}
 
 -- the line in front of a script's replies, which names its file
 unfoldable pub heading : List ℕ → List ℕ
@@ -80,9 +76,3 @@ run_to limit source =
 
 unfoldable pub run_answer : ℕ → List ℕ → FileAnswer
 run_answer limit source = answer_of (run_to limit) (source_of source)
-
--- what stands written of a text after each fault: nothing, or so many of its first bytes as are counted
-abbrev pub StandsOf : List ℕ → LabFault → Option (List ℕ) → Option (List ℕ) → Type 0
-StandsOf text Read w₀ w = Appends w₀ w []
-StandsOf text (Write count) w₀ w = HasWrittenBytes count w₀ w (text ∷ [])
-StandsOf text Memory w₀ w = Appends w₀ w []

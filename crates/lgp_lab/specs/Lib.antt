@@ -1,5 +1,4 @@
 pub mod Limits
-pub mod Line
 pub mod Span
 pub mod Names
 pub mod Command
@@ -12,13 +11,8 @@ pub mod DrumCommands
 pub mod SourceCommands
 pub mod LoadCommand
 pub mod HistoryCommands
-pub mod Language
 pub mod Script
 pub mod Files
 pub mod Tasks
-pub mod LineInside
-pub mod NamesInside
-pub mod PieceInside
-pub mod StreamInside
 pub mod LaboratoryInside
 pub mod FilesInside

@@ -1,10 +1,7 @@
 -- Part of the public promise: the limits of the script language.
 use Rattle.std.specs.Prelude.{ℕ}
 
--- how many bytes a line may have, how many digits a number, and how many words one command may show
-abbrev pub line_limit : ℕ
-line_limit = 4096
-
+-- how many digits a number may have, and how many words one command may show
 abbrev pub digit_limit : ℕ
 digit_limit = 10
 

@@ -1,7 +1,6 @@
 -- Part of the public promise: the script language, what is answered to the commands that press, wait, perform orders and show the
 -- panel.
-use Rattle.std.specs.Prelude.{ℕ, zero, suc, ◌+◌, ◌++◌, Bool, true, false, not, if◌then◌else◌, nat_lt, ◌==◌, Result, Ok, Err, List, [], ◌∷◌, length, fold, codes, decimal}
-use Rattle.std.specs.Str.{byte}
+use Rattle.std.specs.Prelude.{ℕ, zero, suc, ◌+◌, ◌++◌, Bool, true, false, not, if◌then◌else◌, nat_lt, ◌==◌, Result, Ok, Err, List, length, fold, codes, decimal}
 use Rattle.lgp_word.specs.Digits.{address_digits, digits_of}
 use Rattle.lgp_flexo.specs.TapeText.{codes_of_text}
 use Rattle.lgp_table.specs.State.{State}
@@ -9,17 +8,13 @@ use Rattle.lgp_table.specs.Activity.{cost}
 use Rattle.lgp_table.specs.Console.{is_at_rest, is_live}
 use Rattle.lgp_table.specs.declared.action.Action.{Action}
 use Rattle.lgp_table.specs.declared.action.Action.TheVariants as actions
-use Rattle.lgp_table.specs.declared.panel.Switches.{Switches}
 use Rattle.lgp_table.specs.declared.panel.Status.{Status}
-use Rattle.lgp_table.specs.declared.panel.Status.TheVariants.{Halted, Going, Executing, Waiting, Reading}
-use Rattle.lgp_table.specs.declared.panel.Cause.TheVariants.{Operator, Stop, Overflow, Step}
-use Rattle.lgp_table.specs.declared.panel.Mode.{Mode}
-use Rattle.lgp_table.specs.declared.panel.Mode.TheVariants.{Normal, OneOperation, Manual}
 use Rattle.lgp_machine.specs.Answers.{clock_end}
 use Rattle.lgp_machine.specs.Look.{look_of}
 use Rattle.lgp_machine.specs.declared.look.Look.{Look}
 use Rattle.lgp_history.specs.declared.step.Step.TheVariants as steps
 use Rattle.lgp_debugger.specs.Debugging.{Debugging, after_step}
+use Rattle.lgp_text.specs.PanelWords.{mode_text, on_text, status_text, switches_text}
 use Rattle.lgp_lab.specs.Standing.{Answer, Standing, refused, shown, with_debugger}
 use Rattle.lgp_lab.specs.declared.refusal.Refusal.TheVariants as refusals
 
@@ -33,16 +28,6 @@ typed_text live dead = codes "live " ++ (decimal live ++ (codes " dead " ++ (dec
 
 abbrev pub clock_text : ℕ → List ℕ
 clock_text clock = codes "clock " ++ (decimal clock ++ codes "\n")
-
-unfoldable pub status_text : Status → List ℕ
-status_text (Halted Operator) = codes "halted operator"
-status_text (Halted Stop) = codes "halted stop"
-status_text (Halted Overflow) = codes "halted overflow"
-status_text (Halted Step) = codes "halted step"
-status_text Going = codes "going"
-status_text Executing = codes "executing"
-status_text Waiting = codes "waiting"
-status_text Reading = codes "reading"
 
 abbrev pub orders_text : ℕ → Status → List ℕ
 orders_text done status = codes "orders " ++ (decimal done ++ (codes " " ++ (status_text status ++ codes "\n")))
@@ -122,23 +107,6 @@ module _ {A : Type 0} where
       else shown (orders_text run.done run.after.state.core.panel.status) after
 
 -- ---- panel
-
-unfoldable pub mode_text : Mode → List ℕ
-mode_text Normal = codes "normal"
-mode_text OneOperation = codes "oneop"
-mode_text Manual = codes "manual"
-
--- d for down, u for up
-abbrev pub switch_text : Bool → ℕ
-switch_text down = if down then byte "d" else byte "u"
-
-unfoldable pub switches_text : Switches → List ℕ
-switches_text switches =
-    switch_text switches.b32 ∷ switch_text switches.b16 ∷ switch_text switches.b8 ∷ switch_text switches.b4
-    ∷ switch_text switches.transfer ∷ switch_text switches.six_bit ∷ []
-
-unfoldable pub on_text : Bool → List ℕ
-on_text on = if on then codes "on" else codes "off"
 
 -- the panel's line
 unfoldable pub registers_text : Look → List ℕ

@@ -1,7 +1,5 @@
 -- Part of the public promise: the names of the script language, each with what it stands for.
-use Rattle.std.specs.Prelude.{ℕ, Bool, true, false, Option, List, [], ◌∷◌, codes}
-use Rattle.std.specs.Map.{lookup}
-use Rattle.std.specs.Str.{bytes_eq}
+use Rattle.std.specs.Prelude.{ℕ, Bool, true, false, List, [], ◌∷◌, codes}
 use Rattle.lgp_table.specs.declared.action.Action.{Action}
 use Rattle.lgp_table.specs.declared.action.Action.TheVariants as actions
 use Rattle.lgp_table.specs.declared.panel.Mode.TheVariants.{Normal, OneOperation, Manual}
@@ -10,10 +8,6 @@ use Rattle.lgp_lab.specs.declared.command.Verb.{Verb}
 use Rattle.lgp_lab.specs.declared.command.Verb.TheVariants as verbs
 use Rattle.lgp_lab.specs.declared.command.Switch.{Switch}
 use Rattle.lgp_lab.specs.declared.command.Switch.TheVariants as switches
-
--- what a name stands for; None where the list does not have it
-abbrev pub named : {T : Type 0} → List (List ℕ × T) → List ℕ → Option T
-named names name = lookup (bytes_eq name) names
 
 -- the commands by their first word
 abbrev pub verb_names : List (List ℕ × Verb)

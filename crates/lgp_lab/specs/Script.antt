@@ -7,9 +7,9 @@ use Rattle.lgp_lab.specs.Command.{command_of, text_behind}
 use Rattle.lgp_lab.specs.DrumCommands.{answer_to_dump, answer_to_put, answer_to_show, answer_to_words}
 use Rattle.lgp_history.specs.declared.rule.Rule.TheVariants.{At, Changed}
 use Rattle.lgp_lab.specs.HistoryCommands.{answer_to_back, answer_to_drop, answer_to_last, answer_to_rule, answer_to_run}
-use Rattle.lgp_lab.specs.Language.{Language, question_count, text_replies}
-use Rattle.lgp_lab.specs.Limits.{line_limit}
-use Rattle.lgp_lab.specs.Line.{has_no_word}
+use Rattle.lgp_stream.specs.Language.{Language, question_count, text_replies}
+use Rattle.lgp_stream.specs.KeptLine.{line_limit}
+use Rattle.lgp_stream.specs.LineWords.{has_no_word}
 use Rattle.lgp_lab.specs.LoadCommand.{answer_to_load}
 use Rattle.lgp_lab.specs.MachineCommands.{answer_to_orders, answer_to_panel, answer_to_press, answer_to_turn, answer_to_type}
 use Rattle.lgp_lab.specs.SourceCommands.{answer_in_source, answer_to_list, answer_to_source, closed}

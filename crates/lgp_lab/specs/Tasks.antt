@@ -6,12 +6,12 @@ use Rattle.lgp_task.specs.declared.task.Task.{Task}
 use Rattle.lgp_task.specs.declared.task.Task.TheVariants.{Stdin, Asm, Tape, Run, Script, Batch}
 use Rattle.lgp_task.specs.declared.task.TaskFault.{TaskFault}
 use Rattle.lgp_task.specs.declared.task.TaskFault.TheVariants as faults
-use Rattle.lgp_lab.specs.Files.{StandsOf, asm_answer, heading, run_answer, tape_answer}
-use Rattle.lgp_lab.specs.Language.{StandsWritten}
+use Rattle.lgp_lab.specs.Files.{asm_answer, heading, run_answer, tape_answer}
+use Rattle.lgp_stream.specs.Language.{StandsOf, StandsWritten}
 use Rattle.lgp_lab.specs.Script.{script_faults, script_language, script_text}
 use Rattle.lgp_lab.specs.Standing.{opening_standing}
-use Rattle.lgp_lab.specs.declared.stream.LabFault.{LabFault}
-use Rattle.lgp_lab.specs.declared.stream.LabFault.TheVariants.{Read, Write, Memory}
+use Rattle.lgp_stream.specs.declared.stream.StreamFault.{StreamFault}
+use Rattle.lgp_stream.specs.declared.stream.StreamFault.TheVariants.{Read, Write, Memory}
 use Rattle.lgp_lab.specs.declared.tasks.FileFault.{FileFault}
 use Rattle.lgp_lab.specs.declared.tasks.FileFault.TheVariants.{NotOpened, Broken}
 use Rattle.lgp_lab.specs.declared.tasks.Job.{Job}
@@ -36,7 +36,7 @@ memory_status = 3
 abbrev pub usage_status : ℕ
 usage_status = 64
 
-abbrev pub broken_status : LabFault → ℕ
+abbrev pub broken_status : StreamFault → ℕ
 broken_status Read = failed_status
 broken_status (Write count) = failed_status
 broken_status Memory = memory_status
@@ -69,12 +69,12 @@ count_for A (jobs.Running limit) text = (run_answer limit text).status
 count_for A jobs.Answering text = script_faults A text
 
 -- what stands written of a script, behind what is in front of it, where the fault breaks it off; how much was read is not told
-abbrev pub StandsOfScript : Type 0 → List (List ℕ) → LabFault → List ℕ → Option (List ℕ) → Option (List ℕ) → Type 0
+abbrev pub StandsOfScript : Type 0 → List (List ℕ) → StreamFault → List ℕ → Option (List ℕ) → Option (List ℕ) → Type 0
 StandsOfScript A front fault text w₀ w =
     (left : Option (List ℕ)) × StandsWritten front (script_language {A = A}) opening_standing fault text left w₀ w
 
 -- what stands written where a fault breaks a job off
-abbrev pub StandsFor : Type 0 → Job → LabFault → List ℕ → Option (List ℕ) → Option (List ℕ) → Type 0
+abbrev pub StandsFor : Type 0 → Job → StreamFault → List ℕ → Option (List ℕ) → Option (List ℕ) → Type 0
 StandsFor A jobs.Listing fault text w₀ w = StandsOf (asm_answer text).text fault w₀ w
 StandsFor A jobs.Taping fault text w₀ w = StandsOf (tape_answer text).text fault w₀ w
 StandsFor A (jobs.Running limit) fault text w₀ w = StandsOf (run_answer limit text).text fault w₀ w
@@ -129,7 +129,7 @@ IsPerformed A opens contents (Batch names) input status w₀ w = IsBatch A opens
 -- a text told: whole, with the status that goes with it; or in part, with that of a write that failed
 abbrev pub IsTold : ℕ → List ℕ → ℕ → Option (List ℕ) → Option (List ℕ) → Type 0
 IsTold wanted text status w₀ w =
-    ((status ≡ wanted) × Appends w₀ w text) ⊎ ((status ≡ failed_status) × ((fault : LabFault) × StandsOf text fault w₀ w))
+    ((status ≡ wanted) × Appends w₀ w text) ⊎ ((status ≡ failed_status) × ((fault : StreamFault) × StandsOf text fault w₀ w))
 
 -- where the words hold no task: help goes to the output, with status 0; how they are mistaken goes to the messages, with status 64;
 -- and nothing goes to the other one

@@ -3,13 +3,14 @@
 ghost use Rattle.std.specs.Prelude.{◌≡◌, ◌≤◌, drop, length};
 ghost use Rattle.std.specs.List.{position};
 ghost use Rattle.lgp_lab.specs.Command.{command_by, command_of, lone, lone_address, lone_number, number_at, press_command, put_command, span_at, switch_action, text_behind};
-ghost use Rattle.lgp_lab.specs.Line.{behind_word, first_word, has_no_word, is_space, is_visible};
-ghost use Rattle.lgp_lab.specs.Names.{button_names, named, position_names, switch_names, verb_names};
+ghost use Rattle.lgp_stream.specs.LineWords.{behind_word, first_word, has_no_word, is_space, is_visible};
+ghost use Rattle.lgp_text.specs.NamedValues.{named};
+ghost use Rattle.lgp_lab.specs.Names.{button_names, position_names, switch_names, verb_names};
 
 use crate::limits::DIGIT_LIMIT;
-use crate::names::{Named, value_named};
 use crate::span::Span;
 use lgp_table::{Action, Mode, Which};
+use lgp_text::{Named, value_named};
 use lgp_word::{Address, Word, read_decimal, read_digits};
 
 /// What a line asks for. The text of `Mount` and `Type` is the rest of the line.
@@ -308,7 +309,7 @@ struct Split<'a> {
 }
 
 /// The first word of a text.
-#[tactic(auto, using(crate::proofs::PlaceLemmas::places), unfolding(crate::specs::Line::first_word, crate::specs::Line::behind_word, crate::specs::Line::without_spaces))]
+#[tactic(auto, using(crate::proofs::PlaceLemmas::places), unfolding(lgp_stream::specs::LineWords::first_word, lgp_stream::specs::LineWords::behind_word, lgp_stream::specs::LineWords::without_spaces))]
 fn split_word(text: &[u8]) -> Split<'_>
     ensures word { result.word.now ≡ first_word text.now }
     ensures behind { result.behind.now ≡ behind_word text.now }
@@ -320,7 +321,7 @@ fn split_word(text: &[u8]) -> Split<'_>
 }
 
 /// Whether no word is left.
-#[tactic(auto, unfolding(crate::specs::Line::has_no_word))]
+#[tactic(auto, unfolding(lgp_stream::specs::LineWords::has_no_word))]
 fn has_no_word(text: &[u8]) -> bool
     ensures { result ≡ has_no_word text.now }
 {

@@ -2,24 +2,22 @@
 
 ghost use Rattle.std.specs.Prelude.{◌≡◌, ◌++◌, ℕ, List, None, Some, Ok, true, option_map, IfErr, IfOk, IfSome, OnOk, false};
 ghost use Rattle.std.specs.Io.KnownBytes.{Appends, IsAtEnd};
-ghost use Rattle.lgp_lab.specs.Files.{FileAnswer, StandsOf, answer_of, asm_answer, ended, listed, run_answer, run_to, state_at, tape_answer, taped};
+ghost use Rattle.lgp_lab.specs.Files.{FileAnswer, answer_of, asm_answer, ended, listed, run_answer, run_to, state_at, tape_answer, taped};
 ghost use Rattle.lgp_table.specs.Interleaving.{at_boundary};
-ghost use Rattle.lgp_lab.specs.Language.{HasCause};
+ghost use Rattle.lgp_stream.specs.Language.{HasCause, StandsOf};
 ghost use Rattle.lgp_lab.specs.Refusal.{refusal_text};
 ghost use Rattle.lgp_lab.specs.SourceCommands.{faults_text};
 ghost use Rattle.lgp_lab.specs.SourceText.{source_of};
 
-use crate::feed::Feed;
 use crate::laboratory::{push_faults, push_panel, push_printed};
 use crate::program::Program;
 use crate::refusal::{Refusal, push_refusal};
-use crate::sink::Sink;
 use crate::source_text::SourceText;
-use crate::stream::{CHUNK, LabFault, write_whole};
 use lgp_assembler::{AssembleError, Fault};
 use lgp_flexo::write_tape_text;
 use lgp_loader::{LoadFault, load, tape_of};
 use lgp_machine::{Machine, OrderFault};
+use lgp_stream::{CHUNK, Feed, Sink, StreamFault, write_whole};
 use std::alloc::{AllocError, Allocator};
 
 /// Reads a source to the reader's end. Of one that is too long nothing is kept.
@@ -27,7 +25,7 @@ use std::alloc::{AllocError, Allocator};
 fn read_source<A: Allocator + Copy, R: Feed>(
     alloc: A,
     reader: &mut R,
-) -> Result<SourceText<A>, LabFault>
+) -> Result<SourceText<A>, StreamFault>
     ensures read { OnOk result (IsAtEnd (R.remaining reader.new)) }
     ensures source { IfOk result (λ source. IfSome (R.remaining reader.old) (λ bytes.
         source ≡ source_of bytes)) }
@@ -37,13 +35,13 @@ fn read_source<A: Allocator + Copy, R: Feed>(
     let mut chunk = [0; CHUNK];
     'reads: loop {
         let Ok(count) = reader.read(&mut chunk) else {
-            return Err(LabFault::Read);
+            return Err(StreamFault::Read);
         };
         if count == 0 {
             return Ok(source);
         }
         let Ok(()) = source.push_bytes(&chunk[..count]) else {
-            return Err(LabFault::Memory);
+            return Err(StreamFault::Memory);
         };
     }
 }
@@ -243,7 +241,7 @@ pub fn asm_file<A: Allocator + Copy, R: Feed, W: Sink>(
     alloc: A,
     reader: &mut R,
     writer: &mut W,
-) -> Result<u64, LabFault>
+) -> Result<u64, StreamFault>
     requires reader { R.failed reader.old ≡ false }
     requires writer { W.failed writer.old ≡ false }
     ensures read { OnOk result (IsAtEnd (R.remaining reader.new)) }
@@ -258,7 +256,7 @@ pub fn asm_file<A: Allocator + Copy, R: Feed, W: Sink>(
 {
     let source = read_source(alloc, reader)?;
     let Ok(reply) = FileReply::listing(alloc, source) else {
-        return Err(LabFault::Memory);
+        return Err(StreamFault::Memory);
     };
     let FileReply { text, status } = reply;
     write_whole(writer, &text)?;
@@ -272,7 +270,7 @@ pub fn tape_file<A: Allocator + Copy, R: Feed, W: Sink>(
     alloc: A,
     reader: &mut R,
     writer: &mut W,
-) -> Result<u64, LabFault>
+) -> Result<u64, StreamFault>
     requires reader { R.failed reader.old ≡ false }
     requires writer { W.failed writer.old ≡ false }
     ensures read { OnOk result (IsAtEnd (R.remaining reader.new)) }
@@ -287,7 +285,7 @@ pub fn tape_file<A: Allocator + Copy, R: Feed, W: Sink>(
 {
     let source = read_source(alloc, reader)?;
     let Ok(reply) = FileReply::tape(alloc, source) else {
-        return Err(LabFault::Memory);
+        return Err(StreamFault::Memory);
     };
     let FileReply { text, status } = reply;
     write_whole(writer, &text)?;
@@ -302,7 +300,7 @@ pub fn run_file<A: Allocator + Copy, R: Feed, W: Sink>(
     reader: &mut R,
     limit: u64,
     writer: &mut W,
-) -> Result<u64, LabFault>
+) -> Result<u64, StreamFault>
     requires reader { R.failed reader.old ≡ false }
     requires writer { W.failed writer.old ≡ false }
     ensures read { OnOk result (IsAtEnd (R.remaining reader.new)) }
@@ -318,7 +316,7 @@ pub fn run_file<A: Allocator + Copy, R: Feed, W: Sink>(
 {
     let source = read_source(alloc, reader)?;
     let Ok(reply) = FileReply::run(alloc, source, limit) else {
-        return Err(LabFault::Memory);
+        return Err(StreamFault::Memory);
     };
     let FileReply { text, status } = reply;
     write_whole(writer, &text)?;

@@ -2,21 +2,20 @@
 
 ghost use Rattle.std.specs.Prelude.{◌≡◌, ◌++◌, ◌==◌, ◌≤◌, List, ℕ, IfOk, OnOk, length, slice_index};
 ghost use Rattle.std.specs.Str.{byte};
-ghost use Rattle.lgp_lab.specs.Limits.{line_limit};
-ghost use Rattle.lgp_lab.specs.LineInside.{kept_of};
+ghost use Rattle.lgp_stream.specs.KeptLine.{line_limit};
+ghost use Rattle.lgp_stream.specs.KeptLine.{kept_of};
 ghost use Rattle.lgp_lab.specs.Script.{answer_to, answer_to_command, is_passed_over, script_language};
 ghost use Rattle.lgp_lab.specs.Standing.{opening_standing};
 
 use crate::command::{Asked, Command, asked_in};
 use crate::limits::KEPT_LIMIT;
-use crate::line::Bytes;
 use crate::program::Program;
 use crate::refusal::{Refusal, push_refusal};
 use crate::source_text::SourceText;
-use crate::stream::Answers;
 use lgp_debugger::Debugger;
 use lgp_history::{Records, Rule};
 use lgp_machine::Machine;
+use lgp_stream::{Answers, LineBytes};
 use std::alloc::{AllocError, Allocator};
 use std::marker::Model;
 
@@ -119,7 +118,7 @@ fn is_comment(line: &[u8]) -> bool
 }
 
 /// Whether a line has no reply: no word stands on it, or it begins with a semicolon.
-fn is_passed_over(line: &Bytes) -> bool
+fn is_passed_over(line: &LineBytes) -> bool
     ensures { (text : List ℕ) → line.now ≡ kept_of text → result ≡ is_passed_over text }
 {
     line.has_no_word() || is_comment(line.front())
@@ -127,7 +126,7 @@ fn is_passed_over(line: &Bytes) -> bool
 
 impl<A: Allocator + Copy> Laboratory<A> {
     /// Answers a line outside a source.
-    fn answer_command(&mut self, line: &Bytes, reply: &mut Vec<u8, A>) -> Result<(), AllocError>
+    fn answer_command(&mut self, line: &LineBytes, reply: &mut Vec<u8, A>) -> Result<(), AllocError>
         ensures reply { (text : List ℕ) → line.now ≡ kept_of text
             → OnOk result (reply.new.items
             ≡ reply.old.items ++ (answer_to_command self.old text).reply) }
@@ -153,7 +152,7 @@ impl<A: Allocator + Copy> Laboratory<A> {
 impl<A: Allocator + Copy> Answers<A> for Laboratory<A> {
     ghost language = { script_language };
 
-    fn answer(&mut self, line: &Bytes, reply: &mut Vec<u8, A>) -> Result<(), AllocError> {
+    fn answer(&mut self, line: &LineBytes, reply: &mut Vec<u8, A>) -> Result<(), AllocError> {
         match self.opened.take() {
             Some(source) => self.take_line(source, line, reply),
             None => self.answer_command(line, reply),

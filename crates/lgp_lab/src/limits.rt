@@ -1,8 +1,5 @@
 //! The limits of the script language.
 
-/// How many bytes a line may have.
-pub const LINE_LIMIT: usize = 4096;
-
 /// How many digits a number may have.
 pub const DIGIT_LIMIT: usize = 10;
 
@@ -17,3 +14,6 @@ pub const KEPT_LIMIT: usize = 4096;
 
 /// How many words the drum has.
 pub const DRUM_SIZE: u64 = 4096;
+
+/// How often the program reads a file or standard input at most.
+pub const READS: u64 = 1 << 32;

@@ -3,7 +3,7 @@
 ghost use Rattle.std.specs.Prelude.{◌≡◌, ◌++◌, OnOk, codes, decimal};
 ghost use Rattle.lgp_lab.specs.Refusal.{refusal_text};
 
-use crate::piece::{Piece, push_pieces};
+use lgp_text::{Piece, push_pieces};
 use std::alloc::{AllocError, Allocator};
 
 /// Why a command is refused.

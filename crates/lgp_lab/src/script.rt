@@ -3,14 +3,12 @@
 ghost use Rattle.std.specs.Prelude.{◌≡◌, ◌∷◌, ◌++◌, [], IfErr, IfOk, IfSome, OnOk, false};
 ghost use Rattle.std.specs.Io.KnownBytes.{Appends, IsAtEnd};
 ghost use Rattle.lgp_lab.specs.Files.{heading};
-ghost use Rattle.lgp_lab.specs.Language.{HasCause, StandsWritten};
+ghost use Rattle.lgp_stream.specs.Language.{HasCause, StandsWritten};
 ghost use Rattle.lgp_lab.specs.Script.{script_faults, script_language, script_text};
 ghost use Rattle.lgp_lab.specs.Standing.{opening_standing};
 
-use crate::feed::Feed;
 use crate::laboratory::Laboratory;
-use crate::sink::Sink;
-use crate::stream::{LabFault, run_text, write_whole};
+use lgp_stream::{Feed, Sink, StreamFault, run_text, write_whole};
 use std::alloc::{AllocError, Allocator};
 
 /// Runs a script, wherever reader and writer stand.
@@ -19,7 +17,7 @@ fn answer_script<A: Allocator + Copy, R: Feed, W: Sink>(
     alloc: A,
     reader: &mut R,
     writer: &mut W,
-) -> Result<u64, LabFault>
+) -> Result<u64, StreamFault>
     ensures read { OnOk result (IsAtEnd (R.remaining reader.new)) }
     ensures text { OnOk result (IfSome (R.remaining reader.old) (λ script.
         Appends (W.contents writer.old) (W.contents writer.new) (script_text A script))) }
@@ -32,7 +30,7 @@ fn answer_script<A: Allocator + Copy, R: Feed, W: Sink>(
         (R.remaining reader.new) (W.contents writer.old) (W.contents writer.new))) }
 {
     let Ok(laboratory) = Laboratory::new(alloc) else {
-        return Err(LabFault::Memory);
+        return Err(StreamFault::Memory);
     };
     let faults = run_text(alloc, laboratory, reader, writer)?;
     Ok(faults)
@@ -44,7 +42,7 @@ pub fn run_script<A: Allocator + Copy, R: Feed, W: Sink>(
     alloc: A,
     reader: &mut R,
     writer: &mut W,
-) -> Result<u64, LabFault>
+) -> Result<u64, StreamFault>
     requires reader { R.failed reader.old ≡ false }
     requires writer { W.failed writer.old ≡ false }
     ensures read { OnOk result (IsAtEnd (R.remaining reader.new)) }
@@ -79,7 +77,7 @@ pub(crate) fn answer_part<A: Allocator + Copy, R: Feed, W: Sink>(
     name: &str,
     reader: &mut R,
     writer: &mut W,
-) -> Result<u64, LabFault>
+) -> Result<u64, StreamFault>
     ensures read { OnOk result (IsAtEnd (R.remaining reader.new)) }
     ensures text { OnOk result (IfSome (R.remaining reader.old) (λ script.
         Appends (W.contents writer.old) (W.contents writer.new)
@@ -93,7 +91,7 @@ pub(crate) fn answer_part<A: Allocator + Copy, R: Feed, W: Sink>(
         script (R.remaining reader.new) (W.contents writer.old) (W.contents writer.new))) }
 {
     let Ok(heading) = heading(alloc, name) else {
-        return Err(LabFault::Memory);
+        return Err(StreamFault::Memory);
     };
     write_whole(writer, &heading)?;
     match answer_script(alloc, reader, writer) {
@@ -109,7 +107,7 @@ pub fn batch_part<A: Allocator + Copy, R: Feed, W: Sink>(
     name: &str,
     reader: &mut R,
     writer: &mut W,
-) -> Result<u64, LabFault>
+) -> Result<u64, StreamFault>
     requires reader { R.failed reader.old ≡ false }
     requires writer { W.failed writer.old ≡ false }
     ensures read { OnOk result (IsAtEnd (R.remaining reader.new)) }

@@ -1,12 +1,12 @@
 //! A source that is gathered piece by piece.
 
 ghost use Rattle.std.specs.Prelude.{◌≡◌, ◌≤◌, ◌++◌, [], true, length, codes, List, ℕ, OnErr, OnOk};
-ghost use Rattle.lgp_lab.specs.Limits.{line_limit};
-ghost use Rattle.lgp_lab.specs.LineInside.{kept_of};
+ghost use Rattle.lgp_stream.specs.KeptLine.{line_limit};
+ghost use Rattle.lgp_stream.specs.KeptLine.{kept_of};
 ghost use Rattle.lgp_lab.specs.SourceText.{source_of, with_bytes, with_line};
 
 use crate::limits::SOURCE_LIMIT;
-use crate::line::Bytes;
+use lgp_stream::LineBytes;
 use std::alloc::{AllocError, Allocator};
 use std::marker::Model;
 
@@ -78,7 +78,7 @@ impl<A: Allocator> SourceText<A> {
     }
 
     /// A line of which this was kept, and its line feed. A refused growth changes nothing.
-    pub fn push_line(&mut self, line: &Bytes) -> Result<(), AllocError>
+    pub fn push_line(&mut self, line: &LineBytes) -> Result<(), AllocError>
         ensures ok { (text : List ℕ) → line.now ≡ kept_of text
             → OnOk result (self.new ≡ with_line self.old text) }
         ensures err { OnErr result (self.new ≡ self.old) }

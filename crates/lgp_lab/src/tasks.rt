@@ -2,15 +2,13 @@
 
 ghost use Rattle.std.specs.Prelude.{◌≡◌, List, Option, ℕ, Bool, IfErr, IfOk, IfSome, false, is_ok, true};
 ghost use Rattle.std.specs.Io.KnownBytes.{Appends};
-ghost use Rattle.lgp_lab.specs.Language.{HasCause};
+ghost use Rattle.lgp_stream.specs.Language.{HasCause};
 ghost use Rattle.lgp_lab.specs.Tasks.{HasDone, HasDonePart, IsAnswered, IsBatch, IsOpenedAs, IsPerformed, IsRefused, IsTold, IsWorked, StandsFor, count_for, read_limit, status_for, text_for, unread_text, usage_status, was_opened};
 ghost use Rattle.lgp_lab.specs.declared.tasks.Job.TheVariants.{Answering};
 
-use crate::feed::Feed;
 use crate::files::{asm_file, run_file, tape_file};
 use crate::script::{answer_part, run_script};
-use crate::sink::Sink;
-use crate::stream::{LabFault, write_whole};
+use lgp_stream::{Feed, Sink, StreamFault, write_whole};
 use lgp_task::{FileNames, Task, TaskFault};
 use std::alloc::Allocator;
 
@@ -44,7 +42,7 @@ pub enum FileFault {
     /// It cannot be opened. Nothing was read or written.
     NotOpened,
     /// Work on it was broken off.
-    Broken(LabFault),
+    Broken(StreamFault),
 }
 
 /// What is done with a text.
@@ -77,9 +75,9 @@ pub fn status_of(outcome: Result<u64, FileFault>) -> u8
     match outcome {
         Ok(0) => 0,
         Ok(_) => 1,
-        Err(FileFault::NotOpened | FileFault::Broken(LabFault::Read | LabFault::Write(_))) =>
+        Err(FileFault::NotOpened | FileFault::Broken(StreamFault::Read | StreamFault::Write(_))) =>
             FAILED,
-        Err(FileFault::Broken(LabFault::Memory)) => MEMORY,
+        Err(FileFault::Broken(StreamFault::Memory)) => MEMORY,
     }
 }
 
@@ -89,7 +87,7 @@ pub fn work<A: Allocator + Copy, R: Feed, W: Sink>(
     job: Job,
     reader: &mut R,
     writer: &mut W,
-) -> Result<u64, LabFault>
+) -> Result<u64, StreamFault>
     requires reader { R.failed reader.old ≡ false }
     requires writer { W.failed writer.old ≡ false }
     ensures text { IfOk result (λ count. IfSome (R.remaining reader.old) (λ text.

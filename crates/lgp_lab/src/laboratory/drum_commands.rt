@@ -7,12 +7,12 @@ ghost use Rattle.lgp_lab.specs.Limits.{drum_size};
 
 use super::Laboratory;
 use crate::limits::DRUM_SIZE;
-use crate::piece::{Piece, push_pieces};
 use crate::refusal::{Refusal, push_refusal};
 use crate::span::Span;
 use lgp_debugger::PutFault;
 use lgp_listing::disassemble;
 use lgp_machine::Machine;
+use lgp_text::{Piece, push_pieces};
 use lgp_word::{Address, Word};
 use std::alloc::{AllocError, Allocator};
 

@@ -6,10 +6,10 @@ ghost use Rattle.lgp_lab.specs.HistoryCommands.{answer_to_back, answer_to_drop, 
 
 use super::Laboratory;
 use super::machine_commands::push_clock;
-use crate::piece::{Piece, push_pieces};
 use crate::refusal::{Refusal, push_counted, push_refusal};
 use lgp_debugger::{Debugger, HitFault, Ran, Reason, RuleFault, RunRefusal};
 use lgp_history::{BackFault, History, Rule};
+use lgp_text::{Piece, push_pieces};
 use std::alloc::{AllocError, Allocator};
 
 /// How many rules there may be.

@@ -2,18 +2,19 @@
 
 ghost use Rattle.std.specs.Prelude.{◌≡◌, ◌++◌, ◌≤◌, IfOk, IsTrue, OnOk, length};
 ghost use Rattle.lgp_table.specs.Interleaving.{is_boundary};
-ghost use Rattle.lgp_lab.specs.Limits.{line_limit};
-ghost use Rattle.lgp_lab.specs.MachineCommands.{answer_to_orders, answer_to_panel, answer_to_press, answer_to_turn, answer_to_type, clock_text, mode_text, on_text, orders_text, panel_text, performed, reader_text, registers_text, status_text, switch_text, switches_text, typed, typed_text};
+ghost use Rattle.lgp_stream.specs.KeptLine.{line_limit};
+ghost use Rattle.lgp_lab.specs.MachineCommands.{answer_to_orders, answer_to_panel, answer_to_press, answer_to_turn, answer_to_type, clock_text, orders_text, panel_text, performed, reader_text, registers_text, typed, typed_text};
+ghost use Rattle.lgp_text.specs.PanelWords.{mode_text, on_text, status_text, switches_text};
 
 use super::Laboratory;
 use super::tape_commands::read_codes;
-use crate::piece::{Piece, push_pieces};
 use crate::refusal::{Refusal, push_counted, push_refusal};
 use lgp_debugger::{Debugger, IdleFault, StepFault};
 use lgp_flexo::Code;
 use lgp_history::History;
 use lgp_machine::{Look, Machine};
-use lgp_table::{Action, Cause, Mode, Status, Switches};
+use lgp_table::{Action, Status};
+use lgp_text::{Piece, mode_text, on_text, push_pieces, status_text, switches_text};
 use std::alloc::{AllocError, Allocator};
 
 impl<A: Allocator + Copy> Laboratory<A> {
@@ -184,23 +185,6 @@ fn perform<H: History<A>, A: Allocator>(
     })
 }
 
-/// The text of a status.
-#[tactic(auto, unfolding(crate::specs::MachineCommands::status_text))]
-fn status_text(status: Status) -> &'static [u8]
-    ensures { result.now ≡ status_text status }
-{
-    match status {
-        Status::Halted(Cause::Operator) => b"halted operator",
-        Status::Halted(Cause::Stop) => b"halted stop",
-        Status::Halted(Cause::Overflow) => b"halted overflow",
-        Status::Halted(Cause::Step) => b"halted step",
-        Status::Going => b"going",
-        Status::Executing => b"executing",
-        Status::Waiting => b"waiting",
-        Status::Reading => b"reading",
-    }
-}
-
 /// Appends how many orders were performed, and the status after them.
 fn push_orders<A: Allocator>(
     text: &mut Vec<u8, A>,
@@ -219,48 +203,6 @@ fn push_orders<A: Allocator>(
             Piece::Text(b"\n"),
         ],
     )
-}
-
-/// The text of a mode.
-#[tactic(auto, unfolding(crate::specs::MachineCommands::mode_text))]
-fn mode_text(mode: Mode) -> &'static [u8]
-    ensures { result.now ≡ mode_text mode }
-{
-    match mode {
-        Mode::Normal => b"normal",
-        Mode::OneOperation => b"oneop",
-        Mode::Manual => b"manual",
-    }
-}
-
-/// The letter of a switch's position.
-fn switch_text(down: bool) -> u8
-    ensures { result ≡ switch_text down }
-{
-    if down { b'd' } else { b'u' }
-}
-
-/// The letters of the switches' positions.
-#[tactic(auto, unfolding(crate::specs::MachineCommands::switches_text))]
-fn switches_text(switches: Switches) -> [u8; 6]
-    ensures { result ≡ switches_text switches }
-{
-    [
-        switch_text(switches.b32),
-        switch_text(switches.b16),
-        switch_text(switches.b8),
-        switch_text(switches.b4),
-        switch_text(switches.transfer),
-        switch_text(switches.six_bit),
-    ]
-}
-
-/// Whether the reader is on.
-#[tactic(auto, unfolding(crate::specs::MachineCommands::on_text))]
-fn on_text(on: bool) -> &'static [u8]
-    ensures { result.now ≡ on_text on }
-{
-    if on { b"on" } else { b"off" }
 }
 
 /// Appends the panel's line of a machine at a boundary.

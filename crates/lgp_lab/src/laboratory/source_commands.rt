@@ -1,17 +1,17 @@
 //! Sources and their listings.
 
 ghost use Rattle.std.specs.Prelude.{◌≡◌, ◌++◌, List, ℕ, None, OnOk};
-ghost use Rattle.lgp_lab.specs.LineInside.{kept_of};
+ghost use Rattle.lgp_stream.specs.KeptLine.{kept_of};
 ghost use Rattle.lgp_lab.specs.SourceCommands.{answer_in_source, answer_to_list, answer_to_end, answer_to_source, cells_text, faults_text, start_text};
 ghost use Rattle.lgp_lab.specs.Standing.{with_opened};
 
 use super::Laboratory;
-use crate::line::Bytes;
-use crate::piece::{Piece, push_pieces};
 use crate::program::Program;
 use crate::refusal::{Refusal, push_refusal};
 use crate::source_text::SourceText;
 use lgp_assembler::{AssembleError, Fault, Image};
+use lgp_stream::LineBytes;
+use lgp_text::{Piece, push_pieces};
 use lgp_word::Address;
 use std::alloc::{AllocError, Allocator};
 
@@ -27,7 +27,7 @@ impl<A: Allocator + Copy> Laboratory<A> {
     pub(super) fn take_line(
         &mut self,
         source: SourceText<A>,
-        line: &Bytes,
+        line: &LineBytes,
         reply: &mut Vec<u8, A>,
     ) -> Result<(), AllocError>
         ensures reply { (text : List ℕ) → line.now ≡ kept_of text

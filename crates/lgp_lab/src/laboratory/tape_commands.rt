@@ -2,14 +2,14 @@
 
 ghost use Rattle.std.specs.Prelude.{◌≡◌, ◌++◌, ◌≤◌, IfErr, IfOk, OnOk, length, vec_len};
 ghost use Rattle.lgp_flexo.specs.TapeText.{codes_of_text};
-ghost use Rattle.lgp_lab.specs.Limits.{line_limit};
+ghost use Rattle.lgp_stream.specs.KeptLine.{line_limit};
 ghost use Rattle.lgp_lab.specs.TapeCommands.{answer_to_mount, answer_to_printed, answer_to_tape, count_text, printed_text};
 
 use super::Laboratory;
-use crate::piece::{Piece, push_pieces};
 use crate::refusal::{Refusal, push_refusal};
 use lgp_debugger::MountFault;
 use lgp_flexo::{Code, TextFault, read_tape_text, write_tape_text};
+use lgp_text::{Piece, push_pieces};
 use std::alloc::{AllocError, Allocator};
 
 impl<A: Allocator + Copy> Laboratory<A> {

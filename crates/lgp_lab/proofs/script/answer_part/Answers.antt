@@ -2,8 +2,8 @@ use Rattle.std.proofs.Common.{◌≡◌, Err, length, rules}
 use Rattle.lgp_lab.specs.Files.{heading}
 use Rattle.lgp_lab.specs.Script.{script_language}
 use Rattle.lgp_lab.specs.Standing.{opening_standing}
-use Rattle.lgp_lab.specs.StreamInside.{fault_behind}
-use Rattle.lgp_lab.proofs.StreamLemmas.{StandsWritten-heading, StandsWritten-part, StandsWritten-unnamed}
+use Rattle.lgp_stream.specs.Language.{fault_behind}
+use Rattle.lgp_stream.proofs.StreamLemmas.{StandsWritten-heading, StandsWritten-part, StandsWritten-unnamed}
 use Rattle.lgp_lab.proofs.script.answer_part.Goals as goal
 
 pub returns-in_default-clause-stands : goal.returns-in_default-clause-stands

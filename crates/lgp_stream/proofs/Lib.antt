@@ -1,0 +1,5 @@
+pub mod KnownLemmas
+pub mod FrontLemmas
+pub mod LineLemmas
+pub mod CutLemmas
+pub mod StreamLemmas

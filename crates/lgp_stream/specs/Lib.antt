@@ -1,0 +1,5 @@
+pub mod LineWords
+pub mod KeptLine
+pub mod Language
+pub mod OpenLineInside
+pub mod StreamInside

@@ -1,0 +1,14 @@
+//! A text answered line by line while it is read, in any language of lines.
+#![tactic(auto)]
+
+pub use feed::{Failed, Feed, FeedOf};
+pub use line::{LINE_LIMIT, LineBytes};
+pub use sink::{Sink, SinkOf};
+pub use stream::{Answers, CHUNK, StreamFault, run_text, write_whole};
+
+mod feed;
+mod line;
+mod sink;
+mod stream;
+#[cfg(test)]
+mod tests;

@@ -1,0 +1,138 @@
+//! A language that gives each line back as far as it is kept.
+
+ghost use Rattle.std.specs.Prelude.{◌++◌, codes};
+ghost use Rattle.lgp_stream.specs.KeptLine.{kept_of};
+
+use crate::{Answers, FeedOf, LINE_LIMIT, LineBytes, SinkOf, StreamFault, run_text, write_whole};
+use std::alloc::{AllocError, Allocator, Global};
+use std::test::Fail;
+
+/// Answers a line by its front, and the text's end by a point.
+#[derive(Drop)]
+struct Echo;
+
+impl<A: Allocator> Answers<A> for Echo {
+    ghost language = { record {
+      reply = λ echo text. (kept_of text).front ++ codes "\n";
+      after = λ echo text. echo;
+      closing = λ echo. codes ".\n";
+    } };
+
+    fn answer(&mut self, line: &LineBytes, reply: &mut Vec<u8, A>) -> Result<(), AllocError> {
+        reply.extend_from_slice(line.front())?;
+        reply.extend_from_slice(b"\n")
+    }
+
+    fn close(&mut self, reply: &mut Vec<u8, A>) -> Result<(), AllocError> {
+        reply.extend_from_slice(b".\n")
+    }
+}
+
+/// What is answered to a text: how many replies begin with a question mark.
+fn echoed(alloc: Global, text: &[u8], replies: &mut Vec<u8>) -> Result<u64, StreamFault> {
+    let mut feed = FeedOf::new(text, 1000);
+    run_text(alloc, Echo, &mut feed, &mut SinkOf::new(replies))
+}
+
+/// A text, its replies, and how many of those begin with a question mark.
+const TEXTS: [(&[u8], &[u8], u64); 5] = [
+    (b"", b".\n", 0),
+    (b"ab\n?\r\n\n?c", b"ab\n?\n\n?c\n.\n", 2),
+    (b"one\n", b"one\n.\n", 0),
+    (b"two\r", b"two\r\n.\n", 0),
+    (b"\r\r\n", b"\r\n.\n", 0),
+];
+
+#[test]
+fn each_line_has_its_reply(rt: HostRuntime) {
+    for (text, wanted, questions) in TEXTS {
+        let mut replies = Vec::new(rt.alloc());
+        let answer = echoed(rt.alloc(), text, &mut replies);
+        assert_eq!(rt; (answer, replies.as_slice()), (Ok(questions), wanted));
+    }
+}
+
+/// A text of so many lines of fifteen bytes, behind a line of so many.
+fn long_text(alloc: Global, first: usize, lines: usize) -> Result<Vec<u8>, AllocError> {
+    let mut text = Vec::new(alloc);
+    for _ in 0..first {
+        text.push(b'x')?;
+    }
+    text.push(b'\n')?;
+    for _ in 0..lines {
+        text.extend_from_slice(b"0123456789abcde\n")?;
+    }
+    Ok(text)
+}
+
+/// The first line's length, the number of lines behind it, and how many bytes its replies have.
+const LENGTHS: [(usize, usize, usize); 3] = [
+    (LINE_LIMIT, 1, 4097 + 16 + 2),
+    (LINE_LIMIT + 1, 1, 4097 + 16 + 2),
+    (10_000, 4_096, 4097 + 65_536 + 2),
+];
+
+#[test]
+fn of_a_line_4096_bytes_are_kept(rt: HostRuntime) -> Result<(), Fail> {
+    for (first, lines, wanted) in LENGTHS {
+        let text = long_text(rt.alloc(), first, lines)?;
+        let mut replies = Vec::new(rt.alloc());
+        let answer = echoed(rt.alloc(), &text, &mut replies);
+        assert_eq!(rt; (answer, replies.len()), (Ok(0), wanted));
+    }
+    Ok(())
+}
+
+/// What is kept of bytes: whether they are longer, whether all are spaces, whether they are the word `ab`, and whether their
+/// front is a text.
+fn kept(text: &[u8], front: &[u8]) -> [bool; 4] {
+    let mut bytes = LineBytes::new();
+    for byte in text {
+        bytes.push(*byte);
+    }
+    [
+        bytes.is_longer(),
+        bytes.has_no_word(),
+        bytes.is_word(b"ab"),
+        bytes.front() == front,
+    ]
+}
+
+#[test]
+fn bytes_are_kept_in_their_order(rt: HostRuntime) {
+    let rows = [
+        kept(b"", b""),
+        kept(b"  ", b"  "),
+        kept(b"ab", b"ab"),
+        kept(b"ab ", b"ab "),
+    ];
+    let wanted = [
+        [false, true, false, true],
+        [false, true, false, true],
+        [false, false, true, true],
+        [false, false, false, true],
+    ];
+    assert_eq!(rt; rows, wanted);
+}
+
+#[test]
+fn a_write_is_counted_behind_what_was_written(rt: HostRuntime) {
+    let mut written = Vec::new(rt.alloc());
+    let answer = write_whole(&mut SinkOf::new(&mut written), b"file a\n");
+    assert_eq!(rt;
+        (answer, written.as_slice()),
+        (Ok(()), b"file a\n".as_slice())
+    );
+    assert_eq!(rt;
+        [
+            StreamFault::Read.behind(7),
+            StreamFault::Write(2).behind(7),
+            StreamFault::Memory.behind(7)
+        ],
+        [
+            StreamFault::Read,
+            StreamFault::Write(9),
+            StreamFault::Memory
+        ]
+    );
+}

@@ -1,0 +1,13 @@
+-- Part of the public promise: names, each with what it stands for.
+use Rattle.std.specs.Prelude.{ℕ, Option, List, [], ◌∷◌}
+use Rattle.std.specs.Map.{lookup}
+use Rattle.std.specs.Str.{bytes_eq}
+use Rattle.lgp_text.specs.declared.names.Named.{Named}
+
+-- what a name stands for; None where the list does not have it
+abbrev pub named : {T : Type 0} → List (List ℕ × T) → List ℕ → Option T
+named names name = lookup (bytes_eq name) names
+
+abbrev pub pairs_of : {T : Type 0} → List (Named T) → List (List ℕ × T)
+pairs_of [] = []
+pairs_of (known ∷ more) = (known.name.now, known.value) ∷ pairs_of more
