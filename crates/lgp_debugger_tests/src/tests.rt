@@ -2,4 +2,5 @@
 
 mod calls;
 mod growths;
+mod large;
 mod rows;

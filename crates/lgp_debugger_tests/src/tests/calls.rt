@@ -25,6 +25,7 @@ pub enum Named {
 pub enum Button {
     Start,
     StartCompute,
+    StartRead,
     Normal,
     Manual,
 }
@@ -127,6 +128,7 @@ fn action_of(button: Button) -> Action {
     match button {
         Button::Start => Action::Start,
         Button::StartCompute => Action::StartCompute,
+        Button::StartRead => Action::StartRead,
         Button::Normal => Action::Mode(Mode::Normal),
         Button::Manual => Action::Mode(Mode::Manual),
     }
@@ -154,12 +156,12 @@ pub fn put<H: History<A>, A: Allocator>(
     lab.put(address(at), Word::of_bits(bits))
 }
 
-/// Presses; true where the press was live.
-pub fn press<H: History<A>, A: Allocator>(
+/// Presses a button; true where the press was live.
+pub fn press_button<H: History<A>, A: Allocator>(
     lab: &mut Debugger<H, A>,
-    action: Action,
+    button: Button,
 ) -> Result<bool, AllocError> {
-    lab.press(action)
+    lab.press(action_of(button))
 }
 
 /// An order, and what it costs.
@@ -235,7 +237,11 @@ fn add_rules<H: History<A>, A: Allocator>(
     count
 }
 
-fn remove_rule<H: History<A>, A: Allocator>(lab: &mut Debugger<H, A>, number: u8) -> Option<Named> {
+/// Takes the rule of a number out.
+pub fn remove_rule<H: History<A>, A: Allocator>(
+    lab: &mut Debugger<H, A>,
+    number: u8,
+) -> Option<Named> {
     lab.remove_rule(number).map(name_of)
 }
 
@@ -339,7 +345,7 @@ pub fn answer_to<H: History<A>, A: Allocator + Copy>(
 ) -> Answer {
     match call {
         Call::Put(at, bits) => Answer::Put(put(lab, at, bits)),
-        Call::Press(button) => Answer::Press(press(lab, action_of(button))),
+        Call::Press(button) => Answer::Press(press_button(lab, button)),
         Call::Step => Answer::Step(step(lab)),
         Call::Steps(count) => Answer::Done(steps(lab, count)),
         Call::Idle(times) => Answer::Idle(idle(lab, times)),

@@ -1,7 +1,10 @@
 //! Worked examples: what is called, and what each call answers.
 
 use super::calls::{Answer, Button, Call, Named, Shown, Sight, answer_to, with_order};
-use lgp_debugger::{Debugger, HitFault, IdleFault, Ran, Reason, RuleFault, StepFault};
+use lgp_debugger::{
+    Debugger, HitFault, IdleFault, MountFault, PutFault, Ran, Reason, RuleFault, RunFault,
+    RunRefusal, StepFault,
+};
 use lgp_history::{BackFault, CAPACITY_LIMIT, Checkpoints, History, Records};
 use lgp_loader::LoadFault;
 use lgp_table::{Cause, Status};
@@ -275,6 +278,78 @@ const AT_REST: Example = Example {
     ],
 };
 
+/// Of orders, a run and word times at rest that would pass the clock's end each is refused. The sector after the start comes seven
+/// word times later; so the first transfer ends 189 word times before the clock's end, and the third 61.
+const CLOCK_END: Example = Example {
+    name: "the clock's end",
+    capacity: 100,
+    first: TRANSFER,
+    rows: &[
+        (Call::Idle(u64::MAX), Answer::Idle(Err(IdleFault::ClockEnd))),
+        (Call::Idle((1 << 62) - 200), Answer::Idle(Ok(()))),
+        (Call::Idle(201), Answer::Idle(Err(IdleFault::ClockEnd))),
+        (Call::Press(Button::Start), Answer::Press(Ok(true))),
+        (
+            Call::Run(10),
+            Answer::Run(Err(RunFault {
+                orders: 3,
+                fault: RunRefusal::ClockEnd,
+            })),
+        ),
+        (Call::Step, Answer::Step(Err(StepFault::ClockEnd))),
+        (Call::See(Sight::Clock), Answer::Clock((1 << 62) - 61)),
+        (Call::See(Sight::Kept), Answer::Kept((5, 3))),
+        (
+            Call::Mount(b"1"),
+            Answer::Mount(Some(Err((MountFault::Moving, 1)))),
+        ),
+        (Call::Put(0, 4), Answer::Put(Err(PutFault::Moving))),
+        (Call::Back(3), Answer::Back(Ok(()))),
+        (Call::See(Sight::Clock), Answer::Clock((1 << 62) - 200)),
+        (
+            Call::Run(3),
+            Answer::Run(Ok(Ran {
+                orders: 3,
+                reason: Reason::Limit,
+            })),
+        ),
+        (Call::Press(Button::Manual), Answer::Press(Ok(true))),
+        (Call::Idle(62), Answer::Idle(Err(IdleFault::ClockEnd))),
+        (Call::Idle(61), Answer::Idle(Ok(()))),
+        (Call::See(Sight::Clock), Answer::Clock(1 << 62)),
+        (Call::Idle(1), Answer::Idle(Err(IdleFault::ClockEnd))),
+        (Call::Idle(0), Answer::Idle(Ok(()))),
+    ],
+};
+
+/// In Manual Start Read is live, and a tape is read up to its conditional stop: a word time, and 384 for each of three codes.
+const START_READ: Example = Example {
+    name: "start read",
+    capacity: 100,
+    first: 0,
+    rows: &[
+        (Call::Press(Button::StartRead), Answer::Press(Ok(false))),
+        (Call::Mount(b"12'3"), Answer::Mount(Some(Ok(())))),
+        (Call::Press(Button::Manual), Answer::Press(Ok(true))),
+        (Call::Press(Button::StartRead), Answer::Press(Ok(true))),
+        (Call::See(Sight::Kept), Answer::Kept((3, 0))),
+        (Call::Step, Answer::Step(Ok(1153))),
+        (Call::See(Sight::TapeLeft), Answer::TapeLeft(1)),
+        (Call::Back(1), Answer::Back(Ok(()))),
+        (Call::See(Sight::TapeLeft), Answer::TapeLeft(4)),
+        (Call::See(Sight::Clock), Answer::Clock(0)),
+        (
+            Call::Run(10),
+            Answer::Run(Ok(Ran {
+                orders: 1,
+                reason: Reason::Rest,
+            })),
+        ),
+        (Call::LastHit, Answer::LastHit(Err(HitFault::NoHit(1)))),
+        (Call::See(Sight::Kept), Answer::Kept((4, 1))),
+    ],
+};
+
 /// There are at most 64 rules.
 const MANY_RULES: Example = Example {
     name: "64 rules",
@@ -293,7 +368,7 @@ const MANY_RULES: Example = Example {
 };
 
 /// Over each history.
-const EXAMPLES: [Example; 10] = [
+const EXAMPLES: [Example; 12] = [
     PRINT_GOES_BACK,
     LATEST_STEPS,
     RULES,
@@ -303,6 +378,8 @@ const EXAMPLES: [Example; 10] = [
     LOAD,
     LOAD_AT_THE_END,
     AT_REST,
+    CLOCK_END,
+    START_READ,
     MANY_RULES,
 ];
 
