@@ -4,7 +4,7 @@ use super::streams::Failing;
 use super::{FIRST_RUN, FIRST_RUN_REPLIES, built};
 use lgp_lab::{FeedOf, LabFault, READS, SinkOf, asm_file, batch_part, run_file, tape_file};
 use std::alloc::{Allocator, Global};
-use std::io::Write;
+use std::io::{Read, Write};
 use std::process::Abort;
 use std::test::Fail;
 
@@ -17,15 +17,15 @@ pub enum FileCall {
     Run,
 }
 
-/// Writes what a call writes for a source behind `written`.
-pub fn write_for<A: Allocator + Copy>(
+/// Writes what a call writes for a source.
+pub fn write_between<A: Allocator + Copy, R: Read + Drop, W: Write + Drop>(
     call: FileCall,
     alloc: A,
-    source: &[u8],
-    written: &mut Vec<u8>,
+    reader: R,
+    writer: W,
 ) -> Result<u64, LabFault> {
-    let mut feed = FeedOf::new(source, READS);
-    let mut sink = SinkOf::new(written);
+    let mut feed = FeedOf::new(reader, READS);
+    let mut sink = SinkOf::new(writer);
     match call {
         FileCall::Listing => asm_file(alloc, &mut feed, &mut sink),
         FileCall::Tape => tape_file(alloc, &mut feed, &mut sink),
@@ -42,7 +42,7 @@ fn expect_written(
     (text, status): (&[u8], u64),
 ) {
     let mut written = Vec::new(alloc);
-    let answer = write_for(call, alloc, source, &mut written);
+    let answer = write_between(call, alloc, source, &mut written);
     assert_eq!(rt;
         (answer, written.as_slice()),
         (Ok(status), text),
@@ -54,7 +54,7 @@ fn expect_written(
 const SOURCE: &[u8] = b"start b one ; take\n h 0050\n z\none frac .1\n end start\n";
 
 /// Calls and sources, what is written for them, and the status.
-const FILES: [(FileCall, &[u8], &[u8], u64); 8] = [
+pub const FILES: [(FileCall, &[u8], &[u8], u64); 8] = [
     (
         FileCall::Listing,
         SOURCE,

@@ -1,105 +1,217 @@
-//! Scripts and files over a small heap, which refuses a growth.
+//! Scripts and files with each growth refused in turn: what was replied before stands whole, and nothing of the reply that is refused.
 
-use super::files::{FileCall, write_for};
-use super::{built, run};
-use lgp_lab::LabFault;
-use linked_list_allocator::LocalHeap;
+use super::files::{FILES, FileCall, write_between};
+use super::streams::{Failing, Pieces};
+use super::{FIRST_RUN, FIRST_RUN_REPLIES, built, run_between};
+use lgp_lab::{FeedOf, LabFault, READS, SinkOf, batch_part};
+use lgp_scarce::Scarce;
 use std::alloc::{AllocError, Global};
 use std::process::Abort;
 use std::test::Fail;
 
-/// What a script came to over a heap: its answer, and how many bytes of the heap are in use behind it.
-type InHeap = Result<(Result<u64, LabFault>, usize), AllocError>;
+/// More growths than any call has.
+const MOST: u64 = 5000;
 
-/// Runs a script over a heap of so many bytes; its replies are written behind `written`.
-fn run_in_heap(global: Global, size: usize, script: &[u8], written: &mut Vec<u8>) -> InHeap {
-    let heap = LocalHeap::new(global, size)?;
-    let answer = run(&heap, script, written);
-    Ok((answer, heap.used()))
+/// Commands, each of those that there are, with the reply to each. Loading begins with the clock at 0, as in the worked example of a
+/// file that is run. Typed digits are shifted into the accumulator, which the second order stores.
+const COMMANDS: [(&[u8], &[u8]); 27] = [
+    (b"put 0007 00000004\n", b"ok\n"),
+    (b"dump\n", b"dump 1\n0007 00000004\n"),
+    (
+        b"source\n org 0100\n word 00000004\n end\n.\n",
+        b"cells 1 start none\n",
+    ),
+    (
+        b"list\n",
+        b"               org 0100\n0100 00000004  word 00000004\n               end\n",
+    ),
+    (b"load\n", b"loaded 23\n"),
+    (
+        b"panel\n",
+        b"counter 6320 accumulator 80000000 register 80000000 status halted stop mode normal switches uuuuuu reader off tape 0 clock 15342\n",
+    ),
+    (b"turn 5\n", b"clock 15347\n"),
+    (b"mount 12'\n", b"ok 3\n"),
+    (b"put 0000 00083900\n", b"ok\n"),
+    (b"put 0001 000j00j8\n", b"ok\n"),
+    (b"press manual\n", b"live\n"),
+    (b"type 12\n", b"live 2 dead 0\n"),
+    (b"press normal\n", b"live\n"),
+    (b"press clear\n", b"live\n"),
+    (b"press bp32 up\n", b"live\n"),
+    (b"press start\n", b"live\n"),
+    (b"break 0001\n", b"rule 0\n"),
+    (b"watch 0050\n", b"rule 1\n"),
+    (b"run 9\n", b"ran 1 rule 0\n"),
+    (b"drop 0\n", b"ok\n"),
+    (b"run 9\n", b"ran 1 rule 0\n"),
+    (b"orders 9\n", b"orders 1 halted stop\n"),
+    (b"words 0050 1\n", b"0050 00000012\n"),
+    (b"show 0000 2\n", b"0000 p 5700\n0001 h 0050\n"),
+    (b"printed\n", b"printed 1 a\n"),
+    (b"last\n", b"back 2 rule 0\n"),
+    (b"back 1\n", b"clock 15347\n"),
+];
+
+/// The script of all of these commands.
+fn script(alloc: Global) -> Result<Vec<u8>, AllocError> {
+    let mut text = Vec::new(alloc);
+    for (command, _) in COMMANDS {
+        text.extend_from_slice(command)?;
+    }
+    Ok(text)
 }
 
-/// What a script came to over a heap: both replies are written, the first one alone, or none. Nothing else may be.
-#[derive(Clone, Copy)]
-enum Outcome {
-    Both,
-    First,
-    Neither,
+/// How many whole replies a text is; `None` where there is anything else.
+fn replies_in(text: &[u8]) -> Option<usize> {
+    let mut left = text;
+    for (number, (_, reply)) in COMMANDS.iter().enumerate() {
+        if left.is_empty() {
+            return Some(number);
+        }
+        left = left.strip_prefix(*reply)?;
+    }
+    left.is_empty().then_some(COMMANDS.len())
 }
 
-/// Runs a script of two commands over a heap of so many bytes.
-fn run_over_heap(rt: &impl Abort, global: Global, size: usize, script: &[u8]) -> Outcome {
+/// How a script ends whose nth growth is refused: refused behind so many whole replies, with all of them, or otherwise.
+#[derive(Clone, Copy, Debug, PartialEq, Eq)]
+enum End {
+    Refused(usize),
+    Done,
+    Otherwise,
+}
+
+fn end_of(scarce: &Scarce<Global>, global: Global, script: &[u8], nth: u64) -> End {
     let mut written = Vec::new(global);
-    let ended = run_in_heap(global, size, script, &mut written);
-    let (outcome, answer, replies) = match ended {
-        Ok((Ok(_), _)) => (Outcome::Both, Ok(0), b"ok\nok 4000\n".as_slice()),
-        _ if written.is_empty() => (Outcome::Neither, Err(LabFault::Memory), b"".as_slice()),
-        _ => (Outcome::First, Err(LabFault::Memory), b"ok\n".as_slice()),
-    };
-    assert_eq!(rt;
-        (ended, written.as_slice()),
-        (Ok((answer, 0)), replies),
-        "at {size}"
-    );
-    outcome
+    scarce.refuse(nth);
+    let ended = run_between(scarce, script, &mut written);
+    match (ended, scarce.was_refused(), replies_in(&written)) {
+        ((Err(LabFault::Memory), false, false), true, Some(replies)) => End::Refused(replies),
+        ((Ok(0), false, false), false, Some(27)) => End::Done,
+        _ => End::Otherwise,
+    }
+}
+
+/// How often a script is refused behind each number of replies, until it is done; `None` where it ends otherwise.
+fn refusals(scarce: &Scarce<Global>, global: Global, script: &[u8]) -> Option<[u64; 27]> {
+    let mut counts = [0u64; 27];
+    for nth in 1..MOST {
+        match end_of(scarce, global, script, nth) {
+            End::Refused(replies) => {
+                let count = counts.get_mut(replies)?;
+                *count = count.saturating_add(1);
+            }
+            End::Done => return Some(counts),
+            End::Otherwise => return None,
+        }
+    }
+    None
+}
+
+/// Which commands are refused at least once; `None` as above.
+fn refused(scarce: &Scarce<Global>, global: Global) -> Result<Option<[bool; 27]>, AllocError> {
+    let script = script(global)?;
+    Ok(refusals(scarce, global, &script).map(|counts| counts.map(|count| count > 0)))
 }
 
 #[test]
-fn a_refused_growth_leaves_no_part_of_a_reply(rt: HostRuntime) -> Result<(), Fail> {
-    let script = built(
-        rt.alloc(),
-        &[(b"put 0000 000f0000\nmount ", 1), (b"a", 4000)],
-    )?;
-    let mut first = false;
-    let mut both = false;
-    for size in 96..192 {
-        match run_over_heap(&rt, rt.alloc(), 4096 * size, &script) {
-            Outcome::Both => both = true,
-            Outcome::First => first = true,
-            Outcome::Neither => {}
-        }
-    }
-    assert_eq!(rt; (first, both), (true, true));
+fn each_growth_of_each_command_is_refused(rt: HostRuntime) -> Result<(), Fail> {
+    let scarce = Scarce::new(rt.alloc());
+    assert_eq!(rt; refused(&scarce, rt.alloc())?, Some([true; 27]));
     Ok(())
 }
 
-/// Writes what a call writes for a source of one word behind `written`, over a heap with so much room; and how many bytes of the
-/// heap are in use behind it.
-fn with_room(
-    heap: &LocalHeap,
-    call: FileCall,
-    room: usize,
-    written: &mut Vec<u8>,
-) -> Result<Result<u64, LabFault>, AllocError> {
-    let source = b" org 0100\n word 00000004\n end\n";
-    let _filler: Vec<u8, &LocalHeap> = Vec::with_capacity(heap, heap.free().saturating_sub(room))?;
-    Ok(write_for(call, heap, source, written))
-}
-
-/// How often a call is refused for memory, with more and more room, before something is written. Nothing is written before, and
-/// the heap is free after each call.
-fn refusals(rt: &impl Abort, global: Global, heap: &LocalHeap, call: FileCall) -> usize {
-    for tries in 0..512usize {
-        let mut written = Vec::new(global);
-        let answer = with_room(heap, call, 512 * tries, &mut written);
-        let wanted = if written.is_empty() {
-            Err(LabFault::Memory)
-        } else {
-            Ok(0)
-        };
-        assert_eq!(rt; (answer, heap.used()), (Ok(wanted), 0), "{call:?}");
-        if wanted.is_ok() {
-            return tries;
+/// Calls for a source with each growth refused in turn, over a reader of small pieces and a writer that takes few bytes at once.
+/// What it answers when it is not refused, and behind how many refusals; `None` where a refused one answers anything else than that,
+/// or has written anything.
+fn called(
+    scarce: &Scarce<Global>,
+    global: Global,
+    (call, source): (FileCall, &'static [u8]),
+    text: &[u8],
+) -> Option<(u64, Result<u64, LabFault>)> {
+    for nth in 1..MOST {
+        let mut writer = Failing::after(global, usize::MAX, 5);
+        scarce.refuse(nth);
+        let answer = write_between(call, scarce, Pieces::whole(source, 7), &mut writer);
+        if !scarce.was_refused() {
+            return (writer.taken() == text).then_some((nth, answer));
+        }
+        if answer != Err(LabFault::Memory) || !writer.taken().is_empty() {
+            return None;
         }
     }
-    512
+    None
+}
+
+/// Expects that of a call for a source, with this text and status at last, and that it is refused at least once.
+fn expect_called(
+    rt: &impl Abort,
+    scarce: &Scarce<Global>,
+    global: Global,
+    row: (FileCall, &'static [u8], &'static [u8], u64),
+) {
+    let (call, source, text, status) = row;
+    let called = called(scarce, global, (call, source), text);
+    let answer = called.map(|(nth, answer)| (nth > 1, answer));
+    assert_eq!(rt; answer, Some((true, Ok(status))), "{call:?} {source:?}");
 }
 
 #[test]
-fn nothing_is_written_for_a_file_without_room(rt: HostRuntime) -> Result<(), Fail> {
-    let heap = LocalHeap::new(rt.alloc(), 262_144)?;
-    for call in [FileCall::Listing, FileCall::Tape, FileCall::Run] {
-        let refusals = refusals(&rt, rt.alloc(), &heap, call);
-        assert!(rt; refusals > 0 && refusals < 512, "{call:?} {refusals}");
+fn nothing_is_written_for_a_file_whose_growth_is_refused(rt: HostRuntime) -> Result<(), Fail> {
+    let scarce = Scarce::new(rt.alloc());
+    for row in FILES {
+        expect_called(&rt, &scarce, rt.alloc(), row);
     }
+    Ok(())
+}
+
+/// How a script of several goes whose nth growth is refused: what it answers, and what is written behind the line of its name, if
+/// that is there.
+fn part_of(
+    scarce: &Scarce<Global>,
+    nth: u64,
+    writer: &mut Failing,
+) -> (Result<u64, LabFault>, bool) {
+    let mut feed = FeedOf::new(Pieces::whole(FIRST_RUN, 7), READS);
+    let mut sink = SinkOf::new(writer);
+    scarce.refuse(nth);
+    let answer = batch_part(scarce, "first run", &mut feed, &mut sink);
+    (answer, scarce.was_refused())
+}
+
+/// Whether a text is empty, or the line of a name and then so many of the replies that they end with a line.
+fn is_part(text: &[u8]) -> bool {
+    let Some(replies) = text.strip_prefix(b"file first run\n") else {
+        return text.is_empty();
+    };
+    FIRST_RUN_REPLIES.starts_with(replies) && replies.last().is_none_or(|last| *last == b'\n')
+}
+
+/// How often a script of several is refused, until it is done; `None` where it ends otherwise.
+fn parts(scarce: &Scarce<Global>, global: Global, whole: &[u8]) -> Option<u64> {
+    for nth in 1..MOST {
+        let mut writer = Failing::after(global, usize::MAX, 5);
+        let ended = part_of(scarce, nth, &mut writer);
+        if ended == (Ok(0), false) {
+            return (writer.taken() == whole).then_some(nth);
+        }
+        if ended != (Err(LabFault::Memory), true) || !is_part(writer.taken()) {
+            return None;
+        }
+    }
+    None
+}
+
+#[test]
+fn a_script_of_several_is_refused_behind_a_whole_reply(rt: HostRuntime) -> Result<(), Fail> {
+    let whole = built(
+        rt.alloc(),
+        &[(b"file first run\n", 1), (FIRST_RUN_REPLIES, 1)],
+    )?;
+    let scarce = Scarce::new(rt.alloc());
+    let often = parts(&scarce, rt.alloc(), &whole);
+    assert!(rt; often.is_some_and(|nth| nth > 10), "{often:?}");
     Ok(())
 }

@@ -75,6 +75,11 @@ impl Failing {
             calls,
         }
     }
+
+    /// The bytes that were taken.
+    pub fn taken(&self) -> &[u8] {
+        &self.taken
+    }
 }
 
 impl Write for Failing {
