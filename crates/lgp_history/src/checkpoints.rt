@@ -408,6 +408,8 @@ impl<A: Allocator + Clone> History<A> for Checkpoints<A> {
 
     ghost fits = { λ history note before step. note ≡ noted_after history before step };
 
+    ghost goes_back_freely = { false };
+
     fn prepare(&mut self, before: &Machine<A>, step: &Step<A>) -> Result<Self::Note, AllocError> {
         let copied = self.trail.len() % SPACING == 0;
         let noted = Checkpoint::new(self.trail.allocator(), before, step, copied)?;

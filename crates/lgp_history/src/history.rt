@@ -1,6 +1,6 @@
 //! What every history does.
 
-ghost use Rattle.std.specs.Prelude.{◌≡◌, ◌↔◌, ◌<◌, ◌≤◌, ◌^◌, ◌++◌, ℕ, [], ◌∷◌, List, length, IfOk, OnOk, OnErr, IfErr, IsTrue, Ok, Err};
+ghost use Rattle.std.specs.Prelude.{◌≡◌, ◌↔◌, ◌<◌, ◌≤◌, ◌^◌, ◌++◌, ℕ, [], ◌∷◌, List, length, Bool, IfOk, OnOk, OnErr, IfErr, IsTrue, Ok, Err, ◌≢◌};
 ghost use Rattle.lgp_table.specs.State.{State};
 ghost use Rattle.lgp_table.specs.Interleaving.{at_boundary, is_boundary};
 ghost use Rattle.lgp_history.specs.Steps.{CanStep, Leads, orders_in, state_back, stepped, steps_back, with_step};
@@ -37,6 +37,9 @@ pub trait History<A: Allocator>: Drop {
 
     ghost fits: { Self → Self.Note → State → Step A → Type 0 };
 
+    /// Whether going back takes no memory.
+    ghost goes_back_freely: { Bool };
+
     /// Prepares to keep a step that can be done where the machine is.
     fn prepare(&mut self, before: &Machine<A>, step: &Step<A>) -> Result<Self::Note, AllocError>
         requires boundary { before.now ≡ at_boundary before.now.state }
@@ -70,6 +73,7 @@ pub trait History<A: Allocator>: Drop {
         ensures leads { Leads (steps self.new machine.new.state) machine.new.state }
         ensures too_far { (kept : ℕ) → (result ≡ Err (BackFault.TooFar kept))
             ↔ ((kept ≡ orders_in (steps self.old machine.old.state)) × (kept < orders)) }
+        ensures freely { IsTrue goes_back_freely → result ≢ Err BackFault.Memory }
         ensures unchanged { OnErr result (machine.new ≡ machine.old) }
         ensures steps_stay { OnErr result
             ((now : State) → steps self.new now ≡ steps self.old now) }

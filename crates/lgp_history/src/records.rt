@@ -1,6 +1,6 @@
 //! History by records.
 
-ghost use Rattle.std.specs.Prelude.{◌≡◌, ◌<◌, ◌≤◌, ℕ, [], IfOk, OnOk, length};
+ghost use Rattle.std.specs.Prelude.{◌≡◌, ◌<◌, ◌≤◌, ℕ, [], true, IfOk, OnOk, length};
 ghost use Rattle.lgp_table.specs.State.{State};
 ghost use Rattle.lgp_table.specs.Interleaving.{at_boundary};
 ghost use Rattle.lgp_history.specs.Steps.{orders_in, state_back, steps_back};
@@ -70,6 +70,8 @@ impl<A: Allocator + Clone> History<A> for Records<A> {
     ghost capacity = { λ history. history.records.capacity };
 
     ghost fits = { λ history note before step. note ≡ recorded step before };
+
+    ghost goes_back_freely = { true };
 
     #[inline(always)]
     fn prepare(&mut self, before: &Machine<A>, step: &Step<A>) -> Result<Self::Note, AllocError> {
