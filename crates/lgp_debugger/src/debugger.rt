@@ -8,7 +8,7 @@ ghost use Rattle.lgp_machine.specs.Answers.{clock_end};
 ghost use Rattle.lgp_machine.specs.Look.{look_of};
 ghost use Rattle.lgp_history.specs.declared.step.Step.{Step};
 ghost use Rattle.lgp_history.specs.Hits.{last_hit};
-ghost use Rattle.lgp_history.specs.Steps.{orders_in};
+ghost use Rattle.lgp_history.specs.Steps.{Leads, orders_in};
 ghost use Rattle.lgp_flexo.specs.TapeText.{tape_limit};
 ghost use Rattle.lgp_debugger.specs.WatchInside.{watches_of};
 ghost use Rattle.lgp_debugger.specs.Debugging.{after_back, after_step, first_stop, rule_limit, run_of};
@@ -227,8 +227,27 @@ impl<H: History<A>, A: Allocator> Debugger<H, A> {
     }
 
     /// Performs orders until the machine is at rest, a rule stops it or as many orders as the limit allows are done. Where an order
-    /// is refused, those before it stand.
+    /// is refused, those before it stand: for the clock's end where that order would pass it, and else for memory. Each order that is
+    /// performed ends within the clock's end.
     pub fn run(&mut self, limit: u64) -> Result<Ran, RunFault>
+        ensures ran { IfOk result (λ ran. run_of limit self.old ≡ (ran, self.new)) }
+        ensures stands { IfErr result (λ fault. run_of fault.orders self.old
+            ≡ (record { orders = fault.orders; reason = Reason.Limit }, self.new)) }
+        ensures within { IfErr result (λ fault. fault.orders < limit) }
+        ensures clock_end { IfErr result (λ fault. (fault.fault ≡ RunRefusal.ClockEnd)
+            ↔ (clock_end < self.new.state.clock + cost self.new.state)) }
+        ensures within_clock { self.new.state.clock ≤ clock_end }
+    {
+        let outcome = self.run_orders(limit);
+        // That the clock is within its end is what the mark's clause says.
+        let Some(_) = self.machine.mark() else {
+            unreachable!()
+        };
+        outcome
+    }
+
+    /// The orders of a run.
+    fn run_orders(&mut self, limit: u64) -> Result<Ran, RunFault>
         ensures ran { IfOk result (λ ran. run_of limit self.old ≡ (ran, self.new)) }
         ensures stands { IfErr result (λ fault. run_of fault.orders self.old
             ≡ (record { orders = fault.orders; reason = Reason.Limit }, self.new)) }
@@ -412,6 +431,7 @@ impl<H: History<A>, A: Allocator> Debugger<H, A> {
         ensures back { OnOk result (self.new ≡ (if orders == 0
             then self.old else after_back self.old orders)) }
         ensures none { orders ≡ 0 → result ≡ Ok tt }
+        ensures freely { IsTrue H.goes_back_freely → result ≢ Err BackFault.Memory }
         ensures too_far { (kept : ℕ) → (result ≡ Err (BackFault.TooFar kept))
             ↔ ((kept ≡ orders_in self.old.steps) × (kept < orders)) }
         ensures unchanged { OnErr result (self.new ≡ self.old) }
@@ -422,10 +442,11 @@ impl<H: History<A>, A: Allocator> Debugger<H, A> {
         self.history.back(orders, &mut self.machine)
     }
 
-    /// How many steps are kept.
+    /// How many steps are kept. Each of them leads to the next, and the last one to the present state.
     pub fn kept(&self) -> u64
         ensures count { result ≡ length self.now.steps }
         ensures within { result ≤ self.now.capacity }
+        ensures leads { Leads self.now.steps self.now.state }
     {
         self.history.kept()
     }

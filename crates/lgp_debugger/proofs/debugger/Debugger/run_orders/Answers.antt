@@ -4,7 +4,7 @@ use Rattle.lgp_debugger.specs.Debugging.{Debugging}
 use Rattle.lgp_debugger.specs.declared.fault.Ran.{Ran}
 use Rattle.lgp_debugger.specs.declared.fault.Reason.TheVariants as reasons
 use Rattle.lgp_debugger.proofs.RunLemmas.{HasRun, run_limited, run_rested, run_step, run_stopped}
-use Rattle.lgp_debugger.proofs.debugger.Debugger.run.Goals as goal
+use Rattle.lgp_debugger.proofs.debugger.Debugger.run_orders.Goals as goal
 
 -- what a run came to, with an equal debugger
 same : {A : Type 0} {d e : Debugging A} → (with_it : Debugging A → Ran × Debugging A) → d ≡ e → with_it d ≡ with_it e
