@@ -1,5 +1,5 @@
 -- The law on lines and cells.
-use Rattle.std.proofs.Common.{◌≡◌, ◌+◌, ◌++◌, ℕ, Bool, true, false, List, [], ◌∷◌, length, Option, None, Some, Result, Ok, Err, is_some, refl, sym, ap, ◌∙◌, arith, ⊎_elim, option_to_list}
+use Rattle.std.proofs.Common.{◌≡◌, ◌+◌, ◌++◌, ℕ, true, List, [], ◌∷◌, length, Option, None, Some, Result, Ok, Err, is_some, IfSome, refl, sym, ap, ◌∙◌, arith, ⊎_elim, option_to_list}
 use Rattle.std.proofs.lemmas.Bool.{cases_Bool, cond-true, cond-false, true≢false}
 use Rattle.std.proofs.lemmas.List.{append_assoc, length-append}
 use Rattle.lgp_assembler.specs.declared.operands.Meaning.{Meaning}
@@ -9,9 +9,13 @@ use Rattle.lgp_assembler.specs.Fields.{LineFields}
 use Rattle.lgp_assembler.specs.Places.{has_word, word_count, place_of, names_of}
 use Rattle.lgp_assembler.specs.Faults.{fault_of, faults_in, line_meaning, missing_end}
 use Rattle.lgp_assembler.specs.Image.{all_lines, cell_at, cells_in, faults_of, image_of, passed_lines}
+use Rattle.lgp_word.specs.Address.{IsAddress}
+use Rattle.lgp_assembler.specs.Parts.{AreProgramCells, HaveOwnPlaces}
 use Rattle.lgp_assembler.specs.Laws.{HasCellAt, LinesHaveCells, lines_in, place_after, word_total}
 use Rattle.lgp_assembler.proofs.Assembled.{first_none}
+use Rattle.lgp_assembler.proofs.CellWords.{program_cells, start_is, words_in}
 use Rattle.lgp_assembler.proofs.LineCells.{AreFaultless, cell_missing, cell_there, cells_behind, cells_in_order, each_faultless, front_faultless, line_cell}
+use Rattle.lgp_assembler.proofs.OwnPlaces.{own_places}
 use Rattle.lgp_assembler.proofs.PlaceLaws.{passed-append}
 
 one_there : (cell : Option (ℕ × ℕ)) → is_some cell ≡ true → length (option_to_list cell) ≡ 1
@@ -84,3 +88,19 @@ cells_law = record {
   each = each_cell;
   count = λ source none. as_many_at_all (names_of (all_lines source)) (lines_in source) (faultless_lines source none);
 }
+
+-- they lie at places of their own
+pub places_apart : (source : List ℕ) → faults_of source ≡ [] → HaveOwnPlaces (image_of source).cells
+places_apart source none = own_places (names_of (all_lines source)) (all_lines source) (faultless_lines source none)
+
+-- each is a word of a program
+pub places_filled : (source : List ℕ) → faults_of source ≡ [] → AreProgramCells (image_of source).cells
+places_filled source none =
+    let own = places_apart source none in
+    program_cells (image_of source).cells own.on_drum own.free (words_in (names_of (all_lines source)) (all_lines source))
+
+-- and a start is an address
+pub start_on_drum : (source : List ℕ) → IfSome (image_of source).start IsAddress
+start_on_drum source = start_is (names_of (all_lines source)) (all_lines source)
+
+pub ruleset own_cells = (places_apart, places_filled, start_on_drum)

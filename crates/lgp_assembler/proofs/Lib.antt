@@ -7,5 +7,6 @@ pub mod DraftSteps
 pub mod PlaceLaws
 pub mod LineCells
 pub mod OwnPlaces
+pub mod CellWords
 pub mod Assembled
 pub mod CellLaws

@@ -1,6 +1,10 @@
 //! Laws, for readers and proofs: functions that do nothing, and whose contracts are the laws.
 
+ghost use Rattle.std.specs.Prelude.{◌≡◌, ℕ, IfSome, List, []};
+ghost use Rattle.lgp_assembler.specs.Image.{faults_of, image_of};
 ghost use Rattle.lgp_assembler.specs.Laws.{LinesHaveCells, NamesAreFirstPlaces, PlacesCountFromOrgs};
+ghost use Rattle.lgp_assembler.specs.Parts.{AreProgramCells, HaveOwnPlaces};
+ghost use Rattle.lgp_word.specs.Address.{IsAddress};
 
 /// A law, for readers and proofs: the place of an `org` line with an address is that address. The
 /// place of any other line is the address of the nearest such line before it plus the words of the
@@ -23,4 +27,16 @@ pub fn names_are_first_places()
 #[tactic(auto, using(crate::proofs::CellLaws::cells_law))]
 pub fn lines_have_cells()
     ensures { LinesHaveCells }
+{}
+
+/// A law, for readers and proofs: the words of a source without faults lie at places of their own, on
+/// the drum and at none of the loader's 22 places; so there are at most 4,074. Each is a word of the
+/// machine, and a start is an address.
+#[tactic(auto, using(crate::proofs::CellLaws::own_cells))]
+pub fn cells_have_own_places()
+    ensures places { (source : List ℕ) → faults_of source ≡ []
+        → HaveOwnPlaces (image_of source).cells }
+    ensures words { (source : List ℕ) → faults_of source ≡ []
+        → AreProgramCells (image_of source).cells }
+    ensures start { (source : List ℕ) → IfSome (image_of source).start IsAddress }
 {}

@@ -8,7 +8,9 @@ ghost use Rattle.lgp_assembler.specs.Image.{faults_of, image_of};
 ghost use Rattle.lgp_assembler.specs.Parts.{AreProgramCells, HaveOwnPlaces};
 
 use drafting::{Draft, draft_source};
-pub use laws::{lines_have_cells, names_are_first_places, places_count_from_orgs};
+pub use laws::{
+    cells_have_own_places, lines_have_cells, names_are_first_places, places_count_from_orgs,
+};
 pub use line_fields::has_word;
 pub use output::{Image, LOADER_PLACES, Name};
 use passes::scan_source;
