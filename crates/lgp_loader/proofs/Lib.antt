@@ -15,3 +15,4 @@ pub mod BlockLaw
 pub mod Undisturbed
 pub mod Program
 pub mod Loads
+pub mod SourceLoaded

@@ -1,9 +1,10 @@
 //! What follows from the definitions, each law as the contract of a function that does nothing.
 
-ghost use Rattle.std.specs.Prelude.{◌≡◌, ◌+◌, ◌<◌, ◌≤◌, ℕ, List, IfSome, None, Option, Some, false, length, true};
+ghost use Rattle.std.specs.Prelude.{◌≡◌, ◌+◌, ◌<◌, ◌≤◌, ℕ, List, [], IfSome, None, Option, Some, false, length, true};
 ghost use Rattle.std.specs.List.{count_by, list_all};
+ghost use Rattle.lgp_assembler.specs.Image.{faults_of, image_of};
 ghost use Rattle.lgp_assembler.specs.Parts.{AreProgramCells, HaveOwnPlaces, ImageParts};
-ghost use Rattle.lgp_loader.specs.BlockLoading.{block_load, left_by_blocks};
+ghost use Rattle.lgp_loader.specs.BlockLoading.{block_load, cut_load, left_by_blocks, longest_load};
 ghost use Rattle.lgp_loader.specs.Cutting.{StandApart, are_blocks, cells_of, is_cutting, longest_blocks, pieces_of};
 ghost use Rattle.lgp_loader.specs.LoadedOver.{IsLoadedOver};
 ghost use Rattle.lgp_loader.specs.Loading.{EndsLoading, TapeLoad, begun, loaded, loading_cost, loading_stopped};
@@ -75,6 +76,26 @@ pub fn program_is_loaded()
         → IsLoadedOver s.core.words (loaded s (single_load image)).core.words image.cells }
     ensures time { (s : State) → (load : TapeLoad)
         → (loaded s load).clock ≡ s.clock + loading_cost s load }
+{}
+
+/// What loading a source without faults leaves, in the longest blocks, in blocks of given lengths, and cell by cell: the word of
+/// each of its cells at that cell's place, and everywhere else, but for the loader's 22 places, the word that was there before.
+/// Nothing is asked of the source but that it has no fault.
+#[tactic(auto, using(crate::proofs::SourceLoaded::source_loaded))]
+pub fn source_is_loaded()
+    ensures longest { (s : State) → (source : List ℕ)
+        → length s.core.words ≡ 4096 → faults_of source ≡ []
+        → IsLoadedOver s.core.words (loaded s (longest_load (image_of source))).core.words
+        (image_of source).cells }
+    ensures cut { (s : State) → (source : List ℕ) → (counts : List ℕ)
+        → length s.core.words ≡ 4096 → faults_of source ≡ []
+        → is_cutting counts (image_of source).cells ≡ true
+        → IsLoadedOver s.core.words (loaded s (cut_load (image_of source) counts)).core.words
+        (image_of source).cells }
+    ensures single { (s : State) → (source : List ℕ)
+        → length s.core.words ≡ 4096 → faults_of source ≡ []
+        → IsLoadedOver s.core.words (loaded s (single_load (image_of source))).core.words
+        (image_of source).cells }
 {}
 
 /// No order of either loader looks at BREAK POINT or TRANSFER CONTROL, from its start to the end word.
