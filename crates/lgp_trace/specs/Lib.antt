@@ -1,0 +1,6 @@
+pub mod Uses
+pub mod Phases
+pub mod Account
+pub use Rattle.lgp_table.specs.State
+pub use Rattle.lgp_table.specs.Activity
+pub use Rattle.lgp_table.specs.Interleaving

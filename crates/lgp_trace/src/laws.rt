@@ -1,0 +1,39 @@
+//! What follows from the definitions, each law as the contract of a function that does nothing.
+
+ghost use Rattle.std.specs.Prelude.{◌≡◌, ◌≢◌, ◌+◌, ℕ, Some, length};
+ghost use Rattle.lgp_table.specs.Activity.{cost, next};
+ghost use Rattle.lgp_table.specs.State.{State, word_at};
+ghost use Rattle.lgp_trace.specs.Account.{account_of, place_of, stored_at};
+ghost use Rattle.lgp_trace.specs.Phases.{IsFirstRead, all_phases, phases_of};
+ghost use Rattle.lgp_trace.specs.declared.account.Operand.{Operand};
+
+/// The four phases of an activity are together what it costs.
+#[tactic(auto, using(crate::proofs::PhaseLaws::phases_cost))]
+pub fn phases_together()
+    ensures { (s : State) → all_phases (phases_of s) ≡ cost s }
+{}
+
+/// The first phase ends when the head has read the sector of the order, and not before. The third ends, with the two before it,
+/// when the head has read the sector of the word that the order waits for, and not before.
+pub fn phases_read()
+    ensures order { (s : State) → (place : ℕ) → place_of s ≡ Some place
+        → IsFirstRead place s.clock (phases_of s).find }
+    ensures operand { (s : State) → (operand : Operand)
+        → (account_of s).operand ≡ Some operand
+        → IsFirstRead operand.address (s.clock + (phases_of s).find + (phases_of s).take)
+        (phases_of s).seek }
+{}
+
+/// An activity changes no word of the drum but the one that it stores.
+#[tactic(auto, using(crate::proofs::WordLaws::other_words))]
+pub fn words_stay()
+    ensures { (s : State) → (address : ℕ) → stored_at s ≢ Some address
+        → word_at (next s).core address ≡ word_at s.core address }
+{}
+
+/// The codes that have passed after an activity are those that had passed before it and those of its account.
+#[tactic(auto, using(crate::proofs::WordLaws::codes_passed))]
+pub fn codes_pass()
+    ensures { (s : State) → length (next s).core.tape.passed
+        ≡ length s.core.tape.passed + (account_of s).passed }
+{}

@@ -1,0 +1,13 @@
+//! Accounts of activities: what each order did, how long each of its phases took, and what it found and left on the drum.
+#![tactic(auto)]
+
+mod account;
+pub mod laws;
+mod phases;
+mod take;
+mod uses;
+
+pub use account::{Account, Begun, Found, Operand};
+pub use phases::Phases;
+pub use take::take_account;
+pub use uses::{seeks, stores};

@@ -1,0 +1,73 @@
+//! The four phases of an activity.
+
+ghost use Rattle.std.specs.Prelude.{◌≡◌, IsTrue};
+ghost use Rattle.lgp_table.specs.Interleaving.{is_boundary};
+ghost use Rattle.lgp_machine.specs.Look.{shown};
+ghost use Rattle.lgp_trace.specs.Phases.{all_phases, phases_of};
+
+use lgp_machine::Machine;
+use lgp_phases::{seek_time, wait};
+use lgp_table::Status;
+use lgp_word::parts;
+use std::alloc::Allocator;
+
+/// The word times of an activity by its four phases. The two waits count the word time that reads the word.
+#[derive(Clone, Copy, Debug, Default, PartialEq, Eq)]
+pub struct Phases {
+    /// Until the order is read: 1 to 64, and 0 where it comes from the register or there is none.
+    pub find: u64,
+    /// Until it stands in the register: 1, or 0 where it does so already.
+    pub take: u64,
+    /// Until the word at its address is read: 1 to 64, and 1 for the orders that use no word.
+    pub seek: u64,
+    /// Until the order is done.
+    pub act: u64,
+}
+
+/// The phases of an activity that only acts.
+fn only_act(times: u64) -> Phases
+    ensures { result ≡ record { find = 0; take = 0; seek = 0; act = times } }
+{
+    Phases {
+        find: 0,
+        take: 0,
+        seek: 0,
+        act: times,
+    }
+}
+
+impl Phases {
+    /// The phases of the activity that begins here, together its cost; `None` within an activity.
+    #[tactic(auto, unfolding(lgp_table::specs::Activity::cost_at, crate::specs::Phases::phases_of))]
+    pub fn of<A: Allocator>(machine: &Machine<A>) -> Option<Phases>
+        ensures { result ≡ shown machine.now (phases_of machine.now.state) }
+    {
+        let look = machine.look()?;
+        let cost = machine.ahead()?.cost;
+        let phases = match look.status {
+            Status::Going => {
+                let find = wait(look.counter.sector(), look.clock, 0);
+                let (_, op, address) = machine.parts(look.counter);
+                let seek = seek_time(op, address, look.clock, find + 1);
+                Phases {
+                    find,
+                    take: 1,
+                    seek,
+                    act: cost - find - 1 - seek,
+                }
+            }
+            Status::Executing => {
+                let (_, op, address) = parts(look.register);
+                let seek = seek_time(op, address, look.clock, 0);
+                Phases {
+                    find: 0,
+                    take: 0,
+                    seek,
+                    act: cost - seek,
+                }
+            }
+            Status::Halted(_) | Status::Waiting | Status::Reading => only_act(cost),
+        };
+        Some(phases)
+    }
+}
