@@ -1,0 +1,196 @@
+//! Accounts of a whole program, order by order, and of single activities.
+
+mod single;
+
+use lgp_machine::{Machine, OrderFault};
+use lgp_table::Action;
+use lgp_trace::{Account, take_account};
+use lgp_word::{Address, Word};
+use std::alloc::Allocator;
+use std::test::Fail;
+
+/// The address of that number, or 0000 above all.
+fn address(number: u16) -> Address {
+    Address::new(number).unwrap_or_default()
+}
+
+/// Puts words on the drum; false where one is refused.
+fn put_all<A: Allocator>(machine: &mut Machine<A>, words: &[(u16, u32)]) -> bool {
+    for (at, bits) in words {
+        if machine.put(address(*at), Word::of_bits(*bits)).is_err() {
+            return false;
+        }
+    }
+    true
+}
+
+/// A machine with these words.
+fn with_words<A: Allocator + Copy>(alloc: A, words: &[(u16, u32)]) -> Result<Machine<A>, Fail> {
+    let mut machine = Machine::new(alloc)?;
+    put_all(&mut machine, words);
+    Ok(machine)
+}
+
+fn press<A: Allocator>(machine: &mut Machine<A>, action: Action) -> bool {
+    machine.press(action).is_ok()
+}
+
+/// The next activity's account.
+fn take<A: Allocator>(machine: &mut Machine<A>) -> Result<Account, OrderFault> {
+    take_account(machine)
+}
+
+/// An order of a program: its place, the word times of its phases but for the one in which it is taken, and the word that stands at
+/// its address afterwards, or 0 where it waits for none.
+type Row = (u16, u64, u64, u64, u32);
+
+/// A place that no order has.
+const NO_PLACE: u16 = 4096;
+
+/// An account by its row.
+fn row_of(account: &Account) -> Row {
+    let place = match account.place {
+        Some(place) => place.number(),
+        None => NO_PLACE,
+    };
+    let left = match account.operand {
+        Some(operand) => operand.left.get(),
+        None => 0,
+    };
+    let phases = account.phases;
+    (place, phases.find, phases.seek, phases.act, left)
+}
+
+/// The next account's row; none where the activity is refused.
+fn next_row<A: Allocator>(machine: &mut Machine<A>) -> Option<Row> {
+    match take(machine) {
+        Ok(account) => Some(row_of(&account)),
+        Err(_) => None,
+    }
+}
+
+/// The number of the first order that is not as its row says, or how many rows there are.
+fn orders_as<A: Allocator>(machine: &mut Machine<A>, rows: &[Row]) -> usize {
+    for (order, row) in rows.iter().enumerate() {
+        if next_row(machine) != Some(*row) {
+            return order;
+        }
+    }
+    rows.len()
+}
+
+/// The sum of a table by a program that changes three of its own orders.
+const SUM_OF_A_TABLE: &[(u16, u32)] = &[
+    (0, 0x00030044),
+    (1, 0x000a0010),
+    (2, 0x000c0064),
+    (3, 0x00000000),
+    (4, 0x00010050),
+    (5, 0x00020024),
+    (6, 0x0001005c),
+    (7, 0x000c0060),
+    (8, 0x00010060),
+    (9, 0x000e0000),
+    (10, 0x000c0060),
+    (11, 0x00010024),
+    (12, 0x000e0058),
+    (13, 0x00020024),
+    (14, 0x000f0054),
+    (15, 0x000b0020),
+    (16, 0x00010060),
+    (17, 0x000a0000),
+    (20, 0x00000100),
+    (21, 0x000e0110),
+    (22, 0x00000004),
+    (23, 0x00000000),
+    (64, 0x00000002),
+    (65, 0x00000004),
+    (66, 0x00000006),
+    (67, 0x00000008),
+];
+
+/// Its 42 orders. A wait counts from the clock on to the sector's place on the track, which is 9 times its number, and the word time
+/// of the reading.
+const ORDERS: &[Row] = &[
+    (0, 64, 24, 1, 0xa0008),
+    (1, 47, 1, 1, 0),
+    (4, 24, 15, 1, 0x100),
+    (5, 56, 35, 1, 0xe0100),
+    (6, 36, 24, 1, 0),
+    (7, 47, 24, 1, 0),
+    (8, 47, 15, 1, 0),
+    (9, 56, 46, 1, 0x2),
+    (10, 25, 61, 1, 0x2),
+    (11, 10, 45, 1, 0xe0100),
+    (12, 26, 25, 1, 0x4),
+    (13, 46, 27, 1, 0xe0104),
+    (14, 44, 62, 1, 0xe0110),
+    (15, 9, 1, 1, 0),
+    (8, 62, 15, 1, 0x2),
+    (9, 56, 55, 1, 0x4),
+    (10, 16, 61, 1, 0x6),
+    (11, 10, 45, 1, 0xe0104),
+    (12, 26, 25, 1, 0x4),
+    (13, 46, 27, 1, 0xe0108),
+    (14, 44, 62, 1, 0xe0110),
+    (15, 9, 1, 1, 0),
+    (8, 62, 15, 1, 0x6),
+    (9, 56, 64, 1, 0x6),
+    (10, 7, 61, 1, 0xc),
+    (11, 10, 45, 1, 0xe0108),
+    (12, 26, 25, 1, 0x4),
+    (13, 46, 27, 1, 0xe010c),
+    (14, 44, 62, 1, 0xe0110),
+    (15, 9, 1, 1, 0),
+    (8, 62, 15, 1, 0xc),
+    (9, 56, 9, 1, 0x8),
+    (10, 62, 61, 1, 0x14),
+    (11, 10, 45, 1, 0xe010c),
+    (12, 26, 25, 1, 0x4),
+    (13, 46, 27, 1, 0xe0110),
+    (14, 44, 62, 1, 0xe0110),
+    (15, 9, 1, 1, 0),
+    (16, 6, 7, 1, 0x14),
+    (17, 64, 1, 1, 0),
+    (2, 54, 14, 1, 0x14),
+    (3, 57, 1, 1, 0),
+];
+
+/// Starts the machine, and accounts for so many orders as there are rows. How many are as they should be, how the next one is refused,
+/// and the clock.
+fn accounted<A: Allocator>(
+    machine: &mut Machine<A>,
+    rows: &[Row],
+) -> (usize, Option<OrderFault>, u64) {
+    press(machine, Action::Start);
+    let orders = orders_as(machine, rows);
+    let refused = take(machine).err();
+    (orders, refused, clock(machine))
+}
+
+/// The clock; 0 within an activity.
+fn clock<A: Allocator>(machine: &Machine<A>) -> u64 {
+    match machine.look() {
+        Some(look) => look.clock,
+        None => 0,
+    }
+}
+
+/// The word times of all these rows.
+fn total(rows: &[Row]) -> u64 {
+    let mut total: u64 = 0;
+    for (_, find, seek, act, _) in rows {
+        total = total.saturating_add(*find).saturating_add(1);
+        total = total.saturating_add(*seek).saturating_add(*act);
+    }
+    total
+}
+
+/// 42 orders, of 2,910 word times, and then the machine is at rest.
+#[test]
+fn a_program_that_changes_itself(rt: HostRuntime) -> Result<(), Fail> {
+    let mut machine = with_words(rt.alloc(), SUM_OF_A_TABLE)?;
+    let seen = (accounted(&mut machine, ORDERS), total(ORDERS));
+    assert_eq!(rt; seen, ((42, Some(OrderFault::AtRest), 2910), 2910));
+    Ok(())
+}
