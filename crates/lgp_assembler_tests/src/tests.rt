@@ -7,11 +7,12 @@ use lgp_assembler::{
 use lgp_source::Lines;
 use lgp_word::{Address, Word, read_digits};
 use linked_list_allocator::LocalHeap;
-use std::alloc::{Allocator, Global};
+use std::alloc::{AllocError, Allocator, Global};
 use std::test::Fail;
 
 mod bytes;
 mod growths;
+mod sizes;
 
 const FIRST_PROGRAM: &[u8] = b"start b one ; take\n h 0050\n z\none frac .1\n end start\n";
 

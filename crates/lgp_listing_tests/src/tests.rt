@@ -6,11 +6,12 @@ use lgp_listing::{
     DumpFault, disassemble, dump, each_word_assembles, first_faults_are_first, listing, read_dump,
 };
 use lgp_word::{Address, Word, read_digits};
-use std::alloc::{Allocator, Global};
+use std::alloc::{AllocError, Allocator, Global};
 use std::test::Fail;
 
 mod dumps;
 mod growths;
+mod sizes;
 
 const FIRST_PROGRAM: &[u8] = b"start b one ; take\n h 0050\n z\none frac .1\n end start\n";
 

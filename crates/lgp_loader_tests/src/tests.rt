@@ -10,12 +10,13 @@ use lgp_loader::{
 use lgp_machine::{Look, Machine};
 use lgp_table::{Action, Cause, Mode, Status, Switches};
 use lgp_word::{Address, Word, read_digits};
-use std::alloc::{Allocator, Global};
+use std::alloc::{AllocError, Allocator, Global};
 use std::test::Fail;
 
 mod growths;
 mod loads;
 mod refusals;
+mod sizes;
 mod tapes;
 
 /// One word at 0100.

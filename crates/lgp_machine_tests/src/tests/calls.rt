@@ -13,7 +13,7 @@ use lgp_machine::{
 };
 use lgp_table::{Action, Cause, Mode, Status};
 use lgp_word::{Address, Op, Word};
-use std::alloc::{AllocError, Allocator};
+use std::alloc::{AllocError, Allocator, Global};
 use std::test::Fail;
 
 const OPERATOR: Status = Status::Halted(Cause::Operator);
@@ -328,6 +328,24 @@ fn a_tape_above_the_limit_is_handed_back(rt: HostRuntime) -> Result<(), Fail> {
     let mut machine = Machine::new(rt.alloc())?;
     let mounted = mount_codes(&mut machine, rt.alloc(), TAPE_LIMIT + 1)?;
     assert_eq!(rt; mounted, Err((MountFault::TooLong, 1_048_577)));
+    Ok(())
+}
+
+/// Mounts a tape of so many codes, and tells how many of them are left then.
+fn mounted_and_left(
+    machine: &mut Machine,
+    alloc: Global,
+    count: usize,
+) -> Result<(Result<(), (MountFault, usize)>, Option<usize>), AllocError> {
+    let mounted = mount_codes(machine, alloc, count)?;
+    Ok((mounted, machine.tape_left().map(|codes| codes.len())))
+}
+
+#[test]
+fn a_tape_of_1048576_codes_is_mounted(rt: HostRuntime) -> Result<(), Fail> {
+    let mut machine = Machine::new(rt.alloc())?;
+    let found = mounted_and_left(&mut machine, rt.alloc(), 1_048_576)?;
+    assert_eq!(rt; found, (Ok(()), Some(1_048_576)));
     Ok(())
 }
 
