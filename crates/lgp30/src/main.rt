@@ -4,9 +4,7 @@
 
 ghost use Rattle.std.specs.Prelude.{None};
 
-use lgp_lab::{
-    FeedOf, Folder, NotOpened, READS, SinkOf, TaskFault, perform, refuse, refuse_unread, task_of,
-};
+use lgp_lab::{FeedOf, Folder, NotOpened, READS, SinkOf, WordFault, obey};
 use std::fs::File;
 use std::process::ExitCode;
 use std::{env, fs, io};
@@ -41,35 +39,35 @@ fn words(rt: &HostRuntime) -> io::Result<Vec<String>> {
     Ok(words)
 }
 
+/// Why the words of the command line cannot be read.
+fn word_fault(error: &io::Error) -> WordFault {
+    match error.kind() {
+        io::ErrorKind::OutOfMemory => WordFault::Memory,
+        _ => WordFault::NotText,
+    }
+}
+
 /// Does what the words of the command line ask for; answers the status.
-fn run(rt: &HostRuntime, words: &[String]) -> u8 {
+fn run(rt: &HostRuntime, words: Result<&[String], WordFault>) -> u8 {
     let folder = HostFolder { rt };
     let mut input = FeedOf::new(rt.reader(), READS);
     let mut output = SinkOf::new(io::writer(rt));
     let mut messages = SinkOf::new(rt.stderr());
-    match task_of(rt.alloc(), rt.alloc(), words) {
-        Ok(task) => perform(rt.alloc(), &task, &folder, &mut input, &mut output),
-        Err(fault) => refuse(&fault, &mut output, &mut messages),
-    }
-}
-
-/// Tells why the words of the command line cannot be read; answers the status.
-fn refuse_words(rt: &HostRuntime, error: &io::Error) -> u8 {
-    let mut output = SinkOf::new(io::writer(rt));
-    let mut messages = SinkOf::new(rt.stderr());
-    match error.kind() {
-        io::ErrorKind::OutOfMemory => {
-            let fault: TaskFault = TaskFault::Memory;
-            refuse(&fault, &mut output, &mut messages)
-        }
-        _ => refuse_unread(&mut messages),
-    }
+    obey(
+        rt.alloc(),
+        rt.alloc(),
+        words,
+        &folder,
+        &mut input,
+        &mut output,
+        &mut messages,
+    )
 }
 
 fn main(rt: HostRuntime) -> ExitCode {
     let status = match words(&rt) {
-        Ok(words) => run(&rt, &words),
-        Err(error) => refuse_words(&rt, &error),
+        Ok(words) => run(&rt, Ok(&words)),
+        Err(error) => run(&rt, Err(word_fault(&error))),
     };
     ExitCode::from(status)
 }

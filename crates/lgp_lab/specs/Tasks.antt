@@ -2,6 +2,7 @@
 use Rattle.std.specs.Prelude.{◌≡◌, ◌⊎◌, ℕ, zero, suc, ◌^◌, ◌<◌, ◌≤◌, ◌++◌, max, Bool, true, false, Option, List, [], ◌∷◌, codes, IfSome, Result, Ok, Err}
 use Rattle.std.specs.Io.KnownBytes.{Appends}
 use Rattle.std.specs.String.{string_bytes}
+use Rattle.lgp_task.specs.Task.{IsFaultOf, task_for}
 use Rattle.lgp_task.specs.declared.task.Task.{Task}
 use Rattle.lgp_task.specs.declared.task.Task.TheVariants.{Stdin, Asm, Tape, Run, Script, Batch}
 use Rattle.lgp_task.specs.declared.task.TaskFault.{TaskFault}
@@ -14,6 +15,8 @@ use Rattle.lgp_stream.specs.declared.stream.StreamFault.{StreamFault}
 use Rattle.lgp_stream.specs.declared.stream.StreamFault.TheVariants.{Read, Write, Memory}
 use Rattle.lgp_lab.specs.declared.tasks.FileFault.{FileFault}
 use Rattle.lgp_lab.specs.declared.tasks.FileFault.TheVariants.{NotOpened, Broken}
+use Rattle.lgp_lab.specs.declared.tasks.WordFault.{WordFault}
+use Rattle.lgp_lab.specs.declared.tasks.WordFault.TheVariants as words
 use Rattle.lgp_lab.specs.declared.tasks.Job.{Job}
 use Rattle.lgp_lab.specs.declared.tasks.Job.TheVariants as jobs
 
@@ -141,3 +144,14 @@ IsRefused faults.Memory status w₀ w m₀ m = (status ≡ memory_status) × ((w
 -- what is told of words on the command line that cannot be read as text
 abbrev pub unread_text : List ℕ
 unread_text = codes "error: the words of the command line are not UTF-8 text\n"
+
+-- what is told of words on the command line that cannot be read at all, by why: nothing for want of memory
+abbrev pub IsUnread : WordFault → ℕ → Option (List ℕ) → Option (List ℕ) → Option (List ℕ) → Option (List ℕ) → Type 0
+IsUnread words.NotText status w₀ w m₀ m = IsTold usage_status unread_text status m₀ m × (w ≡ w₀)
+IsUnread words.Memory status w₀ w m₀ m = (status ≡ memory_status) × ((w ≡ w₀) × (m ≡ m₀))
+
+-- what the program does for the words of the command line: the task that they hold, without a message; or they are refused
+abbrev pub IsObeyed : (A : Type 0) → (List ℕ → Option Bool) → (List ℕ → Option (List ℕ)) → List (List ℕ) → Option (List ℕ) → ℕ → Option (List ℕ) → Option (List ℕ) → Option (List ℕ) → Option (List ℕ) → Type 0
+IsObeyed A opens contents typed input status w₀ w m₀ m =
+    (IsPerformed A opens contents (task_for typed) input status w₀ w × (m ≡ m₀))
+    ⊎ ((fault : TaskFault A) × IsFaultOf typed fault × IsRefused fault status w₀ w m₀ m)

@@ -1,16 +1,17 @@
 //! What the program does for a task: which file it reads, what it writes, and its status.
 
-ghost use Rattle.std.specs.Prelude.{◌≡◌, List, Option, ℕ, Bool, IfErr, IfOk, IfSome, false, is_ok, true};
+ghost use Rattle.std.specs.Prelude.{◌≡◌, List, Option, ℕ, Bool, IfErr, IfOk, IfSome, false, is_ok, map, true};
+ghost use Rattle.std.specs.String.{string_bytes};
 ghost use Rattle.std.specs.Io.KnownBytes.{Appends};
 ghost use Rattle.lgp_stream.specs.Language.{HasCause};
-ghost use Rattle.lgp_lab.specs.Tasks.{HasDone, HasDonePart, IsAnswered, IsBatch, IsOpenedAs, IsPerformed, IsRefused, IsTold, IsWorked, StandsFor, count_for, read_limit, status_for, text_for, unread_text, usage_status, was_opened};
+ghost use Rattle.lgp_lab.specs.Tasks.{HasDone, HasDonePart, IsAnswered, IsBatch, IsObeyed, IsOpenedAs, IsPerformed, IsRefused, IsTold, IsUnread, IsWorked, StandsFor, count_for, read_limit, status_for, text_for, unread_text, usage_status, was_opened};
 ghost use Rattle.lgp_lab.specs.declared.tasks.Job.TheVariants.{Answering};
 
 use crate::files::{asm_file, run_file, tape_file};
 use crate::script::{answer_part, run_script};
 use lgp_stream::{Feed, Sink, StreamFault, write_whole};
-use lgp_task::{FileNames, Task, TaskFault};
-use std::alloc::Allocator;
+use lgp_task::{FileNames, Task, TaskFault, task_of};
+use std::alloc::{Allocator, Global};
 
 /// A file that cannot be opened.
 #[derive(Clone, Copy, Debug, PartialEq, Eq)]
@@ -43,6 +44,15 @@ pub enum FileFault {
     NotOpened,
     /// Work on it was broken off.
     Broken(StreamFault),
+}
+
+/// Why the words of the command line are not there.
+#[derive(Clone, Copy, Debug, PartialEq, Eq)]
+pub enum WordFault {
+    /// One of them is no text.
+    NotText,
+    /// Out of memory for them.
+    Memory,
 }
 
 /// What is done with a text.
@@ -285,4 +295,50 @@ pub fn refuse_unread<M: Sink>(messages: &mut M) -> u8
         b"error: the words of the command line are not UTF-8 text\n",
         USAGE,
     )
+}
+
+/// Tells why the words of the command line are not there; answers the program's status.
+fn refuse_words<M: Sink>(fault: WordFault, messages: &mut M) -> u8
+    requires messages { M.failed messages.old ≡ false }
+    ensures { (kept : Option (List ℕ)) → IsUnread fault result kept kept
+        (M.contents messages.old) (M.contents messages.new) }
+{
+    match fault {
+        WordFault::NotText => refuse_unread(messages),
+        WordFault::Memory => MEMORY,
+    }
+}
+
+/// What the program does with the words of its command line, of which the first is its name: it does the task that they hold, or
+/// tells why they hold none, or why they are not there; answers its status. `clap` reads the words, and takes its own memory from
+/// the global allocator.
+pub fn obey<A: Allocator + Copy, F: Folder, R: Feed, W: Sink, M: Sink>(
+    global: Global,
+    alloc: A,
+    words: Result<&[String], WordFault>,
+    folder: &F,
+    input: &mut R,
+    output: &mut W,
+    messages: &mut M,
+) -> u8
+    requires reads { R.reads input.old ≡ read_limit }
+    requires input { R.failed input.old ≡ false }
+    requires output { W.failed output.old ≡ false }
+    requires messages { M.failed messages.old ≡ false }
+    ensures obeyed { IfOk words.entry (λ words.
+        IsObeyed A (F.opens folder.now) (F.contents folder.now) (map string_bytes words.now)
+        (R.remaining input.old) result (W.contents output.old) (W.contents output.new)
+        (M.contents messages.old) (M.contents messages.new)) }
+    ensures unread { IfErr words.entry (λ fault.
+        IsUnread fault result (W.contents output.old) (W.contents output.new)
+        (M.contents messages.old) (M.contents messages.new)) }
+{
+    let words = match words {
+        Ok(words) => words,
+        Err(fault) => return refuse_words(fault, messages),
+    };
+    match task_of(global, alloc, words) {
+        Ok(task) => perform(alloc, &task, folder, input, output),
+        Err(fault) => refuse(&fault, output, messages),
+    }
 }

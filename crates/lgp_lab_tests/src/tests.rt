@@ -7,6 +7,7 @@ mod lengths;
 mod scripts;
 mod streams;
 mod tasks;
+mod words;
 
 use lgp_lab::{Feed, FeedOf, LabFault, READS, Sink, SinkOf, run_script};
 use std::alloc::{AllocError, Allocator, Global};

@@ -4,9 +4,10 @@ use Rattle.std.specs.Option.{option_map_or}
 use Rattle.std.specs.Str.{bytes_eq}
 use Rattle.std.specs.Str.Parse.{digits_value, without_leading_plus}
 use Rattle.clap.specs.ValueTests.{is_unsigned_in}
-use Rattle.clap.specs.Words.{IsAmong, Kinds, Row, Text, all_of, first_of, one_of}
+use Rattle.clap.specs.Words.{IsAmong, Kinds, Row, Text, all_of, fault_of, first_of, one_of, subcommand_of, takes}
 use Rattle.clap.specs.declared.error.kind.ErrorKind.{ErrorKind}
 use Rattle.clap.specs.declared.error.kind.ErrorKind.TheVariants.{DisplayHelp, DisplayVersion}
+use Rattle.lgp_task.specs.CommandLine.{command_line}
 use Rattle.lgp_task.specs.declared.task.Task.{Task}
 use Rattle.lgp_task.specs.declared.task.Task.TheVariants.{Stdin, Asm, Tape, Run, Script, Batch}
 use Rattle.lgp_task.specs.declared.task.TaskFault.{TaskFault}
@@ -54,3 +55,11 @@ abbrev pub IsRefusalOf : {A : Type 0} → Kinds → TaskFault A → Type 0
 IsRefusalOf kinds (Usage text) = (kind : ErrorKind) × IsAmong kind kinds × (is_request kind ≡ false)
 IsRefusalOf kinds (Help text) = (kind : ErrorKind) × IsAmong kind kinds × (is_request kind ≡ true)
 IsRefusalOf kinds Memory = Unit {0}
+
+-- the task that the words of a command line hold, where it takes them
+abbrev pub task_for : {A : Type 0} → List Text → Task A
+task_for typed = task_in (subcommand_of command_line typed)
+
+-- a refusal that the faults of these words allow; where the command line takes them, it is for want of memory
+abbrev pub IsFaultOf : {A : Type 0} → List Text → TaskFault A → Type 0
+IsFaultOf typed fault = IsRefusalOf (fault_of command_line typed) fault × (takes command_line typed ≡ true → fault ≡ Memory)

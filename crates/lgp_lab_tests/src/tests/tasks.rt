@@ -33,7 +33,7 @@ fn a_file_is_read_at_most_so_many_times(rt: HostRuntime) {
 
 /// Four files, and none else. Of `fails` two lines are read, and then a read fails.
 #[derive(Clone, Copy, Drop)]
-struct Made;
+pub struct Made;
 
 /// The bytes of a file.
 fn text_of(name: &str) -> Option<&'static [u8]> {
