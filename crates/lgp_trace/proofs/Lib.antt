@@ -1,2 +1,3 @@
 pub mod PhaseLaws
+pub mod Sums
 pub mod WordLaws

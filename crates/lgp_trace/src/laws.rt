@@ -2,8 +2,10 @@
 
 ghost use Rattle.std.specs.Prelude.{◌≡◌, ◌≢◌, ◌+◌, ℕ, Some, length};
 ghost use Rattle.lgp_table.specs.Activity.{cost, next};
+ghost use Rattle.lgp_table.specs.After.{after};
 ghost use Rattle.lgp_table.specs.State.{State, word_at};
 ghost use Rattle.lgp_trace.specs.Account.{account_of, place_of, stored_at};
+ghost use Rattle.lgp_trace.specs.Profile.{profile_of};
 ghost use Rattle.lgp_trace.specs.Phases.{IsFirstRead, all_phases, phases_of};
 ghost use Rattle.lgp_trace.specs.declared.account.Operand.{Operand};
 
@@ -36,4 +38,11 @@ pub fn words_stay()
 pub fn codes_pass()
     ensures { (s : State) → length (next s).core.tape.passed
         ≡ length s.core.tape.passed + (account_of s).passed }
+{}
+
+/// The clock after so many activities is the clock before them and the word times of all phases of their profile.
+#[tactic(auto, using(crate::proofs::Sums::profile_clock))]
+pub fn profiles()
+    ensures clock { (s : State) → (count : ℕ) → (after s count).clock
+        ≡ s.clock + all_phases (profile_of s count).phases }
 {}

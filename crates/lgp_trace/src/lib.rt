@@ -4,10 +4,12 @@
 mod account;
 pub mod laws;
 mod phases;
+mod profile;
 mod take;
 mod uses;
 
 pub use account::{Account, Begun, Found, Operand};
 pub use phases::Phases;
+pub use profile::Profile;
 pub use take::take_account;
 pub use uses::{seeks, stores};

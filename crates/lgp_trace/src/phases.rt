@@ -25,7 +25,7 @@ pub struct Phases {
 }
 
 /// The phases of an activity that only acts.
-fn only_act(times: u64) -> Phases
+pub fn only_act(times: u64) -> Phases
     ensures { result ≡ record { find = 0; take = 0; seek = 0; act = times } }
 {
     Phases {

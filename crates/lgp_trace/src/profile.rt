@@ -1,0 +1,104 @@
+//! Profiles: where the word times of many activities went.
+
+ghost use Rattle.std.specs.Prelude.{◌≡◌, ◌+◌, ◌^◌, ◌<◌, IfOk, slice_index, sum};
+ghost use Rattle.lgp_trace.specs.Phases.{all_phases};
+ghost use Rattle.lgp_trace.specs.Profile.{added_phases, empty_profile, with_account};
+
+use crate::account::Account;
+use crate::phases::{Phases, only_act};
+use lgp_word::Address;
+use std::alloc::{AllocError, Allocator, Global};
+use std::marker::Model;
+
+/// How many words the drum has.
+const WORDS: usize = 4096;
+
+/// The word times of many activities by phase, by the address of the order, and those of all else. What is kept takes the same
+/// memory however many they are.
+#[derive(Drop)]
+pub struct Profile<A: Allocator = Global> {
+    phases: Phases,
+    places: Vec<u64, A>,
+    elsewhere: u64,
+}
+
+impl<A: Allocator> Model for Profile<A> {
+    ghost use Rattle.std.specs.Prelude.{◌≡◌, ◌+◌, sum, vec_len};
+    ghost use Rattle.lgp_trace.specs.Phases.{all_phases};
+    ghost use Rattle.lgp_trace.specs.Profile.{Profiled};
+
+    ghost Value = { Profiled };
+
+    ghost view = { λ p. record {
+      phases = p.phases;
+      places = p.places.items;
+      elsewhere = p.elsewhere;
+    } };
+
+    ghost invariant = { λ p. (vec_len p.places ≡ 4096)
+        × (sum p.places.items + p.elsewhere ≡ all_phases p.phases) };
+}
+
+impl<A: Allocator> Profile<A> {
+    /// A profile of no activity, or a refused growth.
+    #[tactic(auto, unfolding(crate::specs::Profile::no_places), using(crate::proofs::Sums::sum_none))]
+    pub fn new(alloc: A) -> Result<Profile<A>, AllocError>
+        ensures { IfOk result (λ profile. profile ≡ empty_profile) }
+    {
+        Ok(Profile {
+            phases: only_act(0),
+            places: vec![in alloc; 0; WORDS]?,
+            elsewhere: 0,
+        })
+    }
+
+    /// Adds an activity by its account.
+    #[tactic(auto, using(crate::proofs::Sums::sums))]
+    pub fn note(&mut self, account: &Account)
+        requires { all_phases self.old.phases + all_phases account.now.phases < 2 ^ 64 }
+        ensures { self.new ≡ with_account self.old account.now }
+    {
+        let more = account.phases;
+        let times = more.find + more.take + more.seek + more.act;
+        self.phases = added(self.phases, more);
+        match account.place {
+            Some(place) => self.places[usize::from(place.number())] += times,
+            None => self.elsewhere += times,
+        }
+    }
+
+    /// The word times by phase. Those at all addresses and elsewhere are together as many.
+    pub fn phases(&self) -> Phases
+        ensures phases { result ≡ self.now.phases }
+        ensures together { sum self.now.places + self.now.elsewhere ≡ all_phases result }
+    {
+        self.phases
+    }
+
+    /// The word times of the orders that stood at an address.
+    pub fn at(&self, place: Address) -> u64
+        ensures { result ≡ slice_index self.now.places place }
+    {
+        self.places[usize::from(place.number())]
+    }
+
+    /// The word times of all activities whose orders stood nowhere on the drum.
+    pub fn elsewhere(&self) -> u64
+        ensures { result ≡ self.now.elsewhere }
+    {
+        self.elsewhere
+    }
+}
+
+/// Phases together with others.
+fn added(phases: Phases, more: Phases) -> Phases
+    requires { all_phases phases + all_phases more < 2 ^ 64 }
+    ensures { result ≡ added_phases phases more }
+{
+    Phases {
+        find: phases.find + more.find,
+        take: phases.take + more.take,
+        seek: phases.seek + more.seek,
+        act: phases.act + more.act,
+    }
+}
