@@ -1,10 +1,13 @@
 //! Accounts of a whole program, order by order, and of single activities.
 
+ghost use Rattle.std.specs.Prelude.{◌^◌, ◌<◌, IsTrue};
+ghost use Rattle.lgp_trace.specs.Phases.{all_phases};
+
 mod single;
 
 use lgp_machine::{Machine, OrderFault};
 use lgp_table::Action;
-use lgp_trace::{Account, take_account};
+use lgp_trace::{Account, Phases, Profile, take_account};
 use lgp_word::{Address, Word};
 use std::alloc::Allocator;
 use std::test::Fail;
@@ -192,5 +195,55 @@ fn a_program_that_changes_itself(rt: HostRuntime) -> Result<(), Fail> {
     let mut machine = with_words(rt.alloc(), SUM_OF_A_TABLE)?;
     let seen = (accounted(&mut machine, ORDERS), total(ORDERS));
     assert_eq!(rt; seen, ((42, Some(OrderFault::AtRest), 2910), 2910));
+    Ok(())
+}
+
+/// What a profile of the whole program shows: the word times by phase, those of the order at 0009 and at 0020, and elsewhere.
+type Shown = ((u64, u64, u64, u64), u64, u64, u64);
+
+fn shown<A: Allocator>(profile: &Profile<A>) -> Shown {
+    let phases = profile.phases();
+    (
+        (phases.find, phases.take, phases.seek, phases.act),
+        profile.at(address(9)),
+        profile.at(address(20)),
+        profile.elsewhere(),
+    )
+}
+
+/// Adds an account to a profile that has no great number yet; false where it has.
+fn note<A: Allocator>(profile: &mut Profile<A>, account: &Account) -> bool {
+    let few = is_few(profile.phases()) && is_few(account.phases);
+    if few {
+        profile.note(account);
+    }
+    few
+}
+
+/// Whether each phase is below 2^32 word times.
+fn is_few(phases: Phases) -> bool
+    ensures { IsTrue result → all_phases phases < 2 ^ 34 }
+{
+    phases.find < 1 << 32 && phases.take < 1 << 32 && phases.seek < 1 << 32 && phases.act < 1 << 32
+}
+
+/// Starts the machine, and adds up its activities up to the one that is refused.
+fn profiled<A: Allocator>(machine: &mut Machine<A>, profile: &mut Profile<A>) -> Shown {
+    press(machine, Action::Start);
+    for _ in 0..100 {
+        if let Ok(account) = take(machine) {
+            note(profile, &account);
+        }
+    }
+    shown(profile)
+}
+
+/// The order at 0009 is performed four times, and no order stands at 0020.
+#[test]
+fn the_profile_of_a_program(rt: HostRuntime) -> Result<(), Fail> {
+    let mut machine = with_words(rt.alloc(), SUM_OF_A_TABLE)?;
+    let mut profile = Profile::new(rt.alloc())?;
+    let seen = profiled(&mut machine, &mut profile);
+    assert_eq!(rt; seen, ((1562, 42, 1264, 42), 406, 0, 0));
     Ok(())
 }
