@@ -14,6 +14,7 @@ pub use tasks::{
 mod command;
 mod files;
 mod laboratory;
+pub mod laws;
 mod limits;
 mod program;
 mod refusal;

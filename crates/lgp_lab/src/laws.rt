@@ -1,0 +1,42 @@
+//! What follows from the definitions, each law as the contract of a function that does nothing.
+
+ghost use Rattle.std.specs.Prelude.{◌≡◌, ◌+◌, ℕ, List, None, Some, [], length};
+ghost use Rattle.lgp_assembler.specs.Image.{faults_of, image_of};
+ghost use Rattle.lgp_loader.specs.BlockLoading.{longest_load};
+ghost use Rattle.lgp_loader.specs.LoadedOver.{IsLoadedOver};
+ghost use Rattle.lgp_loader.specs.Loading.{loading_cost, loading_stopped};
+ghost use Rattle.lgp_word.specs.Drum.{blank_words};
+ghost use Rattle.lgp_table.specs.State.{opening};
+ghost use Rattle.lgp_lab.specs.Files.{loaded_new};
+ghost use Rattle.lgp_lab.specs.LoadCommand.{answer_to_load};
+ghost use Rattle.lgp_lab.specs.Standing.{Standing};
+
+use std::alloc::Allocator;
+
+/// A script's `load` leaves exactly the words of the last source that assembled over what was there, and the clock has gone on by
+/// what all activities of loading cost; where it would pass its end, that is told instead.
+#[tactic(auto, using(crate::proofs::LoadLaws::load_laws))]
+pub fn load_leaves_the_source<A: Allocator>()
+    ensures words { (standing : Standing A) → (source : List ℕ)
+        → standing.source ≡ Some source → faults_of source ≡ []
+        → length standing.debugger.state.core.words ≡ 4096
+        → loading_stopped standing.debugger.state (longest_load (image_of source)) ≡ None
+        → IsLoadedOver standing.debugger.state.core.words
+        (answer_to_load standing).after.debugger.state.core.words (image_of source).cells }
+    ensures time { (standing : Standing A) → (source : List ℕ)
+        → standing.source ≡ Some source
+        → loading_stopped standing.debugger.state (longest_load (image_of source)) ≡ None
+        → (answer_to_load standing).after.debugger.state.clock
+        ≡ standing.debugger.state.clock
+        + loading_cost standing.debugger.state (longest_load (image_of source)) }
+{}
+
+/// What the program's `run` has loaded before the first order of a source without faults: exactly the source's words on a drum
+/// without any, and the clock at what all activities of loading cost.
+#[tactic(auto, using(crate::proofs::LoadLaws::run_laws))]
+pub fn run_begins_with_the_source()
+    ensures words { (source : List ℕ) → faults_of source ≡ []
+        → IsLoadedOver blank_words (loaded_new source).core.words (image_of source).cells }
+    ensures time { (source : List ℕ) → (loaded_new source).clock
+        ≡ loading_cost (opening blank_words) (longest_load (image_of source)) }
+{}
