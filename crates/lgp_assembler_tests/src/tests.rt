@@ -1,12 +1,11 @@
 //! Sources with the words, names and faults that they have.
 
 use lgp_assembler::{
-    AssembleError, Fault, FaultKind, LOADER_PLACES, Name, assemble, has_word,
+    AssembleError, Fault, FaultKind, Image, LOADER_PLACES, Name, assemble, has_word,
     names_are_first_places, places_count_from_orgs,
 };
 use lgp_source::Lines;
 use lgp_word::{Address, Word, read_digits};
-use linked_list_allocator::LocalHeap;
 use std::alloc::{AllocError, Allocator, Global};
 use std::test::Fail;
 

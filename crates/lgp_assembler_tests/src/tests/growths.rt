@@ -1,42 +1,124 @@
-//! Growths refused in turn.
+//! Sources assembled with each growth refused in turn: each time the answer is `Memory`, and at last it is what there is with ample
+//! memory.
 
 use super::*;
+use lgp_scarce::Scarce;
+use linked_list_allocator::LocalHeap;
 
-/// Whether an assembly is refused for want of memory while so many bytes of the heap are taken.
-fn is_refused(heap: &LocalHeap, taken: usize, source: &[u8]) -> Result<bool, Fail> {
-    let _filler: Vec<u8, &LocalHeap> = Vec::with_capacity(heap, taken)?;
-    Ok(matches!(assemble(heap, source), Err(AssembleError::Memory)))
-}
+/// More growths than any of these sources has.
+const MOST: u64 = 200;
 
-/// How often an assembly is refused, while less and less of the heap is taken, before it gives an
-/// answer; none where a refusal leaves something on the heap.
-fn refusals(heap: &LocalHeap, source: &[u8]) -> Result<Option<usize>, Fail> {
-    let before = heap.used();
-    for step in 0..1024usize {
-        if !is_refused(heap, 65024 - 32 * step, source)? {
-            return Ok(Some(step));
-        }
-        if heap.used() != before {
-            return Ok(None);
+/// A source of 52 words, each with a name.
+fn named_words(alloc: Global) -> Result<Vec<u8>, AllocError> {
+    let mut source = Vec::new(alloc);
+    for digit in [b'0', b'1'] {
+        for letter in b'a'..=b'z' {
+            source.extend_from_slice(&[letter, digit])?;
+            source.extend_from_slice(b" z *\n")?;
         }
     }
-    Ok(None)
+    source.extend_from_slice(b" end z1\n")?;
+    Ok(source)
 }
 
-/// How often a heap refuses each source, and whether it then serves one of them.
-fn refused_and_served(heap: &LocalHeap) -> Result<([Option<usize>; 2], [bool; 3]), Fail> {
-    let refused = [
-        refusals(heap, FIRST_PROGRAM)?,
-        refusals(heap, FAULTY_SOURCE)?,
-    ];
-    Ok((refused, assembles_to(heap, FIRST_PROGRAM, FIRST_IMAGE)))
+/// Whether names and values are the same.
+fn same_symbols(found: &[(Name, u16)], wanted: &[(Name, u16)]) -> bool {
+    for (symbol, other) in found.iter().zip(wanted) {
+        if symbol.0.bytes() != other.0.bytes() || symbol.1 != other.1 {
+            return false;
+        }
+    }
+    found.len() == wanted.len()
+}
+
+/// Whether words, start and names are the same.
+fn same_image<A: Allocator, B: Allocator>(found: &Image<A>, wanted: &Image<B>) -> bool {
+    found.cells() == wanted.cells()
+        && found.start() == wanted.start()
+        && same_symbols(found.symbols(), wanted.symbols())
+}
+
+/// What an assembly gives with ample memory.
+type Ample = Result<Image, AssembleError>;
+
+/// How an assembly ends: refused, as with ample memory, or otherwise.
+#[derive(Clone, Copy, PartialEq, Eq)]
+enum End {
+    Refused,
+    Same,
+    Otherwise,
+}
+
+/// How an assembly ends whose answer is what there is with ample memory, or is not.
+fn end_where(same: bool) -> End {
+    if same { End::Same } else { End::Otherwise }
+}
+
+fn end_of<A: Allocator + Copy>(alloc: A, source: &[u8], ample: &Ample) -> End {
+    match assemble(alloc, source) {
+        Ok(image) => match ample {
+            Ok(wanted) => end_where(same_image(&image, wanted)),
+            Err(_) => End::Otherwise,
+        },
+        Err(AssembleError::Faults(list)) => match ample {
+            Err(AssembleError::Faults(wanted)) => end_where(list.faults() == wanted.faults()),
+            _ => End::Otherwise,
+        },
+        Err(AssembleError::Memory) => End::Refused,
+    }
+}
+
+/// Assembles a source with each growth refused in turn. How many growths it has; `None` where one is refused and the answer is
+/// another than that, or where none is and the answer is another than with ample memory.
+fn growths<B: Allocator>(scarce: &Scarce<B>, source: &[u8], ample: &Ample) -> Option<u64> {
+    for nth in 0..MOST {
+        scarce.refuse(nth + 1);
+        let end = end_of(scarce, source, ample);
+        if !scarce.was_refused() {
+            return (end == End::Same).then_some(nth);
+        }
+        if end != End::Refused {
+            return None;
+        }
+    }
+    None
+}
+
+/// How many growths a source has.
+fn growths_of<B: Allocator>(scarce: &Scarce<B>, global: Global, source: &[u8]) -> Option<u64> {
+    growths(scarce, source, &assemble(global, source))
+}
+
+/// Sources, and growths that each has at least. The marks of the places that are taken, the names of the lines, the words, the names
+/// of the image and the faults take memory, each where there is one of them; the last source's only fault is told behind its lines.
+const SOURCES: [(&[u8], u64); 5] = [
+    (FIRST_PROGRAM, 4),
+    (OPERATIONS, 4),
+    (FAULTY_SOURCE, 5),
+    (b" end", 1),
+    (b"", 2),
+];
+
+/// Whether each source has so many growths.
+fn all_sources<B: Allocator>(scarce: &Scarce<B>, global: Global) -> [bool; 5] {
+    SOURCES.map(|(source, least)| growths_of(scarce, global, source) >= Some(least))
 }
 
 #[test]
-fn a_small_heap_refuses_and_then_serves(rt: HostRuntime) -> Result<(), Fail> {
+fn each_growth_of_an_assembly_is_refused(rt: HostRuntime) -> Result<(), Fail> {
     let heap = LocalHeap::new(rt.alloc(), 65536)?;
-    let (refused, served) = refused_and_served(&heap)?;
-    let found = (refused.map(|steps| steps > Some(0)), served);
-    assert_eq!(rt; found, ([true; 2], [true; 3]));
+    let scarce = Scarce::new(&heap);
+    let found = all_sources(&scarce, rt.alloc());
+    assert_eq!(rt; (found, heap.used()), ([true; 5], 0));
+    Ok(())
+}
+
+/// The words, their names and the table of names grow more than once each.
+#[test]
+fn each_growth_of_many_words_is_refused(rt: HostRuntime) -> Result<(), Fail> {
+    let source = named_words(rt.alloc())?;
+    let scarce = Scarce::new(rt.alloc());
+    let found = growths_of(&scarce, rt.alloc(), &source);
+    assert!(rt; found >= Some(7), "{found:?}");
     Ok(())
 }
