@@ -3,7 +3,7 @@
 use super::*;
 
 /// A drum with these words at these places.
-pub(super) fn drum_with<A: Allocator>(drum: Drum<A>, words: &[(Address, Word)]) -> Drum<A> {
+fn drum_with<A: Allocator>(drum: Drum<A>, words: &[(Address, Word)]) -> Drum<A> {
     let mut drum = drum;
     for (place, word) in words {
         drum.put(*place, *word);
@@ -12,7 +12,7 @@ pub(super) fn drum_with<A: Allocator>(drum: Drum<A>, words: &[(Address, Word)]) 
 }
 
 /// Whether a drum has this dump.
-pub(super) fn has_dump<A: Allocator + Copy>(alloc: A, drum: &Drum, wanted: &[u8]) -> bool {
+fn has_dump<A: Allocator + Copy>(alloc: A, drum: &Drum, wanted: &[u8]) -> bool {
     match dump(alloc, drum) {
         Ok(text) => text.as_slice() == wanted,
         Err(_) => false,
@@ -30,11 +30,7 @@ fn has_words<A: Allocator>(drum: &Drum<A>, wanted: &[(Address, Word)]) -> bool {
 }
 
 /// Whether a text is the dump of a drum with these words.
-pub(super) fn reads_as<A: Allocator + Copy>(
-    alloc: A,
-    text: &[u8],
-    wanted: &[(Address, Word)],
-) -> bool {
+fn reads_as<A: Allocator + Copy>(alloc: A, text: &[u8], wanted: &[(Address, Word)]) -> bool {
     match read_dump(alloc, text) {
         Ok(drum) => has_words(&drum, wanted),
         Err(_) => false,
@@ -75,7 +71,7 @@ pub(super) fn fault_of<A: Allocator + Copy>(alloc: A, text: &[u8]) -> Option<Dum
     read_dump(alloc, text).err()
 }
 
-const NO_DUMPS: &[(&[u8], DumpFault)] = &[
+pub(super) const NO_DUMPS: &[(&[u8], DumpFault)] = &[
     (b"0100 00000000\n", DumpFault::Form(1)),
     (b"6364 00000004\n", DumpFault::Form(1)),
     (b"0100 00000003\n", DumpFault::Form(1)),

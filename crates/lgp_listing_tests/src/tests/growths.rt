@@ -1,89 +1,182 @@
-//! Growths refused in turn.
+//! Calls with each growth refused in turn: each time the answer is that there is no memory, and at last it is what there is with
+//! ample memory.
 
-use super::dumps::{drum_with, fault_of, has_dump, reads_as};
+use super::dumps::{NO_DUMPS, fault_of};
 use super::*;
+use lgp_scarce::Scarce;
 use linked_list_allocator::LocalHeap;
 
-const SMALL_DUMP: &[u8] = b"0050 00000006\n";
+/// More growths than any of these calls has.
+const MOST: u64 = 200;
 
-/// Whether a listing is refused for want of memory.
-fn lacks_listing(heap: &LocalHeap) -> bool {
-    matches!(listing(heap, FIRST_PROGRAM), Err(AssembleError::Memory))
+/// What a listing gives with ample memory.
+type Ample = Result<Vec<u8>, AssembleError>;
+
+/// A call that takes memory, with what it gives with ample memory.
+#[derive(Clone, Copy)]
+enum Call<'a> {
+    /// The listing of a source.
+    Listing(&'a [u8], &'a Ample),
+    /// The dump of a drum.
+    Dump(&'a Drum, &'a [u8]),
+    /// The drum of a dump.
+    Read(&'a [u8], &'a Drum),
 }
 
-/// Whether a dump is.
-fn lacks_dump(heap: &LocalHeap, drum: &Drum) -> bool {
-    dump(heap, drum).is_err()
+/// How a call ends: refused for memory, as with ample memory, or otherwise.
+#[derive(Clone, Copy, PartialEq, Eq)]
+enum End {
+    Refused,
+    Same,
+    Otherwise,
 }
 
-/// Which of listing, dump and its reading are refused for want of memory while so many bytes of the
-/// heap are taken.
-fn refused(heap: &LocalHeap, taken: usize, drum: &Drum) -> Result<[bool; 3], Fail> {
-    let _filler: Vec<u8, &LocalHeap> = Vec::with_capacity(heap, taken)?;
+/// How a call ends whose answer is what there is with ample memory, or is not.
+fn end_where(same: bool) -> End {
+    if same { End::Same } else { End::Otherwise }
+}
+
+fn listing_end<A: Allocator + Copy>(alloc: A, source: &[u8], ample: &Ample) -> End {
+    match listing(alloc, source) {
+        Ok(text) => match ample {
+            Ok(wanted) => end_where(text.as_slice() == wanted.as_slice()),
+            Err(_) => End::Otherwise,
+        },
+        Err(AssembleError::Faults(list)) => match ample {
+            Err(AssembleError::Faults(wanted)) => end_where(list.faults() == wanted.faults()),
+            _ => End::Otherwise,
+        },
+        Err(AssembleError::Memory) => End::Refused,
+    }
+}
+
+fn dump_end<A: Allocator>(alloc: A, drum: &Drum, ample: &[u8]) -> End {
+    match dump(alloc, drum) {
+        Ok(text) => end_where(text.as_slice() == ample),
+        Err(_) => End::Refused,
+    }
+}
+
+/// Whether two drums have the same words.
+fn same_words<A: Allocator, B: Allocator>(drum: &Drum<A>, other: &Drum<B>) -> bool {
+    for number in 0..4096 {
+        let place = Address::new(number).unwrap_or_default();
+        if drum.word(place) != other.word(place) {
+            return false;
+        }
+    }
+    true
+}
+
+fn read_end<A: Allocator + Copy>(alloc: A, text: &[u8], ample: &Drum) -> End {
+    match read_dump(alloc, text) {
+        Ok(drum) => end_where(same_words(&drum, ample)),
+        Err(DumpFault::Memory) => End::Refused,
+        Err(_) => End::Otherwise,
+    }
+}
+
+fn end_of<A: Allocator + Copy>(alloc: A, call: Call) -> End {
+    match call {
+        Call::Listing(source, ample) => listing_end(alloc, source, ample),
+        Call::Dump(drum, ample) => dump_end(alloc, drum, ample),
+        Call::Read(text, ample) => read_end(alloc, text, ample),
+    }
+}
+
+/// Calls with each growth refused in turn. How many growths the call has; `None` where one is refused and the answer is another
+/// than that, or where none is and the answer is another than with ample memory.
+fn growths<B: Allocator>(scarce: &Scarce<B>, call: Call) -> Option<u64> {
+    for nth in 0..MOST {
+        scarce.refuse(nth + 1);
+        let end = end_of(scarce, call);
+        if !scarce.was_refused() {
+            return (end == End::Same).then_some(nth);
+        }
+        if end != End::Refused {
+            return None;
+        }
+    }
+    None
+}
+
+/// How many growths the listing of a source has.
+fn growths_of_listing<B: Allocator>(
+    scarce: &Scarce<B>,
+    global: Global,
+    source: &[u8],
+) -> Option<u64> {
+    growths(scarce, Call::Listing(source, &listing(global, source)))
+}
+
+/// Sources, and growths that the listing of each has at least. The marks of the places that are taken, the names of the lines, the
+/// words, the names of the image, the faults and the text take memory, each where there is one of them.
+const SOURCES: [(&[u8], u64); 4] = [
+    (FIRST_PROGRAM, 5),
+    (b" end", 2),
+    (b"x b none\nx q 0000\n end\n", 3),
+    (b"", 2),
+];
+
+/// Whether the listing of each source has so many growths.
+fn all_sources<B: Allocator>(scarce: &Scarce<B>, global: Global) -> [bool; 4] {
+    SOURCES.map(|(source, least)| growths_of_listing(scarce, global, source) >= Some(least))
+}
+
+#[test]
+fn each_growth_of_a_listing_is_refused(rt: HostRuntime) -> Result<(), Fail> {
+    let heap = LocalHeap::new(rt.alloc(), 65536)?;
+    let scarce = Scarce::new(&heap);
+    let found = all_sources(&scarce, rt.alloc());
+    assert_eq!(rt; (found, heap.used()), ([true; 4], 0));
+    Ok(())
+}
+
+/// How many growths the dump of a drum has, and its reading.
+fn growths_of_dump<B: Allocator>(
+    scarce: &Scarce<B>,
+    global: Global,
+    drum: &Drum,
+) -> Result<[Option<u64>; 2], AllocError> {
+    let text = dump(global, drum)?;
     Ok([
-        lacks_listing(heap),
-        lacks_dump(heap, drum),
-        fault_of(heap, SMALL_DUMP) == Some(DumpFault::Memory),
+        growths(scarce, Call::Dump(drum, &text)),
+        growths(scarce, Call::Read(&text, drum)),
     ])
 }
 
-/// Whether each call leaves the heap as it was, while less and less of it is taken.
-fn leaves_the_heap(heap: &LocalHeap, drum: &Drum) -> Result<bool, Fail> {
-    let before = heap.used();
-    for step in 0..1024usize {
-        refused(heap, 65024 - 32 * step, drum)?;
-        if heap.used() != before {
-            return Ok(false);
-        }
+/// A drum with a hundred words.
+fn drum_of_hundred(alloc: Global) -> Result<Drum, AllocError> {
+    let mut drum = Drum::new(alloc)?;
+    for number in 0..100 {
+        let place = Address::new(40 * number).unwrap_or_default();
+        drum.put(place, Word::of_bits(4 * u32::from(number) + 4));
     }
-    Ok(true)
-}
-
-/// What the calls give with nearly all of the heap free.
-fn served(heap: &LocalHeap, drum: &Drum, word: (Address, Word)) -> [bool; 3] {
-    [
-        has_listing(heap, FIRST_PROGRAM, FIRST_LISTING),
-        has_dump(heap, drum, SMALL_DUMP),
-        reads_as(heap, SMALL_DUMP, &[word]),
-    ]
-}
-
-/// What is refused on a full heap, whether refusals leave the heap as it was, what is refused on a free heap, and what is then
-/// served.
-fn growths(
-    heap: &LocalHeap,
-    drum: &Drum,
-    word: (Address, Word),
-) -> Result<([bool; 3], bool, [bool; 3], [bool; 3]), Fail> {
-    let full = refused(heap, heap.free(), drum)?;
-    let same = leaves_the_heap(heap, drum)?;
-    let free = refused(heap, 32, drum)?;
-    Ok((full, same, free, served(heap, drum, word)))
-}
-
-/// The same on a small heap.
-fn small_growths(
-    alloc: Global,
-    drum: &Drum,
-    word: (Address, Word),
-) -> Result<([bool; 3], bool, [bool; 3], [bool; 3]), Fail> {
-    let heap = LocalHeap::new(alloc, 65536)?;
-    growths(&heap, drum, word)
+    Ok(drum)
 }
 
 #[test]
-fn each_growth_may_be_refused(rt: HostRuntime) -> Result<(), Fail> {
-    let word = (at(b"0050")?, word(b"00000006")?);
-    let drum = drum_with(Drum::new(rt.alloc())?, &[word]);
-    let found = small_growths(rt.alloc(), &drum, word)?;
-    assert_eq!(rt; found, ([true; 3], true, [false; 3], [true; 3]));
+fn each_growth_of_a_dump_and_its_reading_is_refused(rt: HostRuntime) -> Result<(), Fail> {
+    let heap = LocalHeap::new(rt.alloc(), 65536)?;
+    let drum = drum_of_hundred(rt.alloc())?;
+    let scarce = Scarce::new(&heap);
+    let found = growths_of_dump(&scarce, rt.alloc(), &drum)?;
+    let some = found.map(|growths| growths >= Some(1));
+    assert_eq!(rt; (some, heap.used()), ([true; 2], 0));
     Ok(())
 }
 
+/// What is wrong with a text, with the first growth refused; `None` where one is.
+fn fault_without_memory<B: Allocator>(scarce: &Scarce<B>, text: &[u8]) -> Option<DumpFault> {
+    scarce.refuse(1);
+    let fault = fault_of(scarce, text);
+    if scarce.was_refused() { None } else { fault }
+}
+
 #[test]
-fn a_faulty_text_is_told_without_memory(rt: HostRuntime) -> Result<(), Fail> {
-    let heap = LocalHeap::new(rt.alloc(), 1024)?;
-    let fault = fault_of(&heap, b"0050 00000000\n");
-    assert_eq!(rt; fault, Some(DumpFault::Form(1)));
-    Ok(())
+fn a_faulty_text_is_told_without_memory(rt: HostRuntime) {
+    let scarce = Scarce::new(rt.alloc());
+    for (text, wanted) in NO_DUMPS {
+        assert_eq!(rt; fault_without_memory(&scarce, text), Some(*wanted));
+    }
 }
