@@ -19,6 +19,8 @@ mod refusals;
 mod sizes;
 mod tapes;
 
+const CLOCK_END: u64 = 1 << 62;
+
 /// One word at 0100.
 const ONE_WORD: &[u8] = b" org 0100\n word 00000004\n end\n";
 

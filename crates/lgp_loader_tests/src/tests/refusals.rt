@@ -2,8 +2,6 @@
 
 use super::*;
 
-const CLOCK_END: u64 = 1 << 62;
-
 /// A program is loaded within an order.
 fn loaded_within_an_order(
     alloc: Global,
