@@ -4,6 +4,7 @@ ghost use Rattle.std.specs.Prelude.{◌^◌, ◌<◌, IsTrue};
 ghost use Rattle.lgp_trace.specs.Phases.{all_phases};
 
 mod single;
+mod steps;
 
 use lgp_machine::{Machine, OrderFault};
 use lgp_table::Action;

@@ -1,0 +1,70 @@
+//! Orders of a debugger, whose steps are kept.
+
+use super::{ORDERS, Row, SUM_OF_A_TABLE, row_of, with_words};
+use lgp_debugger::{Debugger, StepFault};
+use lgp_history::{History, Records};
+use lgp_machine::Machine;
+use lgp_table::Action;
+use lgp_trace::step_account;
+use std::alloc::{AllocError, Allocator};
+use std::test::Fail;
+
+/// A debugger over a machine, which keeps so many steps.
+fn debugger<A: Allocator + Copy>(
+    alloc: A,
+    machine: Machine<A>,
+    capacity: usize,
+) -> Result<Debugger<Records<A>, A>, AllocError> {
+    let capacity = capacity.clamp(1, 4096);
+    Ok(Debugger::new(machine, Records::new(alloc, capacity)?))
+}
+
+/// The next order's row, or why it is refused.
+fn next_row<H: History<A>, A: Allocator>(lab: &mut Debugger<H, A>) -> Result<Row, StepFault> {
+    match step_account(lab) {
+        Ok(account) => Ok(row_of(&account)),
+        Err(fault) => Err(fault),
+    }
+}
+
+/// How many of the rows are those of the next orders.
+fn orders_as<H: History<A>, A: Allocator>(lab: &mut Debugger<H, A>, rows: &[Row]) -> usize {
+    for (order, row) in rows.iter().enumerate() {
+        if next_row(lab) != Ok(*row) {
+            return order;
+        }
+    }
+    rows.len()
+}
+
+/// Goes back; false where that is refused.
+fn goes_back<H: History<A>, A: Allocator>(lab: &mut Debugger<H, A>, orders: u64) -> bool {
+    lab.back(orders).is_ok()
+}
+
+/// Presses START, performs as many orders as there are rows, goes so many back, and performs those again. How many were as their
+/// rows say, the first time and again; how many steps were kept behind each; and how one more is refused.
+fn there_and_back<H: History<A>, A: Allocator>(
+    lab: &mut Debugger<H, A>,
+    rows: &[Row],
+    back: usize,
+) -> (usize, usize, [u64; 2], Result<Row, StepFault>) {
+    let _live = lab.press(Action::Start);
+    let first = orders_as(lab, rows);
+    let kept = lab.kept();
+    let again = match rows.split_at_checked(rows.len().saturating_sub(back)) {
+        Some((_, last)) if goes_back(lab, back as u64) => orders_as(lab, last),
+        _ => 0,
+    };
+    (first, again, [kept, lab.kept()], next_row(lab))
+}
+
+/// All 42 orders are as by the machine itself; with room for 30 steps, 20 orders go back and come again alike.
+#[test]
+fn a_debuggers_orders_have_the_same_accounts(rt: HostRuntime) -> Result<(), Fail> {
+    let machine = with_words(rt.alloc(), SUM_OF_A_TABLE)?;
+    let mut lab = debugger(rt.alloc(), machine, 30)?;
+    let seen = there_and_back(&mut lab, ORDERS, 20);
+    assert_eq!(rt; seen, (42, 20, [30, 30], Err(StepFault::AtRest)));
+    Ok(())
+}
