@@ -9,14 +9,12 @@ use lgp_trace::step_account;
 use std::alloc::{AllocError, Allocator};
 use std::test::Fail;
 
-/// A debugger over a machine, which keeps so many steps.
+/// A debugger over a machine, which keeps 30 steps.
 fn debugger<A: Allocator + Copy>(
     alloc: A,
     machine: Machine<A>,
-    capacity: usize,
 ) -> Result<Debugger<Records<A>, A>, AllocError> {
-    let capacity = capacity.clamp(1, 4096);
-    Ok(Debugger::new(machine, Records::new(alloc, capacity)?))
+    Ok(Debugger::new(machine, Records::new(alloc, 30)?))
 }
 
 /// The next order's row, or why it is refused.
@@ -63,7 +61,7 @@ fn there_and_back<H: History<A>, A: Allocator>(
 #[test]
 fn a_debuggers_orders_have_the_same_accounts(rt: HostRuntime) -> Result<(), Fail> {
     let machine = with_words(rt.alloc(), SUM_OF_A_TABLE)?;
-    let mut lab = debugger(rt.alloc(), machine, 30)?;
+    let mut lab = debugger(rt.alloc(), machine)?;
     let seen = there_and_back(&mut lab, ORDERS, 20);
     assert_eq!(rt; seen, (42, 20, [30, 30], Err(StepFault::AtRest)));
     Ok(())
