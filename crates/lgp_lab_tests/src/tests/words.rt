@@ -54,14 +54,14 @@ fn status_typed<W: Write + Drop, M: Write + Drop>(
 }
 
 /// Expects what is written for words, without a message, and the status.
-fn expect_done(rt: &impl Abort, alloc: Global, typed: Typed, (text, status): (&[u8], u8)) {
+fn expect_done(rt: &impl Abort, alloc: Global, typed: Typed, wanted: (&[u8], u8)) {
     let mut output = Vec::new(alloc);
     let mut messages = Vec::new(alloc);
-    let ended = status_typed(alloc, typed, &mut output, &mut messages);
+    let status = status_typed(alloc, typed, &mut output, &mut messages);
+    let silent = messages.is_empty();
     assert_eq!(rt;
-        (output.as_slice(), messages.as_slice(), ended),
-        (text, b"".as_slice(), Some(status)),
-        "{typed:?}"
+        (output.as_slice(), silent, status),
+        (wanted.0, true, Some(wanted.1))
     );
 }
 
@@ -112,14 +112,15 @@ fn help_is_no_message_and_a_mistake_is_one(rt: HostRuntime) {
 /// What is told of words that cannot be read.
 const UNREAD: &[u8] = b"error: the words of the command line are not UTF-8 text\n";
 
-/// What is written for words that are not there, and the status.
-fn expect_unread(rt: &impl Abort, alloc: Global, fault: WordFault, (text, status): (&[u8], u8)) {
+/// Expects what is told for words that are not there, without any output, and the status.
+fn expect_unread(rt: &impl Abort, alloc: Global, fault: WordFault, wanted: (&[u8], u8)) {
     let mut output = Vec::new(alloc);
     let mut messages = Vec::new(alloc);
-    let ended = status_for(alloc, Err(fault), &mut output, &mut messages);
+    let status = status_for(alloc, Err(fault), &mut output, &mut messages);
+    let silent = output.is_empty();
     assert_eq!(rt;
-        (output.as_slice(), messages.as_slice(), ended),
-        (b"".as_slice(), text, status)
+        (messages.as_slice(), silent, status),
+        (wanted.0, true, wanted.1)
     );
 }
 

@@ -1,20 +1,29 @@
 //! Orders of a debugger, whose steps are kept.
 
-use super::{ORDERS, Row, SUM_OF_A_TABLE, row_of, with_words};
+use super::{ORDERS, Row, SUM_OF_A_TABLE, address, row_of};
 use lgp_debugger::{Debugger, StepFault};
 use lgp_history::{History, Records};
 use lgp_machine::Machine;
 use lgp_table::Action;
 use lgp_trace::step_account;
+use lgp_word::Word;
 use std::alloc::{AllocError, Allocator};
 use std::test::Fail;
 
-/// A debugger over a machine, which keeps 30 steps.
-fn debugger<A: Allocator + Copy>(
-    alloc: A,
-    machine: Machine<A>,
-) -> Result<Debugger<Records<A>, A>, AllocError> {
+/// A debugger over a new machine, which keeps 30 steps.
+fn debugger<A: Allocator + Copy>(alloc: A) -> Result<Debugger<Records<A>, A>, AllocError> {
+    let machine = Machine::new(alloc)?;
     Ok(Debugger::new(machine, Records::new(alloc, 30)?))
+}
+
+/// Puts words on the drum; false where one is refused.
+fn put_all<H: History<A>, A: Allocator>(lab: &mut Debugger<H, A>, words: &[(u16, u32)]) -> bool {
+    for (at, bits) in words {
+        if lab.put(address(*at), Word::of_bits(*bits)).is_err() {
+            return false;
+        }
+    }
+    true
 }
 
 /// The next order's row, or why it is refused.
@@ -60,8 +69,8 @@ fn there_and_back<H: History<A>, A: Allocator>(
 /// All 42 orders are as by the machine itself; with room for 30 steps, 20 orders go back and come again alike.
 #[test]
 fn a_debuggers_orders_have_the_same_accounts(rt: HostRuntime) -> Result<(), Fail> {
-    let machine = with_words(rt.alloc(), SUM_OF_A_TABLE)?;
-    let mut lab = debugger(rt.alloc(), machine)?;
+    let mut lab = debugger(rt.alloc())?;
+    put_all(&mut lab, SUM_OF_A_TABLE);
     let seen = there_and_back(&mut lab, ORDERS, 20);
     assert_eq!(rt; seen, (42, 20, [30, 30], Err(StepFault::AtRest)));
     Ok(())
