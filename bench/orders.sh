@@ -1,8 +1,7 @@
 #!/bin/sh
 # Instructions an order, as callgrind counts them, of the program on two loops, by the script commands `orders` and `run`: 120,001
 # orders less 20,001, so that starting and ending do not count. Where SIMH's LGP-30 is installed (Debian package simh,
-# program lgp), it runs the same loops in the same way. The program debugger.rt.txt, built in a copy of the repository, performs them
-# by a debugger that keeps its latest 4,096 steps by records. Needs valgrind. Nothing of this is part of the check.
+# program lgp), it runs the same loops in the same way. Needs valgrind. Nothing of this is part of the check.
 set -eu
 top=$(cd "$(dirname "$0")/.." && pwd)
 work=$(mktemp -d)
@@ -79,24 +78,7 @@ simh_script() {
     echo "exit"
 }
 
-# The loop's words for the program over a debugger, and so many orders.
-debugger_input() {
-    echo "$1"
-    echo "$2"
-}
-
-# Builds the program over a debugger.
-build_debugger() {
-    cp -r "$top/crates" "$top/crates.txt" "$top/HANDLES" "$work"
-    mkdir -p "$work/crates/bench_debugger/src"
-    cp "$top/bench/debugger.rt.txt" "$work/crates/bench_debugger/src/main.rt"
-    : >"$work/crates/bench_debugger/stdin"
-    echo "bench_debugger: lgp_debugger lgp_history lgp_machine lgp_drum lgp_table lgp_word" >>"$work/crates.txt"
-    (cd "$work/crates/bench_debugger" && rt run) >"$work/build.log" 2>&1 || { tail -n 20 "$work/build.log" >&2; exit 1; }
-}
-
-"$top/lgp_lab" </dev/null
-build_debugger
+"$top/prove"
 for loop in small large; do
     eval "words=\$$loop"
     for count in $short $long; do
@@ -111,13 +93,6 @@ for loop in small large; do
         tail -n 1 "$work/output" | grep -q " $long " || { echo "the loop $loop ended" >&2; exit 1; }
         echo "$loop: $(per_order "$a" "$b") instructions an order, by $command"
     done
-    for count in $short $long; do
-        debugger_input "$words" "$count" >"$work/debugger-$count"
-    done
-    a=$(instructions "$work/debugger-$short" "$work/crates/bench_debugger/out/bench_debugger")
-    b=$(instructions "$work/debugger-$long" "$work/crates/bench_debugger/out/bench_debugger")
-    grep -qx "$long" "$work/output" || { echo "the loop $loop ended" >&2; exit 1; }
-    echo "$loop: $(per_order "$a" "$b") with each step kept"
     if command -v lgp >/dev/null 2>&1; then
         a=$(instructions /dev/null lgp "$work/simh-$short")
         b=$(instructions /dev/null lgp "$work/simh-$long")

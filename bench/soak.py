@@ -1,8 +1,9 @@
 #!/usr/bin/env python3
-"""Feeds the proved program random bytes, and then random commands, each for so many seconds (30 without an argument). Says how many
-bytes went in and how many replies came out, and how much memory the process held after a quarter of the time and at its end. Ends
-with status 1 where a reply is none of the defined ones, where the process ends of itself, or where its memory has more than
-doubled. Build the program first, by ./prove or rt ci. No part of the check."""
+"""Feeds the proved program random bytes, and then random commands, each for so many seconds (30 without an argument), and feeds a second
+process the same in pieces that are cut elsewhere. Says how many bytes went in and how many lines of replies came out, and how much
+memory the process held after a quarter of the time and at its end. Ends with status 1 where the two processes answer differently, where
+one ends of itself, or where its memory has more than doubled. Build the program first, by ./prove or rt ci. No part of the check."""
+import hashlib
 import os
 import random
 import re
@@ -14,34 +15,6 @@ import time
 TOP = os.path.dirname(os.path.dirname(os.path.abspath(__file__)))
 PROGRAM = f"{TOP}/crates/lgp30/out/lgp30"
 DIGITS = "0123456789fgjkqw"
-WORD = f"[{DIGITS}]{{8}}"
-ADDRESS = "[0-6][0-9][0-6][0-9]"
-STATUS = "(halted (operator|stop|overflow|step)|going|executing|waiting|reading)"
-REPLIES = re.compile(
-    "|".join(
-        [
-            r"ok( \d+)?",
-            "live|dead",
-            r"live \d+ dead \d+",
-            r"clock \d+",
-            rf"orders \d+ {STATUS}",
-            rf"counter {ADDRESS} accumulator {WORD} register {WORD} status {STATUS} mode (normal|oneop|manual)"
-            r" switches [ud]{6} reader (on|off) tape \d+ clock \d+",
-            rf"{ADDRESS} {WORD}( .*)?",
-            rf"{ADDRESS} (word {WORD}|-?[a-z] {ADDRESS})",
-            r"printed 0|printed \d+ .+",
-            r"dump \d+",
-            rf"cells \d+ start (none|{ADDRESS})",
-            " {14}.*",
-            r"loaded \d+",
-            r"rule \d+",
-            r"ran \d+ (limit|rest|rule \d+)",
-            r"back \d+ rule \d+",
-            r"line \d+ [A-Z][A-Za-z]+",
-            r"\? (1 Form|2 Moving|3 AtWork|4 ClockEnd|5 Full|6 NoRule|7 TooFar \d+|8 NoHit \d+|9 Faults|10 NoImage|11 TooLong|12 BadSign \d+)",
-        ]
-    ).encode()
-)
 NAMES = "normal oneop manual start clear fill execute compute read".split()
 SWITCHES = "bp32 bp16 bp8 bp4 transfer sixbit".split()
 SOURCE = ["start b one", " a one+1", " h 0050", " t start", " p =a", " z", "one int 3 20", "two frac .1", " org 0200", " q", " b none", "; a remark", ""]
@@ -93,34 +66,52 @@ def held(process):
         return int(re.search(r"VmRSS:\s+(\d+)", it.read())[1])
 
 
+class Fed:
+    """A process of the program, and what it has answered so far."""
+
+    def __init__(self):
+        self.process = subprocess.Popen([PROGRAM], stdin=subprocess.PIPE, stdout=subprocess.PIPE)
+        self.lines = 0
+        self.digest = hashlib.sha256()
+        self.reading = threading.Thread(target=self.read)
+        self.reading.start()
+
+    def read(self):
+        for line in self.process.stdout:
+            self.lines += 1
+            self.digest.update(line)
+
+    def take(self, text):
+        self.process.stdin.write(text)
+        self.process.stdin.flush()
+
+    def end(self):
+        """The status with which the process ends once its input does."""
+        self.process.stdin.close()
+        self.reading.join()
+        return self.process.wait()
+
+
 def soak(name, piece, seconds):
-    """Feeds the program pieces for so many seconds, and looks at each reply."""
-    process = subprocess.Popen([PROGRAM], stdin=subprocess.PIPE, stdout=subprocess.PIPE)
-    seen = {"replies": 0, "other": None}
-
-    def look():
-        for line in process.stdout:
-            seen["replies"] += 1
-            if not REPLIES.fullmatch(line.rstrip(b"\n")):
-                seen["other"] = seen["other"] or line
-
-    looking = threading.Thread(target=look)
-    looking.start()
+    """Feeds two processes the same for so many seconds, and compares what they answer."""
+    whole, cut = Fed(), Fed()
     begun, fed, early = time.time(), 0, None
-    while time.time() < begun + seconds and process.poll() is None:
+    while time.time() < begun + seconds and whole.process.poll() is None and cut.process.poll() is None:
         text = piece()
-        process.stdin.write(text)
+        middle = len(text) // 3
+        whole.take(text)
+        cut.take(text[:middle])
+        cut.take(text[middle:])
         fed += len(text)
         if early is None and time.time() > begun + seconds / 4:
-            early = held(process)
-    late = held(process)
-    process.stdin.close()
-    looking.join()
-    status = process.wait()
-    print(f"{name}: {fed} bytes in, {seen['replies']} replies, {early} kB held after a quarter, {late} kB at the end, status {status}")
-    if seen["other"] is not None:
-        print(f"{name}: no defined reply: {seen['other']!r}")
-    return seen["other"] is None and status in (0, 1) and late <= 2 * early
+            early = held(whole.process)
+    late = held(whole.process)
+    statuses = whole.end(), cut.end()
+    print(f"{name}: {fed} bytes in, {whole.lines} lines out, {early} kB held after a quarter, {late} kB at the end, status {statuses[0]}")
+    is_same = statuses[0] == statuses[1] and whole.digest.digest() == cut.digest.digest()
+    if not is_same:
+        print(f"{name}: the two processes answer differently")
+    return is_same and statuses[0] in (0, 1) and late <= 2 * early
 
 
 def main():

@@ -7,6 +7,3 @@ pub mod rounding;
 
 pub use arithmetic::{Arith, add, div, mul_high, mul_low, sub};
 pub use fraction::{Fraction, FractionFault};
-
-#[cfg(test)]
-mod tests;

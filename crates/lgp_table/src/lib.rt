@@ -9,6 +9,3 @@ pub mod worked;
 
 pub use action::{Action, Event};
 pub use panel::{Cause, Ending, Mode, Panel, Status, Switches, Which};
-
-#[cfg(test)]
-mod tests;

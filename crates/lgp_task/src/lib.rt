@@ -7,6 +7,3 @@ mod task;
 
 pub use files::{FileName, FileNames};
 pub use task::{Task, TaskFault, task_of};
-
-#[cfg(test)]
-mod tests;

@@ -1,6 +1,6 @@
 //! Arithmetic and decimals on values from outside.
 
-use super::*;
+use lgp_fraction::{Arith, Fraction, FractionFault, add, div, mul_high, mul_low, rounding, sub};
 use lgp_word::{Word, read_digits};
 use std::test::Fail;
 

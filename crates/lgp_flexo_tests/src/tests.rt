@@ -1,6 +1,6 @@
 //! Codes and tape text on the table and on values from outside.
 
-use crate::{
+use lgp_flexo::{
     Code, TAPE_LIMIT, TextFault, code_of, digit_of, enter, read_tape_text, sign_of, skipped,
     write_tape_text,
 };

@@ -1,6 +1,6 @@
 //! Tests of the command line.
 
-use crate::{Task, TaskFault, task_of};
+use lgp_task::{Task, TaskFault, task_of};
 use linked_list_allocator::LocalHeap;
 use std::alloc::{AllocError, Allocator, Global};
 use std::test::Fail;

@@ -1,13 +1,13 @@
 //! The plain types, and the laws and worked orders called once.
 
-use crate::laws::{
+use lgp_table::laws::{
     costs, dead_actions, kept_actions, other_words, passed_codes, skipped_codes, waits,
 };
-use crate::worked::{
+use lgp_table::worked::{
     input, keys_in_manual, load, overflow, print, stop, store, stored_addresses, sum, test,
     two_waits,
 };
-use crate::{Cause, Ending, Mode, Panel, Status, Switches};
+use lgp_table::{Cause, Ending, Mode, Panel, Status, Switches};
 use lgp_word::{Address, Word};
 
 #[test]
