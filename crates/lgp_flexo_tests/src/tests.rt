@@ -5,6 +5,7 @@ use lgp_flexo::{
     write_tape_text,
 };
 use linked_list_allocator::LocalHeap;
+use std::alloc::Global;
 use std::test::Fail;
 
 /// The numbers and signs of the table.
@@ -54,67 +55,137 @@ const SIGNS: [(u8, char); 43] = [
     (39, 'x'),
 ];
 
-/// The code of that number.
-fn code(number: u8) -> Result<Code, Fail> {
-    Ok(Code::new(number).ok_or("above 63")?)
+/// Whether a number of the table and its sign stand for each other.
+fn stands(number: u8, sign: char) -> bool {
+    match Code::new(number) {
+        Some(code) => sign_of(code) == Some(sign) && code_of(sign) == Some(code),
+        None => false,
+    }
+}
+
+/// Whether the code of a number has a sign.
+fn has_sign(number: u8) -> bool {
+    match Code::new(number) {
+        Some(code) => sign_of(code).is_some(),
+        None => false,
+    }
+}
+
+/// Whether a number stands in the table.
+fn is_in_table(number: u8) -> bool {
+    SIGNS.iter().any(|entry| entry.0 == number)
 }
 
 #[test]
-fn the_table_stands(rt: HostRuntime) -> Result<(), Fail> {
+fn the_table_stands(rt: HostRuntime) {
     for (number, sign) in SIGNS {
-        assert_eq!(rt; sign_of(code(number)?), Some(sign), "the sign of {number}");
-        assert_eq!(rt; code_of(sign), Some(code(number)?), "the code of {sign}");
+        assert!(rt; stands(number, sign), "{number} and {sign}");
     }
     for number in 0..64 {
-        let in_table = SIGNS.iter().any(|entry| entry.0 == number);
-        assert_eq!(rt; sign_of(code(number)?).is_some(), in_table, "at {number}");
+        assert!(rt; has_sign(number) == is_in_table(number), "at {number}");
     }
-    assert_eq!(rt; code_of('l'), Some(code(6)?));
-    assert_eq!(rt; code_of('_'), None);
-    assert_eq!(rt; Code::new(64), None);
-    assert_eq!(rt; Code::STOP.number(), 32);
-    Ok(())
 }
 
 #[test]
-fn digits_and_skipped_codes(rt: HostRuntime) -> Result<(), Fail> {
+fn other_signs_and_codes(rt: HostRuntime) {
+    let signs = [code_of('l'), code_of('_'), Code::new(64), Some(Code::STOP)];
+    assert_eq!(rt;
+        signs.map(|code| code.map(|it| it.number())),
+        [Some(6), None, None, Some(32)]
+    );
+}
+
+/// The digit of a code by its number.
+fn digit_at(number: u8) -> Option<u8> {
+    digit_of(Code::new(number)?)
+}
+
+/// Whether the code of a number is skipped.
+fn is_skipped(number: u8) -> bool {
+    match Code::new(number) {
+        Some(code) => skipped(code),
+        None => false,
+    }
+}
+
+#[test]
+fn digits_stand_at_their_codes(rt: HostRuntime) {
     for (number, digit) in [(2, 0), (6, 1), (38, 9), (42, 10), (62, 15)] {
-        assert_eq!(rt; digit_of(code(number)?), Some(digit), "at {number}");
+        assert!(rt; digit_at(number) == Some(digit), "at {number}");
     }
     for number in [0, 1, 3, 32, 57, 63] {
-        assert_eq!(rt; digit_of(code(number)?), None, "at {number}");
+        assert!(rt; digit_at(number).is_none(), "at {number}");
     }
+}
+
+#[test]
+fn codes_are_skipped(rt: HostRuntime) {
     for number in [0, 4, 8, 12, 16, 20, 24, 60, 63] {
-        assert!(rt; skipped(code(number)?), "at {number}");
+        assert!(rt; is_skipped(number), "at {number}");
     }
     for number in [1, 2, 3, 32, 33, 61, 62] {
-        assert!(rt; !skipped(code(number)?), "at {number}");
+        assert!(rt; !is_skipped(number), "at {number}");
     }
-    Ok(())
+}
+
+/// What the accumulator holds once the code of a number has entered.
+fn entered(six_bit: bool, accumulator: u32, number: u8) -> Option<u32> {
+    Some(enter(six_bit, accumulator, Code::new(number)?))
 }
 
 #[test]
-fn codes_enter_by_four_or_six_bits(rt: HostRuntime) -> Result<(), Fail> {
-    assert_eq!(rt; enter(false, 0x12, code(14)?), 0x123);
-    assert_eq!(rt; enter(false, 0xf123_4567, code(62)?), 0x1234_567f);
-    assert_eq!(rt; enter(true, 0, code(57)?), 0x39);
-    assert_eq!(rt; enter(true, 0x0400_0001, code(1)?), 0x41);
-    Ok(())
+fn codes_enter_by_four_or_six_bits(rt: HostRuntime) {
+    for (six_bit, before, number, after) in [
+        (false, 0x12, 14, 0x123),
+        (false, 0xf123_4567, 62, 0x1234_567f),
+        (true, 0, 57, 0x39),
+        (true, 0x0400_0001, 1, 0x41),
+    ] {
+        assert!(rt;
+            entered(six_bit, before, number) == Some(after),
+            "of {number}"
+        );
+    }
+}
+
+/// Whether a text is read as the codes of these numbers.
+fn is_read_as(global: Global, text: &[u8], numbers: &[u8]) -> bool {
+    match read_tape_text(global, text) {
+        Ok(codes) => codes
+            .iter()
+            .map(|code| code.number())
+            .eq(numbers.iter().copied()),
+        Err(_) => false,
+    }
+}
+
+/// Whether the codes of these numbers are written as a text.
+fn is_written_as(global: Global, numbers: &[u8], text: &[u8]) -> bool {
+    let mut codes = Vec::new(global);
+    for number in numbers {
+        let Some(code) = Code::new(*number) else {
+            return false;
+        };
+        if codes.push(code).is_err() {
+            return false;
+        }
+    }
+    match write_tape_text(global, codes.as_slice()) {
+        Ok(written) => written.as_slice() == text,
+        Err(_) => false,
+    }
 }
 
 #[test]
-fn tapes_are_read_and_written(rt: HostRuntime) -> Result<(), Fail> {
-    let tape = read_tape_text(rt.alloc(), b"12[16]3'")?;
-    let wanted = [code(6)?, code(10)?, code(16)?, code(14)?, code(32)?];
-    assert!(rt; tape.as_slice() == wanted.as_slice());
-    let text = write_tape_text(rt.alloc(), tape.as_slice())?;
-    assert!(rt; text.as_slice() == b"12[16]3'".as_slice());
+fn tapes_are_read(rt: HostRuntime) {
+    assert!(rt; is_read_as(rt.alloc(), b"12[16]3'", &[6, 10, 16, 14, 32]));
+    assert!(rt; is_read_as(rt.alloc(), b"l\r\n[02]\n", &[6, 2]));
+}
 
-    let broken = read_tape_text(rt.alloc(), b"l\r\n[02]\n")?;
-    assert!(rt; broken.as_slice() == [code(6)?, code(2)?].as_slice());
-    let bare = write_tape_text(rt.alloc(), &[code(63)?, code(0)?, code(28)?])?;
-    assert!(rt; bare.as_slice() == b"[63][00][28]".as_slice());
-    Ok(())
+#[test]
+fn tapes_are_written(rt: HostRuntime) {
+    assert!(rt; is_written_as(rt.alloc(), &[6, 10, 16, 14, 32], b"12[16]3'"));
+    assert!(rt; is_written_as(rt.alloc(), &[63, 0, 28], b"[63][00][28]"));
 }
 
 #[test]
@@ -160,25 +231,38 @@ fn code_of_byte(byte: u8) -> Option<u8> {
     found.map(|(number, _)| *number)
 }
 
+/// How a text is read: how many codes it has and the number of the one at a place, or the place of its first bad sign.
+fn reading(
+    global: Global,
+    text: &[u8],
+    place: usize,
+) -> Result<(usize, Option<u8>), Option<usize>> {
+    match read_tape_text(global, text) {
+        Ok(codes) => Ok((codes.len(), codes.get(place).map(|code| code.number()))),
+        Err(TextFault::BadSign(bad)) => Err(Some(bad)),
+        Err(_) => Err(None),
+    }
+}
+
+/// Whether a byte at one of three places of a text is read as the table says.
+fn is_read_right(global: Global, byte: u8, place: usize) -> bool {
+    let mut text = *b"aaa";
+    text[place % 3] = byte;
+    let read = reading(global, &text, place % 3);
+    match code_of_byte(byte) {
+        Some(number) => read == Ok((3, Some(number))),
+        None if matches!(byte, b'\n' | b'\r') => matches!(read, Ok((2, _))),
+        None => read == Err(Some(place % 3)),
+    }
+}
+
 #[test]
-fn each_byte_anywhere_in_a_text(rt: HostRuntime) -> Result<(), Fail> {
+fn each_byte_anywhere_in_a_text(rt: HostRuntime) {
     for byte in 0..=255u8 {
         for place in 0..3usize {
-            let mut text = *b"aaa";
-            text[place] = byte;
-            let read = read_tape_text(rt.alloc(), &text);
-            if let Some(number) = code_of_byte(byte) {
-                let codes = read?;
-                assert_eq!(rt; codes.len(), 3);
-                assert_eq!(rt; codes[place].number(), number);
-            } else if matches!(byte, b'\n' | b'\r') {
-                assert_eq!(rt; read?.len(), 2);
-            } else {
-                assert!(rt; matches!(read, Err(TextFault::BadSign(bad)) if bad == place));
-            }
+            assert!(rt; is_read_right(rt.alloc(), byte, place), "{byte} at {place}");
         }
     }
-    Ok(())
 }
 
 /// Whether the reading and the writing of a text of codes are refused for want of memory where there is so much room.
