@@ -24,142 +24,176 @@ fn read<A: Allocator + Copy>(
     task_of(global, alloc, all.as_slice())
 }
 
-/// The file of a command that takes one.
-fn file_of<A: Allocator>(task: &Task<A>) -> &str {
+/// What a task is, by its command's word, with its file's name and the limit of a run.
+fn parts_of<A: Allocator>(task: &Task<A>) -> (&'static str, &str, u64) {
     match task {
-        Task::Asm(file) | Task::Tape(file) | Task::Run(file, _) | Task::Script(file) => file.text(),
-        Task::Stdin | Task::Batch(_) => "",
+        Task::Stdin => ("", "", 0),
+        Task::Asm(file) => ("asm", file.text(), 0),
+        Task::Tape(file) => ("tape", file.text(), 0),
+        Task::Run(file, limit) => ("run", file.text(), *limit),
+        Task::Script(file) => ("script", file.text(), 0),
+        Task::Batch(_) => ("batch", "", 0),
     }
 }
 
-/// Whether the words are mistaken, and the fault's text has this part.
+/// Whether the words are the task of a command with this file and this limit.
+fn is_read_as<A: Allocator + Copy>(
+    global: Global,
+    alloc: A,
+    typed: &[&str],
+    wanted: (&str, &str, u64),
+) -> bool {
+    match read(global, alloc, typed) {
+        Ok(task) => parts_of(&task) == wanted,
+        Err(_) => false,
+    }
+}
+
+/// Whether the words are the task of a batch with these two files.
+fn is_batch_of(global: Global, typed: &[&str], first: &str, last: &str) -> bool {
+    match read(global, global, typed) {
+        Ok(Task::Batch(files)) => match files.names() {
+            [one, two] => one.text() == first && two.text() == last,
+            _ => false,
+        },
+        _ => false,
+    }
+}
+
+/// What may be told in place of a task.
+#[derive(Clone, Copy, PartialEq, Eq)]
+enum Told {
+    Usage,
+    Help,
+    /// An answer that is the text whole.
+    Answer,
+    Memory,
+}
+
+/// Whether a text has a part, or is it whole.
+fn is_text(text: &str, told: Told, part: &str) -> bool {
+    match told {
+        Told::Help => text.contains(part),
+        Told::Answer => text == part,
+        Told::Usage | Told::Memory => false,
+    }
+}
+
+/// Whether the words are no task and this is told of them, with a text that has this part.
+fn is_told<A: Allocator + Copy>(
+    global: Global,
+    alloc: A,
+    typed: &[&str],
+    told: Told,
+    part: &str,
+) -> bool {
+    match read(global, alloc, typed) {
+        Err(TaskFault::Usage(text)) => told == Told::Usage && text.as_str().contains(part),
+        Err(TaskFault::Help(text)) => is_text(text.as_str(), told, part),
+        Err(TaskFault::Memory) => told == Told::Memory,
+        Ok(_) => false,
+    }
+}
+
+/// Whether the words are mistaken, and what is told of them has this part.
 fn is_mistaken(global: Global, typed: &[&str], part: &str) -> bool {
-    match read(global, global, typed) {
-        Err(TaskFault::Usage(text)) => text.as_str().contains(part),
-        _ => false,
-    }
+    is_told(global, global, typed, Told::Usage, part)
 }
 
-/// Whether the words ask for help, and the help has this text.
-fn is_helped(global: Global, typed: &[&str], help: &str) -> bool {
-    match read(global, global, typed) {
-        Err(TaskFault::Help(text)) => text.as_str().contains(help),
-        _ => false,
-    }
+/// Whether the words ask for help, and the help has this part.
+fn is_helped(global: Global, typed: &[&str], part: &str) -> bool {
+    is_told(global, global, typed, Told::Help, part)
+}
+
+/// Whether the words ask for a text that is this one, whole.
+fn is_answered(global: Global, typed: &[&str], answer: &str) -> bool {
+    is_told(global, global, typed, Told::Answer, answer)
 }
 
 /// Whether memory was refused.
 fn is_refused<A: Allocator + Copy>(global: Global, alloc: A, typed: &[&str]) -> bool {
-    matches!(read(global, alloc, typed), Err(TaskFault::Memory))
+    is_told(global, alloc, typed, Told::Memory, "")
 }
 
 #[test]
 fn no_word_runs_standard_input(rt: HostRuntime) {
-    let task = read(rt.alloc(), rt.alloc(), &[]);
-    assert!(rt; matches!(task, Ok(Task::Stdin)));
+    assert!(rt; is_read_as(rt.alloc(), rt.alloc(), &[], ("", "", 0)));
 }
 
 #[test]
-fn a_command_takes_its_file(rt: HostRuntime) -> Result<(), Fail> {
-    let task = read(rt.alloc(), rt.alloc(), &["asm", "sum.src"])
-        .ok()
-        .ok_or("asm")?;
-    assert!(rt; matches!(task, Task::Asm(_)) && file_of(&task) == "sum.src");
-    let task = read(rt.alloc(), rt.alloc(), &["tape", "sum.src"])
-        .ok()
-        .ok_or("tape")?;
-    assert!(rt; matches!(task, Task::Tape(_)) && file_of(&task) == "sum.src");
-    let task = read(rt.alloc(), rt.alloc(), &["script", "a b"])
-        .ok()
-        .ok_or("script")?;
-    assert!(rt; matches!(task, Task::Script(_)) && file_of(&task) == "a b");
-    Ok(())
+fn a_command_takes_its_file(rt: HostRuntime) {
+    for (typed, file) in [
+        (["asm", "sum.src"], "sum.src"),
+        (["tape", "sum.src"], "sum.src"),
+        (["script", "a b"], "a b"),
+    ] {
+        let wanted = (typed[0], file, 0);
+        assert!(rt;
+            is_read_as(rt.alloc(), rt.alloc(), &typed, wanted),
+            "{file}"
+        );
+    }
 }
 
 #[test]
-fn a_run_takes_its_limit(rt: HostRuntime) -> Result<(), Fail> {
-    let least = read(rt.alloc(), rt.alloc(), &["run", "sum.src", "0"])
-        .ok()
-        .ok_or("run")?;
-    assert!(rt; matches!(least, Task::Run(_, 0)) && file_of(&least) == "sum.src");
-    let most = read(rt.alloc(), rt.alloc(), &["run", "sum.src", "4294967295"])
-        .ok()
-        .ok_or("run")?;
-    assert!(rt; matches!(most, Task::Run(_, 4_294_967_295)));
-    Ok(())
+fn a_run_takes_its_limit(rt: HostRuntime) {
+    for (digits, limit) in [("0", 0), ("4294967295", 4_294_967_295)] {
+        let typed = ["run", "sum.src", digits];
+        let wanted = ("run", "sum.src", limit);
+        assert!(rt;
+            is_read_as(rt.alloc(), rt.alloc(), &typed, wanted),
+            "{digits}"
+        );
+    }
 }
 
 #[test]
-fn a_batch_takes_its_files_in_order(rt: HostRuntime) -> Result<(), Fail> {
-    let task = read(rt.alloc(), rt.alloc(), &["batch", "b.txt", "a.txt"])
-        .ok()
-        .ok_or("batch")?;
-    let Task::Batch(files) = &task else {
-        return Err(Fail::from("a batch"));
-    };
-    assert!(rt; files.names().len() == 2);
-    assert!(rt;
-        files
-            .names()
-            .first()
-            .is_some_and(|name| name.text() == "b.txt")
-    );
-    assert!(rt;
-        files
-            .names()
-            .last()
-            .is_some_and(|name| name.text() == "a.txt")
-    );
-    Ok(())
+fn a_batch_takes_its_files_in_order(rt: HostRuntime) {
+    assert!(rt; is_batch_of(rt.alloc(), &["batch", "b.txt", "a.txt"], "b.txt", "a.txt"));
 }
 
 #[test]
 fn mistaken_words_are_told(rt: HostRuntime) {
     let usage = "Usage: lgp_lab";
-    assert!(rt; is_mistaken(rt.alloc(), &["assemble"], usage));
-    assert!(rt; is_mistaken(rt.alloc(), &["--fast"], usage));
-    assert!(rt; is_mistaken(rt.alloc(), &["asm"], "Usage: lgp_lab asm <FILE>"));
-    assert!(rt; is_mistaken(rt.alloc(), &["asm", "a", "b"], usage));
-    assert!(rt; is_mistaken(rt.alloc(), &["batch"], usage));
-    assert!(rt; is_mistaken(rt.alloc(), &["run", "a"], usage));
+    for (typed, part) in [
+        (["assemble"].as_slice(), usage),
+        (&["--fast"], usage),
+        (&["asm"], "Usage: lgp_lab asm <FILE>"),
+        (&["asm", "a", "b"], usage),
+        (&["batch"], usage),
+        (&["run", "a"], usage),
+    ] {
+        assert!(rt; is_mistaken(rt.alloc(), typed, part), "{part}");
+    }
 }
 
 #[test]
 fn a_limit_out_of_range_is_told(rt: HostRuntime) {
     let range = "is not in 0..=4294967295";
-    assert!(rt; is_mistaken(rt.alloc(), &["run", "a", "4294967296"], range));
-    assert!(rt; is_mistaken(rt.alloc(), &["run", "a", "99999999999999999"], range));
-    assert!(rt; is_mistaken(rt.alloc(), &["run", "a", "ten"], "invalid"));
-    assert!(rt; is_mistaken(rt.alloc(), &["run", "a", ""], "invalid"));
+    for (digits, part) in [
+        ("4294967296", range),
+        ("99999999999999999", range),
+        ("ten", "invalid"),
+        ("", "invalid"),
+    ] {
+        assert!(rt;
+            is_mistaken(rt.alloc(), &["run", "a", digits], part),
+            "{digits}"
+        );
+    }
 }
 
 #[test]
 fn help_is_given(rt: HostRuntime) {
-    assert!(rt; is_helped(rt.alloc(), &["--help"], "Usage: lgp_lab [COMMAND]"));
-    assert!(rt; is_helped(rt.alloc(), &["-h"], "Usage: lgp_lab [COMMAND]"));
-    assert!(rt;
-        is_helped(
-            rt.alloc(),
-            &["run", "--help"],
-            "Usage: lgp_lab run <FILE> <LIMIT>"
-        )
-    );
-    assert!(rt;
-        is_helped(
-            rt.alloc(),
-            &["batch", "-h"],
-            "Usage: lgp_lab batch <FILE>..."
-        )
-    );
-    assert!(rt; is_helped(rt.alloc(), &["asm", "--help"], "Example"));
-    assert!(rt; is_helped(rt.alloc(), &["help", "tape"], "Usage: lgp_lab tape <FILE>"));
-}
-
-/// Whether the words ask for a text that is this one, whole.
-fn is_answered(global: Global, typed: &[&str], answer: &str) -> bool {
-    match read(global, global, typed) {
-        Err(TaskFault::Help(text)) => text.as_str() == answer,
-        _ => false,
+    for (typed, help) in [
+        (["--help"].as_slice(), "Usage: lgp_lab [COMMAND]"),
+        (&["-h"], "Usage: lgp_lab [COMMAND]"),
+        (&["run", "--help"], "Usage: lgp_lab run <FILE> <LIMIT>"),
+        (&["batch", "-h"], "Usage: lgp_lab batch <FILE>..."),
+        (&["asm", "--help"], "Example"),
+        (&["help", "tape"], "Usage: lgp_lab tape <FILE>"),
+    ] {
+        assert!(rt; is_helped(rt.alloc(), typed, help), "{help}");
     }
 }
 
@@ -177,39 +211,60 @@ fn name_and_version_are_told(rt: HostRuntime) {
     assert_eq!(rt; told, [true; 3]);
 }
 
+/// What is refused while a heap has no room: a command with a file, a batch and the help; standard input takes none.
+fn refused_without_room(global: Global, heap: &LocalHeap) -> Option<[bool; 4]> {
+    let _filler: Vec<u8, &LocalHeap> = Vec::with_capacity(heap, heap.free()).ok()?;
+    Some([
+        is_refused(global, heap, &["asm", "sum.src"]),
+        is_refused(global, heap, &["batch", "a", "b"]),
+        is_refused(global, heap, &["--help"]),
+        is_read_as(global, heap, &[], ("", "", 0)),
+    ])
+}
+
+/// What is refused without room, and whether a command with a file is read once there is.
+fn refused_and_read(global: Global, heap: &LocalHeap) -> (Option<[bool; 4]>, bool) {
+    (
+        refused_without_room(global, heap),
+        is_read_as(global, heap, &["asm", "sum.src"], ("asm", "sum.src", 0)),
+    )
+}
+
 #[test]
-fn a_refused_growth_is_answered(rt: HostRuntime) -> Result<(), Fail> {
+fn a_refused_growth_is_helped(rt: HostRuntime) -> Result<(), Fail> {
     let heap = LocalHeap::new(rt.alloc(), 4096)?;
-    let filler: Vec<u8, &LocalHeap> = Vec::with_capacity(&heap, 4096)?;
-    assert!(rt; is_refused(rt.alloc(), &heap, &["asm", "sum.src"]));
-    assert!(rt; is_refused(rt.alloc(), &heap, &["batch", "a", "b"]));
-    assert!(rt; is_refused(rt.alloc(), &heap, &["--help"]));
-    assert!(rt; matches!(read(rt.alloc(), &heap, &[]), Ok(Task::Stdin)));
-    drop(filler);
-    let task = read(rt.alloc(), &heap, &["asm", "sum.src"])
-        .ok()
-        .ok_or("asm")?;
-    assert!(rt; file_of(&task) == "sum.src");
+    assert_eq!(rt;
+        refused_and_read(rt.alloc(), &heap),
+        (Some([true; 4]), true)
+    );
     Ok(())
 }
 
 /// Whether the task of a batch is refused for want of memory where there is so much room.
-fn is_batch_refused(global: Global, heap: &LocalHeap, room: usize) -> Result<bool, Fail> {
-    let _filler: Vec<u8, &LocalHeap> = Vec::with_capacity(heap, heap.free().saturating_sub(room))?;
-    Ok(is_refused(global, heap, &["batch", "first", "second"]))
+fn is_batch_refused(global: Global, heap: &LocalHeap, room: usize) -> Option<bool> {
+    let filled = heap.free().saturating_sub(room);
+    let _filler: Vec<u8, &LocalHeap> = Vec::with_capacity(heap, filled).ok()?;
+    Some(is_refused(global, heap, &["batch", "first", "second"]))
+}
+
+/// With how much room the task of a batch is read, in steps of 4 bytes, where it was refused with less, and all room was given back
+/// each time.
+fn room_of_batch(global: Global, heap: &LocalHeap) -> Option<usize> {
+    for tries in 0..256usize {
+        let refused = is_batch_refused(global, heap, 4 * tries)?;
+        if heap.used() > 0 {
+            return None;
+        }
+        if !refused {
+            return Some(4 * tries);
+        }
+    }
+    None
 }
 
 #[test]
 fn each_growth_may_be_refused(rt: HostRuntime) -> Result<(), Fail> {
     let heap = LocalHeap::new(rt.alloc(), 4096)?;
-    for tries in 0..256usize {
-        let refused = is_batch_refused(rt.alloc(), &heap, 4 * tries)?;
-        assert_eq!(rt; heap.used(), 0);
-        if !refused {
-            assert!(rt; tries > 0);
-            break;
-        }
-    }
-    assert!(rt; !is_batch_refused(rt.alloc(), &heap, 1024)?);
+    assert!(rt; room_of_batch(rt.alloc(), &heap).is_some_and(|room| room > 0));
     Ok(())
 }
