@@ -1,6 +1,5 @@
 pub mod AnswerLemmas
 pub mod TapeLemmas
-pub mod PlaceLemmas
 pub mod KeptLemmas
 pub mod UsedLemmas
 pub mod SourceLemmas

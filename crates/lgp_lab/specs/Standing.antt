@@ -1,7 +1,8 @@
 -- Part of the public promise: the script language, where a laboratory stands between two lines of a script, and what an answer is.
 -- The type A stands for the allocator of the tapes that are kept; nothing depends on it.
-use Rattle.std.specs.Prelude.{ℕ, Option, None, List, []}
+use Rattle.std.specs.Prelude.{ℕ, Option, None, Some, List, []}
 use Rattle.lgp_word.specs.Drum.{blank_words}
+use Rattle.lgp_assembler.specs.Image.{image_of}
 use Rattle.lgp_table.specs.State.{opening}
 use Rattle.lgp_debugger.specs.Debugging.{Debugging}
 use Rattle.lgp_lab.specs.Limits.{kept_limit}
@@ -14,6 +15,11 @@ pub record Standing (A : Type 0) : Type 0 where
   pub debugger : Debugging A
   pub source : Option (List ℕ)
   pub opened : Option SourceText
+
+-- the names of the last source that assembled, with their values
+unfoldable pub labels_of : Option (List ℕ) → List (List ℕ × ℕ)
+labels_of None = []
+labels_of (Some source) = (image_of source).symbols
 
 -- a reply, empty where there is none, and where the laboratory stands after it
 pub record Answer (A : Type 0) : Type 0 where

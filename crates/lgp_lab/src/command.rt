@@ -1,14 +1,13 @@
 //! What a line of a script asks for.
 
-ghost use Rattle.std.specs.Prelude.{◌≡◌, ◌≤◌, drop, length};
-ghost use Rattle.std.specs.List.{position};
+ghost use Rattle.std.specs.Prelude.{◌≡◌, ◌≤◌, drop, is_some, length};
 ghost use Rattle.lgp_lab.specs.Command.{command_by, command_of, lone, lone_address, lone_number, number_at, press_command, put_command, span_at, switch_action, text_behind};
-ghost use Rattle.lgp_stream.specs.LineWords.{behind_word, first_word, has_no_word, is_space, is_visible};
 ghost use Rattle.lgp_text.specs.NamedValues.{named};
 ghost use Rattle.lgp_lab.specs.Names.{button_names, position_names, switch_names, verb_names};
 
 use crate::limits::DIGIT_LIMIT;
 use crate::span::Span;
+use lgp_stream::{Split, has_no_word, split_word};
 use lgp_table::{Action, Mode, Which};
 use lgp_text::{Named, value_named};
 use lgp_word::{Address, Word, read_decimal, read_digits};
@@ -287,47 +286,6 @@ fn switch_action(down: bool, switch: Switch) -> Action
     }
 }
 
-/// The place of a text's first byte that is no space.
-fn first_visible(text: &[u8]) -> Option<usize>
-    ensures { result ≡ position is_visible text.now }
-{
-    text.iter().position(|byte| *byte != b' ')
-}
-
-/// The place of a text's first space.
-fn first_space(text: &[u8]) -> Option<usize>
-    ensures { result ≡ position is_space text.now }
-{
-    text.iter().position(|byte| *byte == b' ')
-}
-
-/// A word and what stands behind it.
-#[derive(Clone, Copy)]
-struct Split<'a> {
-    word: &'a [u8],
-    behind: &'a [u8],
-}
-
-/// The first word of a text.
-#[tactic(auto, using(crate::proofs::PlaceLemmas::places), unfolding(lgp_stream::specs::LineWords::first_word, lgp_stream::specs::LineWords::behind_word, lgp_stream::specs::LineWords::without_spaces))]
-fn split_word(text: &[u8]) -> Split<'_>
-    ensures word { result.word.now ≡ first_word text.now }
-    ensures behind { result.behind.now ≡ behind_word text.now }
-    ensures shorter { length result.behind.now ≤ length text.now }
-{
-    let (_, text) = text.split_at(first_visible(text).unwrap_or(text.len()));
-    let (word, behind) = text.split_at(first_space(text).unwrap_or(text.len()));
-    Split { word, behind }
-}
-
-/// Whether no word is left.
-#[tactic(auto, unfolding(lgp_stream::specs::LineWords::has_no_word))]
-fn has_no_word(text: &[u8]) -> bool
-    ensures { result ≡ has_no_word text.now }
-{
-    text.iter().all(|byte| *byte == b' ')
-}
-
 /// The number that 1 to 10 decimal digits stand for.
 #[tactic(auto, unfolding(crate::specs::Command::number_at))]
 fn number_at(text: &[u8]) -> Option<u64>
@@ -489,4 +447,11 @@ pub fn asked_in(line: &[u8]) -> Asked<'_>
         command,
         text: behind_space(behind),
     }
+}
+
+/// Whether a line is in the form of a command.
+pub fn is_command(line: &[u8]) -> bool
+    ensures { result ≡ is_some (command_of line.now) }
+{
+    asked_in(line).command.is_some()
 }

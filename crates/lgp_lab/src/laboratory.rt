@@ -1,17 +1,18 @@
 //! The laboratory: a machine with its history and the source at hand, and what is answered to a line.
 
-ghost use Rattle.std.specs.Prelude.{◌≡◌, ◌++◌, ◌==◌, ◌≤◌, List, ℕ, IfOk, OnOk, length, slice_index};
+ghost use Rattle.std.specs.Prelude.{◌≡◌, ◌++◌, ◌==◌, ◌≤◌, List, ℕ, IfOk, OnOk, is_some, length, slice_index};
 ghost use Rattle.std.specs.Str.{byte};
 ghost use Rattle.lgp_stream.specs.KeptLine.{line_limit};
 ghost use Rattle.lgp_stream.specs.KeptLine.{kept_of};
 ghost use Rattle.lgp_lab.specs.Script.{answer_to, answer_to_command, is_passed_over, script_language};
-ghost use Rattle.lgp_lab.specs.Standing.{opening_standing};
+ghost use Rattle.lgp_lab.specs.Standing.{labels_of, opening_standing};
 
 use crate::command::{Asked, Command, asked_in};
 use crate::limits::KEPT_LIMIT;
 use crate::program::Program;
 use crate::refusal::{Refusal, push_refusal};
 use crate::source_text::SourceText;
+use lgp_assembler::Name;
 use lgp_debugger::Debugger;
 use lgp_history::{Records, Rule};
 use lgp_machine::Machine;
@@ -66,6 +67,31 @@ impl<A: Allocator + Copy> Laboratory<A> {
             program: None,
             opened: None,
         })
+    }
+
+    /// Whether a source is open, so that lines are the source's.
+    pub fn has_open_source(&self) -> bool
+        ensures { result ≡ is_some self.now.opened }
+    {
+        self.opened.is_some()
+    }
+
+    /// The machine with its kept steps and its rules.
+    pub fn debugger(&self) -> &Debugger<Records<A>, A>
+        ensures { result.now ≡ self.now.debugger }
+    {
+        &self.debugger
+    }
+
+    /// The names of the last source that assembled, with their values, 0 to 4096; none where none has assembled yet.
+    #[tactic(auto, unfolding(crate::specs::Standing::labels_of))]
+    pub fn labels(&self) -> &[(Name, u16)]
+        ensures { result.now ≡ labels_of self.now.source }
+    {
+        match &self.program {
+            Some(program) => program.image().symbols(),
+            None => &[],
+        }
     }
 
     /// Does what a command asks for and answers it; the text is that of `mount` and `type`. A refused growth leaves open

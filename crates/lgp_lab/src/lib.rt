@@ -1,7 +1,9 @@
 //! The LGP-30 laboratory: scripts.
 #![tactic(auto)]
 
+pub use command::is_command;
 pub use files::{asm_file, run_file, tape_file};
+pub use laboratory::Laboratory;
 pub use lgp_stream::{Failed, Feed, FeedOf, Sink, SinkOf, StreamFault as LabFault};
 pub use lgp_task::{FileName, FileNames, Task, TaskFault, task_of};
 pub use limits::READS;

@@ -1,3 +1,4 @@
+pub mod PlaceLemmas
 pub mod KnownLemmas
 pub mod FrontLemmas
 pub mod LineLemmas

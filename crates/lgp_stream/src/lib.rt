@@ -5,6 +5,7 @@ pub use feed::{Failed, Feed, FeedOf};
 pub use line::{LINE_LIMIT, LineBytes};
 pub use sink::{Sink, SinkOf};
 pub use stream::{Answers, CHUNK, StreamFault, run_text, write_whole};
+pub use words::{Split, has_no_word, split_word};
 
 mod feed;
 mod line;
@@ -12,3 +13,4 @@ mod sink;
 mod stream;
 #[cfg(test)]
 mod tests;
+mod words;

@@ -44,6 +44,17 @@ impl LineBytes {
         }
     }
 
+    /// The bytes of a text.
+    pub fn of(text: &[u8]) -> LineBytes
+        ensures { result ≡ kept_of text.now }
+    {
+        let mut bytes = LineBytes::new();
+        for byte in text {
+            bytes.push(*byte);
+        }
+        bytes
+    }
+
     /// One byte more.
     pub fn push(&mut self, byte: u8)
         ensures { self.new ≡ kept_push self.old byte }
