@@ -1,0 +1,136 @@
+-- What is done by lines that stand for others is what the transcript says.
+use Rattle.std.proofs.Common.{◌≡◌, ℕ, zero, suc, ◌-◌, Bool, true, false, cond, List, [], ◌∷◌, ◌++◌, length, take, get_or, map, refl, sym, ap, subst, ◌∙◌, arith, eqb, append_assoc, length-append}
+use Rattle.std.specs.List.{AllByRecursion, concat, onto_first, slice_split}
+use Rattle.std.specs.Str.Lines.{lines, lines_of_parts, strip_carriage_return}
+use Rattle.std.proofs.lemmas.List.{append-nil}
+use Rattle.std.proofs.Math.Seq.{get_or-append_seam, take-append_seam}
+use Rattle.lgp_stream.specs.Language.{Language, state_after}
+use Rattle.lgp_stream.specs.StreamInside.{IsCut}
+use Rattle.lgp_stream.proofs.CutLemmas.{IsCut-feed, IsCut-lines, IsCut-none, IsCut-push}
+use Rattle.lgp_transcript.specs.Transcript.{AreLines, HasMeanings, IsLine, IsToldByTranscript, Meaning, Anew, Lines, Recorded, StandForLines, after_lines, after_meaning, ended, ends_with_return, text_of, untouched}
+
+-- ---- a line behind complete ones
+
+IsCut-all : (bytes : List ℕ) (complete : List (List ℕ)) (piece line : List ℕ) → IsCut bytes complete piece → IsLine line → IsCut (bytes ++ line) complete (piece ++ line)
+IsCut-all bytes complete piece [] cut free = rw (append-nil bytes, append-nil piece) cut
+IsCut-all bytes complete piece (b ∷ line) cut free =
+    rw (append_assoc bytes (b ∷ []) line, append_assoc piece (b ∷ []) line) at
+    (IsCut-all (bytes ++ b ∷ []) complete (piece ++ b ∷ []) line (IsCut-push bytes complete piece b cut free.0) free.1)
+
+last-return : (line : List ℕ) → get_or (line ++ 13 ∷ []) (length (line ++ 13 ∷ []) - 1) 0 ≡ 13
+last-return line =
+    let place : length (line ++ 13 ∷ []) - 1 ≡ length line = omega (arith, length-append line (13 ∷ [])) in
+    rw place (get_or-append_seam line 13 [] 0)
+
+front-return : (line : List ℕ) → take (length (line ++ 13 ∷ []) - 1) (line ++ 13 ∷ []) ≡ line
+front-return line =
+    let place : length (line ++ 13 ∷ []) - 1 ≡ length line = omega (arith, length-append line (13 ∷ [])) in
+    rw place (take-append_seam line (13 ∷ []))
+
+strip-return : (line : List ℕ) → strip_carriage_return (line ++ 13 ∷ []) ≡ line
+strip-return line = rw (last-return line) (front-return line)
+
+pub IsCut-ended : (bytes : List ℕ) (complete : List (List ℕ)) (line : List ℕ) → IsCut bytes complete [] → IsLine line → IsCut (bytes ++ ended line) (complete ++ line ∷ []) []
+unfolding ended
+IsCut-ended bytes complete line cut free = by_return (ends_with_return line) refl where
+  whole : IsCut (bytes ++ line) complete line
+  whole = IsCut-all bytes complete [] line cut free
+
+  by_return : (ends : Bool) → ends_with_return line ≡ ends → IsCut (bytes ++ (line ++ cond ends (13 ∷ 10 ∷ []) (10 ∷ []))) (complete ++ line ∷ []) []
+  by_return false e =
+      let done = IsCut-feed (bytes ++ line) complete line whole in
+      let same : strip_carriage_return line ≡ line = rw e refl in
+      rw (append_assoc bytes line (10 ∷ []), same) at done
+  by_return true e =
+      let returned = IsCut-push (bytes ++ line) complete line 13 whole refl in
+      let done = IsCut-feed ((bytes ++ line) ++ 13 ∷ []) complete (line ++ 13 ∷ []) returned in
+      rw (append_assoc (bytes ++ line) (13 ∷ []) (10 ∷ []), append_assoc bytes line (13 ∷ 10 ∷ []), strip-return line) at done
+
+-- ---- where lines of the other language lead
+
+-- the transcript is complete lines, which lead where it stands
+record IsTold {S : Type 0} (language : Language S) (opening standing : S) (transcript : List ℕ) : Type 0 where
+  said : List (List ℕ)
+  cut : IsCut transcript said []
+  stands : standing ≡ state_after language opening said
+
+state_after-last : {S : Type 0} (language : Language S) (s : S) (said : List (List ℕ)) (line : List ℕ) → state_after language s (said ++ line ∷ []) ≡ language.after (state_after language s said) line
+state_after-last language s [] line = refl
+state_after-last language s (first ∷ said) line = state_after-last language (language.after s first) said line
+
+IsTold-line : {S : Type 0} (language : Language S) (opening standing : S) (transcript line : List ℕ) → IsTold language opening standing transcript → IsLine line
+    → IsTold language opening (language.after standing line) (transcript ++ ended line)
+IsTold-line {S} language opening standing transcript line told free = record {
+  said = told.said ++ line ∷ [];
+  cut = IsCut-ended transcript told.said line told.cut free;
+  stands = ap (λ (s : S). language.after s line) told.stands ∙ sym (state_after-last language opening told.said line);
+}
+
+IsTold-lines : {S : Type 0} (language : Language S) (opening standing : S) (transcript : List ℕ) (lines : List (List ℕ)) → IsTold language opening standing transcript → AllByRecursion IsLine lines
+    → IsTold language opening (state_after language standing lines) (transcript ++ text_of lines)
+unfolding text_of
+IsTold-lines language opening standing transcript [] told free = rw (append-nil transcript) told
+IsTold-lines language opening standing transcript (line ∷ lines) told free =
+    rw (append_assoc transcript (ended line) (concat (map ended lines))) at
+    (IsTold-lines language opening (language.after standing line) (transcript ++ ended line) lines (IsTold-line language opening standing transcript line told free.0) free.1)
+
+IsTold-meaning : {S : Type 0} (language : Language S) (opening : S) (r : Recorded S) (meaning : Meaning) → IsTold language opening r.standing r.transcript → AreLines meaning
+    → IsTold language opening (after_meaning language opening r meaning).standing (after_meaning language opening r meaning).transcript
+unfolding after_lines
+IsTold-meaning language opening r (Lines lines) told free = IsTold-lines language opening r.standing r.transcript lines told free
+IsTold-meaning language opening r Anew told free = record { said = []; cut = IsCut-none; stands = refl }
+
+IsTold-text : {S : Type 0} (language : Language S) (opening : S) (meaning : Recorded S → List ℕ → Meaning) (typed : Language (Recorded S)) → HasMeanings language opening meaning typed → StandForLines meaning
+    → (r : Recorded S) (lines : List (List ℕ)) → IsTold language opening r.standing r.transcript → AllByRecursion IsLine lines
+    → IsTold language opening (state_after typed r lines).standing (state_after typed r lines).transcript
+IsTold-text language opening meaning typed has stand r [] told free = told
+IsTold-text {S} language opening meaning typed has stand r (line ∷ lines) told free =
+    IsTold-text language opening meaning typed has stand (typed.after r line) lines
+    (subst (λ (next : Recorded S). IsTold language opening next.standing next.transcript) (sym (has r line))
+    (IsTold-meaning language opening r (meaning r line) told (stand r line free.0)))
+    free.1
+
+-- ---- the lines of a text
+
+free-take : (n : ℕ) (line : List ℕ) → IsLine line → IsLine (take n line)
+free-take zero line free = tt
+free-take (suc n) [] free = tt
+free-take (suc n) (b ∷ line) free = (free.0, free-take n line free.1)
+
+free-parts : (bytes : List ℕ) → AllByRecursion IsLine (slice_split (λ byte. eqb byte 10) bytes)
+free-parts [] = (tt, tt)
+free-parts (b ∷ bytes) = by_feed (eqb b 10) refl (slice_split (λ byte. eqb byte 10) bytes) (free-parts bytes) where
+  by_feed : (feed : Bool) → eqb b 10 ≡ feed → (rest : List (List ℕ)) → AllByRecursion IsLine rest → AllByRecursion IsLine (cond feed ([] ∷ rest) (onto_first b rest))
+  by_feed true e rest free = (tt, free)
+  by_feed false e [] free = ((e, tt), tt)
+  by_feed false e (first ∷ more) free = ((e, free.0), free.1)
+
+free-strip : (line : List ℕ) → IsLine line → IsLine (strip_carriage_return line)
+free-strip line free = by_return (ends_with_return line) where
+  by_return : (ends : Bool) → IsLine (cond ends (take (length line - 1) line) line)
+  by_return true = free-take (length line - 1) line free
+  by_return false = free
+
+free-last : (line : List ℕ) (empty : Bool) → IsLine line → AllByRecursion IsLine (cond empty [] (line ∷ []))
+free-last line true free = tt
+free-last line false free = (free, tt)
+
+free-lines : (parts : List (List ℕ)) → AllByRecursion IsLine parts → AllByRecursion IsLine (lines_of_parts parts)
+free-lines [] free = tt
+free-lines (line ∷ []) free = free-last line (eqb (length line) 0) free.0
+free-lines (line ∷ next ∷ more) free = (free-strip line free.0, free-lines (next ∷ more) free.1)
+
+pub lines_are_lines : (text : List ℕ) → AllByRecursion IsLine (lines text)
+lines_are_lines text = free-lines (slice_split (λ byte. eqb byte 10) text) (free-parts text)
+
+-- ---- together
+
+IsTold-all : {S : Type 0} (language : Language S) (opening : S) (r : Recorded S) → IsTold language opening r.standing r.transcript → IsToldByTranscript language opening r
+IsTold-all {S} language opening r told =
+    told.stands ∙ ap (λ (said : List (List ℕ)). state_after language opening said) (sym (IsCut-lines r.transcript told.said [] told.cut ∙ append-nil told.said))
+
+pub told_by_transcript : {S : Type 0} (language : Language S) (opening : S) (meaning : Recorded S → List ℕ → Meaning) (typed : Language (Recorded S)) → HasMeanings language opening meaning typed
+    → StandForLines meaning → (text : List ℕ) → IsToldByTranscript language opening (state_after typed (untouched opening) (lines text))
+told_by_transcript language opening meaning typed has stand text =
+    IsTold-all language opening (state_after typed (untouched opening) (lines text))
+    (IsTold-text language opening meaning typed has stand (untouched opening) (lines text) (record { said = []; cut = IsCut-none; stands = refl }) (lines_are_lines text))

@@ -1,0 +1,77 @@
+-- Part of the public promise: a language of lines that stand for lines of another one, and the transcript, a text of that other
+-- language which says what was done.
+use Rattle.std.specs.Prelude.{◌≡◌, ℕ, ◌==◌, ◌-◌, Bool, false, if◌then◌else◌, List, [], ◌∷◌, ◌++◌, length, map, codes, slice_index}
+use Rattle.std.specs.List.{AllByRecursion, concat}
+use Rattle.std.specs.Str.{byte}
+use Rattle.std.specs.Str.Lines.{lines}
+use Rattle.lgp_stream.specs.KeptLine.{Kept}
+use Rattle.lgp_stream.specs.Language.{Language, is_line_feed, replies_to, state_after}
+
+-- where something stands, and the text whose lines have brought it there
+pub record Recorded (S : Type 0) : Type 0 where
+  pub standing : S
+  pub transcript : List ℕ
+
+-- what a line stands for: lines of the other language, one after another, or a new beginning
+pub data Meaning : Type 0 where
+  Lines : List (List ℕ) → Meaning
+  Anew : Meaning
+
+-- a line as a text has it: behind a carriage return stands another one, since a text's line loses one
+abbrev pub ends_with_return : List ℕ → Bool
+ends_with_return line = slice_index line (length line - 1) == 13
+
+unfoldable pub ended : List ℕ → List ℕ
+ended line = line ++ (if ends_with_return line then codes "\r\n" else codes "\n")
+
+-- the text of lines
+unfoldable pub text_of : List (List ℕ) → List ℕ
+text_of lines = concat (map ended lines)
+
+-- a line that is kept as another one is: its front, and one byte more where it is longer
+unfoldable pub stand_in : Kept → List ℕ
+stand_in kept =
+    if kept.longer then kept.front ++ (if kept.blank then byte " " else byte ".") ∷ [] else kept.front
+
+-- no byte of a line is a line feed
+abbrev pub IsLine : List ℕ → Type 0
+IsLine line = AllByRecursion (λ character. is_line_feed character ≡ false) line
+
+abbrev pub AreLines : Meaning → Type 0
+AreLines (Lines lines) = AllByRecursion IsLine lines
+AreLines Anew = Unit {0}
+
+module _ {S : Type 0} where
+  -- after lines of the other language, and the replies to them
+  unfoldable pub after_lines : Language S → Recorded S → List (List ℕ) → Recorded S
+  after_lines language recorded lines = record {
+    standing = state_after language recorded.standing lines;
+    transcript = recorded.transcript ++ text_of lines;
+  }
+
+  unfoldable pub replies_text : Language S → Recorded S → List (List ℕ) → List ℕ
+  replies_text language recorded lines = concat (replies_to language recorded.standing lines)
+
+  -- before the first line
+  abbrev pub untouched : S → Recorded S
+  untouched standing = record { standing = standing; transcript = [] }
+
+  -- after a line of this meaning
+  abbrev pub after_meaning : Language S → S → Recorded S → Meaning → Recorded S
+  after_meaning language opening recorded (Lines lines) = after_lines language recorded lines
+  after_meaning language opening recorded Anew = untouched opening
+
+-- a language of lines with a meaning each: its lines do to a transcript and to where it stands what they mean
+abbrev pub HasMeanings : {S : Type 0} → Language S → S → (Recorded S → List ℕ → Meaning) → Language (Recorded S) → Type 0
+HasMeanings {S} language opening meaning typed =
+    (recorded : Recorded S) (line : List ℕ)
+    → typed.after recorded line ≡ after_meaning language opening recorded (meaning recorded line)
+
+-- lines stand for lines
+abbrev pub StandForLines : {S : Type 0} → (Recorded S → List ℕ → Meaning) → Type 0
+StandForLines {S} meaning = (recorded : Recorded S) (line : List ℕ) → IsLine line → AreLines (meaning recorded line)
+
+-- wherever a text leads, the other language puts it there for the transcript
+abbrev pub IsToldByTranscript : {S : Type 0} → Language S → S → Recorded S → Type 0
+IsToldByTranscript language opening recorded =
+    recorded.standing ≡ state_after language opening (lines recorded.transcript)

@@ -1,0 +1,115 @@
+//! What answers lines and keeps them.
+
+ghost use Rattle.std.specs.Prelude.{◌≡◌, ◌++◌, ◌∷◌, [], List, ℕ, IfOk, OnOk, codes};
+ghost use Rattle.lgp_stream.specs.KeptLine.{kept_of};
+ghost use Rattle.lgp_transcript.specs.Transcript.{after_lines, ended, replies_text, stand_in, untouched};
+
+use lgp_stream::{Answers, LineBytes};
+use std::alloc::{AllocError, Allocator};
+use std::marker::Model;
+
+/// What answers lines, with the text of all lines that it has answered. Clauses see where it stands and the text.
+#[derive(Drop)]
+pub struct Recorder<L, A: Allocator> {
+    answers: L,
+    transcript: Vec<u8, A>,
+}
+
+impl<L, A: Allocator> Model for Recorder<L, A> {
+    ghost use Rattle.lgp_transcript.specs.Transcript.{Recorded};
+
+    ghost Value = { Recorded L };
+
+    ghost view = { λ recorder. record {
+      standing = recorder.answers;
+      transcript = recorder.transcript.items;
+    } };
+}
+
+/// Appends a line as a text has it.
+#[tactic(auto, unfolding(crate::specs::Transcript::ended))]
+fn push_ended<A: Allocator>(text: &mut Vec<u8, A>, line: &[u8]) -> Result<(), AllocError>
+    ensures { OnOk result (text.new.items ≡ text.old.items ++ ended line.now) }
+{
+    text.extend_from_slice(line)?;
+    if line.ends_with(b"\r") {
+        text.extend_from_slice(b"\r\n")
+    } else {
+        text.extend_from_slice(b"\n")
+    }
+}
+
+/// Appends a line of which the same is kept, as a text has it.
+#[tactic(auto, unfolding(crate::specs::Transcript::ended, crate::specs::Transcript::stand_in))]
+fn push_stand_in<A: Allocator>(text: &mut Vec<u8, A>, line: &LineBytes) -> Result<(), AllocError>
+    ensures { OnOk result (text.new.items ≡ text.old.items ++ ended (stand_in line.now)) }
+{
+    if !line.is_longer() {
+        return push_ended(text, line.front());
+    }
+    text.extend_from_slice(line.front())?;
+    text.extend_from_slice(if line.has_no_word() { b" \n" } else { b".\n" })
+}
+
+impl<L: Answers<A>, A: Allocator + Copy> Recorder<L, A> {
+    /// No line was answered yet.
+    pub fn new(alloc: A, answers: L) -> Recorder<L, A>
+        ensures { result ≡ untouched answers }
+    {
+        Recorder {
+            answers,
+            transcript: Vec::new(alloc),
+        }
+    }
+
+    /// What answers the lines.
+    pub fn answers(&self) -> &L
+        ensures { result.now ≡ self.now.standing }
+    {
+        &self.answers
+    }
+
+    /// The text of all lines that were answered.
+    pub fn transcript(&self) -> &[u8]
+        ensures { result.now ≡ self.now.transcript }
+    {
+        &self.transcript
+    }
+
+    /// Answers a line, and keeps it. A refused growth may leave it kept and not answered.
+    #[tactic(auto, unfolding(crate::specs::Transcript::after_lines, crate::specs::Transcript::replies_text, crate::specs::Transcript::text_of))]
+    pub fn answer_line(&mut self, line: &[u8], reply: &mut Vec<u8, A>) -> Result<(), AllocError>
+        ensures reply { OnOk result (reply.new.items
+            ≡ reply.old.items ++ replies_text L.language self.old (line.now ∷ [])) }
+        ensures after { OnOk result (self.new
+            ≡ after_lines L.language self.old (line.now ∷ [])) }
+    {
+        push_ended(&mut self.transcript, line)?;
+        self.answers.answer(&LineBytes::of(line), reply)
+    }
+
+    /// Answers a line of which this was kept, and keeps one of which the same is kept. A refused growth may leave it kept and not
+    /// answered.
+    pub fn answer_kept(
+        &mut self,
+        line: &LineBytes,
+        reply: &mut Vec<u8, A>,
+    ) -> Result<(), AllocError>
+        ensures reply { (text : List ℕ) → line.now ≡ kept_of text
+            → OnOk result (reply.new.items
+            ≡ reply.old.items ++ replies_text L.language self.old (stand_in line.now ∷ [])) }
+        ensures after { (text : List ℕ) → line.now ≡ kept_of text
+            → OnOk result (self.new ≡ after_lines L.language self.old (stand_in line.now ∷ [])) }
+    {
+        push_stand_in(&mut self.transcript, line)?;
+        self.answers.answer(line, reply)
+    }
+
+    /// Forgets all lines, and goes on with what answers anew.
+    pub fn begin_anew(&mut self, answers: L)
+        ensures { self.new ≡ untouched answers }
+    {
+        self.answers = answers;
+        self.transcript.clear();
+    }
+}
