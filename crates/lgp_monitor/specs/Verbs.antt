@@ -1,0 +1,60 @@
+-- Part of the public promise: the commands of the monitor, each with its form. Those of the script language are among them.
+use Rattle.std.specs.Prelude.{ℕ, List, [], ◌∷◌, codes}
+use Rattle.lgp_monitor.specs.declared.verb.Verb.{Verb}
+use Rattle.lgp_monitor.specs.declared.verb.Verb.TheVariants as verbs
+
+-- the commands by their first word
+abbrev pub verb_names : List (List ℕ × Verb)
+verb_names =
+    (codes "put", verbs.Put)
+    ∷ (codes "go", verbs.Go)
+    ∷ (codes "mount", verbs.Mount)
+    ∷ (codes "press", verbs.Press)
+    ∷ (codes "type", verbs.Type)
+    ∷ (codes "turn", verbs.Turn)
+    ∷ (codes "orders", verbs.Orders)
+    ∷ (codes "run", verbs.Run)
+    ∷ (codes "back", verbs.Back)
+    ∷ (codes "last", verbs.Last)
+    ∷ (codes "panel", verbs.Panel)
+    ∷ (codes "words", verbs.Words)
+    ∷ (codes "show", verbs.Show)
+    ∷ (codes "printed", verbs.Printed)
+    ∷ (codes "dump", verbs.Dump)
+    ∷ (codes "source", verbs.Source)
+    ∷ (codes "list", verbs.List)
+    ∷ (codes "load", verbs.Load)
+    ∷ (codes "break", verbs.Break)
+    ∷ (codes "watch", verbs.Watch)
+    ∷ (codes "drop", verbs.Drop)
+    ∷ (codes "transcript", verbs.Transcript)
+    ∷ (codes "new", verbs.New)
+    ∷ (codes "help", verbs.Help)
+    ∷ []
+
+-- the form in which a command is written
+unfoldable pub form_of : Verb → List ℕ
+form_of verbs.Put = codes "put ttss WORD, put ttss ORDER, put ttss = NUMBER or put ttss FRACTION"
+form_of verbs.Go = codes "go ttss"
+form_of verbs.Mount = codes "mount TEXT"
+form_of verbs.Press = codes "press BUTTON or press SWITCH up or press SWITCH down"
+form_of verbs.Type = codes "type TEXT"
+form_of verbs.Turn = codes "turn NUMBER"
+form_of verbs.Orders = codes "orders NUMBER"
+form_of verbs.Run = codes "run NUMBER"
+form_of verbs.Back = codes "back NUMBER"
+form_of verbs.Last = codes "last"
+form_of verbs.Panel = codes "panel"
+form_of verbs.Words = codes "words ttss NUMBER, at most 64"
+form_of verbs.Show = codes "show ttss NUMBER, at most 64"
+form_of verbs.Printed = codes "printed"
+form_of verbs.Dump = codes "dump"
+form_of verbs.Source = codes "source, then its lines, then a point alone"
+form_of verbs.List = codes "list"
+form_of verbs.Load = codes "load"
+form_of verbs.Break = codes "break ttss"
+form_of verbs.Watch = codes "watch ttss"
+form_of verbs.Drop = codes "drop NUMBER"
+form_of verbs.Transcript = codes "transcript"
+form_of verbs.New = codes "new"
+form_of verbs.Help = codes "help or help COMMAND"

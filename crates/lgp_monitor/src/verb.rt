@@ -1,0 +1,176 @@
+//! The commands of the monitor, each with its form.
+
+ghost use Rattle.std.specs.Prelude.{◌≡◌};
+ghost use Rattle.lgp_text.specs.NamedValues.{named};
+ghost use Rattle.lgp_monitor.specs.Verbs.{form_of, verb_names};
+
+use lgp_text::{Named, value_named};
+
+/// What a line's first word says.
+#[derive(Clone, Copy)]
+pub enum Verb {
+    Put,
+    Go,
+    Mount,
+    Press,
+    Type,
+    Turn,
+    Orders,
+    Run,
+    Back,
+    Last,
+    Panel,
+    Words,
+    Show,
+    Printed,
+    Dump,
+    Source,
+    List,
+    Load,
+    Break,
+    Watch,
+    Drop,
+    Transcript,
+    New,
+    Help,
+}
+
+/// The commands by their first word.
+pub const VERBS: [Named<Verb>; 24] = [
+    Named {
+        name: b"put",
+        value: Verb::Put,
+    },
+    Named {
+        name: b"go",
+        value: Verb::Go,
+    },
+    Named {
+        name: b"mount",
+        value: Verb::Mount,
+    },
+    Named {
+        name: b"press",
+        value: Verb::Press,
+    },
+    Named {
+        name: b"type",
+        value: Verb::Type,
+    },
+    Named {
+        name: b"turn",
+        value: Verb::Turn,
+    },
+    Named {
+        name: b"orders",
+        value: Verb::Orders,
+    },
+    Named {
+        name: b"run",
+        value: Verb::Run,
+    },
+    Named {
+        name: b"back",
+        value: Verb::Back,
+    },
+    Named {
+        name: b"last",
+        value: Verb::Last,
+    },
+    Named {
+        name: b"panel",
+        value: Verb::Panel,
+    },
+    Named {
+        name: b"words",
+        value: Verb::Words,
+    },
+    Named {
+        name: b"show",
+        value: Verb::Show,
+    },
+    Named {
+        name: b"printed",
+        value: Verb::Printed,
+    },
+    Named {
+        name: b"dump",
+        value: Verb::Dump,
+    },
+    Named {
+        name: b"source",
+        value: Verb::Source,
+    },
+    Named {
+        name: b"list",
+        value: Verb::List,
+    },
+    Named {
+        name: b"load",
+        value: Verb::Load,
+    },
+    Named {
+        name: b"break",
+        value: Verb::Break,
+    },
+    Named {
+        name: b"watch",
+        value: Verb::Watch,
+    },
+    Named {
+        name: b"drop",
+        value: Verb::Drop,
+    },
+    Named {
+        name: b"transcript",
+        value: Verb::Transcript,
+    },
+    Named {
+        name: b"new",
+        value: Verb::New,
+    },
+    Named {
+        name: b"help",
+        value: Verb::Help,
+    },
+];
+
+/// The command of a first word.
+pub fn verb_named(name: &[u8]) -> Option<Verb>
+    ensures { result ≡ named verb_names name.now }
+{
+    value_named(&VERBS, name)
+}
+
+/// The form in which a command is written.
+#[tactic(auto, unfolding(crate::specs::Verbs::form_of))]
+pub fn form_of(verb: Verb) -> &'static [u8]
+    ensures { result.now ≡ form_of verb }
+{
+    match verb {
+        Verb::Put => b"put ttss WORD, put ttss ORDER, put ttss = NUMBER or put ttss FRACTION",
+        Verb::Go => b"go ttss",
+        Verb::Mount => b"mount TEXT",
+        Verb::Press => b"press BUTTON or press SWITCH up or press SWITCH down",
+        Verb::Type => b"type TEXT",
+        Verb::Turn => b"turn NUMBER",
+        Verb::Orders => b"orders NUMBER",
+        Verb::Run => b"run NUMBER",
+        Verb::Back => b"back NUMBER",
+        Verb::Last => b"last",
+        Verb::Panel => b"panel",
+        Verb::Words => b"words ttss NUMBER, at most 64",
+        Verb::Show => b"show ttss NUMBER, at most 64",
+        Verb::Printed => b"printed",
+        Verb::Dump => b"dump",
+        Verb::Source => b"source, then its lines, then a point alone",
+        Verb::List => b"list",
+        Verb::Load => b"load",
+        Verb::Break => b"break ttss",
+        Verb::Watch => b"watch ttss",
+        Verb::Drop => b"drop NUMBER",
+        Verb::Transcript => b"transcript",
+        Verb::New => b"new",
+        Verb::Help => b"help or help COMMAND",
+    }
+}
