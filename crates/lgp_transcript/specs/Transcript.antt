@@ -2,6 +2,7 @@
 -- language which says what was done.
 use Rattle.std.specs.Prelude.{◌≡◌, ℕ, ◌==◌, ◌-◌, Bool, false, if◌then◌else◌, List, [], ◌∷◌, ◌++◌, length, map, codes, slice_index}
 use Rattle.std.specs.List.{AllByRecursion, concat}
+use Rattle.std.specs.Borrow.{Bor}
 use Rattle.std.specs.Str.{byte}
 use Rattle.std.specs.Str.Lines.{lines}
 use Rattle.lgp_stream.specs.KeptLine.{Kept}
@@ -27,6 +28,10 @@ ended line = line ++ (if ends_with_return line then codes "\r\n" else codes "\n"
 -- the text of lines
 unfoldable pub text_of : List (List ℕ) → List ℕ
 text_of lines = concat (map ended lines)
+
+-- the bytes of borrowed texts
+abbrev pub bytes_of : List (Bor (List ℕ)) → List (List ℕ)
+bytes_of texts = map (λ text. text.now) texts
 
 -- a line that is kept as another one is: its front, and one byte more where it is longer
 unfoldable pub stand_in : Kept → List ℕ

@@ -2,7 +2,7 @@
 
 ghost use Rattle.std.specs.Prelude.{◌≡◌, ◌++◌, ◌∷◌, [], List, ℕ, IfOk, OnOk, codes};
 ghost use Rattle.lgp_stream.specs.KeptLine.{kept_of};
-ghost use Rattle.lgp_transcript.specs.Transcript.{after_lines, ended, replies_text, stand_in, untouched};
+ghost use Rattle.lgp_transcript.specs.Transcript.{after_lines, bytes_of, ended, replies_text, stand_in, untouched};
 
 use lgp_stream::{Answers, LineBytes};
 use std::alloc::{AllocError, Allocator};
@@ -103,6 +103,31 @@ impl<L: Answers<A>, A: Allocator + Copy> Recorder<L, A> {
     {
         push_stand_in(&mut self.transcript, line)?;
         self.answers.answer(line, reply)
+    }
+
+    /// Answers lines one after another, and keeps them. A refused growth leaves open what was done.
+    pub fn answer_lines(
+        &mut self,
+        lines: &[&[u8]],
+        reply: &mut Vec<u8, A>,
+    ) -> Result<(), AllocError>
+        ensures reply { OnOk result (reply.new.items
+            ≡ reply.old.items ++ replies_text L.language self.old (bytes_of lines.now)) }
+        ensures after { OnOk result (self.new
+            ≡ after_lines L.language self.old (bytes_of lines.now)) }
+    {
+        for line in lines {
+            self.answer_line(line, reply)?;
+        }
+        Ok(())
+    }
+
+    /// Answers the text's end.
+    pub fn close(&mut self, reply: &mut Vec<u8, A>) -> Result<(), AllocError>
+        ensures { OnOk result (reply.new.items
+            ≡ reply.old.items ++ L.language.closing self.old.standing) }
+    {
+        self.answers.close(reply)
     }
 
     /// Forgets all lines, and goes on with what answers anew.
