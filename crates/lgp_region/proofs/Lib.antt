@@ -1,0 +1,6 @@
+pub mod BlockValue
+pub mod OptionValues
+pub mod RoomLemmas
+pub mod StepLemmas
+pub mod TakenBlock
+pub mod UnitLemmas
