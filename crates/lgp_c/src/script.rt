@@ -1,0 +1,83 @@
+//! A whole script in one call.
+ghost use Rattle.std.specs.Prelude.{◌≡◌, ◌++◌, ◌<◌, ◌≤◌, IfOk, OnOk, false, length};
+ghost use Rattle.std.specs.Global.{Global};
+ghost use Rattle.lgp_c.specs.Room.{filled};
+ghost use Rattle.lgp_c.specs.Status.{answered_status, memory_status, unread_status};
+ghost use Rattle.lgp_lab.specs.Script.{script_faults, script_text};
+
+use crate::replies::Replies;
+use crate::room::fill;
+use lgp_lab::{FeedOf, LabFault, READS, run_script};
+use std::alloc::Global;
+
+/// What a script was answered.
+#[repr(C)]
+#[derive(Drop)]
+pub struct Outcome {
+    /// How many replies begin with a question mark.
+    pub questions: u64,
+    /// How many bytes the replies have.
+    pub length: u64,
+}
+
+/// Writes the replies to a script; answers how many of them begin with a question mark.
+fn write_replies(alloc: Global, script: &[u8], replies: &mut Replies) -> Result<u64, LabFault>
+    requires { replies.old.refused ≡ false }
+    ensures text { OnOk result (replies.new.text.items
+        ≡ replies.old.text.items ++ script_text Global script.now) }
+    ensures questions { IfOk result (λ questions. questions ≡ script_faults Global script.now) }
+{
+    run_script(alloc, &mut FeedOf::new(script, READS), replies)
+}
+
+/// Runs a script from a machine in its opening state, and writes the replies into the room, as far as they fit.
+///
+/// The answer is the program's status: 0 where all is well; 1 where some reply begins with a question mark; 2 where the script could
+/// not be read, which none of less than 2^32 bytes meets; 3 where there was not enough memory. With 2 and 3 nothing is written into the
+/// room, and both numbers of the outcome are 0. Where the outcome's length is more than the room's, the same call with more room gives
+/// all replies.
+#[unsafe(no_mangle)]
+pub extern "C" fn lgp_run_script(
+    alloc: Global,
+    script: &[u8],
+    room: &mut [u8],
+    outcome: &mut Outcome,
+) -> u32
+    ensures status { result < unread_status
+        → result ≡ answered_status (script_faults Global script.now) }
+    ensures questions { result < unread_status
+        → outcome.new.questions ≡ script_faults Global script.now }
+    ensures length { result < unread_status
+        → outcome.new.length ≡ length (script_text Global script.now) }
+    ensures written { result < unread_status
+        → room.new ≡ filled (script_text Global script.now) room.old }
+    ensures known { result ≤ memory_status }
+    ensures unwritten { unread_status ≤ result → room.new ≡ room.old }
+    ensures uncounted { unread_status ≤ result
+        → outcome.new ≡ record { questions = 0; length = 0 } }
+{
+    let mut replies = Replies {
+        text: Vec::new(alloc),
+        refused: false,
+    };
+    match write_replies(alloc, script, &mut replies) {
+        Ok(questions) => {
+            fill(room, &replies.text);
+            *outcome = Outcome {
+                questions,
+                length: replies.text.len() as u64,
+            };
+            u32::from(questions > 0)
+        }
+        Err(fault) => {
+            *outcome = Outcome {
+                questions: 0,
+                length: 0,
+            };
+            match fault {
+                LabFault::Read => 2,
+                LabFault::Write(_) | LabFault::Memory => 3,
+            }
+        }
+    }
+}
