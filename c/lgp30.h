@@ -1,0 +1,59 @@
+/* The laboratory for the Royal McBee LGP-30, for programs in C and C++.
+ *
+ * The library is proved: what a function here is said to do, it does, as long as its caller keeps to
+ * what is asked below. Nothing checks that; a caller who does not keep to it can make anything happen.
+ *
+ * - A pointer is never null, also where its length is 0. It points to as many readable bytes as its
+ *   length says, or writable ones where it is not const, and no two pointers of one call overlap.
+ * - malloc, realloc and free are those of one allocator. They align a block to 16 bytes, or to each
+ *   power of two below that which divides its size.
+ * - Calls may run in several threads at once, as long as none of them writes what another one uses.
+ *   None is made from a signal handler, nor in the forked child of a process with threads.
+ *
+ * Text is bytes. Scripts and their replies are described in docs/FORMATS.md.
+ */
+#ifndef LGP30_H
+#define LGP30_H
+
+#include <stddef.h>
+#include <stdint.h>
+
+#ifdef __cplusplus
+extern "C" {
+#endif
+
+/* The statuses are those of the program. */
+enum {
+    LGP_WELL = 0,      /* all is well */
+    LGP_QUESTIONS = 1, /* some reply begins with a question mark */
+    LGP_UNREAD = 2,    /* the script could not be read: none of less than 2^32 bytes meets this */
+    LGP_NO_MEMORY = 3  /* there was not enough memory */
+};
+
+/* What a script was answered. */
+struct lgp_outcome {
+    uint64_t questions; /* how many replies begin with a question mark */
+    uint64_t length;    /* how many bytes all replies have */
+};
+
+/* Runs a script from a machine in its opening state: a blank drum, the clock at 0, no tape, at rest.
+ *
+ * With LGP_WELL and LGP_QUESTIONS the replies to all lines, one behind the other, stand in the room as
+ * far as they fit, the bytes of the room behind them are as they were, and the outcome is filled in.
+ * Where outcome->length is more than room_length, the rest of the replies is lost; the same call with
+ * so much room gives all of them, since a script always has the same replies.
+ *
+ * With LGP_UNREAD and LGP_NO_MEMORY the room is as it was, and both numbers of the outcome are 0.
+ *
+ * All memory that the call takes is given back before it returns. A script that asks for a long run
+ * takes as long: there is no way to break it off.
+ */
+uint32_t lgp_run_script(const uint8_t *script, size_t script_length,
+                        uint8_t *room, size_t room_length,
+                        struct lgp_outcome *outcome);
+
+#ifdef __cplusplus
+}
+#endif
+
+#endif

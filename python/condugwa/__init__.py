@@ -1,0 +1,52 @@
+"""The laboratory for the Royal McBee LGP-30, from its proved library.
+
+    >>> import condugwa
+    >>> condugwa.run_script("put 0050 00000006\\nwords 0050 1\\n").text
+    '0050 00000006\\n'
+
+Commands and replies are those of docs/FORMATS.md. Bytes that are no UTF-8 text stand in a `str` as Python's
+"surrogateescape" has them, so that nothing is lost in either direction.
+"""
+
+from condugwa.assembling import Fault, Faults, Listing, assemble
+from condugwa.library import OutOfMemory, Unread
+from condugwa.refusals import (
+    AtWork,
+    BadSign,
+    ClockEnd,
+    Faulty,
+    Form,
+    Full,
+    Moving,
+    NoHit,
+    NoImage,
+    NoRule,
+    Refusal,
+    TooFar,
+    TooLong,
+)
+from condugwa.scripts import Replies, run_script
+
+__all__ = [
+    "AtWork",
+    "BadSign",
+    "ClockEnd",
+    "Fault",
+    "Faults",
+    "Faulty",
+    "Form",
+    "Full",
+    "Listing",
+    "Moving",
+    "NoHit",
+    "NoImage",
+    "NoRule",
+    "OutOfMemory",
+    "Refusal",
+    "Replies",
+    "TooFar",
+    "TooLong",
+    "Unread",
+    "assemble",
+    "run_script",
+]

@@ -1,0 +1,74 @@
+"""The package's own tests. What a reply has to be is taken from docs/FORMATS.md and from the examples."""
+
+import pathlib
+
+import pytest
+
+import condugwa
+
+EXAMPLES = pathlib.Path(__file__).resolve().parents[2] / "examples"
+SCRIPTS = sorted(EXAMPLES.rglob("*.txt"))
+
+
+@pytest.mark.parametrize("script", SCRIPTS, ids=lambda path: str(path.relative_to(EXAMPLES)))
+def test_an_example_is_answered_to_the_byte(script):
+    replies = condugwa.run_script(script.read_bytes())
+    assert replies.text.encode("utf-8", "surrogateescape") == script.with_suffix(".expected").read_bytes()
+
+
+def test_no_example_is_missing():
+    assert len(SCRIPTS) > 20
+
+
+def test_an_empty_script_has_no_reply():
+    assert condugwa.run_script("") == condugwa.Replies("", 0)
+
+
+def test_questions_are_counted_and_raised():
+    replies = condugwa.run_script("x\nback 1\npanel\n")
+    assert replies.questions == 2
+    assert [type(refusal) for refusal in replies.refusals()] == [condugwa.Form, condugwa.TooFar]
+    assert replies.refusals()[1].detail == 0
+    with pytest.raises(condugwa.Form):
+        replies.check()
+
+
+def test_a_null_byte_is_a_byte_like_others():
+    assert condugwa.run_script(b"\0\nwords 0000 1\n").lines() == ["? 1 Form", "0000 00000000"]
+
+
+def test_replies_larger_than_the_first_room_are_whole():
+    replies = condugwa.run_script("words 0000 64\n" * 200)
+    assert len(replies.text) == 200 * 64 * 14
+    assert replies.check() is replies
+
+
+def test_a_source_is_listed():
+    source = EXAMPLES / "loader-by-hand.source"
+    listing = condugwa.assemble(source.read_bytes())
+    assert listing.text.encode("utf-8", "surrogateescape") == source.with_suffix(".listing").read_bytes()
+    assert (listing.cells, listing.start) == (7, "0100")
+
+
+def test_faults_are_told_with_their_lines():
+    faults = condugwa.assemble(" q 0000\n b none\n")
+    assert faults == condugwa.Faults(
+        (condugwa.Fault(1, "UnknownOrder"), condugwa.Fault(2, "UnknownName"), condugwa.Fault(3, "NoEnd"))
+    )
+
+
+def test_the_empty_source_has_one_fault():
+    assert condugwa.assemble("") == condugwa.Faults((condugwa.Fault(1, "NoEnd"),))
+
+
+def test_a_source_that_no_script_can_hold_is_refused():
+    with pytest.raises(ValueError):
+        condugwa.assemble(" z\n.\n end\n")
+    with pytest.raises(condugwa.TooLong):
+        condugwa.assemble(";" * 5000 + "\n end\n")
+
+
+def test_bytes_that_are_no_text_come_back():
+    listing = condugwa.assemble(b" z ; \xff\n end\n")
+    assert isinstance(listing, condugwa.Faults)
+    assert listing.faults[0].kind == "BadByte"
