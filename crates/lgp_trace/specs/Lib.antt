@@ -2,6 +2,10 @@ pub mod Uses
 pub mod Phases
 pub mod Account
 pub mod Profile
+pub mod Columns
+pub mod AccountLines
+pub mod DrumRows
+pub mod ProfileLines
 pub use Rattle.lgp_table.specs.State
 pub use Rattle.lgp_table.specs.Activity
 pub use Rattle.lgp_table.specs.Interleaving

@@ -7,6 +7,8 @@ ghost use Rattle.lgp_table.specs.State.{State, word_at};
 ghost use Rattle.lgp_trace.specs.Account.{account_of, place_of, stored_at};
 ghost use Rattle.lgp_trace.specs.Profile.{profile_of};
 ghost use Rattle.lgp_trace.specs.Phases.{IsFirstRead, all_phases, phases_of};
+ghost use Rattle.lgp_trace.specs.DrumRows.{signs_of};
+ghost use Rattle.lgp_trace.specs.declared.account.Account.{Account};
 ghost use Rattle.lgp_trace.specs.declared.account.Operand.{Operand};
 
 /// The four phases of an activity are together what it costs.
@@ -45,4 +47,10 @@ pub fn codes_pass()
 pub fn profiles()
     ensures clock { (s : State) → (count : ℕ) → (after s count).clock
         ≡ s.clock + all_phases (profile_of s count).phases }
+{}
+
+/// The signs of an account along the drum are as many as its word times.
+#[tactic(auto, using(crate::proofs::DrumLemmas::as_many_signs))]
+pub fn signs_are_word_times()
+    ensures { (account : Account) → length (signs_of account) ≡ all_phases account.phases }
 {}

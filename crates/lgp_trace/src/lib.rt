@@ -2,16 +2,25 @@
 #![tactic(auto)]
 
 mod account;
+mod account_lines;
+mod columns;
+mod drum_rows;
+mod labels;
 pub mod laws;
 mod phases;
 mod profile;
+mod profile_lines;
 mod stepping;
 mod take;
 mod uses;
 
 pub use account::{Account, Begun, Found, Operand};
+pub use account_lines::{push_account, push_account_details, push_account_line, push_heading};
+pub use drum_rows::{push_drum, push_rows_begun, push_rows_ended};
+pub use labels::{Labels, NoLabels};
 pub use phases::Phases;
 pub use profile::Profile;
+pub use profile_lines::push_profile;
 pub use stepping::step_account;
 pub use take::take_account;
 pub use uses::{seeks, stores};

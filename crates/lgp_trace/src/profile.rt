@@ -1,6 +1,6 @@
 //! Profiles: where the word times of many activities went.
 
-ghost use Rattle.std.specs.Prelude.{◌≡◌, ◌+◌, ◌^◌, ◌<◌, IfOk, slice_index, sum};
+ghost use Rattle.std.specs.Prelude.{◌≡◌, ◌+◌, ◌^◌, ◌<◌, ◌≤◌, IfOk, slice_index, sum};
 ghost use Rattle.lgp_trace.specs.Phases.{all_phases};
 ghost use Rattle.lgp_trace.specs.Profile.{added_phases, empty_profile, with_account};
 
@@ -23,7 +23,7 @@ pub struct Profile<A: Allocator = Global> {
 }
 
 impl<A: Allocator> Model for Profile<A> {
-    ghost use Rattle.std.specs.Prelude.{◌≡◌, ◌+◌, sum, vec_len};
+    ghost use Rattle.std.specs.Prelude.{◌≡◌, ◌+◌, ◌^◌, ◌<◌, sum, vec_len};
     ghost use Rattle.lgp_trace.specs.Phases.{all_phases};
     ghost use Rattle.lgp_trace.specs.Profile.{Profiled};
 
@@ -36,7 +36,8 @@ impl<A: Allocator> Model for Profile<A> {
     } };
 
     ghost invariant = { λ p. (vec_len p.places ≡ 4096)
-        × (sum p.places.items + p.elsewhere ≡ all_phases p.phases) };
+        × (sum p.places.items + p.elsewhere ≡ all_phases p.phases)
+        × (all_phases p.phases < 2 ^ 64) };
 }
 
 impl<A: Allocator> Profile<A> {
@@ -75,9 +76,28 @@ impl<A: Allocator> Profile<A> {
         self.phases
     }
 
+    /// All word times.
+    pub fn times(&self) -> u64
+        ensures exact { result ≡ all_phases self.now.phases }
+        ensures elsewhere { self.now.elsewhere ≤ result }
+    {
+        let phases = self.phases;
+        phases.find + phases.take + phases.seek + phases.act
+    }
+
+    /// Forgets all activities.
+    pub fn clear(&mut self)
+        ensures { self.new ≡ empty_profile }
+    {
+        self.phases = only_act(0);
+        self.places.fill(0);
+        self.elsewhere = 0;
+    }
+
     /// The word times of the orders that stood at an address.
     pub fn at(&self, place: Address) -> u64
-        ensures { result ≡ slice_index self.now.places place }
+        ensures exact { result ≡ slice_index self.now.places place }
+        ensures within { result ≤ all_phases self.now.phases }
     {
         self.places[usize::from(place.number())]
     }

@@ -1,0 +1,442 @@
+//! The lines of an account.
+
+ghost use Rattle.std.specs.Prelude.{◌≡◌, ◌++◌, ◌^◌, ◌<◌, OnOk, codes, decimal};
+ghost use Rattle.lgp_trace.specs.AccountLines.{account_details, account_line, account_text, accumulator_text, activity_text, at_text, change_text, heading_text, number_text, order_behind, order_columns, passed_lines, performed_text, phases_text, place_text, printed_line, printed_lines, reference_text, register_line, result_columns, sign_text, stored_line, stored_lines, word_text};
+ghost use Rattle.lgp_trace.specs.Columns.{left_aligned};
+ghost use Rattle.lgp_trace.specs.Phases.{all_phases};
+ghost use Rattle.lgp_flexo.specs.Code.{sign_at};
+ghost use Rattle.lgp_word.specs.Order.{decoded};
+
+use crate::account::{Account, Operand};
+use crate::columns::{push_blanks_behind, push_right, push_spaced};
+use crate::labels::Labels;
+use crate::phases::Phases;
+use crate::uses::stores;
+use lgp_flexo::{Code, sign_of};
+use lgp_table::Status;
+use lgp_text::{Piece, push_pieces, status_text};
+use lgp_word::{Address, Op, Word, decode, parts};
+use std::alloc::{AllocError, Allocator};
+
+/// Appends the line above accounts.
+#[tactic(auto, unfolding(crate::specs::AccountLines::heading_text))]
+pub fn push_heading<A: Allocator>(text: &mut Vec<u8, A>) -> Result<(), AllocError>
+    ensures { OnOk result (text.new.items ≡ text.old.items ++ heading_text) }
+{
+    text.extend_from_slice(
+        b"  clock  at           order           find take seek  act   sum  accumulator\n",
+    )
+}
+
+/// Appends an address with its label.
+#[tactic(auto, unfolding(crate::specs::AccountLines::place_text))]
+pub fn push_place<L: Labels, A: Allocator>(
+    text: &mut Vec<u8, A>,
+    place: Address,
+    labels: &L,
+) -> Result<(), AllocError>
+    ensures { OnOk result (text.new.items
+        ≡ text.old.items ++ place_text (L.label labels.now) place) }
+{
+    push_pieces(text, &[Piece::Place(place)])?;
+    labels.push_label(text, place)
+}
+
+/// Appends a label where an order refers to a word.
+fn push_reference<L: Labels, A: Allocator>(
+    text: &mut Vec<u8, A>,
+    op: Op,
+    address: Address,
+    labels: &L,
+) -> Result<(), AllocError>
+    ensures { OnOk result (text.new.items
+        ≡ text.old.items ++ reference_text (L.label labels.now) op address) }
+{
+    if matches!(op, Op::Z | Op::I | Op::P) {
+        return Ok(());
+    }
+    labels.push_label(text, address)
+}
+
+/// Appends a word as the order that is performed.
+#[tactic(auto, unfolding(crate::specs::AccountLines::performed_text))]
+fn push_performed<L: Labels, A: Allocator>(
+    text: &mut Vec<u8, A>,
+    word: Word,
+    labels: &L,
+) -> Result<(), AllocError>
+    ensures { OnOk result (text.new.items
+        ≡ text.old.items ++ performed_text (L.label labels.now) word) }
+{
+    let (minus, op, address) = parts(word);
+    if minus && matches!(op, Op::T) {
+        text.push(b'-')?;
+    }
+    text.push(op.letter())?;
+    push_pieces(text, &[Piece::Text(b" "), Piece::Place(address)])?;
+    push_reference(text, op, address, labels)
+}
+
+/// Appends a word as a number.
+fn push_number<A: Allocator>(text: &mut Vec<u8, A>, word: Word) -> Result<(), AllocError>
+    ensures { OnOk result (text.new.items ≡ text.old.items ++ number_text word) }
+{
+    let bits = u64::from(word.get());
+    if bits >= 1 << 31 {
+        let number = ((1 << 32) - bits) / 2;
+        push_pieces(text, &[Piece::Text(b"-"), Piece::Number(number)])
+    } else {
+        push_pieces(text, &[Piece::Number(bits / 2)])
+    }
+}
+
+/// Appends an order behind the digits of the word that is one.
+fn push_order_behind<L: Labels, A: Allocator>(
+    text: &mut Vec<u8, A>,
+    word: Word,
+    labels: &L,
+) -> Result<(), AllocError>
+    ensures { OnOk result (text.new.items
+        ≡ text.old.items ++ order_behind (L.label labels.now) (decoded word) word) }
+{
+    if decode(word).is_none() {
+        return Ok(());
+    }
+    text.push(b' ')?;
+    push_performed(text, word, labels)
+}
+
+/// Appends a word by its digits, as the order that it is, if it is one, and as a number.
+#[tactic(auto, unfolding(crate::specs::AccountLines::word_text))]
+fn push_word<L: Labels, A: Allocator>(
+    text: &mut Vec<u8, A>,
+    word: Word,
+    labels: &L,
+) -> Result<(), AllocError>
+    ensures { OnOk result (text.new.items
+        ≡ text.old.items ++ word_text (L.label labels.now) word) }
+{
+    push_pieces(text, &[Piece::Digits(word.get())])?;
+    push_order_behind(text, word, labels)?;
+    push_pieces(text, &[Piece::Text(b" = ")])?;
+    push_number(text, word)
+}
+
+/// Appends where an order stands, if it does.
+fn push_at<L: Labels, A: Allocator>(
+    text: &mut Vec<u8, A>,
+    place: Option<Address>,
+    labels: &L,
+) -> Result<(), AllocError>
+    ensures { OnOk result (text.new.items
+        ≡ text.old.items ++ at_text (L.label labels.now) place) }
+{
+    match place {
+        Some(place) => push_place(text, place, labels),
+        None => Ok(()),
+    }
+}
+
+/// Appends that in its column.
+#[tactic(auto, using(crate::proofs::TextLemmas::columns))]
+fn push_at_column<L: Labels, A: Allocator>(
+    text: &mut Vec<u8, A>,
+    place: Option<Address>,
+    labels: &L,
+) -> Result<(), AllocError>
+    ensures { OnOk result (text.new.items
+        ≡ text.old.items ++ left_aligned 12 (at_text (L.label labels.now) place)) }
+{
+    let begins = text.len();
+    push_at(text, place, labels)?;
+    push_blanks_behind(text, 12, begins)
+}
+
+/// Appends the order; where there is none, the status in which the activity begins.
+fn push_activity<L: Labels, A: Allocator>(
+    text: &mut Vec<u8, A>,
+    order: Option<Word>,
+    status: Status,
+    labels: &L,
+) -> Result<(), AllocError>
+    ensures { OnOk result (text.new.items
+        ≡ text.old.items ++ activity_text (L.label labels.now) order status) }
+{
+    match order {
+        Some(order) => push_performed(text, order, labels),
+        None => text.extend_from_slice(status_text(status)),
+    }
+}
+
+/// Appends that in its column.
+#[tactic(auto, using(crate::proofs::TextLemmas::columns))]
+fn push_activity_column<L: Labels, A: Allocator>(
+    text: &mut Vec<u8, A>,
+    order: Option<Word>,
+    status: Status,
+    labels: &L,
+) -> Result<(), AllocError>
+    ensures { OnOk result (text.new.items
+        ≡ text.old.items ++ left_aligned 14 (activity_text (L.label labels.now) order status)) }
+{
+    let begins = text.len();
+    push_activity(text, order, status, labels)?;
+    push_blanks_behind(text, 14, begins)
+}
+
+/// Appends the word times of the phases and their sum.
+#[tactic(auto, unfolding(crate::specs::AccountLines::phases_text))]
+fn push_phases<A: Allocator>(text: &mut Vec<u8, A>, phases: Phases) -> Result<(), AllocError>
+    requires { all_phases phases < 2 ^ 64 }
+    ensures { OnOk result (text.new.items ≡ text.old.items ++ phases_text phases) }
+{
+    push_spaced(text, 5, phases.find)?;
+    push_spaced(text, 4, phases.take)?;
+    push_spaced(text, 4, phases.seek)?;
+    push_spaced(text, 4, phases.act)?;
+    push_spaced(
+        text,
+        5,
+        phases.find + phases.take + phases.seek + phases.act,
+    )
+}
+
+/// Appends the accumulator, or before and after it has changed.
+#[tactic(auto, unfolding(crate::specs::AccountLines::accumulator_text))]
+fn push_accumulator<A: Allocator>(
+    text: &mut Vec<u8, A>,
+    before: u32,
+    after: u32,
+) -> Result<(), AllocError>
+    ensures { OnOk result (text.new.items ≡ text.old.items ++ accumulator_text before after) }
+{
+    if before == after {
+        return push_pieces(text, &[Piece::Digits(before)]);
+    }
+    push_pieces(
+        text,
+        &[
+            Piece::Digits(before),
+            Piece::Text(b" -> "),
+            Piece::Digits(after),
+        ],
+    )
+}
+
+/// Appends where the order stands, and the order.
+#[tactic(auto, unfolding(crate::specs::AccountLines::order_columns))]
+fn push_order_columns<L: Labels, A: Allocator>(
+    text: &mut Vec<u8, A>,
+    account: &Account,
+    labels: &L,
+) -> Result<(), AllocError>
+    ensures { OnOk result (text.new.items
+        ≡ text.old.items ++ order_columns (L.label labels.now) account.now) }
+{
+    push_at_column(text, account.place, labels)?;
+    text.push(b' ')?;
+    push_activity_column(text, account.order, account.before.status, labels)
+}
+
+/// Appends how long the phases took, and the accumulator.
+#[tactic(auto, unfolding(crate::specs::AccountLines::result_columns))]
+fn push_result_columns<A: Allocator>(
+    text: &mut Vec<u8, A>,
+    account: &Account,
+) -> Result<(), AllocError>
+    requires { all_phases account.now.phases < 2 ^ 64 }
+    ensures { OnOk result (text.new.items ≡ text.old.items ++ result_columns account.now) }
+{
+    let before = account.before.accumulator;
+    let after = account.after.accumulator;
+    push_phases(text, account.phases)?;
+    text.extend_from_slice(b"  ")?;
+    push_accumulator(text, before, after)?;
+    text.extend_from_slice(b"\n")
+}
+
+/// Appends the line with columns.
+#[tactic(auto, unfolding(crate::specs::AccountLines::account_line))]
+pub fn push_account_line<L: Labels, A: Allocator>(
+    text: &mut Vec<u8, A>,
+    account: &Account,
+    labels: &L,
+) -> Result<(), AllocError>
+    requires { all_phases account.now.phases < 2 ^ 64 }
+    ensures { OnOk result (text.new.items
+        ≡ text.old.items ++ account_line (L.label labels.now) account.now) }
+{
+    push_right(text, 7, account.before.clock)?;
+    text.extend_from_slice(b"  ")?;
+    push_order_columns(text, account, labels)?;
+    push_result_columns(text, account)
+}
+
+/// Appends that the order stood in the register, if it did.
+fn push_register_line<A: Allocator>(text: &mut Vec<u8, A>, status: Status) -> Result<(), AllocError>
+    ensures { OnOk result (text.new.items ≡ text.old.items ++ register_line status) }
+{
+    match status {
+        Status::Executing => {
+            text.extend_from_slice(b"        the order stood in the instruction register\n")
+        }
+        _ => Ok(()),
+    }
+}
+
+/// Appends a word and the one that took its place.
+#[tactic(auto, unfolding(crate::specs::AccountLines::change_text))]
+fn push_change<L: Labels, A: Allocator>(
+    text: &mut Vec<u8, A>,
+    before: Word,
+    after: Word,
+    labels: &L,
+) -> Result<(), AllocError>
+    ensures { OnOk result (text.new.items
+        ≡ text.old.items ++ change_text (L.label labels.now) before after) }
+{
+    text.extend_from_slice(b": ")?;
+    push_word(text, before, labels)?;
+    text.extend_from_slice(b" -> ")?;
+    push_word(text, after, labels)?;
+    text.extend_from_slice(b"\n")
+}
+
+/// Appends what an order has stored.
+#[tactic(auto, unfolding(crate::specs::AccountLines::stored_line))]
+fn push_stored<L: Labels, A: Allocator>(
+    text: &mut Vec<u8, A>,
+    operand: Operand,
+    labels: &L,
+) -> Result<(), AllocError>
+    ensures { OnOk result (text.new.items
+        ≡ text.old.items ++ stored_line (L.label labels.now) operand) }
+{
+    text.extend_from_slice(b"        ")?;
+    push_place(text, operand.address, labels)?;
+    push_change(text, operand.found, operand.left, labels)
+}
+
+/// Appends what the activity has stored, if it has.
+fn push_stored_lines<L: Labels, A: Allocator>(
+    text: &mut Vec<u8, A>,
+    order: Option<Word>,
+    operand: Option<Operand>,
+    labels: &L,
+) -> Result<(), AllocError>
+    ensures { OnOk result (text.new.items
+        ≡ text.old.items ++ stored_lines (L.label labels.now) order operand) }
+{
+    let (Some(order), Some(operand)) = (order, operand) else {
+        return Ok(());
+    };
+    if !stores(parts(order).1) {
+        return Ok(());
+    }
+    push_stored(text, operand, labels)
+}
+
+/// The sign of a code as its byte.
+#[tactic(auto, using(crate::proofs::Signs::sign_short))]
+fn sign_byte(code: Code) -> Option<u8>
+    ensures { result ≡ sign_at code }
+{
+    let _number = code.number();
+    let sign = sign_of(code)?;
+    Some(sign as u32 as u8)
+}
+
+/// Appends the sign of a code, where it has one.
+#[tactic(auto, unfolding(crate::specs::AccountLines::sign_text))]
+fn push_sign<A: Allocator>(text: &mut Vec<u8, A>, sign: Option<u8>) -> Result<(), AllocError>
+    ensures { OnOk result (text.new.items ≡ text.old.items ++ sign_text sign) }
+{
+    let Some(sign) = sign else {
+        return Ok(());
+    };
+    text.extend_from_slice(b", sign \"")?;
+    text.push(sign)?;
+    text.extend_from_slice(b"\"")
+}
+
+/// Appends a code that was printed.
+#[tactic(auto, unfolding(crate::specs::AccountLines::printed_line))]
+fn push_printed_line<A: Allocator>(text: &mut Vec<u8, A>, code: Code) -> Result<(), AllocError>
+    ensures { OnOk result (text.new.items ≡ text.old.items ++ printed_line code) }
+{
+    push_printed_number(text, code)?;
+    push_sign(text, sign_byte(code))?;
+    text.extend_from_slice(b"\n")
+}
+
+/// Appends the number of a code that was printed.
+fn push_printed_number<A: Allocator>(text: &mut Vec<u8, A>, code: Code) -> Result<(), AllocError>
+    ensures { OnOk result (text.new.items
+        ≡ text.old.items ++ (codes "        printed code " ++ decimal code)) }
+{
+    let number = u64::from(code.number());
+    push_pieces(
+        text,
+        &[Piece::Text(b"        printed code "), Piece::Number(number)],
+    )
+}
+
+/// Appends what the activity has printed, if it has.
+fn push_printed<A: Allocator>(
+    text: &mut Vec<u8, A>,
+    printed: Option<Code>,
+) -> Result<(), AllocError>
+    ensures { OnOk result (text.new.items ≡ text.old.items ++ printed_lines printed) }
+{
+    match printed {
+        Some(code) => push_printed_line(text, code),
+        None => Ok(()),
+    }
+}
+
+/// Appends how many codes have passed, if some have.
+fn push_passed<A: Allocator>(text: &mut Vec<u8, A>, count: usize) -> Result<(), AllocError>
+    ensures { OnOk result (text.new.items ≡ text.old.items ++ passed_lines count) }
+{
+    if count == 0 {
+        return Ok(());
+    }
+    push_pieces(
+        text,
+        &[
+            Piece::Text(b"        codes passed: "),
+            Piece::Number(count as u64),
+            Piece::Text(b"\n"),
+        ],
+    )
+}
+
+/// Appends the lines below the one with columns.
+#[tactic(auto, unfolding(crate::specs::AccountLines::account_details))]
+pub fn push_account_details<L: Labels, A: Allocator>(
+    text: &mut Vec<u8, A>,
+    account: &Account,
+    labels: &L,
+) -> Result<(), AllocError>
+    ensures { OnOk result (text.new.items
+        ≡ text.old.items ++ account_details (L.label labels.now) account.now) }
+{
+    push_register_line(text, account.before.status)?;
+    push_stored_lines(text, account.order, account.operand, labels)?;
+    push_printed(text, account.printed)?;
+    push_passed(text, account.passed)
+}
+
+/// Appends all lines of an account.
+pub fn push_account<L: Labels, A: Allocator>(
+    text: &mut Vec<u8, A>,
+    account: &Account,
+    labels: &L,
+) -> Result<(), AllocError>
+    requires { all_phases account.now.phases < 2 ^ 64 }
+    ensures { OnOk result (text.new.items
+        ≡ text.old.items ++ account_text (L.label labels.now) account.now) }
+{
+    push_account_line(text, account, labels)?;
+    push_account_details(text, account, labels)
+}
