@@ -6,6 +6,7 @@ pub mod Columns
 pub mod AccountLines
 pub mod DrumRows
 pub mod ProfileLines
+pub mod Runs
 pub use Rattle.lgp_table.specs.State
 pub use Rattle.lgp_table.specs.Activity
 pub use Rattle.lgp_table.specs.Interleaving

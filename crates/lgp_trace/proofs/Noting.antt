@@ -1,0 +1,40 @@
+-- A run in the middle whose orders are added up in a profile.
+use Rattle.std.proofs.Common.{◌≡◌, ◌∙◌, ℕ, zero, suc, ◌+◌, ◌≤◌, refl, sym, ap, arith}
+use Rattle.lgp_table.specs.Activity.{next}
+use Rattle.lgp_table.specs.After.{after}
+use Rattle.lgp_table.specs.State.{State}
+use Rattle.lgp_trace.specs.Account.{account_of}
+use Rattle.lgp_trace.specs.Phases.{all_phases}
+use Rattle.lgp_trace.specs.Profile.{Profiled, empty_profile, profile_of, with_account}
+use Rattle.lgp_trace.proofs.Sums.{profile_clock}
+
+-- so many orders from a state on were noted, and have led here
+pub record HasNoted (first now : State) (profile : Profiled) (done : ℕ) : Type 0 where
+  pub stands : now ≡ after first done
+  pub noted : profile ≡ profile_of first done
+
+pub notes_begun : (first : State) (profile : Profiled) → profile ≡ empty_profile → HasNoted first first profile 0
+unfolding after profile_of
+notes_begun first profile none = record { stands = refl; noted = none }
+
+pub notes_more : (first now then : State) (profile more : Profiled) (done : ℕ) → HasNoted first now profile done → then ≡ next now
+    → more ≡ with_account profile (account_of now) → HasNoted first then more (done + 1)
+unfolding after profile_of
+notes_more first now then profile more done h moved noted =
+    let count : done + 1 ≡ suc done = omega arith in
+    record {
+      stands = rw count (moved ∙ ap next h.stands);
+      noted = rw count (noted ∙ ap (λ (p : Profiled). with_account p (account_of now)) h.noted ∙ ap (λ (s : State). with_account (profile_of first done) (account_of s)) h.stands);
+    }
+
+-- nothing has moved and nothing was noted
+pub noted_stays : (first now then : State) (profile more : Profiled) (done : ℕ) → HasNoted first now profile done → then ≡ now → more ≡ profile → HasNoted first then more done
+noted_stays first now then profile more done h stays same = record { stands = stays ∙ h.stands; noted = same ∙ h.noted }
+
+-- the clock has gone on by what was noted
+pub noted_clock : (first now : State) (profile : Profiled) (done : ℕ) → HasNoted first now profile done → now.clock ≡ first.clock + all_phases profile.phases
+noted_clock first now profile done h =
+    ap (λ (s : State). s.clock) h.stands ∙ profile_clock first done ∙ ap (λ (p : Profiled). first.clock + all_phases p.phases) (sym h.noted)
+
+pub noted_within : (first now : State) (profile : Profiled) (done : ℕ) → HasNoted first now profile done → all_phases profile.phases ≤ now.clock
+noted_within first now profile done h = omega (arith, noted_clock first now profile done h)
