@@ -1,2 +1,4 @@
 pub mod Verbs
 pub mod Typed
+pub mod Monitor
+pub mod Running

@@ -1,0 +1,100 @@
+-- What typed lines stand for are lines, so that a transcript's lines are those.
+use Rattle.std.proofs.Common.{◌≡◌, ℕ, zero, suc, ◌+◌, ◌*◌, ◌/◌, ◌%◌, ◌≤◌, ◌<◌, ◌&&◌, not, Bool, true, false, cond, is_some, List, [], ◌∷◌, ◌++◌, take, get_or, refl, codes, eqb, arith}
+use Rattle.std.proofs.lemmas.Bool.Decides.{nat_tests}
+use Rattle.std.specs.List.{AllByRecursion, list_all}
+use Rattle.std.specs.Str.Lines.{lines}
+use Rattle.lgp_word.specs.Digits.{address_digits, digit_byte, digits, digits_of, four_digits, two_digits}
+use Rattle.lgp_word.specs.Decimal.{decimal_digit}
+use Rattle.lgp_word.specs.Order.{order_word}
+use Rattle.lgp_stream.specs.KeptLine.{Kept, kept_of, line_limit}
+use Rattle.lgp_stream.specs.Language.{is_line_feed, state_after}
+use Rattle.lgp_transcript.specs.Transcript.{AreLines, IsLine, IsToldByTranscript, Meaning, Recorded, stand_in, untouched}
+use Rattle.lgp_transcript.proofs.LineLaws.{told_by_transcript}
+use Rattle.lgp_lab.specs.Script.{script_language}
+use Rattle.lgp_lab.specs.Standing.{Standing, opening_standing}
+use Rattle.lgp_monitor.specs.Monitor.{go_lines, jump_line, lines_behind_jump, meaning_at, meaning_of, monitor_language, put_line, typed_at}
+use Rattle.lgp_monitor.specs.declared.typed.Typed.{Typed}
+use Rattle.lgp_monitor.specs.declared.typed.Typed.TheVariants as typed
+
+free-append : (xs ys : List ℕ) → IsLine xs → IsLine ys → IsLine (xs ++ ys)
+free-append [] ys free more = more
+free-append (x ∷ xs) ys free more = (free.0, free-append xs ys free.1 more)
+
+free-take : (n : ℕ) (line : List ℕ) → IsLine line → IsLine (take n line)
+free-take zero line free = tt
+free-take (suc n) [] free = tt
+free-take (suc n) (b ∷ line) free = (free.0, free-take n line free.1)
+
+-- an element of a list that has no line feed, and what is there past its end
+free-digit : (xs : List ℕ) (i : ℕ) → IsLine xs → is_line_feed (get_or xs i 0) ≡ false
+free-digit [] i free = refl
+free-digit (x ∷ xs) zero free = free.0
+free-digit (x ∷ xs) (suc i) free = free-digit xs i free.1
+
+digits_are_free : IsLine digits
+digits_are_free = (refl, (refl, (refl, (refl, (refl, (refl, (refl, (refl, (refl, (refl, (refl, (refl, (refl, (refl, (refl, (refl, tt))))))))))))))))
+
+free-byte : (value : ℕ) → is_line_feed (digit_byte value) ≡ false
+unfolding digit_byte
+free-byte value = free-digit digits value digits_are_free
+
+free-four : (number : ℕ) → IsLine (four_digits number)
+unfolding four_digits
+free-four number = (free-byte (number / 4096 % 16), (free-byte (number / 256 % 16), (free-byte (number / 16 % 16), (free-byte (number % 16), tt))))
+
+free-digits : (bits : ℕ) → IsLine (digits_of bits)
+unfolding digits_of
+free-digits bits = free-append (four_digits (bits / 65536)) (four_digits (bits % 65536)) (free-four (bits / 65536)) (free-four (bits % 65536))
+
+free-decimal : (value : ℕ) → is_line_feed (48 + value) ≡ false
+free-decimal value = grind (arith, nat_tests)
+
+free-address : (address : ℕ) → IsLine (address_digits address)
+free-address address = (free-decimal (address / 64 / 10), (free-decimal (address / 64 % 10), (free-decimal (address % 64 / 10), (free-decimal (address % 64 % 10), tt))))
+
+free-put : (address word : ℕ) → IsLine (put_line address word)
+unfolding put_line
+free-put address word = (refl, (refl, (refl, (refl, free-append (address_digits address) (codes " " ++ digits_of word) (free-address address) (refl, free-digits word)))))
+
+free-jump : (address : ℕ) → IsLine (jump_line address)
+unfolding jump_line
+free-jump address = (refl, (refl, (refl, (refl, (refl, free-digits _)))))
+
+-- fixed lines are checked by computing
+checked : (line : List ℕ) → list_all (λ b. not (is_line_feed b)) line ≡ true → IsLine line
+checked [] all = tt
+checked (b ∷ line) all = both (is_line_feed b) refl all (λ rest. checked line rest) where
+  both : (feed : Bool) → is_line_feed b ≡ feed → (not feed && list_all (λ b. not (is_line_feed b)) line) ≡ true → (list_all (λ b. not (is_line_feed b)) line ≡ true → IsLine line) → IsLine (b ∷ line)
+  both false e all more = (e, more all)
+  both true e all more = absurd (false-true all) where
+    false-true : false ≡ true → ⊥
+    false-true e = cc
+
+free-go : (address : ℕ) → AllByRecursion IsLine (go_lines address)
+unfolding go_lines
+free-go address = (checked (codes "press manual") refl, (free-jump address, (checked (codes "press fill") refl, (checked (codes "press oneop") refl, (checked (codes "press execute") refl, (checked (codes "orders 1") refl, (checked (codes "press normal") refl, (checked (codes "press start") refl, tt))))))))
+
+free-stand_in : (line : List ℕ) → IsLine line → IsLine (stand_in (kept_of line))
+unfolding stand_in kept_of
+free-stand_in line free = by_longer (kept_of line).longer (kept_of line).blank where
+  by_longer : (longer blank : Bool) → IsLine (cond longer (take line_limit line ++ cond blank 32 46 ∷ []) (take line_limit line))
+  by_longer true true = free-append (take line_limit line) (32 ∷ []) (free-take line_limit line free) (refl, tt)
+  by_longer true false = free-append (take line_limit line) (46 ∷ []) (free-take line_limit line free) (refl, tt)
+  by_longer false blank = free-take line_limit line free
+
+free-meaning : (asked : Typed) (line : List ℕ) → IsLine line → AreLines (meaning_of asked (kept_of line))
+free-meaning typed.Itself line free = (free-stand_in line free, tt)
+free-meaning typed.Misformed line free = (free-stand_in line free, tt)
+free-meaning (typed.Go address) line free = free-go address
+free-meaning (typed.Put address word) line free = (free-put address word, tt)
+free-meaning typed.Transcript line free = tt
+free-meaning typed.New line free = tt
+free-meaning typed.Help line free = tt
+free-meaning (typed.HelpOf verb) line free = tt
+
+free-at : {A : Type 0} (recorded : Recorded (Standing A)) (line : List ℕ) → IsLine line → AreLines (meaning_at recorded line)
+unfolding meaning_at
+free-at recorded line free = free-meaning (typed_at recorded line) line free
+
+pub told_by_script : {A : Type 0} (text : List ℕ) → IsToldByTranscript (script_language {A = A}) opening_standing (state_after monitor_language (untouched opening_standing) (lines text))
+told_by_script {A} text = told_by_transcript script_language opening_standing (meaning_at {A = A}) monitor_language (λ recorded line. refl) (λ recorded line free. free-at recorded line free) text

@@ -1,0 +1,97 @@
+-- Part of the public promise: the monitor, a language in which a typed line stands for lines of a script.
+use Rattle.std.specs.Prelude.{ℕ, false, is_some, Option, Some, None, List, [], ◌∷◌, ◌++◌, codes}
+use Rattle.lgp_word.specs.Digits.{address_digits, digits_of}
+use Rattle.lgp_word.specs.Order.{order_word}
+use Rattle.lgp_word.specs.declared.order.Op.TheVariants.{U}
+use Rattle.lgp_stream.specs.KeptLine.{Kept, kept_of}
+use Rattle.lgp_stream.specs.Language.{Language}
+use Rattle.lgp_stream.specs.LineWords.{first_word}
+use Rattle.lgp_text.specs.NamedValues.{named}
+use Rattle.lgp_transcript.specs.Transcript.{Meaning, Lines, Anew, Recorded, after_meaning, replies_text, stand_in}
+use Rattle.lgp_lab.specs.Script.{script_language}
+use Rattle.lgp_lab.specs.Standing.{Standing, opening_standing}
+use Rattle.lgp_monitor.specs.Typed.{typed_of}
+use Rattle.lgp_monitor.specs.Verbs.{form_of, verb_names}
+use Rattle.lgp_monitor.specs.declared.verb.Verb.{Verb}
+use Rattle.lgp_monitor.specs.declared.typed.Typed.{Typed}
+use Rattle.lgp_monitor.specs.declared.typed.Typed.TheVariants as typed
+
+-- ---- what lines stand for
+
+-- the line of a script that puts a word
+unfoldable pub put_line : ℕ → ℕ → List ℕ
+put_line address word = codes "put " ++ (address_digits address ++ (codes " " ++ digits_of word))
+
+-- to start at an address: the jump there is keyed in and executed as one order, and the machine is started in Normal
+unfoldable pub jump_line : ℕ → List ℕ
+jump_line address = codes "type " ++ digits_of (order_word (record { minus = false; op = U; address = address }))
+
+abbrev pub lines_behind_jump : List (List ℕ)
+lines_behind_jump =
+    codes "press fill" ∷ codes "press oneop" ∷ codes "press execute" ∷ codes "orders 1"
+    ∷ codes "press normal" ∷ codes "press start" ∷ []
+
+unfoldable pub go_lines : ℕ → List (List ℕ)
+go_lines address = codes "press manual" ∷ jump_line address ∷ lines_behind_jump
+
+-- of a line of which this is kept
+abbrev pub meaning_of : Typed → Kept → Meaning
+meaning_of typed.Itself kept = Lines (stand_in kept ∷ [])
+meaning_of typed.Misformed kept = Lines (stand_in kept ∷ [])
+meaning_of (typed.Go address) kept = Lines (go_lines address)
+meaning_of (typed.Put address word) kept = Lines (put_line address word ∷ [])
+meaning_of typed.Transcript kept = Lines []
+meaning_of typed.New kept = Anew
+meaning_of typed.Help kept = Lines []
+meaning_of (typed.HelpOf verb) kept = Lines []
+
+-- ---- replies
+
+unfoldable pub form_line : Verb → List ℕ
+form_line verb = form_of verb ++ codes "\n"
+
+-- the forms of commands, a line each
+unfoldable pub form_lines : List (List ℕ × Verb) → List ℕ
+form_lines [] = []
+form_lines (name ∷ more) = form_line name.1 ++ form_lines more
+
+abbrev pub help_text : List ℕ
+help_text = form_lines verb_names
+
+-- why a line is in no command's form
+abbrev pub reason_by : Option Verb → List ℕ
+reason_by None = codes "there is no such command, help lists them"
+reason_by (Some verb) = form_of verb
+
+unfoldable pub misformed_text : List ℕ → List ℕ
+misformed_text line = codes "? 1 Form: " ++ (reason_by (named verb_names (first_word line)) ++ codes "\n")
+
+module _ {A : Type 0} where
+  abbrev pub reply_of : Recorded (Standing A) → Typed → Kept → List ℕ
+  reply_of recorded typed.Itself kept = replies_text script_language recorded (stand_in kept ∷ [])
+  reply_of recorded typed.Misformed kept = misformed_text kept.front
+  reply_of recorded (typed.Go address) kept = replies_text script_language recorded (go_lines address)
+  reply_of recorded (typed.Put address word) kept = replies_text script_language recorded (put_line address word ∷ [])
+  reply_of recorded typed.Transcript kept = recorded.transcript
+  reply_of recorded typed.New kept = codes "new\n"
+  reply_of recorded typed.Help kept = help_text
+  reply_of recorded (typed.HelpOf verb) kept = form_line verb
+
+  -- ---- the language
+
+  -- what a line asks for; in an open source each line is the source's
+  unfoldable pub typed_at : Recorded (Standing A) → List ℕ → Typed
+  typed_at recorded line = typed_of (is_some recorded.standing.opened) (kept_of line)
+
+  unfoldable pub meaning_at : Recorded (Standing A) → List ℕ → Meaning
+  meaning_at recorded line = meaning_of (typed_at recorded line) (kept_of line)
+
+  unfoldable pub reply_at : Recorded (Standing A) → List ℕ → List ℕ
+  reply_at recorded line = reply_of recorded (typed_at recorded line) (kept_of line)
+
+  abbrev pub monitor_language : Language (Recorded (Standing A))
+  monitor_language = record {
+    reply = reply_at;
+    after = λ recorded line. after_meaning script_language opening_standing recorded (meaning_at recorded line);
+    closing = λ recorded. script_language.closing recorded.standing;
+  }

@@ -1,0 +1,17 @@
+-- Part of the public promise: the replies to a typed text, that text's answer, and how many replies begin with a question mark. The
+-- type is that of Standing.
+use Rattle.std.specs.Prelude.{ℕ, List}
+use Rattle.std.specs.List.{concat}
+use Rattle.lgp_stream.specs.Language.{question_count, text_replies}
+use Rattle.lgp_transcript.specs.Transcript.{untouched}
+use Rattle.lgp_lab.specs.Standing.{opening_standing}
+use Rattle.lgp_monitor.specs.Monitor.{monitor_language}
+
+unfoldable pub monitor_replies : Type 0 → List ℕ → List (List ℕ)
+monitor_replies A typed = text_replies monitor_language (untouched (opening_standing {A = A})) typed
+
+abbrev pub monitor_text : Type 0 → List ℕ → List ℕ
+monitor_text A typed = concat (monitor_replies A typed)
+
+abbrev pub monitor_faults : Type 0 → List ℕ → ℕ
+monitor_faults A typed = question_count (monitor_replies A typed)
