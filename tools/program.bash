@@ -35,6 +35,11 @@ need_toolchain() {
     command -v rt >/dev/null 2>&1 || give_up "there is no Rattle toolchain: the command rt was not found"
 }
 
+# The libraries that a crate names in crates.txt.
+uses_of() {
+    sed -n "s/#.*//; s/^$1\( .*\)\{0,1\}: *//p" "$top/crates.txt"
+}
+
 # The crates of this repository that a crate stands on and the crate itself, one a line, each behind those that it uses.
 crates_of() {
     awk -v top="$1" '
