@@ -2,7 +2,7 @@
 
     >>> import condugwa
     >>> condugwa.run_script("put 0050 00000006\\nwords 0050 1\\n").text
-    '0050 00000006\\n'
+    'ok\\n0050 00000006\\n'
 
 Commands and replies are those of docs/FORMATS.md. Bytes that are no UTF-8 text stand in a `str` as Python's
 "surrogateescape" has them, so that nothing is lost in either direction.
@@ -10,6 +10,7 @@ Commands and replies are those of docs/FORMATS.md. Bytes that are no UTF-8 text 
 
 from condugwa.assembling import Fault, Faults, Listing, assemble
 from condugwa.library import OutOfMemory, Unread
+from condugwa.panels import Panel, word_value, words_of
 from condugwa.refusals import (
     AtWork,
     BadSign,
@@ -42,6 +43,7 @@ __all__ = [
     "NoImage",
     "NoRule",
     "OutOfMemory",
+    "Panel",
     "Refusal",
     "Replies",
     "TooFar",
@@ -49,4 +51,6 @@ __all__ = [
     "Unread",
     "assemble",
     "run_script",
+    "word_value",
+    "words_of",
 ]

@@ -72,3 +72,21 @@ def test_bytes_that_are_no_text_come_back():
     listing = condugwa.assemble(b" z ; \xff\n end\n")
     assert isinstance(listing, condugwa.Faults)
     assert listing.faults[0].kind == "BadByte"
+
+
+def test_a_panel_is_read_from_its_reply():
+    replies = condugwa.run_script((EXAMPLES / "first-run.txt").read_bytes())
+    panel = condugwa.Panel.of(replies.lines()[-2])
+    assert panel == condugwa.Panel(
+        "0004", "00000010", "00000000", "halted stop", "normal", "uuuuuu", False, 0, 94
+    )
+    with pytest.raises(ValueError):
+        condugwa.Panel.of("clock 94")
+
+
+def test_words_are_read_by_address():
+    replies = condugwa.run_script("put 0050 000000fq\nwords 0050 2\n")
+    assert replies.lines()[0] == "ok"
+    words = condugwa.words_of("\n".join(replies.lines()[1:]))
+    assert words == {"0050": "000000fq", "0051": "00000000"}
+    assert condugwa.word_value(words["0050"]) == 10 * 16 + 14

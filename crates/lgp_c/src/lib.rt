@@ -1,8 +1,35 @@
 //! The laboratory for programs that are not written in Rattle: the functions of `c/lgp30.h`.
 #![tactic(auto)]
 
-mod replies;
-mod room;
-mod script;
+ghost use Rattle.std.specs.Prelude.{◌≡◌, ◌<◌, ◌≤◌, length};
+ghost use Rattle.lgp_call.specs.Room.{filled};
+ghost use Rattle.lgp_call.specs.Status.{answered_status, memory_status, unread_status};
+ghost use Rattle.lgp_lab.specs.Script.{script_faults, script_text};
+ghost use Rattle.std.specs.Global.{Global};
 
-pub use script::{Outcome, lgp_run_script};
+use lgp_call::{Outcome, run_into};
+use std::alloc::Global;
+
+/// Runs a script over memory from `malloc`, as `run_into` does.
+#[unsafe(no_mangle)]
+pub extern "C" fn lgp_run_script(
+    alloc: Global,
+    script: &[u8],
+    room: &mut [u8],
+    outcome: &mut Outcome,
+) -> u32
+    ensures status { result < unread_status
+        → result ≡ answered_status (script_faults Global script.now) }
+    ensures questions { result < unread_status
+        → outcome.new.questions ≡ script_faults Global script.now }
+    ensures length { result < unread_status
+        → outcome.new.length ≡ length (script_text Global script.now) }
+    ensures written { result < unread_status
+        → room.new ≡ filled (script_text Global script.now) room.old }
+    ensures known { result ≤ memory_status }
+    ensures unwritten { unread_status ≤ result → room.new ≡ room.old }
+    ensures uncounted { unread_status ≤ result
+        → outcome.new ≡ record { questions = 0; length = 0 } }
+{
+    run_into(alloc, script, room, outcome)
+}

@@ -1,6 +1,6 @@
 //! Bytes that a caller gives for a text.
 ghost use Rattle.std.specs.Prelude.{◌≡◌};
-ghost use Rattle.lgp_c.specs.Room.{filled};
+ghost use Rattle.lgp_call.specs.Room.{filled};
 
 /// Writes a text into a room, as far as it fits. What lies behind the text stays.
 pub(crate) fn fill(room: &mut [u8], text: &[u8])

@@ -2,15 +2,16 @@
 ghost use Rattle.std.specs.Prelude.{Some};
 
 use lgp_lab::{Failed, Sink};
+use std::alloc::Allocator;
 
 /// The replies of a script, one behind the other. A write that takes memory may be refused, and then fails.
 #[derive(Drop)]
-pub(crate) struct Replies {
-    pub(crate) text: Vec<u8>,
+pub(crate) struct Replies<A: Allocator> {
+    pub(crate) text: Vec<u8, A>,
     pub(crate) refused: bool,
 }
 
-impl Sink for Replies {
+impl<A: Allocator> Sink for Replies<A> {
     ghost contents = { λ replies. Some replies.text.items };
 
     ghost failed = { λ replies. replies.refused };

@@ -1,5 +1,5 @@
 -- Part of the public promise: what the status of a call says. They are those of the program.
-use Rattle.std.specs.Prelude.{◌≡◌, ℕ, if◌then◌else◌, nat_lt}
+use Rattle.std.specs.Prelude.{ℕ, if◌then◌else◌, nat_lt}
 
 -- all replies were given: 0, or 1 where some of them begin with a question mark
 abbrev pub answered_status : ℕ → ℕ

@@ -1,14 +1,13 @@
 //! A whole script in one call.
 ghost use Rattle.std.specs.Prelude.{◌≡◌, ◌++◌, ◌<◌, ◌≤◌, IfOk, OnOk, false, length};
-ghost use Rattle.std.specs.Global.{Global};
-ghost use Rattle.lgp_c.specs.Room.{filled};
-ghost use Rattle.lgp_c.specs.Status.{answered_status, memory_status, unread_status};
+ghost use Rattle.lgp_call.specs.Room.{filled};
+ghost use Rattle.lgp_call.specs.Status.{answered_status, memory_status, unread_status};
 ghost use Rattle.lgp_lab.specs.Script.{script_faults, script_text};
 
 use crate::replies::Replies;
 use crate::room::fill;
 use lgp_lab::{FeedOf, LabFault, READS, run_script};
-use std::alloc::Global;
+use std::alloc::Allocator;
 
 /// What a script was answered.
 #[repr(C)]
@@ -21,11 +20,15 @@ pub struct Outcome {
 }
 
 /// Writes the replies to a script; answers how many of them begin with a question mark.
-fn write_replies(alloc: Global, script: &[u8], replies: &mut Replies) -> Result<u64, LabFault>
+fn write_replies<A: Allocator + Copy>(
+    alloc: A,
+    script: &[u8],
+    replies: &mut Replies<A>,
+) -> Result<u64, LabFault>
     requires { replies.old.refused ≡ false }
     ensures text { OnOk result (replies.new.text.items
-        ≡ replies.old.text.items ++ script_text Global script.now) }
-    ensures questions { IfOk result (λ questions. questions ≡ script_faults Global script.now) }
+        ≡ replies.old.text.items ++ script_text A script.now) }
+    ensures questions { IfOk result (λ questions. questions ≡ script_faults A script.now) }
 {
     run_script(alloc, &mut FeedOf::new(script, READS), replies)
 }
@@ -36,21 +39,20 @@ fn write_replies(alloc: Global, script: &[u8], replies: &mut Replies) -> Result<
 /// not be read, which none of less than 2^32 bytes meets; 3 where there was not enough memory. With 2 and 3 nothing is written into the
 /// room, and both numbers of the outcome are 0. Where the outcome's length is more than the room's, the same call with more room gives
 /// all replies.
-#[unsafe(no_mangle)]
-pub extern "C" fn lgp_run_script(
-    alloc: Global,
+pub fn run_into<A: Allocator + Copy>(
+    alloc: A,
     script: &[u8],
     room: &mut [u8],
     outcome: &mut Outcome,
 ) -> u32
     ensures status { result < unread_status
-        → result ≡ answered_status (script_faults Global script.now) }
+        → result ≡ answered_status (script_faults A script.now) }
     ensures questions { result < unread_status
-        → outcome.new.questions ≡ script_faults Global script.now }
+        → outcome.new.questions ≡ script_faults A script.now }
     ensures length { result < unread_status
-        → outcome.new.length ≡ length (script_text Global script.now) }
+        → outcome.new.length ≡ length (script_text A script.now) }
     ensures written { result < unread_status
-        → room.new ≡ filled (script_text Global script.now) room.old }
+        → room.new ≡ filled (script_text A script.now) room.old }
     ensures known { result ≤ memory_status }
     ensures unwritten { unread_status ≤ result → room.new ≡ room.old }
     ensures uncounted { unread_status ≤ result
