@@ -4,6 +4,7 @@
 mod account;
 mod account_lines;
 mod columns;
+mod draw;
 mod drum_rows;
 mod labels;
 pub mod laws;
@@ -13,10 +14,12 @@ mod profile_lines;
 mod runs;
 mod stepping;
 mod take;
+mod trace;
 mod uses;
 
 pub use account::{Account, Begun, Found, Operand};
 pub use account_lines::{push_account, push_account_details, push_account_line, push_heading};
+pub use draw::draw_run;
 pub use drum_rows::{push_drum, push_rows_begun, push_rows_ended};
 pub use labels::{Labels, NoLabels};
 pub use phases::Phases;
@@ -25,4 +28,5 @@ pub use profile_lines::push_profile;
 pub use runs::profile_run;
 pub use stepping::step_account;
 pub use take::take_account;
+pub use trace::trace_run;
 pub use uses::{seeks, stores};

@@ -18,7 +18,7 @@ use lgp_history::History;
 use std::alloc::Allocator;
 
 /// One order of a run, and the number of the first rule that stops the run there.
-fn go_on<H: History<A>, A: Allocator>(
+pub fn go_on<H: History<A>, A: Allocator>(
     debugger: &mut Debugger<H, A>,
 ) -> Result<Option<u8>, StepFault>
     ensures performed { OnOk result (debugger.new ≡ after_step debugger.old Step.Perform) }
