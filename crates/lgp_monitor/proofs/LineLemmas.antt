@@ -1,18 +1,16 @@
 -- What typed lines stand for are lines, so that a transcript's lines are those.
-use Rattle.std.proofs.Common.{◌≡◌, ℕ, zero, suc, ◌+◌, ◌*◌, ◌/◌, ◌%◌, ◌≤◌, ◌<◌, ◌&&◌, not, Bool, true, false, cond, is_some, List, [], ◌∷◌, ◌++◌, take, get_or, refl, codes, eqb, arith}
+use Rattle.std.proofs.Common.{◌≡◌, ℕ, zero, suc, ◌+◌, ◌/◌, ◌%◌, ◌&&◌, not, Bool, true, false, cond, List, [], ◌∷◌, ◌++◌, take, get_or, refl, codes, arith}
 use Rattle.std.proofs.lemmas.Bool.Decides.{nat_tests}
 use Rattle.std.specs.List.{AllByRecursion, list_all}
 use Rattle.std.specs.Str.Lines.{lines}
-use Rattle.lgp_word.specs.Digits.{address_digits, digit_byte, digits, digits_of, four_digits, two_digits}
-use Rattle.lgp_word.specs.Decimal.{decimal_digit}
-use Rattle.lgp_word.specs.Order.{order_word}
-use Rattle.lgp_stream.specs.KeptLine.{Kept, kept_of, line_limit}
+use Rattle.lgp_word.specs.Digits.{address_digits, digit_byte, digits, digits_of, four_digits}
+use Rattle.lgp_stream.specs.KeptLine.{kept_of, line_limit}
 use Rattle.lgp_stream.specs.Language.{is_line_feed, state_after}
-use Rattle.lgp_transcript.specs.Transcript.{AreLines, IsLine, IsToldByTranscript, Meaning, Recorded, stand_in, untouched}
+use Rattle.lgp_transcript.specs.Transcript.{AreLines, IsLine, IsToldByTranscript, Recorded, stand_in, untouched}
 use Rattle.lgp_transcript.proofs.LineLaws.{told_by_transcript}
 use Rattle.lgp_lab.specs.Script.{script_language}
 use Rattle.lgp_lab.specs.Standing.{Standing, opening_standing}
-use Rattle.lgp_monitor.specs.Monitor.{go_lines, jump_line, lines_behind_jump, meaning_at, meaning_of, monitor_language, put_line, typed_at}
+use Rattle.lgp_monitor.specs.Monitor.{go_lines, jump_line, meaning_at, meaning_of, monitor_language, put_line, typed_at}
 use Rattle.lgp_monitor.specs.declared.typed.Typed.{Typed}
 use Rattle.lgp_monitor.specs.declared.typed.Typed.TheVariants as typed
 

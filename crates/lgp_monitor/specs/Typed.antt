@@ -1,8 +1,8 @@
 -- Part of the public promise: what a typed line asks for.
-use Rattle.std.specs.Prelude.{ℕ, ◌+◌, ◌-◌, ◌*◌, ◌%◌, ◌^◌, ◌==◌, ◌&&◌, ◌||◌, Bool, true, false, nat_le, nat_lt, if◌then◌else◌, is_some, Option, Some, None, option_map, Result, Ok, Err, List, drop, length, codes, slice_index, ℤ, pos, ◌*ℤ◌}
+use Rattle.std.specs.Prelude.{ℕ, ◌-◌, ◌*◌, ◌%◌, ◌^◌, ◌==◌, ◌&&◌, ◌||◌, Bool, true, false, nat_le, nat_lt, if◌then◌else◌, is_some, Option, Some, None, Result, Ok, Err, List, drop, length, codes, slice_index, ℤ, pos, ◌*ℤ◌}
 use Rattle.std.specs.Str.{byte, bytes_eq}
 use Rattle.lgp_word.specs.Decimal.{decimal_number}
-use Rattle.lgp_word.specs.Digits.{address_text, word_of_digits}
+use Rattle.lgp_word.specs.Digits.{address_text}
 use Rattle.lgp_word.specs.Order.{op_of_letter, order_word}
 use Rattle.lgp_word.specs.declared.order.Op.{Op}
 use Rattle.lgp_fraction.specs.Arithmetic.{low_bits}

@@ -1,4 +1,4 @@
-use Rattle.std.proofs.Common.{◌≡◌, ◌∙◌, sym, ap, Result, Ok, Err}
+use Rattle.std.proofs.Common.{◌∙◌, sym, ap, Result, Ok, Err}
 use Rattle.std.specs.Result.{OnOk}
 use Rattle.lgp_lab.specs.Script.{script_language}
 use Rattle.lgp_lab.specs.Standing.{opening_standing}
