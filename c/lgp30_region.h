@@ -19,8 +19,9 @@ struct lgp_memory {
     size_t size;
 };
 
-/* Does as lgp_run_script does, over the memory that it is given, and never gives that back. A small
- * script takes less than half a megabyte; with too little memory the status is LGP_NO_MEMORY. */
+/* Does as lgp_run_script does, over the memory that it is given, and never gives that back. The
+ * scripts of examples/ take less than 700 kilobytes each, and the replies of a script about four times
+ * their length besides; with too little memory the status is LGP_NO_MEMORY. */
 uint32_t lgp_run_script_in(struct lgp_memory memory,
                            const uint8_t *script, size_t script_length,
                            uint8_t *room, size_t room_length,
