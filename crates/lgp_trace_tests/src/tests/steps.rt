@@ -11,13 +11,16 @@ use std::alloc::{AllocError, Allocator};
 use std::test::Fail;
 
 /// A debugger over a new machine, which keeps 30 steps.
-fn debugger<A: Allocator + Copy>(alloc: A) -> Result<Debugger<Records<A>, A>, AllocError> {
+pub fn debugger<A: Allocator + Copy>(alloc: A) -> Result<Debugger<Records<A>, A>, AllocError> {
     let machine = Machine::new(alloc)?;
     Ok(Debugger::new(machine, Records::new(alloc, 30)?))
 }
 
 /// Puts words on the drum; false where one is refused.
-fn put_all<H: History<A>, A: Allocator>(lab: &mut Debugger<H, A>, words: &[(u16, u32)]) -> bool {
+pub fn put_all<H: History<A>, A: Allocator>(
+    lab: &mut Debugger<H, A>,
+    words: &[(u16, u32)],
+) -> bool {
     for (at, bits) in words {
         if lab.put(address(*at), Word::of_bits(*bits)).is_err() {
             return false;
