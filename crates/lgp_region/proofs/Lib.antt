@@ -1,5 +1,4 @@
 pub mod BlockValue
-pub mod OptionValues
 pub mod RoomLemmas
 pub mod StepLemmas
 pub mod TakenBlock

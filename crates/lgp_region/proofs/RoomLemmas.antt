@@ -1,4 +1,4 @@
--- What the walks share of sizes and of memory: a request fits its block, bytes are cut, and a block is room for a value.
+-- The block of a request: it has room for all that was asked for.
 use Rattle.std.proofs.Common.{◌≡◌, ℕ, ◌-◌, ◌*◌, ◌/◌, ◌^◌, ◌<◌, ◌≤◌, arith, sym, subst}
 use Rattle.std.proofs.lemmas.Nat.{leading_length}
 use Rattle.std.specs.Int.{w64, leading_zeros}

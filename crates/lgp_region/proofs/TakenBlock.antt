@@ -1,25 +1,25 @@
--- The two cases of what `take` answers, and its block as room for the value that the request is for.
-use Rattle.std.proofs.Common.{◌≡◌, ℕ, ◌^◌, ◌<◌, ◌≤◌, List, [], ◌∷◌, ◌++◌, IfSome, None, Some, refl, sym, ap, subst, ◌∙◌, arith}
+-- What `take` answers is room for the value that the request is for, with the right to give its block back, or there is none.
+use Rattle.std.proofs.Common.{◌≡◌, ℕ, ◌^◌, ◌<◌, ◌≤◌, List, [], ◌∷◌, IfSome, None, Some, inl, inr, refl, sym, ap, subst, ◌∙◌, arith}
 use seplogic.Ra.Ura.{Ura}
-use mir.Syntax.{Ty, Width, w8, w16, w32, w64, w128}
-use mir.Val.{Val, vcons, vnil, of_list, bytes}
-use base.Logic.{ent, sep, id⊢, never}
-use base.Fml.{fwand, froom}
+use mir.Syntax.{Ty}
+use mir.Val.{Val, vcons, vnil}
+use base.Logic.{SProp, ent, sep, wand, via, mono_r, guard_i, id⊢, never}
+use base.Fml.{ftrue, froom}
 use prog.Memory.{size, capped}
-use prog.Align.{Dv, align_w, align-bytes}
 use prog.Capped.{capped_is, capped_small}
 use types.Logic.{Logic, sem}
-use types.Kit.{Item, Goal, Seq, ‵, ◌⊛◌, ◌$◌, ◌∵◌, !, qed, move, drop, use1, split, frame, rewrite, fsplit, fpick, fpack, feq_l, done}
+use types.Kit.{Item, Goal, Seq, ‵, given, ◌⊛◌, ◌$◌, move, drop, use1, learn, rewrite, fsplit}
 use types.Match.{live}
 use denote.RattleType.{RattleType}
 use denote.RawPtr.{Ptr, block_ptr, in_a_block}
-use denote.Shadow.{pure_l}
 use denote.Steps.{only}
+use denote.Enum.Laws.{Laws}
+use denote.Enum.Rest.{live_own, own_open}
 use Rattle.std.specs.contracts.option.Option as option
 use Rattle.lgp_region.specs.Room.{bytes_at, block_size, block_token}
 use Rattle.lgp_region.specs.contracts.block.Block as block
-use Rattle.lgp_region.proofs.BlockValue.{block_val, field_owns, field_tells}
-use Rattle.lgp_region.proofs.UnitLemmas.{bytes_as}
+use Rattle.lgp_region.proofs.BlockValue.{block_val, block_laws}
+use Rattle.lgp_region.proofs.UnitLemmas.{bytes, value_room}
 
 -- what `take` answers
 abbrev pub Answered : RattleType
@@ -27,41 +27,37 @@ Answered = option.the_row block.the_row
 
 -- what it says of that, for a request of this size and alignment
 abbrev pub IsFor : ℕ → ℕ → Answered.Denot → Type 0
-IsFor bytes alignment answer =
-    IfSome answer (λ b. (b.size ≡ block_size bytes) × (bytes ≤ block_size bytes) × (bytes < 2 ^ 63) × (alignment ≤ 16))
+IsFor asked alignment answer =
+    IfSome answer (λ b. (b.size ≡ block_size asked) × (asked ≤ block_size asked) × (asked < 2 ^ 63) × (alignment ≤ 16))
 
--- each number's alignment divides 16
-divides : (w : Width) → Dv (bytes w) 16
-divides w8 = tt
-divides w16 = tt
-divides w32 = tt
-divides w64 = tt
-divides w128 = tt
+abbrev answer_laws : Laws (option.the_type block.the_row)
+answer_laws = (tt, ((block_laws, tt), tt))
 
--- the block of a request for a value is room for it, and the right to give the block back
-pub is_room : {M : Type 1} {𝓤 : Ura M} (𝓛 : Logic 𝓤) (type : Ty) (b o bytes : ℕ) → capped (size type) ≡ bytes → bytes ≤ block_size bytes → bytes < 2 ^ 63
-    → ent 𝓤 (sem 𝓛 (bytes_at (block_ptr b o) (block_size bytes))) (sep 𝓤 (𝓛.H.room type b o) (sem 𝓛 (block_token type (block_ptr b o))))
-is_room {𝓤 = 𝓤} 𝓛 type b o bytes asked fits below =
-    let short : size type < 2 ^ 63 = capped_small (size type) (omega arith) in
-    let same : bytes ≡ size type = sym asked ∙ capped_is (size type) (omega arith) in
-    let all : ℕ = block_size (size type) in
-    let holds : size type ≤ all = subst (λ (k : ℕ). k ≤ block_size k) same fits in
-    let back = fwand (froom type b o) (bytes_at (block_ptr b o) all) in
-    qed 𝓛 (‵ (bytes_at (block_ptr b o) (block_size bytes)) ∷ []) ∵ rewrite ! 0 (λ (k : ℕ). ‵ (bytes_at (block_ptr b o) (block_size k))) same refl $
-    use1 𝓛 (‵ (froom type b o) ⊛ ‵ back)
-    (bytes_as 𝓛 b type o all (omega arith) holds (subst (λ (k : ℕ). Dv k 16) (sym (align-bytes type)) (divides (align_w type)))) $ split ! $ frame ! $
-    fpack ! (size type < 2 ^ 63) (λ _. back) short $ done !
+module _ {M : Type 1} {𝓤 : Ura M} (𝓛 : Logic 𝓤) where
+  open 𝓛 use {H}
+
+  -- the block of a request for a value is room for it, and the way back to the block is the token
+  for_value : (type : Ty) (b o : ℕ) → size type < 2 ^ 63 → size type ≤ block_size (size type)
+      → ent 𝓤 (bytes 𝓛 b o (block_size (size type))) (sep 𝓤 (H.room type b o) (sem 𝓛 (block_token type (block_ptr b o))))
+  for_value type b o short fits =
+      let Value : SProp 𝓤 = H.room type b o in let Back : SProp 𝓤 = wand 𝓤 Value (bytes 𝓛 b o (block_size (size type))) in
+      via 𝓤 (sep 𝓤 Value Back) (value_room 𝓛 b type o (block_size (size type)) (omega arith) fits) (mono_r 𝓤 Value (guard_i 𝓤 (size type < 2 ^ 63) Back short))
 
 module _ {M : Type 1} {𝓤 : Ura M} {𝓛 : Logic 𝓤} {K : Type 0} {Γ : List (Item 𝓤)} {G : Goal 𝓤 𝓛.H} where
-  -- it is a block at some place, or there is none
-  pub answered : K → (n a : ℕ) (answer : Answered.Denot) (v : Val) → IsFor n a answer
-      → ((b o : ℕ) → n ≤ block_size n → n < 2 ^ 63 → v ≡ live 1 (vcons (block_val (block_ptr b o)) vnil)
-      → Seq K 𝓛 (‵ (bytes_at (block_ptr b o) (block_size n)) ∷ Γ) G) → (v ≡ live 0 vnil → Seq K 𝓛 Γ G) → Seq K 𝓛 (‵ (Answered.own_val answer (v ∷ [])) ∷ Γ) G
-  answered t n a None v told some none =
-      fpick t (λ us. fsplit t $ feq_l t (λ is. fpick t (λ vss. fsplit t $ feq_l t (λ is'. drop t $ none (ap only is ∙ ap (λ (ws : List Val). live 0 (of_list ws)) is')))))
-  answered t n a (Some x) v told some none =
-      fpick t (λ us. fsplit t $ feq_l t (λ is. fpick t (λ vss. fsplit t $ feq_l t (λ is'. fsplit t $ move t (1 ∷ []) $ drop t $ fsplit t $
-      pure_l t (field_owns x.at vss.0) (λ s. rewrite t 0 (λ (k : ℕ). ‵ (bytes_at x.at k)) told.0 refl $
-      in_a_block t x.at (λ p. bytes_at p (block_size n)) (id⊢ 𝓤 (never 𝓤)) (λ b o at.
-      some b o told.1 told.2
-      (ap only is ∙ ap (λ (ws : List Val). live 1 (of_list ws)) (is' ∙ ap (λ (ws : List Val). ws ++ []) (field_tells x.at vss.0 s)) ∙ ap (λ (p : Ptr). live 1 (vcons (block_val p) vnil)) at)))))))
+  pub taken : K → (type : Ty) (n a : ℕ) (answer : Answered.Denot) (v : Val) → capped (size type) ≡ n → IsFor n a answer
+      → ((b o : ℕ) → v ≡ live 1 (vcons (block_val (block_ptr b o)) vnil) → Seq K 𝓛 ((‵ (froom type b o) ⊛ ‵ (block_token type (block_ptr b o))) ∷ Γ) G)
+      → (v ≡ live 0 vnil → Seq K 𝓛 Γ G) → Seq K 𝓛 (‵ (Answered.own_val answer (v ∷ [])) ∷ Γ) G
+  taken t type n a None v asked told some none =
+      use1 𝓛 (given (v ∷ [] ≡ live 0 vnil ∷ []) (‵ ftrue)) (own_open 𝓛 (option.the_type block.the_row) answer_laws (inl tt) v) $
+      learn t (λ is. drop t $ none (ap only is))
+  taken t type n a (Some x) v asked told some none =
+      let short : size type < 2 ^ 63 = capped_small (size type) (omega (arith, told.2)) in
+      let same : n ≡ size type = sym asked ∙ capped_is (size type) (omega arith) in
+      use1 𝓛 (given (v ∷ [] ≡ live 1 (vcons (block_val x.at) vnil) ∷ []) (‵ (live_own (option.the_type block.the_row).parts answer_laws (inr (inl (x, tt))))))
+      (own_open 𝓛 (option.the_type block.the_row) answer_laws (inr (inl (x, tt))) v) $
+      learn t (λ is. fsplit t $ move t (1 ∷ []) $ drop t $ fsplit t $ drop t $
+      rewrite t 0 (λ (k : ℕ). ‵ (bytes_at x.at k)) (told.0 ∙ ap block_size same) refl $
+      in_a_block t x.at (λ p. bytes_at p (block_size (size type))) (id⊢ 𝓤 (never 𝓤)) (λ b o at.
+      use1 𝓛 (‵ (froom type b o) ⊛ ‵ (block_token type (block_ptr b o)))
+      (for_value 𝓛 type b o short (subst (λ (k : ℕ). k ≤ block_size k) same told.1)) $
+      some b o (ap only is ∙ ap (λ (p : Ptr). live 1 (vcons (block_val p) vnil)) at)))

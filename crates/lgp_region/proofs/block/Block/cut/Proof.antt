@@ -11,13 +11,14 @@ use denote.RattleType.{owns}
 use denote.RawPtr.{Ptr, block_ptr, in_a_block}
 use denote.Signature.{plain, types_at}
 use denote.Steps.{nothing, heard}
-use denote.Struct.Tuple.{Tuple}
+use denote.Struct.Rest.{own_shut}
+use denote.Struct.Tuple.{Tuple, tuple_type}
 use denote.Triple.Entry.{alive}
 use denote.Triple.Walked.{Stays, stay_dropped, walk_of, Goes-dropped}
-use mir.Val.{Val, vint, vptr}
+use mir.Val.{Val, vint, vptr, vstruct, vcons, vnil}
 use prog.Wp.{WpFn}
 use types.ByLocal.{alloc_all, pass_all, free_all, look_at, get, get_in, sets, sets_last, is, env}
-use types.Kit.{‵, raw, ◌⊛◌, prop, at_ret, ◌$◌, ◌∵◌, !, qed, by, move, drop, use0, use1, use2, split, join, regoal, fsplit, fjoin}
+use types.Kit.{‵, raw, ◌⊛◌, prop, at_ret, ◌$◌, ◌∵◌, !, qed, by, move, drop, use0, use1, split, join, regoal, fsplit, fjoin}
 use types.Part.{whole, sub, agg}
 use types.Run.{enter, of_opd, bin, stop, fld, no_more, and_then, first, blocks, exec, returns}
 use Rattle.lgp_region.specs.Room.{bytes_at}
@@ -25,7 +26,8 @@ use Rattle.lgp_region.specs.contracts.block.Block as block
 use Rattle.lgp_region.specs.contracts.block.Block.cut as f
 use Rattle.lgp_region.proofs.block.Block.cut.Statement.{statement}
 use Rattle.lgp_region.proofs.block.Block.cut.Code as code
-use Rattle.lgp_region.proofs.BlockValue.{block_val, field_owns, field_tells, field_made, pair_val, pair_made}
+use Rattle.lgp_region.proofs.BlockValue.{block_val, block_laws, block_at, block_made}
+use Rattle.lgp_region.proofs.block.Block.TheLaws.{the_told}
 use Rattle.lgp_region.proofs.UnitLemmas.{bytes_cut}
 
 abbrev stayed : Stays f.ended.signature.params f.ended.kept
@@ -46,10 +48,10 @@ cut_spec 𝓤 𝓛 𝓜 𝓡 wired =
     -- only the bytes are left of what is owned
     split ! $ move ! (1 ∷ []) $ fsplit ! $ fsplit ! $ drop ! $ move ! (1 ∷ []) $ drop ! $
     in_a_block ! x.at (λ p. bytes_at p all) (id⊢ 𝓤 (never 𝓤)) (λ b o at.
-    let here : Ptr = block_ptr b o in let there : Ptr = block_ptr b (o + n) in
+    let here : Ptr = block_ptr b o in let there : Ptr = block_ptr b (o + n) in let pair : Val = vstruct (vcons (block_val here) (vcons (block_val there) vnil)) in
     use1 𝓛 (‵ (bytes_at here n) ⊛ ‵ (bytes_at there (all - n))) (bytes_cut 𝓛 b o n all units within) $ split ! $
     regoal ! (λ (us : List Val). prop (WpFn 𝓤 𝓛.H 𝓣.C 𝓣.Λ code.function us Post))
-    (λ i. (field_tells x.at vss.0 are.0.0 ∙ ap (λ (p : Ptr). block_val p ∷ []) at) i ++ (are.1.0.0 i ++ [])) refl $
+    (λ i. (the_told.tells x vss.0 are.0 ∙ ap (λ (p : Ptr). block_val p ∷ []) at) i ++ (are.1.0.0 i ++ [])) refl $
     enter ! 𝓣.C 𝓣.Λ code.function (block_val here ∷ vint w64 n ∷ []) Post $
     alloc_all ! (λ l. pass_all ! refl ((tt, (tt, tt)), ((tt, record { fits = are.1.0.1 }), tt)) $
     sets ! (of_opd ! (get_in ! (fld ! refl (stop !)) (sub ! 0 refl (whole !)))) refl (tt, tt) $
@@ -63,11 +65,10 @@ cut_spec 𝓤 𝓛 𝓜 𝓡 wired =
     returns ! (look_at ! 0 refl) $ free_all ! refl $
     -- [the first bytes; those behind them; the tokens]
     let front : (block.the_row).Denot = record { at = here; size = n } in let behind : (block.the_row).Denot = record { at = there; size = all - n } in
-    use0 𝓛 (‵ (field_owns here (block_val here ∷ []))) (field_made 𝓛 here) $ fjoin ! $ move ! (1 ∷ []) $
-    use0 𝓛 (‵ (field_owns there (block_val there ∷ []))) (field_made 𝓛 there) $ fjoin ! $ move ! (1 ∷ 0 ∷ []) $
-    use2 𝓛 (‵ ((Tuple (block.the_row ∷ block.the_row ∷ [])).own_val (front, behind) (pair_val (block_val here) (block_val there) ∷ [])))
-    (pair_made 𝓛 block.the_row block.the_row front behind (block_val here) (block_val there)) $
+    use1 𝓛 (‵ (block_at here n)) (block_made 𝓛 here n) $ move ! (1 ∷ []) $ use1 𝓛 (‵ (block_at there (all - n))) (block_made 𝓛 there (all - n)) $
+    nothing ! $ move ! (1 ∷ 0 ∷ []) $ fjoin ! $ move ! (1 ∷ 0 ∷ []) $ fjoin ! $
+    use1 𝓛 (‵ ((Tuple (block.the_row ∷ block.the_row ∷ [])).own_val (front, behind) (pair ∷ []))) (own_shut 𝓛 (tuple_type (block.the_row ∷ block.the_row ∷ [])) (block_laws, (block_laws, tt)) (front, (behind, tt))) $
     use0 𝓛 (raw (fact 𝓤 (all - n ≡ all - n))) (fact_i 𝓤 (all - n ≡ all - n) (emp 𝓤) refl) $
     use0 𝓛 (raw (fact 𝓤 (n ≡ n))) (fact_i 𝓤 (n ≡ n) (emp 𝓤) refl) $ join ! $
     nothing ! $ nothing ! $ fjoin ! $ nothing ! $ fjoin ! $ move ! (3 ∷ 0 ∷ 2 ∷ 1 ∷ []) $
-    by ! (leaves 𝓛 f.ended stayed c z (pair_val (block_val here) (block_val there)) (front, behind) (tt, (tt, tt)) (tt, (tt, tt))))))))
+    by ! (leaves 𝓛 f.ended stayed c z pair (front, behind) (tt, (tt, tt)) (tt, (tt, tt))))))))

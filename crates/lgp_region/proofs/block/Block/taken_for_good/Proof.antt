@@ -33,8 +33,8 @@ use Rattle.lgp_region.specs.contracts.block.Block as block
 use Rattle.lgp_region.specs.contracts.block.Block.taken_for_good as f
 use Rattle.lgp_region.proofs.block.Block.taken_for_good.Statement.{statement}
 use Rattle.lgp_region.proofs.block.Block.taken_for_good.Code as code
-use Rattle.lgp_region.proofs.BlockValue.{block_val, field_owns, field_made}
-use Rattle.lgp_region.proofs.OptionValues.{some_made, none_made}
+use Rattle.lgp_region.proofs.BlockValue.{block_val, block_at, block_made}
+use Rattle.std.proofs.option.Made.{Some-of, none_of}
 use Rattle.lgp_region.proofs.StepLemmas.{then_runs}
 
 pub taken_for_good_spec : {M : Type 1} → statement M
@@ -79,8 +79,8 @@ taken_for_good_spec 𝓤 𝓛 𝓜 𝓡 wired A laws g d drops met _ =
     exec ! 𝓣.C 𝓣.Λ (env fn.locals l) (after 2 fn.body) (at_ret (env fn.locals l) Post) $
     sets ! (of_opd ! (get ! refl)) refl (tt, (record { fits = lit< tt }, ((tt, tt), tt))) $
     returns ! (look_at ! 0 refl) $ free_all ! refl $
-    use0 𝓛 (‵ (field_owns p (block_val p ∷ []))) (field_made 𝓛 p) $ fjoin ! $
-    use1 𝓛 (‵ (Out.own_val (Some x) (u ∷ []))) (some_made 𝓛 block.the_row x (block_val p)) $
+    use1 𝓛 (‵ (block_at p n)) (block_made 𝓛 p n) $
+    use1 𝓛 (‵ (Out.own_val (Some x) (u ∷ []))) (Some-of 𝓛 block.the_row x (block_val p)) $
     use0 𝓛 (raw (fact 𝓤 (n ≡ n))) (fact_i 𝓤 (n ≡ n) (emp 𝓤) refl) $ nothing ! $ nothing ! $ fjoin ! $ nothing ! $ fjoin ! $ move ! (3 ∷ 0 ∷ 2 ∷ 1 ∷ []) $
     by ! (leaves 𝓛 En stays c z u (Some x) (tt, (tt, tt)) (tt, (tt, tt))))
     (λ is. join ! $ lands_as ! is refl (tt, (record { fits = lit< tt }, (tt, tt))) $
@@ -90,6 +90,6 @@ taken_for_good_spec 𝓤 𝓛 𝓜 𝓡 wired A laws g d drops met _ =
     exec ! 𝓣.C 𝓣.Λ (env fn.locals l) (after 2 fn.body) (at_ret (env fn.locals l) Post) $
     sets ! (of_opd ! (get ! refl)) refl (tt, (record { fits = lit< tt }, tt)) $
     returns ! (look_at ! 0 refl) $ free_all ! refl $
-    use0 𝓛 (‵ (Out.own_val None (live 0 vnil ∷ []))) (none_made 𝓛 block.the_row) $
+    use0 𝓛 (‵ (Out.own_val None (live 0 vnil ∷ []))) (none_of 𝓛 block.the_row) $
     use0 𝓛 (raw (fact 𝓤 (Unit {0}))) (fact_i 𝓤 (Unit {0}) (emp 𝓤) tt) $ nothing ! $ nothing ! $ fjoin ! $ nothing ! $ fjoin ! $ move ! (3 ∷ 0 ∷ 2 ∷ 1 ∷ []) $
     by ! (leaves 𝓛 En stays c z (live 0 vnil) None (tt, (tt, tt)) (tt, (tt, tt))))))))))

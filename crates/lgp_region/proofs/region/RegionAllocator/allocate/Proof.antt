@@ -4,7 +4,6 @@ use Rattle.std.proofs.alloc.Calls.{Answer, answer_val, Answer-Ok, Answer-err}
 use Rattle.std.proofs.alloc.Shapes.{after, head, arm_body}
 use Rattle.std.proofs.raw_atomic.Walks.{proved_at, leaves}
 use base.Logic.{SProp, ent, id⊢}
-use base.Fml.{froom}
 use contract.Monad.{fact}
 use contract.Running.{tables}
 use denote.Builtin.{RefOf, usize}
@@ -27,7 +26,6 @@ use types.Kit.{‵, raw, ◌⊛◌, some, later, prop, at_ret, ◌$◌, ◌∵�
 use types.Match.{vrt, in_variant}
 use types.Part.{whole, sub, agg}
 use types.Run.{enter, lit, of_opd, stop, fld, no_more, and_then, first, switches_on, exec, returns}
-use Rattle.lgp_region.specs.Room.{block_token}
 use Rattle.lgp_region.specs.contracts.region.Region as region
 use Rattle.lgp_region.specs.contracts.region.Region.take as callee
 use Rattle.lgp_region.specs.contracts.region.Region.take.Key as take_key
@@ -36,7 +34,7 @@ use Rattle.lgp_region.specs.contracts.region.RegionAllocator.allocate as f
 use Rattle.lgp_region.proofs.region.RegionAllocator.allocate.Statement.{statement}
 use Rattle.lgp_region.proofs.region.RegionAllocator.allocate.Code as code
 use Rattle.lgp_region.proofs.StepLemmas.{then_runs}
-use Rattle.lgp_region.proofs.TakenBlock.{Answered, IsFor, answered, is_room}
+use Rattle.lgp_region.proofs.TakenBlock.{Answered, IsFor, taken}
 
 abbrev self : Slot 1
 self = RefOf (0 ∷ []) tt (plain (λ _. region.the_row)) (λ _. tt)
@@ -74,9 +72,8 @@ allocate_spec 𝓤 𝓛 𝓜 𝓡 wired =
     use1 𝓛 (later (some (λ (answer : Answered.Denot). (raw (alive 𝓛 f.signature z.0.0 z.0.1) ⊛ ‵ (Answered.own_val answer (v ∷ []))) ⊛
     some (λ (ls : Lasts callee.ended z.0.0 a). ‵ (lasts callee.ended z.0.0 a ls) ⊛ raw (fact 𝓤 (IsFor n alignment answer)))))) (id⊢ 𝓤 (Take.post y v)) $
     await ! tt $ pick ! (λ answer. split ! $ move ! (1 ∷ []) $ pick ! (λ _. split ! $ drop ! $ heard ! (IsFor n alignment answer) (λ told. split ! $ move ! (1 ∷ []) $
-    answered ! n alignment answer v told
-    (λ b o fits below is. let p : Ptr = block_ptr b o in
-    use1 𝓛 (‵ (froom type b o) ⊛ ‵ (block_token type p)) (is_room 𝓛 type b o n asked.0 fits below) $
+    taken ! type n alignment answer v asked.0 told
+    (λ b o is. let p : Ptr = block_ptr b o in
     lands_as ! is refl (tt, (record { fits = lit< tt }, ((tt, tt), tt))) $
     first ! $ switches_on ! (get_tag ! (vrt ! refl (fld ! refl (stop !))) (whole !)) $
     exec ! 𝓣.C 𝓣.Λ (env code.function.locals l) (arm_body 0 (head (after 1 code.function.body))) (then_runs 𝓛 𝓣.C 𝓣.Λ (env code.function.locals l) (after 2 code.function.body) (at_ret (env code.function.locals l) Post)) $

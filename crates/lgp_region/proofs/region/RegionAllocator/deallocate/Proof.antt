@@ -34,7 +34,7 @@ use Rattle.lgp_region.proofs.region.Region.keep.Met.{met as keeps}
 use Rattle.lgp_region.specs.contracts.region.RegionAllocator.deallocate as f
 use Rattle.lgp_region.proofs.region.RegionAllocator.deallocate.Statement.{statement}
 use Rattle.lgp_region.proofs.region.RegionAllocator.deallocate.Code as code
-use Rattle.lgp_region.proofs.BlockValue.{block_val, field_owns, field_made}
+use Rattle.lgp_region.proofs.BlockValue.{block_val, block_at, block_made}
 
 abbrev self : Slot 1
 self = RefOf (0 ∷ []) tt (plain (λ _. region.the_row)) (λ _. tt)
@@ -82,7 +82,7 @@ deallocate_spec 𝓤 𝓛 𝓜 𝓡 wired =
     let x : (block.the_row).Denot = record { at = p; size = all } in
     let y : Keep.Ghost = ((z.0.0, z.0.1, z.0.2, (a.0, (x, (n, tt))), (me ∷ [], (block_val p ∷ [], (vint w64 n ∷ [], tt)))), tt) in
     nothing ! $ flt_i ! n (2 ^ 64) are.1.1.0.1 $ feq_i ! (List Val) (vint w64 n ∷ []) (vint w64 n ∷ []) refl $ fjoin ! $ fjoin ! $ move ! (1 ∷ []) $
-    use0 𝓛 (‵ (field_owns p (block_val p ∷ []))) (field_made 𝓛 p) $ fjoin ! $ fjoin ! $ move ! (1 ∷ []) $
+    use1 𝓛 (‵ (block_at p all)) (block_made 𝓛 p all) $ fjoin ! $ move ! (1 ∷ []) $
     feq_i ! (List Val) (me ∷ []) (me ∷ []) refl $ fjoin ! $ fjoin ! $ move ! (1 ∷ 0 ∷ []) $ join ! $
     use0 𝓛 (raw (fact 𝓤 (all ≡ block_size n))) (fact_i 𝓤 (all ≡ block_size n) (emp 𝓤) (ap block_size same)) $ move ! (1 ∷ 0 ∷ []) $ join ! $
     use1 𝓛 (raw (Keep.pre y)) (id⊢ 𝓤 _) $
