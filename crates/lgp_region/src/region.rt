@@ -38,7 +38,8 @@ impl Region {
 
     /// A block for a request, if there is one.
     fn take(&self, size: usize, align: usize) -> Option<Block>
-        ensures { IfSome result (λ block. (block.size ≡ block_size size) × (size ≤ block_size size) × (size < 2 ^ 63) × (align ≤ 16)) }
+        ensures { IfSome result (λ block. (block.size ≡ block_size size)
+            × (size ≤ block_size size) × (size < 2 ^ 63) × (align ≤ 16)) }
     {
         let shelf = shelf(size);
         if align > 16 || shelf >= SHELVES {
