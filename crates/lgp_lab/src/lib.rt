@@ -9,8 +9,8 @@ pub use lgp_task::{FileName, FileNames, Task, TaskFault, task_of};
 pub use limits::READS;
 pub use script::{batch_part, run_script};
 pub use tasks::{
-    FileFault, Folder, Job, NotOpened, WordFault, obey, perform, refuse, refuse_unread, run_batch,
-    status_of, work, work_on_file,
+    FileFault, Folder, Job, NotOpened, WordFault, obey, perform, refuse, refuse_unread,
+    refuse_words, run_batch, status_of, work, work_on_file,
 };
 
 mod command;

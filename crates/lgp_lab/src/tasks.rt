@@ -297,8 +297,9 @@ pub fn refuse_unread<M: Sink>(messages: &mut M) -> u8
     )
 }
 
-/// Tells why the words of the command line are not there; answers the program's status.
-fn refuse_words<M: Sink>(fault: WordFault, messages: &mut M) -> u8
+/// Tells why the words of the command line are not there: on the messages that they are no text, and for want of memory nothing;
+/// answers the program's status.
+pub fn refuse_words<M: Sink>(fault: WordFault, messages: &mut M) -> u8
     requires messages { M.failed messages.old ≡ false }
     ensures { (kept : Option (List ℕ)) → IsUnread fault result kept kept
         (M.contents messages.old) (M.contents messages.new) }

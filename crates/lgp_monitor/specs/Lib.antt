@@ -2,3 +2,4 @@ pub mod Verbs
 pub mod Typed
 pub mod Monitor
 pub mod Running
+pub mod Sessions

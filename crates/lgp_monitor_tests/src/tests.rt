@@ -1,6 +1,8 @@
 //! Typed lines and what is written for them. A helper without clauses stands around each call, and a test is a table of texts with what
 //! is written for each.
 
+mod sessions;
+
 use lgp_lab::{FeedOf, READS, SinkOf};
 use lgp_monitor::run_monitor;
 use lgp_stream::StreamFault;

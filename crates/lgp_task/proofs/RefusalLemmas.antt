@@ -1,9 +1,9 @@
--- The refusal for one fault is a refusal for any faults among which that one is; and what the command line is: simple.
+-- The refusal for one fault is a refusal for any faults among which that one is; and what the command lines are: simple.
 use Rattle.std.proofs.Common.{◌≡◌, ◌∷◌, [], inl, inr, ap, ◌∙◌, refl, sym, true}
 use Rattle.clap.specs.Words.{IsAmong, Kinds, is_simple, is_simple_and_free}
 use Rattle.clap.specs.declared.error.kind.ErrorKind.{ErrorKind}
 use Rattle.clap.proofs.OnLiterals.{clap_on_literals}
-use Rattle.lgp_task.specs.CommandLine.{command_line}
+use Rattle.lgp_task.specs.CommandLine.{command_line, monitor_line}
 use Rattle.lgp_task.specs.Task.{IsRefusalOf, is_request}
 use Rattle.lgp_task.specs.declared.task.TaskFault.{TaskFault}
 use Rattle.lgp_task.specs.declared.task.TaskFault.TheVariants.{Usage, Help, Memory}
@@ -28,3 +28,7 @@ line-simple = refl
 pub line-free : is_simple_and_free command_line ≡ true
 unfolding command_line clap_on_literals
 line-free = refl
+
+pub monitor-free : is_simple_and_free monitor_line ≡ true
+unfolding monitor_line clap_on_literals
+monitor-free = refl

@@ -47,3 +47,7 @@ command_line =
     with_subcommand (with_subcommand (with_subcommand (with_subcommand (with_subcommand
     bare_line
     asm_command.top) tape_command.top) run_command.top) script_command.top) batch_command.top
+
+-- the monitor's command line: `lgp_monitor`, which knows its version and takes no words
+unfoldable pub monitor_line : App
+monitor_line = record { top = record (new_app (codes "lgp_monitor")).top { has_version = true }; subs = [] }

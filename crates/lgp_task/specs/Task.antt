@@ -4,7 +4,7 @@ use Rattle.std.specs.Option.{option_map_or}
 use Rattle.std.specs.Str.{bytes_eq}
 use Rattle.std.specs.Str.Parse.{digits_value, without_leading_plus}
 use Rattle.clap.specs.ValueTests.{is_unsigned_in}
-use Rattle.clap.specs.Words.{IsAmong, Kinds, Row, Text, all_of, fault_of, first_of, one_of, subcommand_of, takes}
+use Rattle.clap.specs.Words.{App, IsAmong, Kinds, Row, Text, all_of, fault_of, first_of, one_of, subcommand_of, takes}
 use Rattle.clap.specs.declared.error.kind.ErrorKind.{ErrorKind}
 use Rattle.clap.specs.declared.error.kind.ErrorKind.TheVariants.{DisplayHelp, DisplayVersion}
 use Rattle.lgp_task.specs.CommandLine.{command_line}
@@ -61,5 +61,8 @@ abbrev pub task_for : {A : Type 0} → List Text → Task A
 task_for typed = task_in (subcommand_of command_line typed)
 
 -- a refusal that the faults of these words allow; where the command line takes them, it is for want of memory
+abbrev pub IsFaultOn : {A : Type 0} → App → List Text → TaskFault A → Type 0
+IsFaultOn line typed fault = IsRefusalOf (fault_of line typed) fault × (takes line typed ≡ true → fault ≡ Memory)
+
 abbrev pub IsFaultOf : {A : Type 0} → List Text → TaskFault A → Type 0
-IsFaultOf typed fault = IsRefusalOf (fault_of command_line typed) fault × (takes command_line typed ≡ true → fault ≡ Memory)
+IsFaultOf typed fault = IsFaultOn command_line typed fault

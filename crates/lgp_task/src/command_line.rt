@@ -3,7 +3,7 @@
 ghost use Rattle.std.specs.Prelude.{◌≡◌, IfOk, false};
 ghost use Rattle.clap.specs.Words.{app_of, new_app, rule_of, with_rule, with_subcommand};
 ghost use Rattle.clap.specs.declared.builder.command.Command.TheViews.{out-Command as fields_of};
-ghost use Rattle.lgp_task.specs.CommandLine.{asm_command, bare_line, batch_command, command_line, file_rule, files_rule, limit_rule, run_command, script_command, tape_command};
+ghost use Rattle.lgp_task.specs.CommandLine.{asm_command, bare_line, batch_command, command_line, file_rule, files_rule, limit_rule, monitor_line, run_command, script_command, tape_command};
 
 use clap::{Arg, Command, value_parser};
 use std::alloc::{AllocError, Global};
@@ -193,4 +193,20 @@ pub(crate) fn command_line<'a>(global: Global) -> Result<Command<'a>, AllocError
     let line = with_command(line, run_command(global)?)?;
     let line = with_command(line, script_command(global)?)?;
     with_command(line, batch_command(global)?)
+}
+
+/// `lgp_monitor`, which knows its version.
+#[tactic(auto, unfolding(crate::specs::CommandLine::monitor_line))]
+pub(crate) fn monitor_line<'a>(global: Global) -> Result<Command<'a>, AllocError>
+    ensures { IfOk result (λ line. app_of line ≡ monitor_line) }
+{
+    let line = command(
+        global,
+        "lgp_monitor",
+        "A monitor for the LGP-30: work the machine line by line",
+        "A monitor for the LGP-30, a drum computer of 1956: it reads lines from standard input, does \
+         what each of them asks for, and writes its reply. The line help lists the commands.",
+        "Example: answer the lines in session.txt.\n  lgp_monitor < session.txt",
+    );
+    line.version(VERSION).bin_name("lgp_monitor")
 }

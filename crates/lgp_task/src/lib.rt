@@ -3,7 +3,9 @@
 
 mod command_line;
 mod files;
+mod session;
 mod task;
 
 pub use files::{FileName, FileNames};
+pub use session::ask_for_session;
 pub use task::{Task, TaskFault, task_of};

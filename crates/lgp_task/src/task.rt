@@ -121,7 +121,7 @@ fn matched_task<A: Allocator + Copy>(
 }
 
 /// The refusal of words for a fault that `clap` found in them.
-fn refusal<A: Allocator>(alloc: A, fault: &Error) -> TaskFault<A>
+pub(crate) fn refusal<A: Allocator>(alloc: A, fault: &Error) -> TaskFault<A>
     ensures memory { kind_of fault.now ≡ OutOfMemory → result ≡ TaskFault.Memory }
     ensures cause { IsRefusalOf (kind_of fault.now ∷ []) result }
 {

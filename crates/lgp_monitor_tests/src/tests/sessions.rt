@@ -1,0 +1,102 @@
+//! What the monitor's program does with the words of its command line.
+
+use lgp_lab::{FeedOf, READS, SinkOf, WordFault};
+use lgp_monitor::obey_session;
+use std::alloc::{AllocError, Global};
+use std::process::Abort;
+
+/// Words as the runtime gives them.
+fn words_of(alloc: Global, typed: &[&str]) -> Result<Vec<String>, AllocError> {
+    let mut words = Vec::new(alloc);
+    for word in typed {
+        words.push(String::from_str(alloc, word)?)?;
+    }
+    Ok(words)
+}
+
+/// The status for words, where standard input is a line that puts a word and one that is no command.
+fn status_for(
+    alloc: Global,
+    words: Result<&[String], WordFault>,
+    output: &mut Vec<u8>,
+    messages: &mut Vec<u8>,
+) -> u8 {
+    let mut input = FeedOf::new(b"put 0000 = 1\nbar".as_slice(), READS);
+    let mut output = SinkOf::new(output);
+    let mut messages = SinkOf::new(messages);
+    obey_session(alloc, alloc, words, &mut input, &mut output, &mut messages)
+}
+
+/// The status for words that are typed.
+fn status_typed(
+    alloc: Global,
+    typed: &[&str],
+    output: &mut Vec<u8>,
+    messages: &mut Vec<u8>,
+) -> Option<u8> {
+    match words_of(alloc, typed) {
+        Ok(words) => Some(status_for(alloc, Ok(&words), output, messages)),
+        Err(_) => None,
+    }
+}
+
+/// Whether anything is written to the output and to the messages, and the status.
+fn told_for(alloc: Global, typed: &[&str]) -> (bool, bool, Option<u8>) {
+    let mut output = Vec::new(alloc);
+    let mut messages = Vec::new(alloc);
+    let status = status_typed(alloc, typed, &mut output, &mut messages);
+    (!output.is_empty(), !messages.is_empty(), status)
+}
+
+#[test]
+fn help_is_no_message_and_a_mistake_is_one(rt: HostRuntime) {
+    let alloc = rt.alloc();
+    let told = [
+        told_for(alloc, &["lgp_monitor"]),
+        told_for(alloc, &["lgp_monitor", "--help"]),
+        told_for(alloc, &["lgp_monitor", "--version"]),
+        told_for(alloc, &["lgp_monitor", "session.txt"]),
+        told_for(alloc, &["lgp_monitor", "--bare"]),
+    ];
+    let held = (true, false, Some(1));
+    let help = (true, false, Some(0));
+    let mistake = (false, true, Some(64));
+    assert_eq!(rt; told, [held, help, help, mistake, mistake]);
+}
+
+/// Expects what is written for a session and for the version.
+fn expect_output(rt: &impl Abort, alloc: Global, typed: &[&str], wanted: (&[u8], u8)) {
+    let mut output = Vec::new(alloc);
+    let mut messages = Vec::new(alloc);
+    let status = status_typed(alloc, typed, &mut output, &mut messages);
+    assert_eq!(rt; (output.as_slice(), status), (wanted.0, Some(wanted.1)));
+}
+
+/// What is written for the lines on standard input.
+const HELD: &[u8] = b"ok\n? 1 Form: there is no such command, help lists them\n";
+
+#[test]
+fn a_session_is_held(rt: HostRuntime) {
+    expect_output(&rt, rt.alloc(), &["lgp_monitor"], (HELD, 1));
+    let version = b"lgp_monitor 0.1.0\n";
+    expect_output(&rt, rt.alloc(), &["lgp_monitor", "--version"], (version, 0));
+}
+
+/// What is told of words that are not there, whether there is no output, and the status.
+fn expect_unread(rt: &impl Abort, alloc: Global, fault: WordFault, wanted: (&[u8], u8)) {
+    let mut output = Vec::new(alloc);
+    let mut messages = Vec::new(alloc);
+    let status = status_for(alloc, Err(fault), &mut output, &mut messages);
+    let silent = output.is_empty();
+    assert_eq!(rt;
+        (messages.as_slice(), silent, status),
+        (wanted.0, true, wanted.1)
+    );
+}
+
+#[test]
+fn words_that_are_not_there_are_told_of(rt: HostRuntime) {
+    let unread = b"error: the words of the command line are not UTF-8 text\n";
+    expect_unread(&rt, rt.alloc(), WordFault::NotText, (unread, 64));
+    expect_unread(&rt, rt.alloc(), WordFault::Memory, (b"", 3));
+}

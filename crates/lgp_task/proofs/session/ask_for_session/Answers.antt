@@ -1,0 +1,28 @@
+-- Words without a fault ask for a session; a refusal is one for memory or has its fault among those of the words.
+use Rattle.std.proofs.Common.{◌≡◌, ◌∙◌, ap, subst, sym, inl, inr, []}
+use Rattle.std.specs.Prelude.{List, map}
+use Rattle.std.specs.String.{string_bytes}
+use Rattle.clap.specs.Words.{App, IsAmong, Text, fault_of, is_simple_and_free, kind_of}
+use Rattle.lgp_task.specs.CommandLine.{monitor_line}
+use Rattle.lgp_task.specs.Task.{IsRefusalOf}
+use Rattle.lgp_task.specs.declared.task.TaskFault.{TaskFault}
+use Rattle.lgp_task.proofs.RefusalLemmas.{monitor-free, refusal-among}
+use Rattle.lgp_task.proofs.session.ask_for_session.Goals as goal
+
+pub returns-in-Ok-clause-asked : goal.returns-in-Ok-clause-asked
+returns-in-Ok-clause-asked g c =
+    let words : List Text = map string_bytes c.args.words.now in
+    let Faultless : App → Type 0 = λ line. fault_of line words ≡ [] in
+    subst Faultless c.in_ok-line.ensures (c.in-Ok.ensures.kinds (ap is_simple_and_free c.in_ok-line.ensures ∙ monitor-free))
+
+pub returns-in-Err-clause-cause : goal.returns-in-Err-clause-cause
+returns-in-Err-clause-cause g c =
+    let words : List Text = map string_bytes c.args.words.now in
+    let kinds = fault_of monitor_line words in
+    let kind = kind_of c.in-Err.fault in
+    let Refuses : TaskFault g.row.A.Denot → Type 0 = λ fault. IsRefusalOf kinds fault in
+    let Among : App → Type 0 = λ line. IsAmong kind (fault_of line words) in
+    elim (c.in-Err.ensures.kinds (ap is_simple_and_free c.in_ok-line.ensures ∙ monitor-free)) [
+      | inl memory ↦ subst Refuses (sym (c.refusal.ensures.memory memory)) tt
+      | inr among ↦ refusal-among c.refusal.result kind kinds (subst Among c.in_ok-line.ensures among) c.refusal.ensures.cause
+    ]
