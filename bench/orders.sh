@@ -1,6 +1,6 @@
 #!/bin/sh
-# Instructions an order, as callgrind counts them, of the program on two loops, by the script commands `orders` and `run`: 120,001
-# orders less 20,001, so that starting and ending do not count. Where SIMH's LGP-30 is installed (Debian package simh,
+# Instructions an order, as callgrind counts them, of the program on two loops, by the script commands `orders` and `run`, and of the
+# monitor by `run`: 120,001 orders less 20,001, so that starting and ending do not count. Where SIMH's LGP-30 is installed (Debian package simh,
 # program lgp), it runs the same loops in the same way. Needs valgrind. Nothing of this is part of the check.
 set -eu
 top=$(cd "$(dirname "$0")/.." && pwd)
@@ -78,21 +78,30 @@ simh_script() {
     echo "exit"
 }
 
+# The instructions an order of a program, by a command, on the loop whose scripts lie in the folder.
+counted() {
+    a=$(instructions "$work/$2-$short" "$top/crates/$1/out/$1")
+    b=$(instructions "$work/$2-$long" "$top/crates/$1/out/$1")
+    tail -n 1 "$work/output" | grep -q " $long " || { echo "the loop ended" >&2; exit 1; }
+    per_order "$a" "$b"
+}
+
 "$top/prove"
+"$top/prove" lgp30m
 for loop in small large; do
     eval "words=\$$loop"
-    for count in $short $long; do
+    for orders in $short $long; do
         for command in orders run; do
-            script "$words" "$command" "$count" >"$work/$command-$count"
+            script "$words" "$command" "$orders" >"$work/$command-$orders"
         done
-        simh_script "$words" "$count" >"$work/simh-$count"
+        simh_script "$words" "$orders" >"$work/simh-$orders"
     done
     for command in orders run; do
-        a=$(instructions "$work/$command-$short" "$top/crates/lgp30/out/lgp30")
-        b=$(instructions "$work/$command-$long" "$top/crates/lgp30/out/lgp30")
-        tail -n 1 "$work/output" | grep -q " $long " || { echo "the loop $loop ended" >&2; exit 1; }
-        echo "$loop: $(per_order "$a" "$b") instructions an order, by $command"
+        count=$(counted lgp30 $command)
+        echo "$loop: $count instructions an order, by $command"
     done
+    count=$(counted lgp30m run)
+    echo "$loop: $count by run in the monitor"
     if command -v lgp >/dev/null 2>&1; then
         a=$(instructions /dev/null lgp "$work/simh-$short")
         b=$(instructions /dev/null lgp "$work/simh-$long")
