@@ -4,6 +4,3 @@
 mod drum;
 
 pub use drum::Drum;
-
-#[cfg(test)]
-mod tests;
