@@ -6,6 +6,3 @@ mod latch;
 
 pub use desk::{act, is_live};
 pub use latch::Latch;
-
-#[cfg(test)]
-mod tests;

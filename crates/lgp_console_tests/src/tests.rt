@@ -1,0 +1,12 @@
+//! Each action where it is live and where it is dead, and the latch.
+
+mod desk;
+mod latch;
+
+use lgp_flexo::Code;
+use lgp_table::Action;
+
+/// The key of the code of that number, or of the conditional stop above all.
+fn key(number: u8) -> Action {
+    Action::Key(Code::new(number).unwrap_or(Code::STOP))
+}

@@ -1,0 +1,346 @@
+//! What each action does.
+
+use super::key;
+use lgp_console::{act, is_live};
+use lgp_reader::Reader;
+use lgp_table::{Action, Cause, Mode, Panel, Status, Switches, Which};
+use lgp_word::{Address, Word};
+use std::alloc::Global;
+
+const OPERATOR: Status = Status::Halted(Cause::Operator);
+
+const STOPPED: Status = Status::Halted(Cause::Stop);
+
+const STEPPED: Status = Status::Halted(Cause::Step);
+
+const MODES: [Mode; 3] = [Mode::Normal, Mode::OneOperation, Mode::Manual];
+
+const STATUSES: [Status; 8] = [
+    OPERATOR,
+    STOPPED,
+    Status::Halted(Cause::Overflow),
+    STEPPED,
+    Status::Waiting,
+    Status::Going,
+    Status::Executing,
+    Status::Reading,
+];
+
+/// Registers with something in each.
+fn panel(status: Status, mode: Mode) -> Panel {
+    Panel {
+        counter: Address::new(64).unwrap_or_default(),
+        accumulator: 0x8000_0013,
+        register: Word::of_bits(8),
+        status,
+        mode,
+        switches: Switches::default(),
+    }
+}
+
+/// What a press answers and leaves, and whether the reader, off before, is on.
+fn pressed(global: Global, before: &Panel, action: Action) -> (bool, Panel, bool) {
+    let mut reader = Reader::new(global);
+    let mut panel = *before;
+    let live = act(&mut panel, &mut reader, action);
+    (live, panel, reader.is_on())
+}
+
+/// Whether an action would be live.
+fn would_be_live(before: &Panel, action: &Action) -> bool {
+    is_live(before, action)
+}
+
+/// Whether a press is live, leaves these registers and leaves the reader off.
+fn leaves(global: Global, before: &Panel, action: Action, wanted: &Panel) -> bool {
+    let (live, after, on) = pressed(global, before, action);
+    live && after == *wanted && !on
+}
+
+/// Where an action is live: where the machine has halted in the three modes, where it waits, and at work.
+#[derive(Clone, Copy)]
+struct Living {
+    halted: [bool; 3],
+    waiting: bool,
+    at_work: bool,
+}
+
+const ALWAYS: Living = Living {
+    halted: [true; 3],
+    waiting: true,
+    at_work: true,
+};
+
+const HALTED: Living = Living {
+    halted: [true; 3],
+    waiting: false,
+    at_work: false,
+};
+
+const TAKING_CODES: Living = Living {
+    halted: [false, false, true],
+    waiting: true,
+    at_work: false,
+};
+
+const WAITING: Living = Living {
+    halted: [false; 3],
+    waiting: true,
+    at_work: false,
+};
+
+const NEVER: Living = Living {
+    halted: [false; 3],
+    waiting: false,
+    at_work: false,
+};
+
+/// Whether an action is live at a status and in the mode of this number.
+fn told(living: Living, status: Status, mode: usize) -> bool {
+    match status {
+        Status::Halted(_) => living.halted[mode % 3],
+        Status::Waiting => living.waiting,
+        Status::Going | Status::Executing | Status::Reading => living.at_work,
+    }
+}
+
+/// Whether an action is live or dead as told, both before it is pressed and then, and changes nothing where it is dead.
+fn lives(global: Global, before: &Panel, action: &Action, live: bool) -> bool {
+    let (answer, after, on) = pressed(global, before, *action);
+    answer == live && would_be_live(before, action) == live && (live || (after == *before && !on))
+}
+
+/// The first status and mode where an action is not live or dead as told.
+fn first_untold(global: Global, action: Action, living: Living) -> Option<(Status, Mode)> {
+    for (number, mode) in MODES.into_iter().enumerate() {
+        for status in STATUSES {
+            let live = told(living, status, number);
+            if !lives(global, &panel(status, mode), &action, live) {
+                return Some((status, mode));
+            }
+        }
+    }
+    None
+}
+
+/// Each action, and where it is live.
+fn table() -> [(Action, Living); 15] {
+    let start = Living {
+        halted: [true, true, false],
+        ..NEVER
+    };
+    let execute = Living {
+        halted: [false, true, false],
+        ..NEVER
+    };
+    [
+        (Action::Mode(Mode::Normal), ALWAYS),
+        (Action::Mode(Mode::OneOperation), ALWAYS),
+        (Action::Mode(Mode::Manual), ALWAYS),
+        (Action::Start, start),
+        (Action::ClearCounter, HALTED),
+        (Action::Fill, HALTED),
+        (Action::Execute, execute),
+        (key(6), TAKING_CODES),
+        (key(32), WAITING),
+        (key(16), NEVER),
+        (Action::StartCompute, WAITING),
+        (Action::StartRead, TAKING_CODES),
+        (Action::BreakPoint(Which::B8, true), ALWAYS),
+        (Action::Transfer(true), ALWAYS),
+        (Action::SixBit(true), ALWAYS),
+    ]
+}
+
+#[test]
+fn actions_are_live_by_the_table(rt: HostRuntime) {
+    for (place, (action, living)) in table().into_iter().enumerate() {
+        assert_eq!(rt;
+            first_untold(rt.alloc(), action, living),
+            None,
+            "of action {place}"
+        );
+    }
+}
+
+/// A status in Normal, and the ones after the three mode buttons.
+const BUTTONS: [(Status, [Status; 3]); 5] = [
+    (STOPPED, [STOPPED; 3]),
+    (Status::Going, [Status::Going, OPERATOR, OPERATOR]),
+    (
+        Status::Executing,
+        [Status::Executing, Status::Executing, OPERATOR],
+    ),
+    (
+        Status::Waiting,
+        [Status::Waiting, Status::Waiting, OPERATOR],
+    ),
+    (
+        Status::Reading,
+        [Status::Reading, Status::Reading, OPERATOR],
+    ),
+];
+
+/// Whether a mode button sets the mode, and nothing else but this status.
+fn sets_mode(global: Global, before: Status, mode: Mode, left: Status) -> bool {
+    let wanted = panel(left, mode);
+    leaves(
+        global,
+        &panel(before, Mode::Normal),
+        Action::Mode(mode),
+        &wanted,
+    )
+}
+
+#[test]
+fn mode_buttons_set_the_mode(rt: HostRuntime) {
+    for (status, left) in BUTTONS {
+        for (mode, left) in MODES.into_iter().zip(left) {
+            assert!(rt;
+                sets_mode(rt.alloc(), status, mode, left),
+                "{status:?} {mode:?}"
+            );
+        }
+    }
+}
+
+/// What a machine that has halted in One Operation is to have after an action.
+fn halted_wanted(action: &Action) -> Panel {
+    let mut wanted = panel(STEPPED, Mode::OneOperation);
+    match *action {
+        Action::Start => wanted.status = Status::Going,
+        Action::ClearCounter => wanted.counter = Address::default(),
+        Action::Fill => wanted.register = Word::of_bits(0x8000_0012),
+        _ => wanted.status = Status::Executing,
+    }
+    wanted
+}
+
+/// Whether an action leaves that.
+fn halted_leaves(global: Global, action: &Action) -> bool {
+    let wanted = halted_wanted(action);
+    leaves(
+        global,
+        &panel(STEPPED, Mode::OneOperation),
+        *action,
+        &wanted,
+    )
+}
+
+#[test]
+fn halted_actions_act(rt: HostRuntime) {
+    let seen = [
+        halted_leaves(rt.alloc(), &Action::Start),
+        halted_leaves(rt.alloc(), &Action::ClearCounter),
+        halted_leaves(rt.alloc(), &Action::Fill),
+        halted_leaves(rt.alloc(), &Action::Execute),
+    ];
+    assert_eq!(rt; seen, [true; 4]);
+}
+
+/// Whether the key of code 6 changes the accumulator alone, and to this.
+fn enters(global: Global, status: Status, mode: Mode, six_bit: bool, accumulator: u32) -> bool {
+    let mut before = panel(status, mode);
+    before.switches.six_bit = six_bit;
+    let mut wanted = before;
+    wanted.accumulator = accumulator;
+    leaves(global, &before, key(6), &wanted)
+}
+
+#[test]
+fn keys_enter_where_codes_are_taken(rt: HostRuntime) {
+    let seen = [
+        enters(rt.alloc(), OPERATOR, Mode::Manual, false, 0x131),
+        enters(rt.alloc(), Status::Waiting, Mode::Normal, false, 0x131),
+        enters(rt.alloc(), Status::Waiting, Mode::Normal, true, 0x4c6),
+    ];
+    assert_eq!(rt; seen, [true; 3]);
+}
+
+/// Whether an action ends an input in a mode with this status, and changes nothing else.
+fn ends_input(global: Global, mode: Mode, action: Action, status: Status) -> bool {
+    let wanted = panel(status, mode);
+    leaves(global, &panel(Status::Waiting, mode), action, &wanted)
+}
+
+#[test]
+fn a_waiting_machine_goes_on(rt: HostRuntime) {
+    for (mode, status) in MODES.into_iter().zip([Status::Going, STEPPED, OPERATOR]) {
+        let seen = [
+            ends_input(rt.alloc(), mode, Action::StartCompute, status),
+            ends_input(rt.alloc(), mode, key(32), status),
+        ];
+        assert_eq!(rt; seen, [true; 2], "{mode:?}");
+    }
+}
+
+/// Whether the tape reader is switched on, and nothing else changes but the status.
+fn starts_reading(global: Global, status: Status, mode: Mode) -> bool {
+    let before = panel(status, mode);
+    let (live, after, on) = pressed(global, &before, Action::StartRead);
+    live && on && after == panel(Status::Reading, mode)
+}
+
+#[test]
+fn the_reader_is_started(rt: HostRuntime) {
+    let seen = [
+        starts_reading(rt.alloc(), Status::Waiting, Mode::Normal),
+        starts_reading(rt.alloc(), Status::Waiting, Mode::OneOperation),
+        starts_reading(rt.alloc(), Status::Waiting, Mode::Manual),
+        starts_reading(rt.alloc(), OPERATOR, Mode::Manual),
+    ];
+    assert_eq!(rt; seen, [true; 4]);
+}
+
+/// What sets a switch, or puts one up that is up already, and the switch that is down then.
+fn switches_table() -> [(Action, Switches); 7] {
+    let up = Switches::default();
+    [
+        (
+            Action::BreakPoint(Which::B32, true),
+            Switches { b32: true, ..up },
+        ),
+        (
+            Action::BreakPoint(Which::B16, true),
+            Switches { b16: true, ..up },
+        ),
+        (
+            Action::BreakPoint(Which::B8, true),
+            Switches { b8: true, ..up },
+        ),
+        (
+            Action::BreakPoint(Which::B4, true),
+            Switches { b4: true, ..up },
+        ),
+        (
+            Action::Transfer(true),
+            Switches {
+                transfer: true,
+                ..up
+            },
+        ),
+        (
+            Action::SixBit(true),
+            Switches {
+                six_bit: true,
+                ..up
+            },
+        ),
+        (Action::BreakPoint(Which::B4, false), up),
+    ]
+}
+
+/// Whether an action at work leaves these switches, and changes nothing else.
+fn sets(global: Global, action: Action, switches: Switches) -> bool {
+    let before = panel(Status::Going, Mode::Normal);
+    let mut wanted = before;
+    wanted.switches = switches;
+    leaves(global, &before, action, &wanted)
+}
+
+#[test]
+fn switches_are_set(rt: HostRuntime) {
+    for (action, switches) in switches_table() {
+        assert!(rt; sets(rt.alloc(), action, switches), "{switches:?}");
+    }
+}
