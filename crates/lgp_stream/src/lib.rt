@@ -11,6 +11,4 @@ mod feed;
 mod line;
 mod sink;
 mod stream;
-#[cfg(test)]
-mod tests;
 mod words;

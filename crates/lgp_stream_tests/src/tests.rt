@@ -3,9 +3,10 @@
 ghost use Rattle.std.specs.Prelude.{◌++◌, codes};
 ghost use Rattle.lgp_stream.specs.KeptLine.{kept_of};
 
-use crate::{Answers, FeedOf, LINE_LIMIT, LineBytes, SinkOf, StreamFault, run_text, write_whole};
+use lgp_stream::{
+    Answers, FeedOf, LINE_LIMIT, LineBytes, SinkOf, StreamFault, run_text, write_whole,
+};
 use std::alloc::{AllocError, Allocator, Global};
-use std::test::Fail;
 
 /// Answers a line by its front, and the text's end by a point.
 #[derive(Drop)]
@@ -43,12 +44,19 @@ const TEXTS: [(&[u8], &[u8], u64); 5] = [
     (b"\r\r\n", b"\r\n.\n", 0),
 ];
 
+/// Whether a text has these replies, of which so many begin with a question mark.
+fn is_echoed(alloc: Global, text: &[u8], wanted: &[u8], questions: u64) -> bool {
+    let mut replies = Vec::new(alloc);
+    echoed(alloc, text, &mut replies) == Ok(questions) && replies.as_slice() == wanted
+}
+
 #[test]
 fn each_line_has_its_reply(rt: HostRuntime) {
-    for (text, wanted, questions) in TEXTS {
-        let mut replies = Vec::new(rt.alloc());
-        let answer = echoed(rt.alloc(), text, &mut replies);
-        assert_eq!(rt; (answer, replies.as_slice()), (Ok(questions), wanted));
+    for (place, (text, wanted, questions)) in TEXTS.into_iter().enumerate() {
+        assert!(rt;
+            is_echoed(rt.alloc(), text, wanted, questions),
+            "of text {place}"
+        );
     }
 }
 
@@ -72,15 +80,19 @@ const LENGTHS: [(usize, usize, usize); 3] = [
     (10_000, 4_096, 4097 + 65_536 + 2),
 ];
 
+/// How many replies to such a text begin with a question mark, and how many bytes the replies have; `None` without memory.
+fn long_echoed(alloc: Global, first: usize, lines: usize) -> Option<(u64, usize)> {
+    let text = long_text(alloc, first, lines).ok()?;
+    let mut replies = Vec::new(alloc);
+    let questions = echoed(alloc, &text, &mut replies).ok()?;
+    Some((questions, replies.len()))
+}
+
 #[test]
-fn of_a_line_4096_bytes_are_kept(rt: HostRuntime) -> Result<(), Fail> {
+fn of_a_line_4096_bytes_are_kept(rt: HostRuntime) {
     for (first, lines, wanted) in LENGTHS {
-        let text = long_text(rt.alloc(), first, lines)?;
-        let mut replies = Vec::new(rt.alloc());
-        let answer = echoed(rt.alloc(), &text, &mut replies);
-        assert_eq!(rt; (answer, replies.len()), (Ok(0), wanted));
+        assert_eq!(rt; long_echoed(rt.alloc(), first, lines), Some((0, wanted)));
     }
-    Ok(())
 }
 
 /// What is kept of bytes: whether they are longer, whether all are spaces, whether they are the word `ab`, and whether their
@@ -115,14 +127,15 @@ fn bytes_are_kept_in_their_order(rt: HostRuntime) {
     assert_eq!(rt; rows, wanted);
 }
 
+/// Whether a text is written whole.
+fn is_written(alloc: Global, text: &[u8]) -> bool {
+    let mut written = Vec::new(alloc);
+    write_whole(&mut SinkOf::new(&mut written), text).is_ok() && written.as_slice() == text
+}
+
 #[test]
 fn a_write_is_counted_behind_what_was_written(rt: HostRuntime) {
-    let mut written = Vec::new(rt.alloc());
-    let answer = write_whole(&mut SinkOf::new(&mut written), b"file a\n");
-    assert_eq!(rt;
-        (answer, written.as_slice()),
-        (Ok(()), b"file a\n".as_slice())
-    );
+    assert!(rt; is_written(rt.alloc(), b"file a\n"));
     assert_eq!(rt;
         [
             StreamFault::Read.behind(7),
