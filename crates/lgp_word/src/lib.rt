@@ -12,6 +12,3 @@ pub use decimal::read_decimal;
 pub use digits::{DIGITS, read_digits, write_bits, write_digits};
 pub use order::{LETTERS, Op, Order, decode, encode, parts, with_address};
 pub use word::Word;
-
-#[cfg(test)]
-mod tests;
