@@ -4,6 +4,3 @@
 mod reader;
 
 pub use reader::{Input, Reader};
-
-#[cfg(test)]
-mod tests;

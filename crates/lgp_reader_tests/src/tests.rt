@@ -1,0 +1,289 @@
+//! A reader with its tape, and one that is refused memory.
+
+use lgp_flexo::{Code, TAPE_LIMIT, read_tape_text};
+use lgp_reader::{Input, Reader};
+use lgp_scarce::Scarce;
+use std::alloc::{Allocator, Global};
+
+/// Whether a reader is on, how many codes have passed, and how many are left.
+type Shown = (bool, usize, usize);
+
+// The reader's methods without their contracts, which would fill the context of each test.
+
+fn shown<A: Allocator>(reader: &Reader<A>) -> Shown {
+    (reader.is_on(), reader.passed().len(), reader.left().len())
+}
+
+/// Puts the tape of a text in; whether it was taken.
+fn mount<A: Allocator + Copy>(reader: &mut Reader<A>, alloc: A, text: &[u8]) -> bool {
+    match read_tape_text(alloc, text) {
+        Ok(codes) => reader.mount(codes).is_ok(),
+        Err(_) => false,
+    }
+}
+
+/// Puts the tape of a text in of which so many codes have passed; whether it has so many.
+fn set<A: Allocator + Copy>(reader: &mut Reader<A>, alloc: A, text: &[u8], passed: usize) -> bool {
+    match read_tape_text(alloc, text) {
+        Ok(codes) if passed <= codes.len() && codes.len() <= TAPE_LIMIT => {
+            reader.set(codes, passed);
+            true
+        }
+        _ => false,
+    }
+}
+
+/// Puts a tape of so many conditional stops in. How many are handed back; `None` where memory is refused.
+fn mount_stops(reader: &mut Reader, global: Global, count: usize) -> Option<usize> {
+    let codes = vec![in global; Code::STOP; count].ok()?;
+    match reader.mount(codes) {
+        Ok(()) => Some(0),
+        Err(back) => Some(back.len()),
+    }
+}
+
+/// The number of the code that passes; `None` at the tape's end.
+fn pass<A: Allocator>(reader: &mut Reader<A>) -> Option<u8> {
+    let code = reader.pass()?;
+    Some(code.number())
+}
+
+fn pass_input<A: Allocator>(reader: &mut Reader<A>, six_bit: bool, accumulator: u32) -> Input {
+    reader.pass_input(six_bit, accumulator)
+}
+
+fn start<A: Allocator>(reader: &mut Reader<A>) -> Shown {
+    reader.start();
+    shown(reader)
+}
+
+fn stop<A: Allocator>(reader: &mut Reader<A>) -> Shown {
+    reader.stop();
+    shown(reader)
+}
+
+fn back_up<A: Allocator>(reader: &mut Reader<A>, count: usize) -> (bool, Shown) {
+    (reader.back_up(count), shown(reader))
+}
+
+/// What shows of a new reader, of it switched on, with a tape of three codes, and switched on and off; and whether the tape is
+/// taken.
+fn switched(reader: &mut Reader, global: Global) -> (bool, [Shown; 5]) {
+    let (new, on) = (shown(reader), start(reader));
+    let taken = mount(reader, global, b"12'");
+    (taken, [new, on, shown(reader), start(reader), stop(reader)])
+}
+
+#[test]
+fn a_reader_is_on_or_off(rt: HostRuntime) {
+    let mut reader = Reader::new(rt.alloc());
+    let empty = [(false, 0, 0), (true, 0, 0)];
+    let mounted = [(false, 0, 3), (true, 0, 3), (false, 0, 3)];
+    assert_eq!(rt;
+        switched(&mut reader, rt.alloc()),
+        (
+            true,
+            [empty[0], empty[1], mounted[0], mounted[1], mounted[2]]
+        )
+    );
+}
+
+/// The numbers of the codes of a tape of three, and what passes at its end.
+fn passing(reader: &mut Reader, global: Global) -> (bool, [Option<u8>; 4]) {
+    let taken = mount(reader, global, b"12'");
+    (
+        taken,
+        [pass(reader), pass(reader), pass(reader), pass(reader)],
+    )
+}
+
+#[test]
+fn codes_pass_in_order(rt: HostRuntime) {
+    let mut reader = Reader::new(rt.alloc());
+    assert_eq!(rt;
+        passing(&mut reader, rt.alloc()),
+        (true, [Some(6), Some(10), Some(32), None])
+    );
+}
+
+/// An input: how many codes it would pass, what it does, and what shows after it.
+fn input(reader: &mut Reader, six_bit: bool, accumulator: u32) -> (usize, Input, Shown) {
+    let passing = reader.passing();
+    let input = pass_input(reader, six_bit, accumulator);
+    (passing, input, shown(reader))
+}
+
+/// Three inputs from one tape, with the reader off and twice with it on; and whether the tape is taken.
+fn three_inputs(reader: &mut Reader, global: Global) -> (bool, [(usize, Input, Shown); 3]) {
+    let taken = mount(reader, global, b"12[16]3'45");
+    let off = input(reader, false, 7);
+    start(reader);
+    let first = input(reader, false, 0);
+    start(reader);
+    (taken, [off, first, input(reader, false, 0x12)])
+}
+
+/// What an input leaves.
+fn left(accumulator: u32, done: bool) -> Input {
+    Input { accumulator, done }
+}
+
+#[test]
+fn an_input_ends_at_the_stop(rt: HostRuntime) {
+    let mut reader = Reader::new(rt.alloc());
+    let inputs = [
+        (0, left(7, false), (false, 0, 7)),
+        (5, left(0x123, true), (false, 5, 2)),
+        (2, left(0x1245, false), (false, 7, 0)),
+    ];
+    assert_eq!(rt; three_inputs(&mut reader, rt.alloc()), (true, inputs));
+}
+
+/// An input by six bits from a tape of two codes.
+fn six_bits(reader: &mut Reader, global: Global) -> (bool, (usize, Input, Shown)) {
+    let taken = mount(reader, global, b"a'");
+    start(reader);
+    (taken, input(reader, true, 0))
+}
+
+#[test]
+fn six_bits_of_a_code_enter(rt: HostRuntime) {
+    let mut reader = Reader::new(rt.alloc());
+    assert_eq!(rt;
+        six_bits(&mut reader, rt.alloc()),
+        (true, (2, left(0x39, true), (false, 2, 0)))
+    );
+}
+
+/// A tape of as many codes as may be, and one of a code more with the reader on: how many codes are handed back of each.
+fn longest(reader: &mut Reader, global: Global) -> ([Option<usize>; 2], Shown) {
+    let taken = mount_stops(reader, global, TAPE_LIMIT);
+    start(reader);
+    let back = mount_stops(reader, global, TAPE_LIMIT + 1);
+    ([taken, back], shown(reader))
+}
+
+#[test]
+fn a_tape_above_the_limit_is_handed_back(rt: HostRuntime) {
+    let mut reader = Reader::new(rt.alloc());
+    assert_eq!(rt;
+        longest(&mut reader, rt.alloc()),
+        ([Some(0), Some(1_048_577)], (true, 0, 1_048_576))
+    );
+}
+
+/// What shows of a copy, and the code that passes next.
+type Copied = Option<(Shown, Option<u8>)>;
+
+/// Copies a reader: what the copy has.
+fn copied<A: Allocator + Clone>(reader: &Reader<A>) -> Copied {
+    let mut copy = reader.copy().ok()?;
+    Some((shown(&copy), pass(&mut copy)))
+}
+
+/// Copies a reader with the nth growth refused: what the copy has, whether a growth was refused, and what shows of the reader.
+fn copied_scarcely<B: Allocator>(
+    scarce: &Scarce<B>,
+    reader: &Reader<&Scarce<B>>,
+    nth: u64,
+) -> (Copied, bool, Shown) {
+    scarce.refuse(nth);
+    (copied(reader), scarce.was_refused(), shown(reader))
+}
+
+/// Copies a reader that is on and within its tape, with the first growth refused and then with none.
+fn copied_twice<'s, B: Allocator>(
+    scarce: &'s Scarce<B>,
+    reader: &mut Reader<&'s Scarce<B>>,
+) -> (bool, [(Copied, bool, Shown); 2]) {
+    let taken = mount(reader, scarce, b"12");
+    start(reader);
+    let first = pass(reader);
+    let refused = copied_scarcely(scarce, reader, 1);
+    (
+        taken && first == Some(6),
+        [refused, copied_scarcely(scarce, reader, 2)],
+    )
+}
+
+#[test]
+fn a_refused_copy_changes_nothing(rt: HostRuntime) {
+    let scarce = Scarce::new(rt.alloc());
+    let mut reader = Reader::new(&scarce);
+    let within = (true, 1, 1);
+    assert_eq!(rt;
+        copied_twice(&scarce, &mut reader),
+        (
+            true,
+            [
+                (None, true, within),
+                (Some((within, Some(10))), false, within)
+            ]
+        )
+    );
+}
+
+/// The number of the first code that has passed.
+fn first_passed<A: Allocator>(reader: &Reader<A>) -> Option<u8> {
+    let code = reader.passed().first()?;
+    Some(code.number())
+}
+
+/// The first code of a tape that has passed in an input, and what shows behind it; and whether the tape is taken.
+fn behind_input(reader: &mut Reader, global: Global) -> (bool, Shown, Option<u8>, Shown) {
+    let taken = mount(reader, global, b"12'3");
+    let mounted = shown(reader);
+    start(reader);
+    pass_input(reader, false, 0);
+    (taken, mounted, first_passed(reader), shown(reader))
+}
+
+/// The tape moved back by more codes than have passed, and by fewer; the code that passes then, and what a copy has.
+fn moved_back(reader: &mut Reader) -> ([(bool, Shown); 2], Option<u8>, Copied) {
+    let moved = [back_up(reader, 4), back_up(reader, 2)];
+    (moved, pass(reader), copied(reader))
+}
+
+#[test]
+fn a_tape_goes_back(rt: HostRuntime) {
+    let mut reader = Reader::new(rt.alloc());
+    let behind = (false, 3, 1);
+    assert_eq!(rt;
+        behind_input(&mut reader, rt.alloc()),
+        (true, (false, 0, 4), Some(6), behind)
+    );
+    assert_eq!(rt;
+        moved_back(&mut reader),
+        (
+            [(false, behind), (true, (false, 1, 3))],
+            Some(10),
+            Some(((false, 2, 2), Some(32)))
+        )
+    );
+}
+
+#[test]
+fn a_tape_takes_anothers_place(rt: HostRuntime) {
+    let mut reader = Reader::new(rt.alloc());
+    behind_input(&mut reader, rt.alloc());
+    assert_eq!(rt;
+        (mount(&mut reader, rt.alloc(), b"ab"), shown(&reader)),
+        (true, (false, 0, 2))
+    );
+}
+
+/// A tape of four codes of which three have passed, in a reader that is on; the code that passes then; and whether it has so
+/// many codes.
+fn set_within(reader: &mut Reader, global: Global) -> (bool, Shown, Option<u8>) {
+    start(reader);
+    (set(reader, global, b"12'3", 3), shown(reader), pass(reader))
+}
+
+#[test]
+fn a_tape_is_set_within_itself(rt: HostRuntime) {
+    let mut reader = Reader::new(rt.alloc());
+    assert_eq!(rt;
+        set_within(&mut reader, rt.alloc()),
+        (true, (true, 3, 1), Some(14))
+    );
+}
