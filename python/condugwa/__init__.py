@@ -8,9 +8,11 @@ Commands and replies are those of docs/FORMATS.md. Bytes that are no UTF-8 text 
 "surrogateescape" has them, so that nothing is lost in either direction.
 """
 
+from condugwa.accounts import Account, Stored, Word, accounts_of
 from condugwa.assembling import Fault, Faults, Listing, assemble
 from condugwa.library import OutOfMemory, Unread
 from condugwa.panels import Panel, word_value, words_of
+from condugwa.profiles import Place, Profile, profile_of
 from condugwa.refusals import (
     AtWork,
     BadSign,
@@ -29,6 +31,7 @@ from condugwa.refusals import (
 from condugwa.scripts import Replies, run_script
 
 __all__ = [
+    "Account",
     "AtWork",
     "BadSign",
     "ClockEnd",
@@ -44,12 +47,18 @@ __all__ = [
     "NoRule",
     "OutOfMemory",
     "Panel",
+    "Place",
+    "Profile",
     "Refusal",
     "Replies",
+    "Stored",
     "TooFar",
     "TooLong",
     "Unread",
+    "Word",
+    "accounts_of",
     "assemble",
+    "profile_of",
     "run_script",
     "word_value",
     "words_of",
