@@ -13,8 +13,6 @@ use std::marker::Model;
 
 mod cutting;
 mod parts;
-#[cfg(test)]
-mod tests;
 
 /// The lines of a source, in order.
 ///
