@@ -57,6 +57,13 @@ module _ {S : Type 0} where
   unfoldable pub replies_text : Language S → Recorded S → List (List ℕ) → List ℕ
   replies_text language recorded lines = concat (replies_to language recorded.standing lines)
 
+  -- with a line more in the transcript, and where it stands otherwise
+  abbrev pub with_line : Recorded S → List ℕ → Recorded S
+  with_line recorded line = record { standing = recorded.standing; transcript = recorded.transcript ++ ended line }
+
+  abbrev pub with_standing : Recorded S → S → Recorded S
+  with_standing recorded standing = record { standing = standing; transcript = recorded.transcript }
+
   -- before the first line
   abbrev pub untouched : S → Recorded S
   untouched standing = record { standing = standing; transcript = [] }

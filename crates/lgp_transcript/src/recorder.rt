@@ -2,7 +2,8 @@
 
 ghost use Rattle.std.specs.Prelude.{◌≡◌, ◌++◌, ◌∷◌, [], List, ℕ, IfOk, OnOk, codes};
 ghost use Rattle.lgp_stream.specs.KeptLine.{kept_of};
-ghost use Rattle.lgp_transcript.specs.Transcript.{after_lines, bytes_of, ended, replies_text, stand_in, untouched};
+ghost use Rattle.std.specs.Borrow.{sem};
+ghost use Rattle.lgp_transcript.specs.Transcript.{after_lines, bytes_of, ended, replies_text, stand_in, untouched, with_line};
 
 use lgp_stream::{Answers, LineBytes};
 use std::alloc::{AllocError, Allocator};
@@ -49,6 +50,25 @@ fn push_stand_in<A: Allocator>(text: &mut Vec<u8, A>, line: &LineBytes) -> Resul
     }
     text.extend_from_slice(line.front())?;
     text.extend_from_slice(if line.has_no_word() { b" \n" } else { b".\n" })
+}
+
+impl<L, A: Allocator> Recorder<L, A> {
+    ghost use Rattle.lgp_transcript.specs.Lent.{lends_answers};
+
+    /// What answers the lines, for work that no line here asks for: the caller keeps the line that asks for the same.
+    pub fn answers_mut(&mut self) -> &mut L
+        ensures* lends { sem 𝓛 (lends_answers L.row A.row A.Allocator self.entry result) }
+        ensures value { result.now ≡ self.old.standing }
+    {
+        &mut self.answers
+    }
+
+    /// Keeps a line that is answered otherwise.
+    pub fn keep_line(&mut self, line: &[u8]) -> Result<(), AllocError>
+        ensures { OnOk result (self.new ≡ with_line self.old line.now) }
+    {
+        push_ended(&mut self.transcript, line)
+    }
 }
 
 impl<L: Answers<A>, A: Allocator + Copy> Recorder<L, A> {
