@@ -1,5 +1,5 @@
 -- A run, and whether the clock's end breaks it off.
-use Rattle.std.proofs.Common.{◌≡◌, ℕ, zero, suc, ◌+◌, ◌<◌, ◌≤◌, Bool, true, false, Option, Some, None, option_map, refl, sym, ap, ◌∙◌, arith}
+use Rattle.std.proofs.Common.{◌≡◌, ℕ, zero, suc, ◌+◌, ◌<◌, ◌≤◌, ◌++◌, Bool, true, false, List, Option, Some, None, option_map, refl, sym, ap, ◌∙◌, append_assoc, arith}
 use Rattle.std.proofs.lemmas.Bool.Decides.{nat_tests}
 use Rattle.lgp_table.specs.Activity.{cost, next}
 use Rattle.lgp_table.specs.Console.{is_at_rest}
@@ -10,8 +10,8 @@ use Rattle.lgp_debugger.specs.Debugging.{Debugging, after_step, ended_for, first
 use Rattle.lgp_debugger.specs.declared.fault.Ran.{Ran}
 use Rattle.lgp_debugger.specs.declared.fault.Reason.{Reason}
 use Rattle.lgp_debugger.specs.declared.fault.Reason.TheVariants.{Rest, Limit, Rule as ByRule}
-use Rattle.lgp_lab.specs.HistoryCommands.{answer_to_run, broken_off, passes_end, ran_text, run_by, unless_hit}
-use Rattle.lgp_lab.specs.Standing.{Standing, refused, with_debugger}
+use Rattle.lgp_lab.specs.HistoryCommands.{answer_to_run, broken_off, orders_by, orders_run, passes_end, ran_text, run_by, unless_hit}
+use Rattle.lgp_lab.specs.Standing.{Standing, labels_of, refused, with_debugger}
 use Rattle.lgp_lab.specs.declared.refusal.Refusal.TheVariants.{ClockEnd}
 
 next_clock : (s : State) → (next s).clock ≡ s.clock + cost s
@@ -150,3 +150,23 @@ module _ {A : Type 0} where
       → answer_to_run s limit ≡ refused ClockEnd (with_debugger s after)
   unfolding answer_to_run
   answer_broken s limit after run = ap (run_by s limit) run.1 ∙ ap (λ (d : Debugging A). refused ClockEnd (with_debugger s d)) (sym run.2)
+
+  -- how many orders it has performed
+  pub orders_ran : (limit : ℕ) (d after : Debugging A) (ran : Ran) → broken_off limit d ≡ None → run_of limit d ≡ (ran, after) → orders_run limit d ≡ ran.orders
+  unfolding orders_run
+  orders_ran limit d after ran whole run = ap (orders_by limit d) whole ∙ ap (λ (r : Ran × Debugging A). r.0.orders) run
+
+  pub orders_broken : (limit : ℕ) (d : Debugging A) (orders : ℕ) → broken_off limit d ≡ Some orders → orders_run limit d ≡ orders
+  unfolding orders_run
+  orders_broken limit d orders cut = ap (orders_by limit d) cut
+
+  -- what is told of it, and the reply behind
+  pub told_reply : (told : List (List ℕ × ℕ) → State → ℕ → List ℕ) (inside self : Standing A) (limit : ℕ) (names : List (List ℕ × ℕ)) (old middle new reply : List ℕ)
+      → inside ≡ self → names ≡ labels_of inside.source → middle ≡ old ++ told names inside.debugger.state (orders_run limit inside.debugger)
+      → new ≡ middle ++ reply → (answer_to_run inside limit).reply ≡ reply
+      → new ≡ old ++ (told (labels_of self.source) self.debugger.state (orders_run limit self.debugger) ++ (answer_to_run self limit).reply)
+  told_reply told inside self limit names old middle new reply same named front back answer =
+      back ∙ (ap (λ (t : List ℕ). t ++ reply) (front ∙ ap (λ (n : List (List ℕ × ℕ)). old ++ told n inside.debugger.state (orders_run limit inside.debugger)) named)
+      ∙ (append_assoc old (told (labels_of inside.source) inside.debugger.state (orders_run limit inside.debugger)) reply
+      ∙ (ap (λ (t : List ℕ). old ++ (told (labels_of inside.source) inside.debugger.state (orders_run limit inside.debugger) ++ t)) (sym answer)
+      ∙ ap (λ (s : Standing A). old ++ (told (labels_of s.source) s.debugger.state (orders_run limit s.debugger) ++ (answer_to_run s limit).reply)) same)))

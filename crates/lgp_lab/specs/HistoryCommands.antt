@@ -89,6 +89,14 @@ module _ {A : Type 0} where
   unfoldable pub answer_to_run : Standing A → ℕ → Answer A
   answer_to_run standing limit = run_by standing limit (broken_off limit standing.debugger)
 
+  -- how many orders it performs, broken off or not
+  abbrev pub orders_by : ℕ → Debugging A → Option ℕ → ℕ
+  orders_by limit d None = (run_of limit d).0.orders
+  orders_by limit d (Some orders) = orders
+
+  unfoldable pub orders_run : ℕ → Debugging A → ℕ
+  orders_run limit d = orders_by limit d (broken_off limit d)
+
   -- ---- back: so many orders
 
   abbrev pub after_orders_back : Debugging A → ℕ → Debugging A

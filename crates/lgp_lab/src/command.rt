@@ -332,9 +332,9 @@ fn press_command(operands: &[u8]) -> Option<Command>
     }
 }
 
-/// The number that is the only operand.
+/// The number that is the only operand, as `run` takes it.
 #[tactic(auto, unfolding(crate::specs::Command::lone_number))]
-fn lone_number(operands: &[u8]) -> Option<u64>
+pub fn lone_number(operands: &[u8]) -> Option<u64>
     ensures { result ≡ lone_number operands.now }
 {
     let number = split_word(operands);

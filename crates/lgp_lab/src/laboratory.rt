@@ -84,14 +84,10 @@ impl<A: Allocator + Copy> Laboratory<A> {
     }
 
     /// The names of the last source that assembled, with their values, 0 to 4096; none where none has assembled yet.
-    #[tactic(auto, unfolding(crate::specs::Standing::labels_of))]
     pub fn labels(&self) -> &[(Name, u16)]
         ensures { result.now ≡ labels_of self.now.source }
     {
-        match &self.program {
-            Some(program) => program.image().symbols(),
-            None => &[],
-        }
+        labels_in(&self.program)
     }
 
     /// Does what a command asks for and answers it; the text is that of `mount` and `type`. A refused growth leaves open
@@ -130,6 +126,17 @@ impl<A: Allocator + Copy> Laboratory<A> {
             Command::Last => self.last(reply)?,
         }
         Ok(())
+    }
+}
+
+/// The names of a program with their values.
+#[tactic(auto, unfolding(crate::specs::Standing::labels_of))]
+fn labels_in<A: Allocator + Copy>(program: &Option<Program<A>>) -> &[(Name, u16)]
+    ensures { result.now ≡ labels_of program.now }
+{
+    match program {
+        Some(program) => program.image().symbols(),
+        None => &[],
     }
 }
 

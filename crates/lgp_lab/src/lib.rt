@@ -1,7 +1,7 @@
 //! The LGP-30 laboratory: scripts.
 #![tactic(auto)]
 
-pub use command::is_command;
+pub use command::{is_command, lone_number};
 pub use files::{asm_file, run_file, tape_file};
 pub use laboratory::Laboratory;
 pub use lgp_stream::{Failed, Feed, FeedOf, Sink, SinkOf, StreamFault as LabFault};
@@ -12,6 +12,7 @@ pub use tasks::{
     FileFault, Folder, Job, NotOpened, WordFault, obey, perform, refuse, refuse_unread,
     refuse_words, run_batch, status_of, work, work_on_file,
 };
+pub use teller::Teller;
 
 mod command;
 mod files;
@@ -24,3 +25,4 @@ mod script;
 mod source_text;
 mod span;
 mod tasks;
+mod teller;

@@ -2,13 +2,16 @@
 
 ghost use Rattle.std.specs.Prelude.{◌≡◌, ◌++◌, ℕ, IfOk, IfSome, OnOk, None, Some};
 ghost use Rattle.lgp_debugger.specs.Debugging.{run_of};
-ghost use Rattle.lgp_lab.specs.HistoryCommands.{answer_to_back, answer_to_drop, answer_to_last, answer_to_rule, answer_to_run, broken_off, hit_text, ran_text, reason_text};
+ghost use Rattle.lgp_lab.specs.HistoryCommands.{answer_to_back, answer_to_drop, answer_to_last, answer_to_rule, answer_to_run, broken_off, hit_text, orders_run, ran_text, reason_text};
+ghost use Rattle.lgp_lab.specs.Standing.{labels_of};
 
-use super::Laboratory;
 use super::machine_commands::push_clock;
+use super::{Laboratory, labels_in};
 use crate::refusal::{Refusal, push_counted, push_refusal};
+use crate::teller::Teller;
+use lgp_assembler::Name;
 use lgp_debugger::{Debugger, HitFault, Ran, Reason, RuleFault, RunRefusal};
-use lgp_history::{BackFault, History, Rule};
+use lgp_history::{BackFault, History, Records, Rule};
 use lgp_text::{Piece, push_pieces};
 use std::alloc::{AllocError, Allocator};
 
@@ -66,6 +69,29 @@ impl<A: Allocator + Copy> Laboratory<A> {
         Ok(())
     }
 
+    /// Does what the command `run` does by a teller, whose text stands in front of the reply. A refused growth leaves open what
+    /// was done.
+    pub fn run_told<T: Teller>(
+        &mut self,
+        teller: &T,
+        limit: u64,
+        reply: &mut Vec<u8, A>,
+    ) -> Result<(), AllocError>
+        ensures reply { OnOk result (reply.new.items ≡ reply.old.items
+            ++ (T.told teller.now (labels_of self.old.source) self.old.debugger.state
+            (orders_run limit self.old.debugger) ++ (answer_to_run self.old limit).reply)) }
+        ensures after { OnOk result (self.new ≡ (answer_to_run self.old limit).after) }
+    {
+        let names = labels_in(&self.program);
+        let told = tell_within(self.alloc, &mut self.debugger, teller, limit, names, reply)?;
+        let Some(ran) = told else {
+            push_refusal(reply, Refusal::ClockEnd)?;
+            return Ok(());
+        };
+        push_ran(reply, &ran)?;
+        Ok(())
+    }
+
     /// Goes so many orders back.
     #[tactic(auto, unfolding(crate::specs::HistoryCommands::answer_to_back))]
     pub(super) fn back(&mut self, orders: u64, reply: &mut Vec<u8, A>) -> Result<(), AllocError>
@@ -115,6 +141,36 @@ fn run_within<H: History<A>, A: Allocator>(
         × (debugger.new ≡ (run_of orders debugger.old).1)) }
 {
     let outcome = debugger.run(limit);
+    // That the clock is within its end is what the mark's clause says.
+    let _ = debugger.machine().mark();
+    match outcome {
+        Ok(ran) => Ok(Some(ran)),
+        Err(broken) => match broken.fault {
+            RunRefusal::ClockEnd => Ok(None),
+            RunRefusal::Memory => Err(AllocError),
+        },
+    }
+}
+
+/// Runs the debugger by a teller; `None` where the clock's end broke the run off.
+fn tell_within<T: Teller, A: Allocator + Copy>(
+    alloc: A,
+    debugger: &mut Debugger<Records<A>, A>,
+    teller: &T,
+    limit: u64,
+    names: &[(Name, u16)],
+    text: &mut Vec<u8, A>,
+) -> Result<Option<Ran>, AllocError>
+    ensures ran { IfOk result (λ outcome. IfSome outcome (λ ran.
+        (broken_off limit debugger.old ≡ None)
+        × (run_of limit debugger.old ≡ (ran, debugger.new)))) }
+    ensures broken { IfOk result (λ outcome. outcome ≡ None → (orders : ℕ)
+        × (broken_off limit debugger.old ≡ Some orders)
+        × (debugger.new ≡ (run_of orders debugger.old).1)) }
+    ensures told { OnOk result (text.new.items ≡ text.old.items
+        ++ T.told teller.now names.now debugger.old.state (orders_run limit debugger.old)) }
+{
+    let outcome = teller.run(alloc, debugger, limit, names, text);
     // That the clock is within its end is what the mark's clause says.
     let _ = debugger.machine().mark();
     match outcome {
