@@ -2,6 +2,7 @@
 
 ghost use Rattle.std.specs.Prelude.{◌≡◌, ◌+◌, ◌++◌, ◌<◌, ◌≤◌, ◌↔◌, Err, IfErr, IfOk, IsTrue, OnErr, OnOk, false};
 ghost use Rattle.lgp_table.specs.Activity.{cost};
+ghost use Rattle.lgp_table.specs.After.{after};
 ghost use Rattle.lgp_table.specs.Console.{is_at_rest};
 ghost use Rattle.lgp_machine.specs.Answers.{clock_end};
 ghost use Rattle.lgp_history.specs.declared.step.Step.{Step};
@@ -63,9 +64,16 @@ pub fn draw_run<H: History<A>, A: Allocator, B: Allocator>(
     ensures ran { IfOk result (λ ran. run_of limit debugger.old ≡ (ran, debugger.new)) }
     ensures told { IfOk result (λ ran. text.new.items ≡ text.old.items
         ++ drawn debugger.old.state ran.orders) }
+    ensures state { IfOk result (λ ran.
+        debugger.new.state ≡ after debugger.old.state ran.orders) }
     ensures stands { IfErr result (λ fault.
         debugger.new ≡ performed debugger.old fault.orders) }
     ensures within { IfErr result (λ fault. fault.orders ≤ limit) }
+    ensures broken_off { IfErr result (λ fault. fault.fault ≡ RunRefusal.ClockEnd
+        → run_of fault.orders debugger.old
+        ≡ (record { orders = fault.orders; reason = Reason.Limit }, debugger.new)) }
+    ensures within_limit { IfErr result (λ fault. fault.fault ≡ RunRefusal.ClockEnd
+        → fault.orders < limit) }
     ensures clock_end { IfErr result (λ fault. fault.fault ≡ RunRefusal.ClockEnd
         → clock_end < debugger.new.state.clock + cost debugger.new.state) }
     ensures told_to_end { IfErr result (λ fault. fault.fault ≡ RunRefusal.ClockEnd

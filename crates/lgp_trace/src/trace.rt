@@ -67,6 +67,11 @@ pub fn trace_run<H: History<A>, L: Labels, A: Allocator, B: Allocator>(
     ensures stands { IfErr result (λ fault.
         debugger.new ≡ performed debugger.old fault.orders) }
     ensures within { IfErr result (λ fault. fault.orders ≤ limit) }
+    ensures broken_off { IfErr result (λ fault. fault.fault ≡ RunRefusal.ClockEnd
+        → run_of fault.orders debugger.old
+        ≡ (record { orders = fault.orders; reason = Reason.Limit }, debugger.new)) }
+    ensures within_limit { IfErr result (λ fault. fault.fault ≡ RunRefusal.ClockEnd
+        → fault.orders < limit) }
     ensures clock_end { IfErr result (λ fault. fault.fault ≡ RunRefusal.ClockEnd
         → clock_end < debugger.new.state.clock + cost debugger.new.state) }
     ensures told_to_end { IfErr result (λ fault. fault.fault ≡ RunRefusal.ClockEnd

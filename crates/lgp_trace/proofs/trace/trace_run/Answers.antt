@@ -45,6 +45,11 @@ returns-in-Err-AtRest-clause-ran g c =
     run_rested {A = g.row.A.Denot} c.args.debugger.now c.loop-orders.debugger c.loop-orders.orders c.args.limit
     c.loop-orders.invariant.run (omega arith) (search rules) ∙ same (λ d. (record { orders = c.loop-orders.orders; reason = reasons.Rest }, d)) (sym c.in-Err-AtRest.ensures.unchanged)
 
+pub returns-in-Err-ClockEnd-clause-broken_off : goal.returns-in-Err-ClockEnd-clause-broken_off
+returns-in-Err-ClockEnd-clause-broken_off g c = λ ended.
+    run_limited {A = g.row.A.Denot} c.args.debugger.now c.loop-orders.debugger c.loop-orders.orders c.loop-orders.invariant.run (search rules)
+    ∙ same (λ d. (record { orders = c.loop-orders.orders; reason = reasons.Limit }, d)) (sym c.in-Err-ClockEnd.ensures.unchanged)
+
 pub returns-then-is_at_rest-clause-ran : goal.returns-then-is_at_rest-clause-ran
 returns-then-is_at_rest-clause-ran g c =
     let all : c.loop-orders.orders ≡ c.args.limit = omega arith in
