@@ -7,7 +7,6 @@ use Rattle.lgp_trace.specs.DrumRows.{seek_signs, sign_in_row, signs_in_rows, sig
 use Rattle.lgp_trace.specs.Phases.{all_phases}
 use Rattle.lgp_trace.specs.declared.account.Account.{Account}
 use Rattle.lgp_trace.specs.declared.account.Operand.{Operand}
-use Rattle.lgp_trace.specs.declared.phases.Phases.{Phases}
 
 pub length-waited : (times sign : ℕ) → length (waited times sign) ≡ times
 length-waited zero sign = refl

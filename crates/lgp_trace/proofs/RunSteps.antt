@@ -1,6 +1,5 @@
 -- A run of one order at most, and where it leads.
-use Rattle.std.proofs.Common.{◌≡◌, ◌∙◌, ◌+◌, ◌<◌, ◌≤◌, ℕ, zero, suc, Bool, true, false, Option, None, Some, ap, refl, sym, arith, cond}
-use Rattle.lgp_table.specs.Console.{is_at_rest}
+use Rattle.std.proofs.Common.{◌≡◌, ◌∙◌, ◌<◌, ℕ, true, false, Option, None, Some, ap, refl, sym, arith, cond}
 use Rattle.lgp_history.specs.declared.step.Step.TheVariants.{Perform}
 use Rattle.lgp_debugger.specs.Debugging.{Debugging, after_step, ended_for, first_stop, one_order_more, run_of, unless_stopped}
 use Rattle.lgp_debugger.specs.declared.fault.Ran.{Ran}

@@ -2,8 +2,6 @@
 -- front. In the k-th column of a row the head reads the position k, and in the last one 0.
 use Rattle.std.specs.Prelude.{ℕ, zero, suc, ◌+◌, ◌-◌, ◌%◌, ◌++◌, ◌==◌, if◌then◌else◌, Option, Some, None, List, [], ◌∷◌, codes, replicate}
 use Rattle.std.specs.Str.{byte}
-use Rattle.lgp_word.specs.Order.{op_at}
-use Rattle.lgp_phases.specs.Decoded.{stores}
 use Rattle.lgp_trace.specs.Columns.{blanks, right_aligned}
 use Rattle.lgp_trace.specs.Account.{stored_by}
 use Rattle.lgp_trace.specs.declared.account.Account.{Account}

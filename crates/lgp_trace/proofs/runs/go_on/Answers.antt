@@ -1,5 +1,5 @@
 -- What a run of one order at most comes to.
-use Rattle.std.proofs.Common.{◌≡◌, ◌∙◌, ◌+◌, ◌<◌, ap, rules, subst, sym}
+use Rattle.std.proofs.Common.{◌≡◌, ◌∙◌, ◌+◌, ◌<◌, rules, subst, sym}
 use Rattle.lgp_table.specs.Activity.{cost}
 use Rattle.lgp_machine.specs.Answers.{clock_end}
 use Rattle.lgp_debugger.specs.Debugging.{Debugging}

@@ -1,11 +1,9 @@
 -- Where the loop ends, the run has ended so, and its orders are noted.
 use Rattle.std.proofs.Common.{◌≡◌, ◌∙◌, ◌+◌, ℕ, ap, arith, rules, subst, sym}
-use Rattle.lgp_table.specs.State.{State}
 use Rattle.lgp_debugger.specs.Debugging.{Debugging}
 use Rattle.lgp_debugger.specs.declared.fault.Ran.{Ran}
 use Rattle.lgp_debugger.specs.declared.fault.Reason.TheVariants as reasons
 use Rattle.lgp_debugger.proofs.RunLemmas.{HasRun, run_begun, run_limited, run_rested, run_step, run_stopped}
-use Rattle.lgp_trace.specs.Profile.{Profiled}
 use Rattle.lgp_trace.proofs.Noting.{HasNoted, noted_clock, noted_stays, noted_within, notes_begun, notes_more}
 use Rattle.lgp_trace.proofs.runs.note_orders.Goals as goal
 

@@ -1,10 +1,9 @@
 -- Where the loop ends, the run has ended so, and the text tells its orders.
-use Rattle.std.proofs.Common.{◌≡◌, ◌∙◌, ◌+◌, ◌++◌, ℕ, List, ap, arith, rules, subst, sym}
+use Rattle.std.proofs.Common.{◌≡◌, ◌∙◌, ◌+◌, ℕ, ap, arith, rules, subst, sym}
 use Rattle.lgp_debugger.specs.Debugging.{Debugging}
 use Rattle.lgp_debugger.specs.declared.fault.Ran.{Ran}
 use Rattle.lgp_debugger.specs.declared.fault.Reason.TheVariants as reasons
 use Rattle.lgp_debugger.proofs.RunLemmas.{HasRun, run_begun, run_limited, run_rested, run_step, run_stopped}
-use Rattle.lgp_trace.specs.Runs.{told, performed}
 use Rattle.lgp_trace.proofs.Telling.{performed_begun, performed_more, told_begun, told_more}
 use Rattle.lgp_trace.proofs.trace.trace_run.Goals as goal
 

@@ -1,4 +1,4 @@
-use Rattle.std.proofs.Common.{◌≡◌, ◌++◌, ◌∙◌, None, ap, rules, sym}
+use Rattle.std.proofs.Common.{◌≡◌, ◌∙◌, None, ap, rules, sym}
 use Rattle.lgp_lab.specs.HistoryCommands.{answer_to_run, ran_text}
 use Rattle.lgp_lab.specs.Refusal.{refusal_text}
 use Rattle.lgp_lab.specs.Standing.{Answer, Standing}

@@ -1,4 +1,4 @@
-use Rattle.std.proofs.Common.{◌≡◌, ◌<◌, ◌≤◌, ◌+◌, ◌++◌, ◌∙◌, ℕ, None, Some, ap, arith, refl, rules, sym, true}
+use Rattle.std.proofs.Common.{◌≡◌, ◌<◌, ◌≤◌, ◌+◌, ◌++◌, ◌∙◌, ℕ, ap, arith, refl, rules, sym, true}
 use Rattle.std.proofs.lemmas.Bool.Decides.{nat_tests}
 use Rattle.lgp_table.specs.Activity.{cost}
 use Rattle.lgp_machine.specs.Answers.{clock_end}
@@ -6,7 +6,7 @@ use Rattle.lgp_debugger.specs.Debugging.{run_of}
 use Rattle.lgp_debugger.specs.declared.fault.Reason.TheVariants.{Limit}
 use Rattle.lgp_debugger.specs.declared.fault.RunRefusal.TheVariants as refusals
 use Rattle.lgp_debugger.proofs.ClockLemmas.{mark_within}
-use Rattle.lgp_lab.specs.HistoryCommands.{broken_off, passes_end}
+use Rattle.lgp_lab.specs.HistoryCommands.{passes_end}
 use Rattle.lgp_lab.proofs.RunLemmas.{orders_broken, orders_ran, run_cut, run_whole}
 use Rattle.lgp_lab.proofs.laboratory.history_commands.tell_within.Goals as goal
 

@@ -1,6 +1,5 @@
-use Rattle.std.proofs.Common.{◌≡◌, ◌∙◌, ◌++◌, ◌∷◌, [], List, ℕ, ap, sym, rules, take}
-use Rattle.std.proofs.lemmas.List.{append-nil, take_more}
-use Rattle.lgp_transcript.specs.Transcript.{Recorded, after_lines, bytes_of, replies_text}
+use Rattle.std.proofs.Common.{◌∙◌, ◌++◌, List, ℕ, ap, sym}
+use Rattle.std.proofs.lemmas.List.{append-nil}
 use Rattle.lgp_transcript.proofs.AfterLemmas.{after-more, after-none, replies-more, replies-none}
 use Rattle.lgp_transcript.proofs.recorder.Recorder.answer_lines.Goals as goal
 
