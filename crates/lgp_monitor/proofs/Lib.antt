@@ -1,2 +1,4 @@
 pub mod GoLemmas
 pub mod LineLemmas
+pub mod RunLine
+pub mod Pictures

@@ -1,16 +1,17 @@
 -- What typed lines stand for are lines, so that a transcript's lines are those.
-use Rattle.std.proofs.Common.{◌≡◌, ℕ, zero, suc, ◌+◌, ◌/◌, ◌%◌, ◌&&◌, not, Bool, true, false, cond, List, [], ◌∷◌, ◌++◌, take, get_or, refl, codes, arith}
+use Rattle.std.proofs.Common.{◌≡◌, ℕ, zero, suc, ◌+◌, ◌/◌, ◌%◌, ◌&&◌, not, Bool, true, false, cond, List, [], ◌∷◌, ◌++◌, take, drop, get_or, refl, codes, arith}
 use Rattle.std.proofs.lemmas.Bool.Decides.{nat_tests}
-use Rattle.std.specs.List.{AllByRecursion, list_all}
+use Rattle.std.specs.List.{AllByRecursion, list_all, position_or_len}
 use Rattle.std.specs.Str.Lines.{lines}
 use Rattle.lgp_word.specs.Digits.{address_digits, digit_byte, digits, digits_of, four_digits}
 use Rattle.lgp_stream.specs.KeptLine.{kept_of, line_limit}
 use Rattle.lgp_stream.specs.Language.{is_line_feed, state_after}
+use Rattle.lgp_stream.specs.LineWords.{behind_word, is_space, is_visible, without_spaces}
 use Rattle.lgp_transcript.specs.Transcript.{AreLines, IsLine, IsToldByTranscript, Recorded, stand_in, untouched}
 use Rattle.lgp_transcript.proofs.LineLaws.{told_by_transcript}
 use Rattle.lgp_lab.specs.Script.{script_language}
 use Rattle.lgp_lab.specs.Standing.{Standing, opening_standing}
-use Rattle.lgp_monitor.specs.Monitor.{go_lines, jump_line, meaning_at, meaning_of, monitor_language, put_line, typed_at}
+use Rattle.lgp_monitor.specs.Monitor.{go_lines, jump_line, meaning_at, meaning_of, monitor_language, put_line, run_line, typed_at}
 use Rattle.lgp_monitor.specs.declared.typed.Typed.{Typed}
 use Rattle.lgp_monitor.specs.declared.typed.Typed.TheVariants as typed
 
@@ -22,6 +23,11 @@ free-take : (n : ℕ) (line : List ℕ) → IsLine line → IsLine (take n line)
 free-take zero line free = tt
 free-take (suc n) [] free = tt
 free-take (suc n) (b ∷ line) free = (free.0, free-take n line free.1)
+
+free-drop : (n : ℕ) (line : List ℕ) → IsLine line → IsLine (drop n line)
+free-drop zero line free = free
+free-drop (suc n) [] free = tt
+free-drop (suc n) (b ∷ line) free = free-drop n line free.1
 
 -- an element of a list that has no line feed, and what is there past its end
 free-digit : (xs : List ℕ) (i : ℕ) → IsLine xs → is_line_feed (get_or xs i 0) ≡ false
@@ -80,11 +86,18 @@ free-stand_in line free = by_longer (kept_of line).longer (kept_of line).blank w
   by_longer true false = free-append (take line_limit line) (46 ∷ []) (free-take line_limit line free) (refl, tt)
   by_longer false blank = free-take line_limit line free
 
+free-run : (line : List ℕ) → IsLine line → IsLine (run_line (kept_of line).front)
+unfolding run_line behind_word without_spaces kept_of
+free-run line free =
+    (refl, (refl, (refl, free-drop (position_or_len is_space (drop (position_or_len is_visible (take line_limit line)) (take line_limit line))) (drop (position_or_len is_visible (take line_limit line)) (take line_limit line))
+    (free-drop (position_or_len is_visible (take line_limit line)) (take line_limit line) (free-take line_limit line free)))))
+
 free-meaning : (asked : Typed) (line : List ℕ) → IsLine line → AreLines (meaning_of asked (kept_of line))
 free-meaning typed.Itself line free = (free-stand_in line free, tt)
 free-meaning typed.Misformed line free = (free-stand_in line free, tt)
 free-meaning (typed.Go address) line free = free-go address
 free-meaning (typed.Put address word) line free = (free-put address word, tt)
+free-meaning (typed.Told telling limit) line free = (free-run line free, tt)
 free-meaning typed.Transcript line free = tt
 free-meaning typed.New line free = tt
 free-meaning typed.Help line free = tt

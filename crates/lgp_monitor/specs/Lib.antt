@@ -1,4 +1,5 @@
 pub mod Verbs
+pub mod Telling
 pub mod Typed
 pub mod Monitor
 pub mod Running

@@ -5,13 +5,16 @@ use Rattle.lgp_word.specs.Order.{order_word}
 use Rattle.lgp_word.specs.declared.order.Op.TheVariants.{U}
 use Rattle.lgp_stream.specs.KeptLine.{Kept, kept_of}
 use Rattle.lgp_stream.specs.Language.{Language}
-use Rattle.lgp_stream.specs.LineWords.{first_word}
+use Rattle.lgp_stream.specs.LineWords.{behind_word, first_word}
 use Rattle.lgp_text.specs.NamedValues.{named}
 use Rattle.lgp_transcript.specs.Transcript.{Meaning, Lines, Anew, Recorded, after_meaning, replies_text, stand_in}
 use Rattle.lgp_lab.specs.Script.{script_language}
-use Rattle.lgp_lab.specs.Standing.{Standing, opening_standing}
+use Rattle.lgp_lab.specs.HistoryCommands.{orders_run}
+use Rattle.lgp_lab.specs.Standing.{Standing, labels_of, opening_standing}
+use Rattle.lgp_monitor.specs.Telling.{told_text}
 use Rattle.lgp_monitor.specs.Typed.{typed_of}
 use Rattle.lgp_monitor.specs.Verbs.{form_of, verb_names}
+use Rattle.lgp_monitor.specs.declared.telling.Telling.{Telling}
 use Rattle.lgp_monitor.specs.declared.verb.Verb.{Verb}
 use Rattle.lgp_monitor.specs.declared.typed.Typed.{Typed}
 use Rattle.lgp_monitor.specs.declared.typed.Typed.TheVariants as typed
@@ -34,12 +37,17 @@ lines_behind_jump =
 unfoldable pub go_lines : ℕ → List (List ℕ)
 go_lines address = codes "press manual" ∷ jump_line address ∷ lines_behind_jump
 
+-- a run that is told: the command `run` with the operands of its line
+unfoldable pub run_line : List ℕ → List ℕ
+run_line line = codes "run" ++ behind_word line
+
 -- of a line of which this is kept
 abbrev pub meaning_of : Typed → Kept → Meaning
 meaning_of typed.Itself kept = Lines (stand_in kept ∷ [])
 meaning_of typed.Misformed kept = Lines (stand_in kept ∷ [])
 meaning_of (typed.Go address) kept = Lines (go_lines address)
 meaning_of (typed.Put address word) kept = Lines (put_line address word ∷ [])
+meaning_of (typed.Told telling limit) kept = Lines (run_line kept.front ∷ [])
 meaning_of typed.Transcript kept = Lines []
 meaning_of typed.New kept = Anew
 meaning_of typed.Help kept = Lines []
@@ -67,11 +75,18 @@ unfoldable pub misformed_text : List ℕ → List ℕ
 misformed_text line = codes "? 1 Form: " ++ (reason_by (named verb_names (first_word line)) ++ codes "\n")
 
 module _ {A : Type 0} where
+  -- what is written about the orders of a run
+  abbrev pub told_of : Standing A → Telling → ℕ → List ℕ
+  told_of standing telling limit =
+      told_text telling (labels_of standing.source) standing.debugger.state (orders_run limit standing.debugger)
+
   abbrev pub reply_of : Recorded (Standing A) → Typed → Kept → List ℕ
   reply_of recorded typed.Itself kept = replies_text script_language recorded (stand_in kept ∷ [])
   reply_of recorded typed.Misformed kept = misformed_text kept.front
   reply_of recorded (typed.Go address) kept = replies_text script_language recorded (go_lines address)
   reply_of recorded (typed.Put address word) kept = replies_text script_language recorded (put_line address word ∷ [])
+  reply_of recorded (typed.Told telling limit) kept =
+      told_of recorded.standing telling limit ++ replies_text script_language recorded (run_line kept.front ∷ [])
   reply_of recorded typed.Transcript kept = recorded.transcript
   reply_of recorded typed.New kept = codes "new\n"
   reply_of recorded typed.Help kept = help_text

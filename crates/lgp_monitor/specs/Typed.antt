@@ -11,8 +11,10 @@ use Rattle.lgp_fraction.specs.declared.fraction.FractionFault.{FractionFault}
 use Rattle.lgp_stream.specs.KeptLine.{Kept}
 use Rattle.lgp_stream.specs.LineWords.{behind_word, first_word, has_no_word}
 use Rattle.lgp_text.specs.NamedValues.{named}
-use Rattle.lgp_lab.specs.Command.{command_of}
+use Rattle.lgp_lab.specs.Command.{command_of, lone_number}
 use Rattle.lgp_monitor.specs.Verbs.{verb_names}
+use Rattle.lgp_monitor.specs.declared.telling.Telling.{Telling}
+use Rattle.lgp_monitor.specs.declared.telling.Telling.TheVariants as tellings
 use Rattle.lgp_monitor.specs.declared.verb.Verb.{Verb}
 use Rattle.lgp_monitor.specs.declared.verb.Verb.TheVariants as verbs
 use Rattle.lgp_monitor.specs.declared.typed.Typed.{Typed}
@@ -78,6 +80,14 @@ go_by None = typed.Misformed
 unfoldable pub go_typed : List ℕ → Typed
 go_typed operands = if has_no_word (behind_word operands) then go_by (address_text (first_word operands)) else typed.Misformed
 
+-- a run that is told: its operand is that of `run`
+abbrev pub told_by : Telling → Option ℕ → Typed
+told_by telling (Some limit) = typed.Told telling limit
+told_by telling None = typed.Misformed
+
+unfoldable pub told_typed : Telling → List ℕ → Typed
+told_typed telling operands = told_by telling (lone_number operands)
+
 abbrev pub help_by : Option Verb → Typed
 help_by (Some verb) = typed.HelpOf verb
 help_by None = typed.Misformed
@@ -94,6 +104,9 @@ lone asked operands = if has_no_word operands then asked else typed.Misformed
 abbrev pub typed_by : Option Verb → List ℕ → Typed
 typed_by (Some verbs.Put) operands = put_typed operands
 typed_by (Some verbs.Go) operands = go_typed operands
+typed_by (Some verbs.Trace) operands = told_typed tellings.Trace operands
+typed_by (Some verbs.Profile) operands = told_typed tellings.Profile operands
+typed_by (Some verbs.Drum) operands = told_typed tellings.Drum operands
 typed_by (Some verbs.Transcript) operands = lone typed.Transcript operands
 typed_by (Some verbs.New) operands = lone typed.New operands
 typed_by (Some verbs.Help) operands = help_typed operands

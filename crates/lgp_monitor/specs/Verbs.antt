@@ -14,6 +14,9 @@ verb_names =
     ∷ (codes "turn", verbs.Turn)
     ∷ (codes "orders", verbs.Orders)
     ∷ (codes "run", verbs.Run)
+    ∷ (codes "trace", verbs.Trace)
+    ∷ (codes "profile", verbs.Profile)
+    ∷ (codes "drum", verbs.Drum)
     ∷ (codes "back", verbs.Back)
     ∷ (codes "last", verbs.Last)
     ∷ (codes "panel", verbs.Panel)
@@ -42,6 +45,9 @@ form_of verbs.Type = codes "type TEXT"
 form_of verbs.Turn = codes "turn NUMBER"
 form_of verbs.Orders = codes "orders NUMBER"
 form_of verbs.Run = codes "run NUMBER"
+form_of verbs.Trace = codes "trace NUMBER"
+form_of verbs.Profile = codes "profile NUMBER"
+form_of verbs.Drum = codes "drum NUMBER"
 form_of verbs.Back = codes "back NUMBER"
 form_of verbs.Last = codes "last"
 form_of verbs.Panel = codes "panel"

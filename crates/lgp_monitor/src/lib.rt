@@ -4,12 +4,15 @@
 pub use monitor::Monitor;
 pub use running::run_monitor;
 pub use session::{hold_session, obey_session};
+pub use telling::Telling;
 pub use typed::Typed;
 pub use verb::Verb;
 
+mod labels;
 pub mod laws;
 mod monitor;
 mod running;
 mod session;
+mod telling;
 mod typed;
 mod verb;

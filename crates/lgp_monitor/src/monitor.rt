@@ -6,8 +6,9 @@ ghost use Rattle.lgp_text.specs.NamedValues.{pairs_of};
 ghost use Rattle.lgp_transcript.specs.Transcript.{after_lines, after_meaning, replies_text, stand_in, untouched};
 ghost use Rattle.lgp_lab.specs.Script.{script_language};
 ghost use Rattle.lgp_lab.specs.Standing.{opening_standing};
-ghost use Rattle.lgp_monitor.specs.Monitor.{form_line, form_lines, go_lines, help_text, jump_line, meaning_of, misformed_text, monitor_language, put_line, reason_by, reply_of};
+ghost use Rattle.lgp_monitor.specs.Monitor.{form_line, form_lines, go_lines, help_text, jump_line, meaning_of, misformed_text, monitor_language, put_line, reason_by, reply_of, run_line, typed_at};
 
+use crate::telling::{Telling, run_told};
 use crate::typed::{Typed, typed_of};
 use crate::verb::{VERBS, Verb, form_of, verb_named};
 use lgp_lab::Laboratory;
@@ -116,6 +117,40 @@ fn go<A: Allocator + Copy>(
     recorder.answer_lines(&BEHIND_JUMP, reply)
 }
 
+/// The script line of a run that is told.
+#[tactic(auto, unfolding(crate::specs::Monitor::run_line))]
+fn run_line<A: Allocator>(alloc: A, line: &[u8]) -> Result<Vec<u8, A>, AllocError>
+    ensures { IfOk result (λ text. text.items ≡ run_line line.now) }
+{
+    let mut text = Vec::new(alloc);
+    text.extend_from_slice(b"run")?;
+    text.extend_from_slice(split_word(line).behind)?;
+    Ok(text)
+}
+
+/// Performs a run that is told, and keeps the script line of the run.
+fn tell<A: Allocator + Copy>(
+    alloc: A,
+    recorder: &mut Recorder<Laboratory<A>, A>,
+    telling: Telling,
+    limit: u64,
+    line: &LineBytes,
+    reply: &mut Vec<u8, A>,
+) -> Result<(), AllocError>
+    ensures reply { (text : List ℕ) → line.now ≡ kept_of text
+        → Typed.Told telling limit ≡ typed_at recorder.old text
+        → OnOk result (reply.new.items ≡ reply.old.items
+        ++ reply_of recorder.old (Typed.Told telling limit) line.now) }
+    ensures after { (text : List ℕ) → line.now ≡ kept_of text
+        → Typed.Told telling limit ≡ typed_at recorder.old text
+        → OnOk result (recorder.new
+        ≡ after_lines script_language recorder.old (run_line line.now.front ∷ [])) }
+{
+    let run = run_line(alloc, line.front())?;
+    recorder.keep_line(&run)?;
+    run_told(recorder.answers_mut(), telling, limit, reply)
+}
+
 /// Appends the form of a command.
 #[tactic(auto, unfolding(crate::specs::Monitor::form_line))]
 fn push_form<A: Allocator>(text: &mut Vec<u8, A>, verb: Verb) -> Result<(), AllocError>
@@ -209,9 +244,11 @@ fn perform<A: Allocator + Copy>(
     reply: &mut Vec<u8, A>,
 ) -> Result<(), AllocError>
     ensures reply { (text : List ℕ) → line.now ≡ kept_of text
+        → typed ≡ typed_at recorder.old text
         → OnOk result (reply.new.items
         ≡ reply.old.items ++ reply_of recorder.old typed line.now) }
     ensures after { (text : List ℕ) → line.now ≡ kept_of text
+        → typed ≡ typed_at recorder.old text
         → OnOk result (recorder.new ≡ after_meaning script_language opening_standing
         recorder.old (meaning_of typed line.now)) }
 {
@@ -220,6 +257,7 @@ fn perform<A: Allocator + Copy>(
         Typed::Misformed => misform(alloc, recorder, line, reply),
         Typed::Go(address) => go(alloc, recorder, address, reply),
         Typed::Put(address, word) => put(alloc, recorder, address, word, reply),
+        Typed::Told(telling, limit) => tell(alloc, recorder, telling, limit, line, reply),
         Typed::Transcript => reply.extend_from_slice(recorder.transcript()),
         Typed::New => begin_anew(alloc, recorder, reply),
         Typed::Help => push_help(reply),

@@ -2,11 +2,12 @@
 
 ghost use Rattle.std.specs.Prelude.{◌≡◌, ◌==◌, slice_index};
 ghost use Rattle.std.specs.Str.{byte};
-ghost use Rattle.lgp_monitor.specs.Typed.{fraction_at, go_typed, help_typed, lone, order_at, put_typed, stands_for_itself, typed_by, typed_line, typed_of, value_at, whole_at, whole_word};
+ghost use Rattle.lgp_monitor.specs.Typed.{fraction_at, go_typed, help_typed, lone, order_at, put_typed, stands_for_itself, told_typed, typed_by, typed_line, typed_of, value_at, whole_at, whole_word};
 
+use crate::telling::Telling;
 use crate::verb::{Verb, verb_named};
 use lgp_fraction::Fraction;
-use lgp_lab::is_command;
+use lgp_lab::{is_command, lone_number};
 use lgp_stream::{LineBytes, Split, has_no_word, split_word};
 use lgp_word::{Address, Op, Order, Word, encode, read_decimal};
 
@@ -21,6 +22,8 @@ pub enum Typed {
     Go(Address),
     /// A word put at an address.
     Put(Address, Word),
+    /// A run of at most so many orders that is told.
+    Told(Telling, u64),
     /// The script lines so far.
     Transcript,
     /// A new laboratory.
@@ -136,6 +139,17 @@ fn go_typed(operands: &[u8]) -> Typed
     }
 }
 
+/// The operand of a run that is told.
+#[tactic(auto, unfolding(crate::specs::Typed::told_typed))]
+fn told_typed(telling: Telling, operands: &[u8]) -> Typed
+    ensures { result ≡ told_typed telling operands.now }
+{
+    match lone_number(operands) {
+        Some(limit) => Typed::Told(telling, limit),
+        None => Typed::Misformed,
+    }
+}
+
 /// The operand of `help`.
 #[tactic(auto, unfolding(crate::specs::Typed::help_typed))]
 fn help_typed(operands: &[u8]) -> Typed
@@ -172,6 +186,9 @@ fn typed_by(verb: Option<Verb>, operands: &[u8]) -> Typed
     match verb {
         Some(Verb::Put) => put_typed(operands),
         Some(Verb::Go) => go_typed(operands),
+        Some(Verb::Trace) => told_typed(Telling::Trace, operands),
+        Some(Verb::Profile) => told_typed(Telling::Profile, operands),
+        Some(Verb::Drum) => told_typed(Telling::Drum, operands),
         Some(Verb::Transcript) => lone(Typed::Transcript, operands),
         Some(Verb::New) => lone(Typed::New, operands),
         Some(Verb::Help) => help_typed(operands),

@@ -17,6 +17,9 @@ pub enum Verb {
     Turn,
     Orders,
     Run,
+    Trace,
+    Profile,
+    Drum,
     Back,
     Last,
     Panel,
@@ -36,7 +39,7 @@ pub enum Verb {
 }
 
 /// The commands by their first word.
-pub const VERBS: [Named<Verb>; 24] = [
+pub const VERBS: [Named<Verb>; 27] = [
     Named {
         name: b"put",
         value: Verb::Put,
@@ -68,6 +71,18 @@ pub const VERBS: [Named<Verb>; 24] = [
     Named {
         name: b"run",
         value: Verb::Run,
+    },
+    Named {
+        name: b"trace",
+        value: Verb::Trace,
+    },
+    Named {
+        name: b"profile",
+        value: Verb::Profile,
+    },
+    Named {
+        name: b"drum",
+        value: Verb::Drum,
     },
     Named {
         name: b"back",
@@ -156,6 +171,9 @@ pub fn form_of(verb: Verb) -> &'static [u8]
         Verb::Turn => b"turn NUMBER",
         Verb::Orders => b"orders NUMBER",
         Verb::Run => b"run NUMBER",
+        Verb::Trace => b"trace NUMBER",
+        Verb::Profile => b"profile NUMBER",
+        Verb::Drum => b"drum NUMBER",
         Verb::Back => b"back NUMBER",
         Verb::Last => b"last",
         Verb::Panel => b"panel",

@@ -1,4 +1,4 @@
-use Rattle.std.proofs.Common.{◌≡◌, ◌∙◌, ◌++◌, Bool, List, ℕ, ap, is_some}
+use Rattle.std.proofs.Common.{◌≡◌, ◌∙◌, ◌++◌, Bool, List, ℕ, ap, is_some, refl}
 use Rattle.std.proofs.lemmas.Result.{on_ok_weaker}
 use Rattle.lgp_stream.specs.KeptLine.{Kept, kept_of}
 use Rattle.lgp_lab.specs.Script.{script_language}
@@ -21,19 +21,23 @@ unfolding reply_at
 returns-clause-reply g c = λ text kept.
     let typed : c.typed_of-typed.result ≡ typed_at c.args.self.now text = asked c.self.inside.recorder c.args.self.now c.has_open_source.result c.args.line.now text c.typed_of-typed.result c.self.view_is kept
     (c.has_open_source.ensures ∙ ap (λ (s : Standing g.row.A.Denot). is_some s.opened) c.answers.ensures) c.typed_of-typed.ensures in
+    let inside : c.typed_of-typed.result ≡ typed_at c.self.inside.recorder text = asked c.self.inside.recorder c.self.inside.recorder c.has_open_source.result c.args.line.now text c.typed_of-typed.result refl kept
+    (c.has_open_source.ensures ∙ ap (λ (s : Standing g.row.A.Denot). is_some s.opened) c.answers.ensures) c.typed_of-typed.ensures in
     on_ok_weaker c.perform.result
     (λ is. is ∙ (ap (λ (r : Recorded (Standing g.row.A.Denot)). c.args.reply.now.items ++ reply_of r c.typed_of-typed.result c.args.line.now) c.self.view_is
     ∙ (ap (λ (t : Typed). c.args.reply.now.items ++ reply_of c.args.self.now t c.args.line.now) typed
     ∙ ap (λ (k : Kept). c.args.reply.now.items ++ reply_of c.args.self.now (typed_at c.args.self.now text) k) kept)))
-    (c.perform.ensures.reply text kept)
+    (c.perform.ensures.reply text kept inside)
 
 pub returns-clause-after : goal.returns-clause-after
 unfolding meaning_at
 returns-clause-after g c = λ text kept.
     let typed : c.typed_of-typed.result ≡ typed_at c.args.self.now text = asked c.self.inside.recorder c.args.self.now c.has_open_source.result c.args.line.now text c.typed_of-typed.result c.self.view_is kept
     (c.has_open_source.ensures ∙ ap (λ (s : Standing g.row.A.Denot). is_some s.opened) c.answers.ensures) c.typed_of-typed.ensures in
+    let inside : c.typed_of-typed.result ≡ typed_at c.self.inside.recorder text = asked c.self.inside.recorder c.self.inside.recorder c.has_open_source.result c.args.line.now text c.typed_of-typed.result refl kept
+    (c.has_open_source.ensures ∙ ap (λ (s : Standing g.row.A.Denot). is_some s.opened) c.answers.ensures) c.typed_of-typed.ensures in
     on_ok_weaker c.perform.result
     (λ is. is ∙ (ap (λ (r : Recorded (Standing g.row.A.Denot)). after_meaning script_language opening_standing r (meaning_of c.typed_of-typed.result c.args.line.now)) c.self.view_is
     ∙ (ap (λ (t : Typed). after_meaning script_language opening_standing c.args.self.now (meaning_of t c.args.line.now)) typed
     ∙ ap (λ (k : Kept). after_meaning script_language opening_standing c.args.self.now (meaning_of (typed_at c.args.self.now text) k)) kept)))
-    (c.perform.ensures.after text kept)
+    (c.perform.ensures.after text kept inside)

@@ -1,0 +1,312 @@
+-- A run that is told: its script line is answered as the run.
+use Rattle.std.proofs.Common.{◌≡◌, ℕ, zero, suc, ◌+◌, ◌-◌, ◌<◌, ◌≤◌, ◌==◌, ◌&&◌, ◌||◌, not, Bool, true, false, cond, Option, Some, None, is_some, option_map, List, [], ◌∷◌, ◌++◌, length, take, drop, nat_lt, slice_index, refl, sym, ap, ◌∙◌, arith, codes, length-append, take-append-drop}
+use Rattle.std.proofs.lemmas.Bool.Decides.{nat_tests}
+use Rattle.std.proofs.lemmas.Slice.Eq.{bytes_eq-Decides}
+use Rattle.std.proofs.lemmas.List.{append-nil}
+use Rattle.std.specs.List.{list_all, position_or_len}
+use Rattle.std.specs.Map.{lookup}
+use Rattle.std.specs.Str.{bytes_eq}
+use Rattle.lgp_stream.specs.KeptLine.{Kept, kept_of, line_limit}
+use Rattle.lgp_stream.specs.LineWords.{behind_word, first_word, has_no_word, is_space, is_visible, without_spaces}
+use Rattle.lgp_text.specs.NamedValues.{named}
+use Rattle.lgp_lab.specs.Command.{command_of, lone_number, text_behind}
+use Rattle.lgp_lab.specs.declared.command.Command.TheVariants as commands
+use Rattle.lgp_lab.specs.HistoryCommands.{answer_to_run}
+use Rattle.lgp_lab.specs.Script.{answer_in, answer_to_command, answer_to_line, script_language}
+use Rattle.lgp_lab.specs.SourceText.{SourceText}
+use Rattle.lgp_lab.specs.Standing.{Answer, Standing}
+use Rattle.lgp_transcript.specs.Transcript.{Recorded, after_lines, ended, replies_text, text_of, with_line, with_standing}
+use Rattle.lgp_monitor.specs.Monitor.{reply_of, run_line, told_of, typed_at}
+use Rattle.lgp_monitor.specs.Typed.{go_by, go_typed, help_by, help_typed, lone, put_by, put_typed, told_by, told_typed, typed_by, typed_line, typed_of}
+use Rattle.lgp_monitor.specs.Verbs.{verb_names}
+use Rattle.lgp_monitor.specs.declared.telling.Telling.{Telling}
+use Rattle.lgp_monitor.specs.declared.telling.Telling.TheVariants as tellings
+use Rattle.lgp_monitor.specs.declared.typed.Typed.{Typed}
+use Rattle.lgp_monitor.specs.declared.typed.Typed.TheVariants as typed
+use Rattle.lgp_monitor.specs.declared.verb.Verb.{Verb}
+use Rattle.lgp_monitor.specs.declared.verb.Verb.TheVariants as verbs
+
+-- ---- `run` with the operands of a line
+
+-- nothing, or a space first
+abbrev IsSpaced : List ℕ → Type 0
+IsSpaced [] = Unit {0}
+IsSpaced (b ∷ more) = is_space b ≡ true
+
+spaced_from : (text : List ℕ) → IsSpaced (drop (position_or_len is_space text) text)
+spaced_from [] = tt
+spaced_from (b ∷ text) = by_space (is_space b) refl (spaced_from text) where
+  by_space : (s : Bool) → is_space b ≡ s → IsSpaced (drop (position_or_len is_space text) text) → IsSpaced (drop (cond (not s) (1 + position_or_len is_space text) 0) (b ∷ text))
+  by_space true e more = e
+  by_space false e more =
+      let next : 1 + position_or_len is_space text ≡ suc (position_or_len is_space text) = omega arith in
+      rw next more
+
+spaced_behind : (line : List ℕ) → IsSpaced (behind_word line)
+unfolding behind_word
+spaced_behind line = spaced_from (without_spaces line)
+
+-- the word in front of it is whole, and all of it stands behind
+run_first : (operands : List ℕ) → IsSpaced operands → first_word (codes "run" ++ operands) ≡ codes "run"
+unfolding first_word without_spaces
+run_first [] spaced = refl
+run_first (b ∷ more) spaced = rw spaced refl
+
+run_behind : (operands : List ℕ) → IsSpaced operands → behind_word (codes "run" ++ operands) ≡ operands
+unfolding behind_word without_spaces
+run_behind [] spaced = refl
+run_behind (b ∷ more) spaced = rw spaced refl
+
+command_run : (operands : List ℕ) (limit : ℕ) → IsSpaced operands → lone_number operands ≡ Some limit → command_of (codes "run" ++ operands) ≡ Some (commands.Run limit)
+unfolding command_of
+command_run operands limit spaced number = rw (run_first operands spaced, run_behind operands spaced, number) refl
+
+command_answer : {A : Type 0} (s : Standing A) (operands : List ℕ) (limit : ℕ) → IsSpaced operands → lone_number operands ≡ Some limit → 3 + length operands ≤ line_limit
+    → answer_to_command s (codes "run" ++ operands) ≡ answer_to_run s limit
+unfolding answer_to_command has_no_word
+command_answer s operands limit spaced number short =
+    let within : nat_lt line_limit (length (codes "run" ++ operands)) ≡ false = grind (arith, nat_tests) in
+    rw (within, command_run operands limit spaced number) refl
+
+-- ---- how long it is
+
+split_length : (n : ℕ) (text : List ℕ) → length (take n text) + length (drop n text) ≡ length text
+split_length n text = sym (length-append (take n text) (drop n text)) ∙ ap length (take-append-drop n text)
+
+drop_shorter : (n : ℕ) (text : List ℕ) → length (drop n text) ≤ length text
+drop_shorter n text = let all = split_length n text in omega (arith, all)
+
+word_length : (line : List ℕ) → length (first_word line) + length (behind_word line) ≤ length line
+unfolding first_word behind_word without_spaces
+word_length line =
+    let parts = split_length (position_or_len is_space (drop (position_or_len is_visible line) line)) (drop (position_or_len is_visible line) line) in
+    let shorter = drop_shorter (position_or_len is_visible line) line in
+    omega (arith, parts, shorter)
+
+take_short : (n : ℕ) (text : List ℕ) → length (take n text) ≤ n
+take_short zero text = omega arith
+take_short (suc n) [] = omega arith
+take_short (suc n) (b ∷ text) = let more = take_short n text in omega (arith, more)
+
+front_short : (text : List ℕ) → length (kept_of text).front ≤ line_limit
+unfolding kept_of
+front_short text = take_short line_limit text
+
+-- ---- a line that asks for it
+
+-- the commands that tell a run have longer names than `run`
+abbrev tells : Verb → Bool
+tells verbs.Trace = true
+tells verbs.Profile = true
+tells verbs.Drum = true
+tells _ = false
+
+abbrev is_long : List ℕ → Verb → Bool
+is_long name verb = not (tells verb) || nat_lt 2 (length name)
+
+names_long : list_all (λ name. is_long name.0 name.1) verb_names ≡ true
+names_long = refl
+
+and_left : (a b : Bool) → (a && b) ≡ true → a ≡ true
+and_left true b both = refl
+and_left false b both = both
+
+and_right : (a b : Bool) → (a && b) ≡ true → b ≡ true
+and_right true b both = both
+and_right false b both = absurd (clash both) where
+  clash : false ≡ true → ⊥
+  clash e = cc
+
+found_long : (names : List (List ℕ × Verb)) (word : List ℕ) (verb : Verb) → list_all (λ name. is_long name.0 name.1) names ≡ true → lookup (bytes_eq word) names ≡ Some verb → is_long word verb ≡ true
+found_long [] word verb all found = absurd (clash found) where
+  clash : None ≡ Some verb → ⊥
+  clash e = cc
+found_long (name ∷ names) word verb all found =
+    by_test (bytes_eq word name.0) refl found (and_left (is_long name.0 name.1) (list_all (λ name. is_long name.0 name.1) names) all)
+    (found_long names word verb (and_right (is_long name.0 name.1) (list_all (λ name. is_long name.0 name.1) names) all)) where
+      by_test : (same : Bool) → bytes_eq word name.0 ≡ same → cond same (Some name.1) (lookup (bytes_eq word) names) ≡ Some verb → is_long name.0 name.1 ≡ true
+          → (lookup (bytes_eq word) names ≡ Some verb → is_long word verb ≡ true) → is_long word verb ≡ true
+      by_test true e is first later =
+          let words : word ≡ name.0 = (bytes_eq-Decides word name.0).0 e in
+          let verbs_are : name.1 ≡ verb = cc in
+          ap (λ (w : List ℕ). is_long w verb) words ∙ (ap (λ (v : Verb). is_long name.0 v) (sym verbs_are) ∙ first)
+      by_test false e is first later = later is
+
+-- nothing else asks for a run that is told
+abbrev IsOther : Typed → Type 0
+IsOther asked = (telling : Telling) (limit : ℕ) → asked ≡ typed.Told telling limit → ⊥
+
+other_if : (test : Bool) (a b : Typed) → IsOther a → IsOther b → IsOther (cond test a b)
+other_if true a b first second = first
+other_if false a b first second = second
+
+misformed : IsOther typed.Misformed
+misformed telling limit e = cc
+
+itself : IsOther typed.Itself
+itself telling limit e = cc
+
+help : IsOther typed.Help
+help telling limit e = cc
+
+other_put : (address word : Option ℕ) → IsOther (put_by address word)
+other_put (Some address) (Some word) = λ telling limit e. cc
+other_put (Some address) None = misformed
+other_put None word = misformed
+
+other_go : (address : Option ℕ) → IsOther (go_by address)
+other_go (Some address) = λ telling limit e. cc
+other_go None = misformed
+
+other_help : (verb : Option Verb) → IsOther (help_by verb)
+other_help (Some verb) = λ telling limit e. cc
+other_help None = misformed
+
+other_alone : (asked : Typed) (operands : List ℕ) → IsOther asked → IsOther (lone asked operands)
+other_alone asked operands other = other_if (has_no_word operands) asked typed.Misformed other misformed
+
+puts : (operands : List ℕ) → IsOther (put_typed operands)
+unfolding put_typed
+puts operands = other_put _ _
+
+goes : (operands : List ℕ) → IsOther (go_typed operands)
+unfolding go_typed
+goes operands = other_if _ _ _ (other_go _) misformed
+
+helps : (operands : List ℕ) → IsOther (help_typed operands)
+unfolding help_typed
+helps operands =
+    other_if (has_no_word operands) typed.Help _ help
+    (other_if (has_no_word (behind_word operands)) (help_by (named verb_names (first_word operands))) typed.Misformed (other_help (named verb_names (first_word operands))) misformed)
+
+-- the operand of a run that is told
+record IsTold (verb : Option Verb) (operands : List ℕ) (limit : ℕ) : Type 0 where
+  operand : lone_number operands ≡ Some limit
+  name : option_map tells verb ≡ Some true
+
+number_told : (how telling : Telling) (number : Option ℕ) (limit : ℕ) → told_by how number ≡ typed.Told telling limit → number ≡ Some limit
+number_told how telling None limit e = absurd (misformed telling limit e)
+number_told how telling (Some n) limit e = let same : n ≡ limit = cc in ap Some same
+
+operand_told : (how telling : Telling) (operands : List ℕ) (limit : ℕ) → told_typed how operands ≡ typed.Told telling limit → lone_number operands ≡ Some limit
+unfolding told_typed
+operand_told how telling operands limit e = number_told how telling (lone_number operands) limit e
+
+told_only : (verb : Option Verb) (operands : List ℕ) (telling : Telling) (limit : ℕ) → typed_by verb operands ≡ typed.Told telling limit → IsTold verb operands limit
+told_only None operands telling limit e = absurd (misformed telling limit e)
+told_only (Some verbs.Trace) operands telling limit e = record { operand = operand_told tellings.Trace telling operands limit e; name = refl }
+told_only (Some verbs.Profile) operands telling limit e = record { operand = operand_told tellings.Profile telling operands limit e; name = refl }
+told_only (Some verbs.Drum) operands telling limit e = record { operand = operand_told tellings.Drum telling operands limit e; name = refl }
+told_only (Some verbs.Put) operands telling limit e = absurd (puts operands telling limit e)
+told_only (Some verbs.Go) operands telling limit e = absurd (goes operands telling limit e)
+told_only (Some verbs.Transcript) operands telling limit e = absurd (other_alone typed.Transcript operands (λ telling limit e. cc) telling limit e)
+told_only (Some verbs.New) operands telling limit e = absurd (other_alone typed.New operands (λ telling limit e. cc) telling limit e)
+told_only (Some verbs.Help) operands telling limit e = absurd (helps operands telling limit e)
+told_only (Some verbs.Mount) operands telling limit e = absurd (misformed telling limit e)
+told_only (Some verbs.Press) operands telling limit e = absurd (misformed telling limit e)
+told_only (Some verbs.Type) operands telling limit e = absurd (misformed telling limit e)
+told_only (Some verbs.Turn) operands telling limit e = absurd (misformed telling limit e)
+told_only (Some verbs.Orders) operands telling limit e = absurd (misformed telling limit e)
+told_only (Some verbs.Run) operands telling limit e = absurd (misformed telling limit e)
+told_only (Some verbs.Back) operands telling limit e = absurd (misformed telling limit e)
+told_only (Some verbs.Last) operands telling limit e = absurd (misformed telling limit e)
+told_only (Some verbs.Panel) operands telling limit e = absurd (misformed telling limit e)
+told_only (Some verbs.Words) operands telling limit e = absurd (misformed telling limit e)
+told_only (Some verbs.Show) operands telling limit e = absurd (misformed telling limit e)
+told_only (Some verbs.Printed) operands telling limit e = absurd (misformed telling limit e)
+told_only (Some verbs.Dump) operands telling limit e = absurd (misformed telling limit e)
+told_only (Some verbs.Source) operands telling limit e = absurd (misformed telling limit e)
+told_only (Some verbs.List) operands telling limit e = absurd (misformed telling limit e)
+told_only (Some verbs.Load) operands telling limit e = absurd (misformed telling limit e)
+told_only (Some verbs.Break) operands telling limit e = absurd (misformed telling limit e)
+told_only (Some verbs.Watch) operands telling limit e = absurd (misformed telling limit e)
+told_only (Some verbs.Drop) operands telling limit e = absurd (misformed telling limit e)
+
+-- what such a line is: outside a source, kept whole, a name longer than `run` and the operand of one
+record IsToldLine (is_open : Bool) (kept : Kept) (limit : ℕ) : Type 0 where
+  closed : is_open ≡ false
+  operand : lone_number (behind_word kept.front) ≡ Some limit
+  long : 3 ≤ length (first_word kept.front)
+
+long_name : (verb : Option Verb) (line : List ℕ) → named verb_names (first_word line) ≡ verb → option_map tells verb ≡ Some true → 3 ≤ length (first_word line)
+long_name None line e name = absurd (clash name) where
+  clash : None ≡ Some true → ⊥
+  clash e = cc
+long_name (Some verb) line e name =
+    let telling : tells verb ≡ true = cc in
+    let long : is_long (first_word line) verb ≡ true = found_long verb_names (first_word line) verb names_long e in
+    let two : nat_lt 2 (length (first_word line)) ≡ true = ap (λ (t : Bool). not t || nat_lt 2 (length (first_word line))) (sym telling) ∙ long in
+    grind (arith, nat_tests)
+
+by_flags : (is_open longer blank comment : Bool) (asked : Typed) (telling : Telling) (limit : ℕ) → typed.Told telling limit ≡ cond (is_open || longer || blank || comment) typed.Itself asked → (is_open ≡ false) × (asked ≡ typed.Told telling limit)
+by_flags false false false false asked telling limit e = (refl, sym e)
+by_flags true longer blank comment asked telling limit e = absurd (itself telling limit (sym e))
+by_flags false true blank comment asked telling limit e = absurd (itself telling limit (sym e))
+by_flags false false true comment asked telling limit e = absurd (itself telling limit (sym e))
+by_flags false false false true asked telling limit e = absurd (itself telling limit (sym e))
+
+by_command : (command : Bool) (asked : Typed) (telling : Telling) (limit : ℕ) → cond command typed.Itself asked ≡ typed.Told telling limit → asked ≡ typed.Told telling limit
+by_command true asked telling limit e = absurd (itself telling limit e)
+by_command false asked telling limit e = e
+
+line_told : (line : List ℕ) (telling : Telling) (limit : ℕ) → typed_line line ≡ typed.Told telling limit → IsTold (named verb_names (first_word line)) (behind_word line) limit
+unfolding typed_line
+line_told line telling limit e = told_only (named verb_names (first_word line)) (behind_word line) telling limit (by_command (is_some (command_of line)) (typed_by (named verb_names (first_word line)) (behind_word line)) telling limit e)
+
+told_line : (is_open : Bool) (kept : Kept) (telling : Telling) (limit : ℕ) → typed.Told telling limit ≡ typed_of is_open kept → IsToldLine is_open kept limit
+unfolding typed_of
+told_line is_open kept telling limit e =
+    let flags = by_flags is_open kept.longer kept.blank (slice_index kept.front 0 == 59) (typed_line kept.front) telling limit e in
+    let told = line_told kept.front telling limit flags.1 in
+    record { closed = flags.0; operand = told.operand; long = long_name (named verb_names (first_word kept.front)) kept.front refl told.name }
+
+none_opened : (opened : Option SourceText) → is_some opened ≡ false → opened ≡ None
+none_opened None e = refl
+none_opened (Some source) e = absurd (clash e) where
+  clash : true ≡ false → ⊥
+  clash e = cc
+
+closed_answer : {A : Type 0} (s : Standing A) (line : List ℕ) → s.opened ≡ None → answer_to_line s line ≡ answer_to_command s line
+unfolding answer_to_line
+closed_answer s line closed = ap (λ (o : Option SourceText). answer_in o s line) closed
+
+run_answer : {A : Type 0} (s : Standing A) (text : List ℕ) (telling : Telling) (limit : ℕ) → typed.Told telling limit ≡ typed_of (is_some s.opened) (kept_of text) → answer_to_line s (run_line (kept_of text).front) ≡ answer_to_run s limit
+unfolding run_line
+run_answer s text telling limit e =
+    let front : List ℕ = (kept_of text).front in
+    let told = told_line (is_some s.opened) (kept_of text) telling limit e in
+    let long : 3 ≤ length (first_word (kept_of text).front) = told.long in
+    let parts = word_length (kept_of text).front in
+    let most = front_short text in
+    let short : 3 + length (behind_word (kept_of text).front) ≤ line_limit = omega (arith, long, parts, most) in
+    closed_answer s (codes "run" ++ behind_word (kept_of text).front) (none_opened s.opened told.closed)
+    ∙ command_answer s (behind_word (kept_of text).front) limit (spaced_behind (kept_of text).front) told.operand short
+
+-- ---- what is kept and what is answered
+
+module _ {A : Type 0} where
+  pub told_after : (r₀ r₁ r₂ : Recorded (Standing A)) (s₁ s₂ : Standing A) (kept : Kept) (text : List ℕ) (telling : Telling) (limit : ℕ) (run : List ℕ) → kept ≡ kept_of text → typed.Told telling limit ≡ typed_at r₀ text
+      → run ≡ run_line kept.front → r₁ ≡ with_line r₀ run → s₁ ≡ r₁.standing → s₂ ≡ (answer_to_run s₁ limit).after → r₂ ≡ with_standing r₁ s₂
+      → r₂ ≡ after_lines script_language r₀ (run_line kept.front ∷ [])
+  unfolding typed_at after_lines text_of
+  told_after r₀ r₁ r₂ s₁ s₂ kept text telling limit run is asked line kept_line lent done after =
+      let lines : run ≡ run_line (kept_of text).front = line ∙ ap (λ (k : Kept). run_line k.front) is in
+      let stood : s₁ ≡ r₀.standing = lent ∙ ap (λ (r : Recorded (Standing A)). r.standing) kept_line in
+      let stands : s₂ ≡ (answer_to_line r₀.standing (run_line (kept_of text).front)).after =
+      done ∙ (ap (λ (s : Standing A). (answer_to_run s limit).after) stood ∙ ap (λ (a : Answer A). a.after) (sym (run_answer r₀.standing text telling limit asked))) in
+      after ∙ (ap (λ (r : Recorded (Standing A)). with_standing r s₂) kept_line
+      ∙ (ap (λ (l : List ℕ). record { standing = s₂; transcript = r₀.transcript ++ ended l }) lines
+      ∙ (ap (λ (t : List ℕ). record { standing = s₂; transcript = r₀.transcript ++ t }) (sym (append-nil (ended (run_line (kept_of text).front))))
+      ∙ (ap (λ (s : Standing A). record { standing = s; transcript = r₀.transcript ++ (ended (run_line (kept_of text).front) ++ []) }) stands
+      ∙ ap (λ (k : Kept). after_lines script_language r₀ (run_line k.front ∷ [])) (sym is)))))
+
+  pub told_replies : (r₀ r₁ : Recorded (Standing A)) (s₁ : Standing A) (kept : Kept) (text : List ℕ) (telling : Telling) (limit : ℕ) (run before after : List ℕ) → kept ≡ kept_of text → typed.Told telling limit ≡ typed_at r₀ text
+      → r₁ ≡ with_line r₀ run → s₁ ≡ r₁.standing → after ≡ before ++ (told_of s₁ telling limit ++ (answer_to_run s₁ limit).reply)
+      → after ≡ before ++ reply_of r₀ (typed.Told telling limit) kept
+  unfolding typed_at replies_text
+  told_replies r₀ r₁ s₁ kept text telling limit run before after is asked kept_line lent replied =
+      let stood : s₁ ≡ r₀.standing = lent ∙ ap (λ (r : Recorded (Standing A)). r.standing) kept_line in
+      replied ∙ (ap (λ (s : Standing A). before ++ (told_of s telling limit ++ (answer_to_run s limit).reply)) stood
+      ∙ (ap (λ (a : Answer A). before ++ (told_of r₀.standing telling limit ++ a.reply)) (sym (run_answer r₀.standing text telling limit asked))
+      ∙ (ap (λ (t : List ℕ). before ++ (told_of r₀.standing telling limit ++ t)) (sym (append-nil (answer_to_line r₀.standing (run_line (kept_of text).front)).reply))
+      ∙ ap (λ (k : Kept). before ++ reply_of r₀ (typed.Told telling limit) k) (sym is))))
