@@ -1,8 +1,10 @@
-//! A whole script in one call, for callers that give the room for its replies.
+//! The laboratory for callers that give the room for its replies: a whole script in one call, and lines answered one at a time.
 #![tactic(auto)]
 
 mod replies;
 mod room;
 mod script;
+mod session;
 
 pub use script::{Outcome, run_into};
+pub use session::Session;
