@@ -1,8 +1,10 @@
--- Part of the public promise: a session, in which lines are answered by the monitor one at a time.
-use Rattle.std.specs.Prelude.{ℕ, List, []}
+-- Part of the public promise: a session, in which the monitor answers one line after another.
+use Rattle.std.specs.Prelude.{ℕ, if◌then◌else◌, List, [], length}
+use Rattle.lgp_stream.specs.Language.{is_question}
+use Rattle.lgp_transcript.specs.Transcript.{Recorded, untouched}
 use Rattle.lgp_lab.specs.Standing.{Standing, opening_standing}
 use Rattle.lgp_monitor.specs.Monitor.{monitor_language}
-use Rattle.lgp_transcript.specs.Transcript.{Recorded, untouched}
+use Rattle.lgp_call.specs.declared.script.Outcome.{Outcome}
 
 -- where the monitor stands, and what it replied last
 pub record Sitting (A : Type 0) : Type 0 where
@@ -19,3 +21,18 @@ after_line sitting line = record {
   recorded = monitor_language.after sitting.recorded line;
   reply = monitor_language.reply sitting.recorded line;
 }
+
+-- the reply to the session's end
+abbrev pub closing_reply : {A : Type 0} → Sitting A → List ℕ
+closing_reply sitting = monitor_language.closing sitting.recorded
+
+-- what is told of a reply: whether it begins with a question mark, and its length
+abbrev pub questions_in : List ℕ → ℕ
+questions_in reply = if is_question reply then 1 else 0
+
+abbrev pub outcome_of : List ℕ → Outcome
+outcome_of reply = record { questions = questions_in reply; length = length reply }
+
+-- what is told where there is no reply
+abbrev pub no_outcome : Outcome
+no_outcome = record { questions = 0; length = 0 }

@@ -12,3 +12,11 @@ unread_status = 2
 -- there was not enough memory
 abbrev pub memory_status : ℕ
 memory_status = 3
+
+-- a session is open there already
+abbrev pub open_status : ℕ
+open_status = 4
+
+-- no session is open there
+abbrev pub closed_status : ℕ
+closed_status = 5

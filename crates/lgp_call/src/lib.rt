@@ -7,4 +7,4 @@ mod script;
 mod session;
 
 pub use script::{Outcome, run_into};
-pub use session::Session;
+pub use session::{Session, refuse};

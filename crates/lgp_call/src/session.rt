@@ -1,13 +1,28 @@
 //! Lines answered one at a time.
 
-ghost use Rattle.std.specs.Prelude.{◌≡◌, IfOk, OnOk};
-ghost use Rattle.lgp_call.specs.Session.{after_line, opening_sitting};
+ghost use Rattle.std.specs.Prelude.{◌≡◌, ◌<◌, ◌≤◌, IfOk, OnOk};
+ghost use Rattle.lgp_stream.specs.Language.{is_question};
+ghost use Rattle.lgp_call.specs.Room.{filled};
+ghost use Rattle.lgp_call.specs.Session.{after_line, closing_reply, no_outcome, opening_sitting, outcome_of, questions_in};
+ghost use Rattle.lgp_call.specs.Status.{answered_status, memory_status, unread_status};
 
+use crate::room::fill;
+use crate::script::Outcome;
 use lgp_lab::Laboratory;
 use lgp_monitor::Monitor;
 use lgp_stream::{Answers, LineBytes};
 use std::alloc::{AllocError, Allocator};
 use std::marker::Model;
+
+/// Whether a reply begins with a question mark.
+fn is_question(reply: &[u8]) -> bool
+    ensures { result ≡ is_question reply.now }
+{
+    match reply {
+        [first, ..] => *first == b'?',
+        [] => false,
+    }
+}
 
 /// A monitor that answers one line after another, and its last reply.
 #[derive(Drop)]
@@ -45,4 +60,78 @@ impl<A: Allocator + Copy> Session<A> {
         self.reply.clear();
         self.monitor.answer(&LineBytes::of(line), &mut self.reply)
     }
+
+    /// Answers the session's end: a source that is open is closed with its reply, otherwise the reply is empty.
+    pub fn end(&mut self) -> Result<(), AllocError>
+        ensures { OnOk result (self.new.reply ≡ closing_reply self.old) }
+    {
+        self.reply.clear();
+        self.monitor.close(&mut self.reply)
+    }
+
+    /// Writes the last reply into the room, as far as it fits, and tells its whole length. The answer is the status of a reply.
+    pub fn give_reply(&self, room: &mut [u8], outcome: &mut Outcome) -> u32
+        ensures status { result ≡ answered_status (questions_in self.now.reply) }
+        ensures written { room.new ≡ filled self.now.reply room.old }
+        ensures told { outcome.new ≡ outcome_of self.now.reply }
+    {
+        let reply = self.reply.as_slice();
+        let is_question = is_question(reply);
+        fill(room, reply);
+        *outcome = Outcome {
+            questions: u64::from(is_question),
+            length: reply.len() as u64,
+        };
+        u32::from(is_question)
+    }
+
+    /// Answers a line, and gives its reply as `give_reply` does.
+    ///
+    /// The status is 0, 1, or 3 where there was not enough memory. With 3 nothing is written into the room, both numbers of the outcome
+    /// are 0, and where the session stands is left open: nothing more is to be asked of it.
+    pub fn answer_into(&mut self, line: &[u8], room: &mut [u8], outcome: &mut Outcome) -> u32
+        ensures status { result < unread_status
+            → result ≡ answered_status (questions_in self.new.reply) }
+        ensures after { result < unread_status → self.new ≡ after_line self.old line.now }
+        ensures written { result < unread_status → room.new ≡ filled self.new.reply room.old }
+        ensures told { result < unread_status → outcome.new ≡ outcome_of self.new.reply }
+        ensures known { unread_status ≤ result → result ≡ memory_status }
+        ensures unwritten { unread_status ≤ result → room.new ≡ room.old }
+        ensures untold { unread_status ≤ result → outcome.new ≡ no_outcome }
+    {
+        match self.answer_line(line) {
+            Ok(()) => self.give_reply(room, outcome),
+            Err(_) => refuse(outcome, 3),
+        }
+    }
+
+    /// Answers the session's end, and gives its reply as `give_reply` does. All memory of the session is given back, whatever the
+    /// status is: 0, 1, or 3 where there was not enough memory for the reply. With 3 nothing is written into the room, and both numbers
+    /// of the outcome are 0.
+    pub fn close_into(mut self, room: &mut [u8], outcome: &mut Outcome) -> u32
+        ensures status { result < unread_status
+            → result ≡ answered_status (questions_in (closing_reply self)) }
+        ensures written { result < unread_status → room.new ≡ filled (closing_reply self) room.old }
+        ensures told { result < unread_status → outcome.new ≡ outcome_of (closing_reply self) }
+        ensures known { unread_status ≤ result → result ≡ memory_status }
+        ensures unwritten { unread_status ≤ result → room.new ≡ room.old }
+        ensures untold { unread_status ≤ result → outcome.new ≡ no_outcome }
+    {
+        match self.end() {
+            Ok(()) => self.give_reply(room, outcome),
+            Err(_) => refuse(outcome, 3),
+        }
+    }
+}
+
+/// Tells of no reply, and passes the status on.
+pub fn refuse(outcome: &mut Outcome, status: u32) -> u32
+    ensures status { result ≡ status }
+    ensures untold { outcome.new ≡ no_outcome }
+{
+    *outcome = Outcome {
+        questions: 0,
+        length: 0,
+    };
+    status
 }
