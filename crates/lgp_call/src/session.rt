@@ -53,6 +53,14 @@ impl<A: Allocator + Copy> Session<A> {
         })
     }
 
+    /// A new session, in a box of its own.
+    pub fn boxed<B: Allocator>(alloc: A, room: B) -> Result<Box<Session<A>, B>, AllocError>
+        ensures { IfOk result (λ whole. whole.value ≡ opening_sitting) }
+    {
+        let session = Session::new(alloc)?;
+        Ok(Box::new(room, session)?)
+    }
+
     /// Answers a line. A refused growth leaves open where the session stands.
     pub fn answer_line(&mut self, line: &[u8]) -> Result<(), AllocError>
         ensures { OnOk result (self.new ≡ after_line self.old line.now) }
