@@ -25,13 +25,14 @@ use Rattle.std.proofs.alloc.Global.TheLaws as heap_laws
 use Rattle.std.specs.contracts.impls.GlobalAllocator.TheImpl.{ghosts, dict}
 
 use Rattle.lgp_call.proofs.session.Session.TheLaws as session_laws
+use Rattle.std.below.core.specs.contracts.clone.Clone+copy.TheImpl as copied
 use Rattle.lgp_parts.specs.contracts.parts.BoxParts as parts
 use Rattle.lgp_c.specs.contracts.slot.Slot as slot
 use Rattle.lgp_c.specs.Slots.{the_session, slot_owns}
 
 -- the box, its allocator and its value
 abbrev pub E : Bx
-E = record { row = the_session; laws = session_laws.the_row_laws heap.the_row ghosts heap_laws.the_row_laws; al = record { row = heap.the_row; laws = heap_laws.the_row_laws; g = ghosts; d = dict; drops = impl [] tnil dnil } }
+E = record { row = the_session; laws = session_laws.the_row_laws heap.the_row ghosts (copied.ghosts heap.the_row) heap_laws.the_row_laws; al = record { row = heap.the_row; laws = heap_laws.the_row_laws; g = ghosts; d = dict; drops = impl [] tnil dnil } }
 
 abbrev pub Parts : RattleType
 Parts = parts.the_row E.row E.al.row ghosts

@@ -5,6 +5,7 @@ use Rattle.std.specs.Global.{Global}
 use Rattle.std.specs.contracts.alloc.Global as heap
 use Rattle.std.specs.contracts.impls.GlobalAllocator.TheImpl.{ghosts}
 use Rattle.std.specs.Coded.{coded_option}
+use Rattle.std.below.core.specs.contracts.clone.Clone+copy.TheImpl as copied
 use base.Fml.{Fml, ftrue, ffalse}
 use base.Stored.{Coded}
 use denote.RawPtr.{Ptr}
@@ -14,7 +15,7 @@ use Rattle.lgp_call.specs.contracts.session.Session as session
 
 -- a session over memory from malloc
 abbrev pub the_session : RattleType
-the_session = session.the_row heap.the_row ghosts
+the_session = session.the_row heap.the_row ghosts (copied.ghosts heap.the_row)
 
 -- an empty slot owns nothing, and an open one the box of its session
 abbrev pub slot_owns : Global → Bool → Ptr → Option (Sitting Global) → Fml
