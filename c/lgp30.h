@@ -15,6 +15,7 @@
 #ifndef LGP30_H
 #define LGP30_H
 
+#include <stdbool.h>
 #include <stddef.h>
 #include <stdint.h>
 
@@ -27,7 +28,9 @@ enum {
     LGP_WELL = 0,      /* all is well */
     LGP_QUESTIONS = 1, /* some reply begins with a question mark */
     LGP_UNREAD = 2,    /* the script could not be read: none of less than 2^32 bytes meets this */
-    LGP_NO_MEMORY = 3  /* there was not enough memory */
+    LGP_NO_MEMORY = 3, /* there was not enough memory */
+    LGP_IS_OPEN = 4,   /* a session is open there already */
+    LGP_NOT_OPEN = 5   /* no session is open there */
 };
 
 /* What a script was answered. */
@@ -51,6 +54,48 @@ struct lgp_outcome {
 uint32_t lgp_run_script(const uint8_t *script, size_t script_length,
                         uint8_t *room, size_t room_length,
                         struct lgp_outcome *outcome);
+
+/* A session: a laboratory that answers one line after another, over memory from malloc.
+ *
+ * It takes the lines of the monitor, which are those of scripts and some more (docs/MONITOR.md), each
+ * without its line feed. It is all zeros while none is open: `struct lgp_session session = {0};`. Its
+ * owner neither reads nor writes its members, copies it only if the copy alone is used from then on,
+ * and closes it before its memory goes away. It is used by one thread at a time. */
+struct lgp_session {
+    bool is_open;
+    void *laboratory;
+};
+
+/* Opens a session: a machine in its opening state, an empty transcript, and an empty last reply.
+ * LGP_WELL; LGP_NO_MEMORY, and then none is open; LGP_IS_OPEN, and then nothing has changed. */
+uint32_t lgp_open(struct lgp_session *session);
+
+/* Answers a line of any bytes; one of more than 4096 bytes is refused as too long.
+ *
+ * With LGP_WELL and LGP_QUESTIONS the reply stands in the room as far as it fits, the bytes of the room
+ * behind it are as they were, outcome->length is the reply's whole length, and outcome->questions is 1
+ * where it begins with a question mark. Where the room was too small, lgp_reply gives the reply again.
+ *
+ * With LGP_NO_MEMORY the session is closed, and its memory given back. With LGP_NOT_OPEN none is open
+ * there. With both the room is as it was, and both numbers of the outcome are 0. */
+uint32_t lgp_answer(struct lgp_session *session,
+                    const uint8_t *line, size_t line_length,
+                    uint8_t *room, size_t room_length,
+                    struct lgp_outcome *outcome);
+
+/* Gives the last reply once more, with the status that it had; the line is not done again. Takes no
+ * memory. LGP_NOT_OPEN as with lgp_answer. */
+uint32_t lgp_reply(struct lgp_session *session,
+                   uint8_t *room, size_t room_length,
+                   struct lgp_outcome *outcome);
+
+/* Closes a session, and gives back its memory. A source that is open is closed with its reply, as at a
+ * script's end; otherwise the reply is empty. The room and the outcome are filled as by lgp_answer, and
+ * what did not fit is lost. With LGP_NO_MEMORY the reply is lost, and the session is closed all the
+ * same. LGP_NOT_OPEN as with lgp_answer. */
+uint32_t lgp_close(struct lgp_session *session,
+                   uint8_t *room, size_t room_length,
+                   struct lgp_outcome *outcome);
 
 #ifdef __cplusplus
 }

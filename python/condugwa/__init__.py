@@ -10,6 +10,7 @@ Commands and replies are those of docs/FORMATS.md. Bytes that are no UTF-8 text 
 
 from condugwa.accounts import Account, Stored, Word, accounts_of
 from condugwa.assembling import Fault, Faults, Listing, assemble
+from condugwa.laboratories import Laboratory, Run
 from condugwa.library import OutOfMemory, Unread
 from condugwa.panels import Panel, word_value, words_of
 from condugwa.profiles import Place, Profile, profile_of
@@ -40,6 +41,7 @@ __all__ = [
     "Faulty",
     "Form",
     "Full",
+    "Laboratory",
     "Listing",
     "Moving",
     "NoHit",
@@ -51,6 +53,7 @@ __all__ = [
     "Profile",
     "Refusal",
     "Replies",
+    "Run",
     "Stored",
     "TooFar",
     "TooLong",

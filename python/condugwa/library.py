@@ -1,4 +1,4 @@
-"""The shared library and its one call, with bytes on both sides."""
+"""The shared library and its calls, with bytes on both sides."""
 
 import ctypes
 import functools
@@ -7,11 +7,13 @@ import pathlib
 
 _UNREAD = 2
 _NO_MEMORY = 3
+_NOT_OPEN = 5
 _FIRST_ROOM = 65536
+_SESSION_ROOM = 4096
 
 
 class OutOfMemory(MemoryError):
-    """The library was refused memory. Nothing has changed."""
+    """The library was refused memory. A script has changed nothing; a laboratory is closed then."""
 
 
 class Unread(OSError):
@@ -20,6 +22,10 @@ class Unread(OSError):
 
 class _Outcome(ctypes.Structure):
     _fields_ = [("questions", ctypes.c_uint64), ("length", ctypes.c_uint64)]
+
+
+class _Session(ctypes.Structure):
+    _fields_ = [("is_open", ctypes.c_bool), ("laboratory", ctypes.c_void_p)]
 
 
 @functools.lru_cache(maxsize=None)
@@ -35,6 +41,16 @@ def _library() -> ctypes.CDLL:
         ctypes.c_size_t,
         ctypes.POINTER(_Outcome),
     ]
+    reply = [ctypes.c_void_p, ctypes.c_size_t, ctypes.POINTER(_Outcome)]
+    session = ctypes.POINTER(_Session)
+    for call, arguments in (
+        (library.lgp_open, [session]),
+        (library.lgp_answer, [session, ctypes.c_char_p, ctypes.c_size_t, *reply]),
+        (library.lgp_reply, [session, *reply]),
+        (library.lgp_close, [session, *reply]),
+    ):
+        call.restype = ctypes.c_uint32
+        call.argtypes = arguments
     return library
 
 
@@ -57,3 +73,43 @@ def run(script: bytes) -> "tuple[bytes, int]":
         if outcome.length <= room:
             return ctypes.string_at(replies, outcome.length), outcome.questions
         room = outcome.length
+
+
+class Session:
+    """A session that is open from its making until it is closed, or refused memory."""
+
+    def __init__(self) -> None:
+        self._session = _Session()
+        self._room = ctypes.create_string_buffer(_SESSION_ROOM)
+        if _library().lgp_open(ctypes.byref(self._session)) == _NO_MEMORY:
+            raise OutOfMemory("the library was refused memory")
+
+    def __del__(self) -> None:
+        if hasattr(self, "_room"):
+            self.close()
+
+    def answer(self, line: bytes) -> "tuple[bytes, int]":
+        """The reply to a line, and 1 where it begins with a question mark.
+
+        Where the reply does not fit into the room, that is made as large and the reply taken once more.
+
+        Raises OutOfMemory, and then the session is closed, or ValueError where it is closed.
+        """
+        outcome = _Outcome()
+        status = _library().lgp_answer(
+            ctypes.byref(self._session), line, len(line), self._room, len(self._room), ctypes.byref(outcome)
+        )
+        if status == _NO_MEMORY:
+            raise OutOfMemory("the library was refused memory")
+        if status == _NOT_OPEN:
+            raise ValueError("the laboratory is closed")
+        if outcome.length > len(self._room):
+            self._room = ctypes.create_string_buffer(outcome.length)
+            _library().lgp_reply(ctypes.byref(self._session), self._room, len(self._room), ctypes.byref(outcome))
+        return ctypes.string_at(self._room, outcome.length), outcome.questions
+
+    def close(self) -> bytes:
+        """The reply to the session's end, empty where it is closed already, or where there was no memory for it."""
+        outcome = _Outcome()
+        _library().lgp_close(ctypes.byref(self._session), self._room, len(self._room), ctypes.byref(outcome))
+        return ctypes.string_at(self._room, min(outcome.length, len(self._room)))

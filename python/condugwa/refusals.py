@@ -4,7 +4,8 @@
 class Refusal(Exception):
     """A reply that begins with a question mark.
 
-    `reply` is its line without the line feed, and `detail` the number that TooFar, NoHit and BadSign tell, or None.
+    `reply` is its line without the line feed, and `detail` the number that TooFar, NoHit and BadSign tell, or None. What a laboratory
+    says behind Form, the command's form, stands in the reply alone.
     """
 
     number = 0
@@ -13,7 +14,7 @@ class Refusal(Exception):
         super().__init__(reply)
         self.reply = reply
         words = reply.split()
-        self.detail = int(words[3]) if len(words) > 3 else None
+        self.detail = int(words[3]) if len(words) > 3 and words[3].isdecimal() else None
 
 
 class Form(Refusal):
@@ -96,4 +97,4 @@ _BY_NUMBER = {
 
 def refusal_in(line: str) -> Refusal:
     """The refusal that a line of replies tells."""
-    return _BY_NUMBER[int(line.split()[1])](line)
+    return _BY_NUMBER[int(line.split()[1].rstrip(":"))](line)

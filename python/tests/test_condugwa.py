@@ -90,3 +90,82 @@ def test_words_are_read_by_address():
     words = condugwa.words_of("\n".join(replies.lines()[1:]))
     assert words == {"0050": "000000fq", "0051": "00000000"}
     assert condugwa.word_value(words["0050"]) == 10 * 16 + 14
+
+
+@pytest.fixture
+def laboratory():
+    with condugwa.Laboratory() as laboratory:
+        yield laboratory
+
+
+@pytest.mark.parametrize("script", SCRIPTS, ids=lambda path: str(path.relative_to(EXAMPLES)))
+def test_an_example_is_answered_line_by_line(script):
+    replies = b""
+    session = condugwa.library.Session()
+    for line in script.read_bytes().split(b"\n")[:-1]:
+        replies += session.answer(line.removesuffix(b"\r"))[0]
+    assert replies + session.close() == script.with_suffix(".expected").read_bytes()
+
+
+def test_a_laboratory_keeps_what_was_done(laboratory):
+    assert laboratory.answer("put 0050 = 3") == "ok\n"
+    assert laboratory.words("0050", 2) == {"0050": "00000006", "0051": "00000000"}
+    assert laboratory.transcript() == "put 0050 00000006\nwords 0050 2\n"
+
+
+def test_a_program_is_run_and_taken_back(laboratory):
+    laboratory.answers("put 0100 b 0102\nput 0101 z 0000\nput 0102 = 5\ngo 0100\n")
+    assert laboratory.run(10) == condugwa.Run(2, "rest", None)
+    assert laboratory.panel().accumulator == "0000000g"[:7] + "f"
+    laboratory.back(1)
+    assert laboratory.panel().counter == "0101"
+
+
+def test_a_rule_stops_a_run(laboratory):
+    laboratory.answers("put 0100 u 0100\nbreak 0100\ngo 0100\n")
+    assert laboratory.run(10).end == "rule"
+
+
+def test_a_refusal_is_raised_and_changes_nothing(laboratory):
+    with pytest.raises(condugwa.TooFar) as refusal:
+        laboratory.back(1)
+    assert refusal.value.detail == 0
+    with pytest.raises(condugwa.Form) as refusal:
+        laboratory.answer("jump 0100")
+    assert refusal.value.reply.startswith("? 1 Form: ")
+    assert laboratory.panel().clock == 0
+
+
+def test_a_reply_larger_than_the_room_is_whole(laboratory):
+    for _ in range(3):
+        laboratory.answers("".join(f"put {track:02}00 = 1\n" for track in range(64)))
+    transcript = laboratory.transcript()
+    assert len(transcript) > 3 * 64 * 16
+    assert condugwa.run_script(transcript).text == "ok\n" * 192
+
+
+def test_a_line_has_no_line_feed(laboratory):
+    with pytest.raises(ValueError):
+        laboratory.answer("panel\npanel")
+
+
+def test_any_bytes_and_long_lines_are_answered(laboratory):
+    with pytest.raises(condugwa.Form):
+        laboratory.answer(bytes(byte for byte in range(256) if byte != 10))
+    with pytest.raises(condugwa.TooLong):
+        laboratory.answer("x" * 5000)
+
+
+def test_two_laboratories_are_two_machines(laboratory):
+    with condugwa.Laboratory() as other:
+        other.answer("put 0050 = 3")
+        assert laboratory.words("0050") == {"0050": "00000000"}
+
+
+def test_a_closed_laboratory_answers_nothing():
+    laboratory = condugwa.Laboratory()
+    laboratory.answer("source")
+    assert laboratory.close() == "? 9 Faults\nline 1 NoEnd\n"
+    assert laboratory.close() == ""
+    with pytest.raises(ValueError):
+        laboratory.panel()

@@ -1,32 +1,27 @@
 -- `into_parts` looks whether the slot is open. If so, the parts own what it owned.
-use Rattle.std.proofs.Common.{◌≡◌, Bool, true, false, Option, None, Some, List, [], ◌∷◌, ◌++◌, refl, subst, lit<, ap, ◌∙◌}
+use Rattle.std.proofs.Common.{◌≡◌, Bool, true, false, None, Some, List, [], ◌∷◌, ◌++◌, refl, lit<, ap, ◌∙◌}
 use Rattle.std.proofs.raw_atomic.Walks.{proved_at, leaves}
-use base.Fml.{Fml, ftrue}
-use base.Logic.{SProp, ent, sep, emp, id⊢, never, never_e, fst∗}
+use base.Logic.{SProp, emp, id⊢}
 use contract.Monad.{fact, fact_i}
 use contract.Running.{tables}
 use denote.RattleType.{RattleType, owns}
-use denote.RawPtr.{Ptr, block_ptr, null_ptr, ptr_val, in_a_block}
+use denote.RawPtr.{Ptr, block_ptr, ptr_val}
 use denote.Signature.{plain, types_at, type_at}
 use denote.Steps.{nothing}
 use denote.Triple.Entry.{alive}
 use denote.Triple.Walked.{Stays, stay_dropped, walk_of, Goes-dropped}
-use mir.Raw.{raw as bare}
-use mir.Val.{Val, vptr, vcons, vnil, has_ty}
+use mir.Val.{Val, vptr, vcons, vnil}
 use prog.Wp.{WpFn}
 use types.ByLocal.{alloc_all, pass_all, free_all, look_at, get, get_in, sets, sets_last, env}
-use types.Kit.{Item, ‵, raw, ◌⊛◌, prop, at_ret, ◌$◌, ◌∵◌, !, qed, by, move, drop, keep, use0, use1, split, regoal, fsplit, fjoin}
-use types.Logic.{sem}
+use types.Kit.{‵, raw, ◌⊛◌, prop, at_ret, ◌$◌, ◌∵◌, !, qed, by, move, keep, use0, use1, split, regoal, fsplit, fjoin}
 use types.Match.{live}
 use types.Part.{whole, sub, agg}
 use types.Run.{enter, of_opd, lit, stop, fld, no_more, and_then, first, branches, exec, returns}
 use Rattle.std.proofs.alloc.Shapes.{after}
-use Rattle.std.proofs.alloc.Calls.{token, α}
-use Rattle.std.proofs.BoxSteps.Form.{D, R, τ, word, box_typed}
+use Rattle.std.proofs.BoxSteps.Form.{D, word, box_typed}
 use Rattle.std.proofs.BoxSteps.Steps.{box_in}
 use Rattle.std.proofs.ResultValues.{and_tt}
 use Rattle.std.proofs.option.Made.{Some-of, none_of}
-use Rattle.std.specs.Box.Ownership.{box_owns}
 use Rattle.lgp_c.specs.contracts.slot.Slot as slot
 use Rattle.lgp_c.specs.contracts.slot.Slot.into_parts as f
 use Rattle.lgp_c.proofs.slot.Slot.into_parts.Statement.{statement}

@@ -1,7 +1,7 @@
 -- `of` takes the parts of a box, and the slot owns what they owned.
-use Rattle.std.proofs.Common.{◌≡◌, true, List, [], ◌∷◌, ◌++◌, refl, sym, subst, Some}
+use Rattle.std.proofs.Common.{◌≡◌, true, List, [], ◌∷◌, ◌++◌, refl, Some}
 use Rattle.std.proofs.raw_atomic.Walks.{proved_at, leaves}
-use base.Logic.{SProp, ent, emp, id⊢}
+use base.Logic.{SProp, emp}
 use contract.Monad.{fact, fact_i}
 use contract.Running.{tables}
 use denote.RattleType.{owns}
@@ -13,14 +13,13 @@ use denote.Triple.Walked.{Stays, stay_dropped, walk_of, Goes-dropped}
 use mir.Val.{Val, vptr, has_ty}
 use prog.Wp.{WpFn}
 use types.ByLocal.{alloc_all, pass_all, free_all, look_at, get, get_in, sets}
-use types.Kit.{prop, regoal, Item, ‵, raw, ◌⊛◌, ◌$◌, ◌∵◌, !, qed, by, move, keep, drop, use0, use1, split, fsplit, fjoin}
+use types.Kit.{prop, regoal, ‵, raw, ◌⊛◌, ◌$◌, ◌∵◌, !, qed, by, move, keep, drop, use0, split, fsplit, fjoin}
 use types.Part.{whole, sub, agg}
 use types.Run.{enter, of_opd, true_lit, stop, fld, no_more, and_then, returns}
 use Rattle.std.proofs.BoxSteps.Form.{D, word, box_typed}
 use Rattle.std.proofs.alloc.Calls.{α}
 use Rattle.std.proofs.ResultValues.{and_tt}
 use Rattle.std.proofs.BoxSteps.Steps.{box_out}
-use Rattle.std.specs.Box.Ownership.{box_owns}
 use Rattle.lgp_c.specs.contracts.slot.Slot as slot
 use Rattle.lgp_c.specs.contracts.slot.Slot.of as f
 use Rattle.lgp_c.proofs.slot.Slot.of.Statement.{statement}

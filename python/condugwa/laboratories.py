@@ -1,0 +1,103 @@
+"""Laboratories that answer one line after another."""
+
+import dataclasses
+import types
+
+from condugwa import library, panels, refusals, scripts
+
+
+@dataclasses.dataclass(frozen=True)
+class Run:
+    """What a run did."""
+
+    orders: int
+    """How many orders were performed."""
+
+    end: str
+    """Why it ended: `rest`, `limit` or `rule`."""
+
+    rule: "int | None"
+    """The number of the rule that stopped it, if one did."""
+
+    @classmethod
+    def of(cls, reply: str) -> "Run":
+        """The run that a reply of `run` tells. Raises ValueError where it is none."""
+        words = reply.split()
+        if len(words) < 3 or words[0] != "ran":
+            raise ValueError(f"no run: {reply!r}")
+        return cls(int(words[1]), words[2], int(words[3]) if len(words) > 3 else None)
+
+
+class Laboratory:
+    """A machine with its debugger and assembler, which answers the lines of the monitor.
+
+    >>> with Laboratory() as laboratory:
+    ...     laboratory.answer("put 0050 = 3")
+    ...     laboratory.words("0050")
+    'ok\\n'
+    {'0050': '00000006'}
+
+    The lines are those of scripts and of docs/MONITOR.md. A refusal is raised as an exception of its name, and has changed nothing.
+    Where there is not enough memory OutOfMemory is raised, and the laboratory is closed then. A laboratory is used by one thread at a
+    time.
+    """
+
+    def __init__(self) -> None:
+        self._session = library.Session()
+
+    def __enter__(self) -> "Laboratory":
+        return self
+
+    def __exit__(
+        self,
+        kind: "type[BaseException] | None",
+        value: "BaseException | None",
+        trace: "types.TracebackType | None",
+    ) -> None:
+        self.close()
+
+    def answer(self, line: "str | bytes") -> str:
+        """The reply to a line, with a line feed behind each of its lines; the empty text where the line has none.
+
+        Raises the refusal that the reply tells, ValueError where the line has a line feed or the laboratory is closed, and OutOfMemory.
+        """
+        text = scripts.encoded(line)
+        if b"\n" in text:
+            raise ValueError("a line has no line feed")
+        reply, questions = self._session.answer(text)
+        return _checked(scripts.decoded(reply), questions)
+
+    def answers(self, lines: str) -> str:
+        """The replies to several lines, one behind the other. The first refusal is raised, and the lines behind it are not asked."""
+        return "".join(self.answer(line) for line in lines.splitlines())
+
+    def panel(self) -> panels.Panel:
+        """What the panel shows."""
+        return panels.Panel.of(self.answer("panel"))
+
+    def words(self, address: str, count: int = 1) -> "dict[str, str]":
+        """So many words from an address on, 64 at most, each by its address."""
+        return panels.words_of(self.answer(f"words {address} {count}"))
+
+    def run(self, limit: int) -> Run:
+        """Performs orders, at most so many, until the machine is at rest or a rule stops it."""
+        return Run.of(self.answer(f"run {limit}"))
+
+    def back(self, orders: int) -> int:
+        """Goes back to where the last of so many orders began, and tells the clock there. Raises TooFar where fewer are kept."""
+        return int(self.answer(f"back {orders}").split()[1])
+
+    def transcript(self) -> str:
+        """The script that leads where the laboratory stands."""
+        return self.answer("transcript")
+
+    def close(self) -> str:
+        """Gives back the memory. The reply is that to a source which was open, otherwise empty. Once closed it does nothing."""
+        return scripts.decoded(self._session.close())
+
+
+def _checked(reply: str, questions: int) -> str:
+    """A reply, if it is no refusal."""
+    if questions:
+        raise refusals.refusal_in(reply.split("\n", 1)[0])
+    return reply
