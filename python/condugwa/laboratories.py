@@ -3,7 +3,7 @@
 import dataclasses
 import types
 
-from condugwa import library, panels, refusals, scripts
+from condugwa import accounts, library, panels, profiles, refusals, scripts
 
 
 @dataclasses.dataclass(frozen=True)
@@ -37,7 +37,8 @@ class Laboratory:
     'ok\\n'
     {'0050': '00000006'}
 
-    The lines are those of scripts and of docs/MONITOR.md. A refusal is raised as an exception of its name, and has changed nothing.
+    The lines are those of scripts and of docs/MONITOR.md. A refusal is raised as an exception of its name, and has changed nothing, but
+    that the orders in front of a ClockEnd were performed.
     Where there is not enough memory OutOfMemory is raised, and the laboratory is closed then. A laboratory is used by one thread at a
     time.
     """
@@ -69,7 +70,7 @@ class Laboratory:
 
     def answers(self, lines: str) -> str:
         """The replies to several lines, one behind the other. The first refusal is raised, and the lines behind it are not asked."""
-        return "".join(self.answer(line) for line in lines.splitlines())
+        return "".join(self.answer(line) for line in lines.removesuffix("\n").split("\n"))
 
     def panel(self) -> panels.Panel:
         """What the panel shows."""
@@ -82,6 +83,25 @@ class Laboratory:
     def run(self, limit: int) -> Run:
         """Performs orders, at most so many, until the machine is at rest or a rule stops it."""
         return Run.of(self.answer(f"run {limit}"))
+
+    def trace(self, limit: int) -> "list[accounts.Account]":
+        """Performs orders as `run` does, and tells the account of each."""
+        return accounts.accounts_of(self._told("trace", limit))
+
+    def profile(self, limit: int) -> profiles.Profile:
+        """Performs orders as `run` does, and tells where their word times went."""
+        return profiles.profile_of(self._told("profile", limit))
+
+    def drum(self, limit: int) -> "list[str]":
+        """Performs orders as `run` does, and draws them: a row a turn of the drum, a sign a word time."""
+        return self._told("drum", limit)
+
+    def _told(self, command: str, limit: int) -> "list[str]":
+        """What stands in front of the reply of the run. Where the clock's end has broken the run off, that refusal is raised."""
+        *told, end = self.answer(f"{command} {limit}").removesuffix("\n").split("\n")
+        if end.startswith("?"):
+            raise refusals.refusal_in(end)
+        return told
 
     def back(self, orders: int) -> int:
         """Goes back to where the last of so many orders began, and tells the clock there. Raises TooFar where fewer are kept."""

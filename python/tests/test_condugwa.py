@@ -121,6 +121,30 @@ def test_a_program_is_run_and_taken_back(laboratory):
     assert laboratory.panel().counter == "0101"
 
 
+def test_a_run_is_told(laboratory):
+    laboratory.answers("put 0100 b 0102\nput 0101 z 0000\nput 0102 = 5\ngo 0100")
+    clock = laboratory.panel().clock
+    bring, stop = laboratory.trace(10)
+    assert (bring.clock, bring.at, bring.order, bring.after) == (clock, "0100", "b 0102", "0000000f")
+    assert (stop.at, stop.order, stop.clock) == ("0101", "z 0000", bring.clock + bring.cost)
+    assert laboratory.panel().clock == stop.clock + stop.cost
+    assert laboratory.transcript().endswith("\nrun 10\npanel\n")
+    assert laboratory.back(2) == clock
+    profile = laboratory.profile(10)
+    assert (profile.orders, profile.times) == (2, bring.cost + stop.cost)
+    assert {place.address: place.times for place in profile.places} == {"0100": bring.cost, "0101": stop.cost}
+    assert laboratory.back(2) == clock
+    signs = "".join(row[9:].lstrip(" ") for row in laboratory.drum(10))
+    assert len(signs) == profile.times
+    assert (signs.count("F"), signs.count("R")) == (2, 1)
+
+
+def test_a_told_run_that_the_clock_breaks_off_is_refused(laboratory):
+    laboratory.answers("turn 4611686018427387000\nput 0100 u 0100\ngo 0100")
+    with pytest.raises(condugwa.ClockEnd):
+        laboratory.trace(1000)
+
+
 def test_a_rule_stops_a_run(laboratory):
     laboratory.answers("put 0100 u 0100\nbreak 0100\ngo 0100\n")
     assert laboratory.run(10).end == "rule"
