@@ -88,9 +88,17 @@ free-stand_in line free = by_longer (kept_of line).longer (kept_of line).blank w
 
 free-run : (line : List ℕ) → IsLine line → IsLine (run_line (kept_of line).front)
 unfolding run_line behind_word without_spaces kept_of
-free-run line free =
-    (refl, (refl, (refl, free-drop (position_or_len is_space (drop (position_or_len is_visible (take line_limit line)) (take line_limit line))) (drop (position_or_len is_visible (take line_limit line)) (take line_limit line))
-    (free-drop (position_or_len is_visible (take line_limit line)) (take line_limit line) (free-take line_limit line free)))))
+free-run line free = (
+  refl,
+  (
+    refl,
+    (
+      refl,
+      free-drop (position_or_len is_space (drop (position_or_len is_visible (take line_limit line)) (take line_limit line))) (drop (position_or_len is_visible (take line_limit line)) (take line_limit line))
+          (free-drop (position_or_len is_visible (take line_limit line)) (take line_limit line) (free-take line_limit line free)),
+    ),
+  ),
+)
 
 free-meaning : (asked : Typed) (line : List ℕ) → IsLine line → AreLines (meaning_of asked (kept_of line))
 free-meaning typed.Itself line free = (free-stand_in line free, tt)

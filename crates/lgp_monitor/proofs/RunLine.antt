@@ -1,5 +1,5 @@
 -- A run that is told: its script line is answered as the run.
-use Rattle.std.proofs.Common.{◌≡◌, ℕ, zero, suc, ◌+◌, ◌-◌, ◌<◌, ◌≤◌, ◌==◌, ◌&&◌, ◌||◌, not, Bool, true, false, cond, Option, Some, None, is_some, option_map, List, [], ◌∷◌, ◌++◌, length, take, drop, nat_lt, slice_index, refl, sym, ap, ◌∙◌, arith, codes, length-append, take-append-drop}
+use Rattle.std.proofs.Common.{◌≡◌, ℕ, zero, suc, ◌+◌, ◌≤◌, ◌==◌, ◌&&◌, ◌||◌, not, Bool, true, false, cond, Option, Some, None, is_some, option_map, List, [], ◌∷◌, ◌++◌, length, take, drop, nat_lt, slice_index, refl, sym, ap, ◌∙◌, arith, codes, length-append, take-append-drop}
 use Rattle.std.proofs.lemmas.Bool.Decides.{nat_tests}
 use Rattle.std.proofs.lemmas.Slice.Eq.{bytes_eq-Decides}
 use Rattle.std.proofs.lemmas.List.{append-nil}
@@ -9,7 +9,7 @@ use Rattle.std.specs.Str.{bytes_eq}
 use Rattle.lgp_stream.specs.KeptLine.{Kept, kept_of, line_limit}
 use Rattle.lgp_stream.specs.LineWords.{behind_word, first_word, has_no_word, is_space, is_visible, without_spaces}
 use Rattle.lgp_text.specs.NamedValues.{named}
-use Rattle.lgp_lab.specs.Command.{command_of, lone_number, text_behind}
+use Rattle.lgp_lab.specs.Command.{command_of, lone_number}
 use Rattle.lgp_lab.specs.declared.command.Command.TheVariants as commands
 use Rattle.lgp_lab.specs.HistoryCommands.{answer_to_run}
 use Rattle.lgp_lab.specs.Script.{answer_in, answer_to_command, answer_to_line, script_language}

@@ -5,14 +5,15 @@ mod sessions;
 
 use lgp_lab::{FeedOf, READS, SinkOf};
 use lgp_monitor::run_monitor;
+use lgp_scarce::Scarce;
 use lgp_stream::StreamFault;
-use std::alloc::Global;
+use std::alloc::{Allocator, Global};
 use std::process::Abort;
 
 /// Typed lines, what is written for them, and how many replies begin with a question mark.
 type Row = (&'static [u8], &'static [u8], u64);
 
-const ROWS: [Row; 6] = [
+const ROWS: [Row; 12] = [
     // Words by order, number and fraction: the machine's word of n at 30 is 2n, and -.5 is -2^30 of 2^31 steps.
     (
         b"put 0050 = 385\nput 0051 = -1\nput 0052 -.5\nput 0053 h 6363\nwords 0050 4\n",
@@ -48,10 +49,50 @@ const ROWS: [Row; 6] = [
         b"? 9 Faults\nline 1 UnknownOrder\nline 3 NoEnd\nsource\ngo 0000\nnew\n.\n",
         1,
     ),
+    // Two orders told one by one; the transcript has the run.
+    (
+        b"put 0000 b 0003\nput 0001 z 0000\nput 0003 = 4\npress start\ntrace 9\ntranscript\n",
+        b"ok\nok\nok\nlive\n  clock  at           order           find take seek  act   sum  accumulator\n      0  0000         b 0003            64    1   26    1    92  00000000 -> 00000008\n     92  0001         z 0000            45    1    1    1    48  00000008\nran 2 rest\nput 0000 0001000j\nput 0001 00000000\nput 0003 00000008\npress start\nrun 9\n",
+        0,
+    ),
+    // No order, one that a rule stops behind, one before rest, and none at rest. The operands stand in the transcript as they were typed.
+    (
+        b"put 0000 b 0003\nput 0001 z 0000\nbreak 0001\npress start\ntrace 0\ntrace   9  \ntrace 9999999999\ntrace 3\ntranscript\n",
+        b"ok\nok\nrule 0\nlive\n  clock  at           order           find take seek  act   sum  accumulator\nran 0 limit\n  clock  at           order           find take seek  act   sum  accumulator\n      0  0000         b 0003            64    1   26    1    92  00000000\nran 1 rule 0\n  clock  at           order           find take seek  act   sum  accumulator\n     92  0001         z 0000            45    1    1    1    48  00000000\nran 1 rest\n  clock  at           order           find take seek  act   sum  accumulator\nran 0 rest\nput 0000 0001000j\nput 0001 00000000\nbreak 0001\npress start\nrun 0\nrun   9  \nrun 9999999999\nrun 3\n",
+        0,
+    ),
+    // Refused as every line in no command's form.
+    (
+        b"trace\ntrace x\ndrum 1 2\nprofile 12345678901\ntranscript\n",
+        b"? 1 Form: trace NUMBER\n? 1 Form: trace NUMBER\n? 1 Form: drum NUMBER\n? 1 Form: profile NUMBER\ntrace\ntrace x\ndrum 1 2\nprofile 12345678901\n",
+        4,
+    ),
+    // The same two orders added up, and none.
+    (
+        b"put 0000 b 0003\nput 0001 z 0000\npress start\nprofile 9\nprofile 9\ntranscript\n",
+        b"ok\nok\nlive\norders 2, word times 140, turns of the drum 2.1\n  waiting for orders       109   77 %\n  into the register          2    1 %\n  waiting for words         27   19 %\n  acting                     2    1 %\n  at no address              0    0 %\nthe ten places with most word times\n  0000                      92   65 %\n  0001                      48   34 %\nran 2 rest\norders 0, word times 0, turns of the drum 0.0\n  waiting for orders         0    0 %\n  into the register          0    0 %\n  waiting for words          0    0 %\n  acting                     0    0 %\n  at no address              0    0 %\nthe ten places with most word times\nran 0 rest\nput 0000 0001000j\nput 0001 00000000\npress start\nrun 9\nrun 9\n",
+        0,
+    ),
+    // Along the drum, each from the row in which it begins to that in which it ends.
+    (
+        b"put 0000 b 0003\nput 0001 z 0000\npress start\ndrum 1\ndrum 9\ndrum 9\ntranscript\n",
+        b"ok\nok\nlive\n      0  ...............................................................F\n     64  i.........................Rx\nran 1 limit\n     64                              ....................................\n    128  ........Fi-x\nran 1 rest\n    128              \nran 0 rest\nput 0000 0001000j\nput 0001 00000000\npress start\nrun 1\nrun 9\nrun 9\n",
+        0,
+    ),
+    // The names of the last source that assembled are the labels, whatever stands on the drum. Of two names of a place the first is its label.
+    (
+        b"source\nfirst b four\n z\nfour word 00000004\nsame org 0000\n end\n.\nput 0000 b 0002\nput 0001 z 0000\nput 0002 = 1\npress start\ntrace 9\n",
+        b"cells 3 start none\nok\nok\nok\nlive\n  clock  at           order           find take seek  act   sum  accumulator\n      0  0000 first   b 0002 four       64    1   17    1    83  00000000 -> 00000002\n     83  0001         z 0000            54    1    1    1    57  00000002\nran 2 rest\n",
+        0,
+    ),
 ];
 
 /// Answers typed lines; what is written stands behind `written`.
-fn run(alloc: Global, typed: &[u8], written: &mut Vec<u8>) -> Result<u64, StreamFault> {
+fn run<A: Allocator + Copy>(
+    alloc: A,
+    typed: &[u8],
+    written: &mut Vec<u8>,
+) -> Result<u64, StreamFault> {
     let mut feed = FeedOf::new(typed, READS);
     let mut sink = SinkOf::new(written);
     run_monitor(alloc, &mut feed, &mut sink)
@@ -73,4 +114,94 @@ fn typed_lines_are_answered(rt: HostRuntime) {
     for (typed, replies, faults) in ROWS {
         expect(&rt, rt.alloc(), typed, replies, faults);
     }
+}
+
+/// The sum of a table by a program that changes three of its own orders, and the machine started.
+const SUM_OF_A_TABLE: &[u8] =
+    b"put 0000 00030044\nput 0001 000f0010\nput 0002 000j0064\nput 0003 00000000\nput 0004 00010050\nput 0005 00020024\nput 0006 0001005j\nput 0007 000j0060\nput 0008 00010060\nput 0009 000q0000\nput 0010 000j0060\nput 0011 00010024\nput 0012 000q0058\nput 0013 00020024\nput 0014 000w0054\nput 0015 000g0020\nput 0016 00010060\nput 0017 000f0000\nput 0020 00000100\nput 0021 000q0110\nput 0022 00000004\nput 0023 00000000\nput 0100 00000002\nput 0101 00000004\nput 0102 00000006\nput 0103 00000008\npress start\n";
+
+/// How many lines it takes to put and start it.
+const LINES: usize = 27;
+
+/// What is written behind the replies to those lines, one order after another and all 42 added up.
+const TOLD: [(&[u8], &[u8]); 2] = [
+    (
+        b"trace 4\n",
+        b"  clock  at           order           find take seek  act   sum  accumulator\n      0  0000         r 0017            64    1   24    1    90  00000000\n        0017: 000f0000 u 0000 = 327680 -> 000f0008 u 0002 = 327684\n     90  0001         u 0004            47    1    1    1    50  00000000\n    140  0004         b 0020            24    1   15    1    41  00000000 -> 00000100\n    181  0005         y 0009            56    1   35    1    93  00000100\n        0009: 000q0000 a 0000 = 458752 -> 000q0100 a 0100 = 458880\nran 4 limit\n",
+    ),
+    (
+        b"profile 100\n",
+        b"orders 42, word times 2910, turns of the drum 45.4\n  waiting for orders      1562   53 %\n  into the register         42    1 %\n  waiting for words       1264   43 %\n  acting                    42    1 %\n  at no address              0    0 %\nthe ten places with most word times\n  0014                     432   14 %\n  0009                     406   13 %\n  0010                     362   12 %\n  0008                     301   10 %\n  0013                     300   10 %\n  0011                     228    7 %\n  0012                     212    7 %\n  0005                      93    3 %\n  0000                      90    3 %\n  0007                      73    2 %\nran 42 rest\n",
+    ),
+];
+
+/// What is written for the program and a line behind it; only what stands behind so many lines of it.
+fn written_behind<'a>(written: &'a [u8], lines: usize) -> &'a [u8] {
+    let mut left = written;
+    for _ in 0..lines {
+        left = match left.iter().position(|byte| *byte == b'\n') {
+            Some(place) => left.get(place.saturating_add(1)..).unwrap_or(&[]),
+            None => &[],
+        };
+    }
+    left
+}
+
+/// Whether this is written for a line behind the program.
+fn is_told(global: Global, line: &[u8], text: &[u8]) -> bool {
+    let mut typed = Vec::new(global);
+    let mut written = Vec::new(global);
+    typed.extend_from_slice(SUM_OF_A_TABLE).is_ok()
+        && typed.extend_from_slice(line).is_ok()
+        && run(global, &typed, &mut written) == Ok(0)
+        && written_behind(&written, LINES) == text
+}
+
+#[test]
+fn a_program_that_changes_itself_is_told(rt: HostRuntime) {
+    let told = TOLD.map(|(line, text)| is_told(rt.alloc(), line, text));
+    assert_eq!(rt; told, [true, true]);
+}
+
+/// Runs that are told in each way, with labels.
+const EACH: &[u8] =
+    b"source\nfirst z\n end\n.\nput 0000 b 0003\npress start\ntrace 1\nprofile 1\npress start\ndrum 2\n";
+
+/// More growths than those lines take.
+const MOST: u64 = 1000;
+
+/// Answers those lines with the nth growth refused: whether it was, and whether the end was that of a refused or of a whole run.
+fn ended(scarce: &Scarce<Global>, global: Global, nth: u64) -> (bool, bool) {
+    let mut written = Vec::new(global);
+    scarce.refuse(nth);
+    let outcome = run(scarce, EACH, &mut written);
+    let refused = scarce.was_refused();
+    (
+        refused,
+        outcome
+            == if refused {
+                Err(StreamFault::Memory)
+            } else {
+                Ok(0)
+            },
+    )
+}
+
+/// Whether each growth that is refused in turn, until none is left, ends the lines for want of memory; how many there are.
+fn refusals(scarce: &Scarce<Global>, global: Global) -> Option<u64> {
+    for nth in 1..MOST {
+        match ended(scarce, global, nth) {
+            (true, true) => {}
+            (false, true) => return Some(nth - 1),
+            _ => return None,
+        }
+    }
+    None
+}
+
+#[test]
+fn each_growth_of_a_told_run_is_refused(rt: HostRuntime) {
+    let scarce = Scarce::new(rt.alloc());
+    let refused = refusals(&scarce, rt.alloc());
+    assert!(rt; refused.is_some_and(|count| count > 20), "{refused:?}");
 }
