@@ -23,7 +23,6 @@ use Rattle.std.specs.Box.Ownership.{box_owns}
 use Rattle.std.specs.contracts.alloc.Global as heap
 use Rattle.std.proofs.alloc.Global.TheLaws as heap_laws
 use Rattle.std.specs.contracts.impls.GlobalAllocator.TheImpl.{ghosts, dict}
-
 use Rattle.lgp_call.proofs.session.Session.TheLaws as session_laws
 use Rattle.std.below.core.specs.contracts.clone.Clone+copy.TheImpl as copied
 use Rattle.lgp_parts.specs.contracts.parts.BoxParts as parts

@@ -16,7 +16,11 @@ const ROWS: [Row; 11] = [
     (b"words 0050 1", 0, b"0050 00000006\n"),
     (b"", 0, b""),
     (b"back 2", 1, b"? 7 TooFar 0\n"),
-    (b"jump", 1, b"? 1 Form: there is no such command, help lists them\n"),
+    (
+        b"jump",
+        1,
+        b"? 1 Form: there is no such command, help lists them\n",
+    ),
     (b"source", 0, b""),
     (b" z ", 0, b""),
     (b" end", 0, b""),
