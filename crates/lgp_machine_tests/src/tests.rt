@@ -69,7 +69,7 @@ fn mount<A: Allocator>(
 ) -> Result<(), (MountFault, usize)> {
     match machine.mount(codes) {
         Ok(()) => Ok(()),
-        Err((fault, back)) => Err((fault, back.len())),
+        Err(refused) => Err((refused.0, refused.1.len())),
     }
 }
 
@@ -167,22 +167,25 @@ fn started<A: Allocator + Copy>(alloc: A, words: &[(u16, u32)]) -> Result<Machin
     Ok(machine)
 }
 
-/// Mounts the tape of a text, and starts.
-fn start_with_tape<A: Allocator + Copy>(
-    machine: &mut Machine<A>,
-    alloc: A,
-    text: &[u8],
-) -> Result<(), Fail> {
-    let codes = read_tape_text(alloc, text)?;
-    mount(machine, codes)?;
-    press(machine, Action::Start)?;
-    Ok(())
+/// Mounts the tape of a text; whether it was taken.
+fn mount_text<A: Allocator + Copy>(machine: &mut Machine<A>, alloc: A, text: &[u8]) -> bool {
+    match read_tape_text(alloc, text) {
+        Ok(codes) => mount(machine, codes).is_ok(),
+        Err(_) => false,
+    }
+}
+
+/// Mounts the tape of a text, and starts; whether both were done.
+fn start_with_tape<A: Allocator + Copy>(machine: &mut Machine<A>, alloc: A, text: &[u8]) -> bool {
+    mount_text(machine, alloc, text) && press(machine, Action::Start) == Ok(Pressed::Live)
 }
 
 /// A machine that switches the reader on and performs an input of this tape, started.
 fn with_input<A: Allocator + Copy>(alloc: A, text: &[u8]) -> Result<Machine<A>, Fail> {
     let mut machine = with_words(alloc, &INPUT)?;
-    start_with_tape(&mut machine, alloc, text)?;
+    if !start_with_tape(&mut machine, alloc, text) {
+        return Err(Fail::from("not started"));
+    }
     Ok(machine)
 }
 

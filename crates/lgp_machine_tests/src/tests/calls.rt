@@ -251,12 +251,21 @@ fn nothing_shows_within_an_order(rt: HostRuntime) -> Result<(), Fail> {
     Ok(())
 }
 
-/// A machine that begins with a drum of two words.
-fn with_drum<A: Allocator + Copy>(alloc: A) -> Result<Machine<A>, Fail> {
+/// A drum of two words.
+fn drum_of_two<A: Allocator + Copy>(alloc: A) -> Result<Drum<A>, AllocError> {
     let mut drum = Drum::new(alloc)?;
     drum.put(address(64), Word::of_bits(4));
     drum.put(address(4095), Word::of_bits(0x8000_0000));
-    Ok(Machine::with_drum(alloc, drum)?)
+    Ok(drum)
+}
+
+/// A machine that begins with that drum.
+fn with_drum<A: Allocator + Copy>(alloc: A) -> Result<Machine<A>, Fail> {
+    let drum = drum_of_two(alloc)?;
+    match Machine::with_drum(alloc, drum) {
+        Ok(machine) => Ok(machine),
+        Err(_) => Err(Fail::from("a machine without room")),
+    }
 }
 
 /// The two words.
@@ -338,7 +347,7 @@ fn mounted_and_left(
     count: usize,
 ) -> Result<(Result<(), (MountFault, usize)>, Option<usize>), AllocError> {
     let mounted = mount_codes(machine, alloc, count)?;
-    Ok((mounted, machine.tape_left().map(|codes| codes.len())))
+    Ok((mounted, tape_left(machine)))
 }
 
 #[test]

@@ -115,20 +115,38 @@ fn a_play_stops_at_the_clocks_end(rt: HostRuntime) -> Result<(), Fail> {
     Ok(())
 }
 
+/// What a play without room for a code comes to and whether a growth was refused, what is printed and shows then, what becomes of a
+/// word time more, and what is printed behind it.
+type Unprinted = (
+    (Result<(), PlayFault>, bool),
+    ((usize, Option<Code>), Option<Look>),
+    Result<(), PlayFault>,
+    (usize, Option<Code>),
+);
+
+/// Plays so, and a word time more.
+fn play_without_room<B: Allocator>(
+    scarce: &Scarce<B>,
+    machine: &mut Machine<&Scarce<B>>,
+    events: &[Event],
+) -> Unprinted {
+    let first = play_refused(scarce, machine, events);
+    let before = (printed(machine), look(machine));
+    let second = play(machine, &[Event::WordTime]);
+    (first, before, second, printed(machine))
+}
+
 #[test]
 fn a_play_stops_where_there_is_no_room(rt: HostRuntime) -> Result<(), Fail> {
     let events = events_of(rt.alloc(), &[], 450)?;
     let scarce = Scarce::new(rt.alloc());
     let mut machine = printing(&scarce)?;
-    let first = play_refused(&scarce, &mut machine, events.as_slice());
-    let before = (printed(&machine), look(&machine));
-    let second = play(&mut machine, &[Event::WordTime]);
     let stopped = PlayFault {
         done: 451,
         fault: TurnFault::Memory,
     };
     assert_eq!(rt;
-        (first, before, second, printed(&machine)),
+        play_without_room(&scarce, &mut machine, events.as_slice()),
         (
             (Err(stopped), true),
             ((0, None), None),

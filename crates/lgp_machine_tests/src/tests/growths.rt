@@ -39,7 +39,12 @@ fn words<A: Allocator>(machine: &Machine<A>) -> (u16, [u32; 3]) {
             count = count.saturating_add(1);
         }
     }
-    (count, [0, 1, 2].map(|at| word_at(machine, at)))
+    let first = [
+        word_at(machine, 0),
+        word_at(machine, 1),
+        word_at(machine, 2),
+    ];
+    (count, first)
 }
 
 /// All that a machine has; `None` within an activity.
@@ -120,12 +125,26 @@ fn each_growth_beside_a_drum_is_refused(rt: HostRuntime) -> Result<(), Fail> {
 /// A print, and then an input.
 const PRINT_AND_INPUT: [(u16, u32); 3] = [(0, PRINT), (1, 0x0008_0000), (2, 0x0004_0000)];
 
+/// Performs three orders; whether none was refused.
+fn perform_three<A: Allocator>(machine: &mut Machine<A>) -> bool {
+    for _ in 0..3 {
+        if next_order(machine).is_err() {
+            return false;
+        }
+    }
+    true
+}
+
+/// Starts with a tape of five codes, and performs three orders; whether all was done.
+fn start_and_perform<A: Allocator + Copy>(machine: &mut Machine<A>, alloc: A) -> bool {
+    start_with_tape(machine, alloc, b"12'3'") && perform_three(machine)
+}
+
 /// A machine that has printed, and has read the first three of the five codes on its tape.
 fn within_a_tape<A: Allocator + Copy>(alloc: A) -> Result<Machine<A>, Fail> {
     let mut machine = with_words(alloc, &PRINT_AND_INPUT)?;
-    start_with_tape(&mut machine, alloc, b"12'3'")?;
-    for _ in 0..3 {
-        next_order(&mut machine)?;
+    if !start_and_perform(&mut machine, alloc) {
+        return Err(Fail::from("not performed"));
     }
     Ok(machine)
 }

@@ -1,12 +1,12 @@
 //! Orders that change orders, whichever way they are performed, and marks to return to.
 
 use super::{
-    CLOCK_END, PRINT, TRANSFER, address, look, mount, next_order, press, printed, put, shown,
+    CLOCK_END, PRINT, TRANSFER, address, look, mount_text, next_order, press, printed, put, shown,
     shown_at_input, started, status_after, tape_left, tape_passed, turns, with_input, with_words,
     word_at,
 };
-use lgp_flexo::{Code, read_tape_text};
-use lgp_machine::{Look, Machine, Mark, OrderFault, Pressed};
+use lgp_flexo::{Code, TAPE_LIMIT, read_tape_text};
+use lgp_machine::{Look, Machine, Mark, OrderFault, PressFault, Pressed, PutFault};
 use lgp_table::{Action, Cause, Mode, Status};
 use lgp_word::{Address, Word};
 use std::alloc::Allocator;
@@ -37,8 +37,7 @@ fn order<A: Allocator>(machine: &mut Machine<A>, in_one_call: bool) -> bool {
     if in_one_call {
         return next_order(machine).is_ok();
     }
-    let (_, answer) = turns(machine, 1000);
-    answer == Ok(true)
+    matches!(turns(machine, 1000), (_, Ok(true)))
 }
 
 /// What shows after so many orders, and a word.
@@ -83,29 +82,39 @@ fn a_replaced_order_both_ways(rt: HostRuntime) -> Result<(), Fail> {
     Ok(())
 }
 
+/// A word put in Manual, and the machine started again: what becomes of each press, and of the put.
+fn put_in_manual<A: Allocator>(
+    machine: &mut Machine<A>,
+) -> ([Result<Pressed, PressFault>; 3], Result<(), PutFault>) {
+    let manual = press(machine, Action::Mode(Mode::Manual));
+    let changed = put(machine, 0, 0);
+    let normal = press(machine, Action::Mode(Mode::Normal));
+    ([manual, normal, press(machine, Action::Start)], changed)
+}
+
+/// A transfer, the stop in its place, the status after each, and what shows then.
+type Replaced = (
+    [Result<Status, OrderFault>; 2],
+    ([Result<Pressed, PressFault>; 3], Result<(), PutFault>),
+    Option<Look>,
+);
+
+fn transfer_and_stop<A: Allocator>(machine: &mut Machine<A>) -> Replaced {
+    let first = status_after(machine);
+    let changed = put_in_manual(machine);
+    let second = status_after(machine);
+    ([first, second], changed, look(machine))
+}
+
 #[test]
 fn a_put_word_is_performed(rt: HostRuntime) -> Result<(), Fail> {
     let mut machine = started(rt.alloc(), &[(0, TRANSFER)])?;
-    let first = status_after(&mut machine);
-    let changed = (
-        press(&mut machine, Action::Mode(Mode::Manual)),
-        put(&mut machine, 0, 0),
-        press(&mut machine, Action::Mode(Mode::Normal)),
-        press(&mut machine, Action::Start),
-    );
-    let second = status_after(&mut machine);
     let stopped = Status::Halted(Cause::Stop);
     assert_eq!(rt;
-        (first, changed, second, look(&machine)),
+        transfer_and_stop(&mut machine),
         (
-            Ok(Status::Going),
-            (
-                Ok(Pressed::Live),
-                Ok(()),
-                Ok(Pressed::Live),
-                Ok(Pressed::Live)
-            ),
-            Ok(stopped),
+            [Ok(Status::Going), Ok(stopped)],
+            ([Ok(Pressed::Live); 3], Ok(())),
             shown(1, 0, 0, stopped, 131)
         )
     );
@@ -147,12 +156,13 @@ fn after_input() -> Reading {
     (look, Some(5), Some(0))
 }
 
-/// An input, its tape going back, and the same input again: the status after each, and what shows before them, after the first, behind
-/// the way back and after the second.
-type Inputs = ([Result<Status, OrderFault>; 2], [Reading; 4]);
+/// The order before an input, the input, its tape going back, and the same input again: the status after each, and what shows before
+/// the input, after it, behind the way back and after the second.
+type Inputs = ([Result<Status, OrderFault>; 3], [Reading; 4]);
 
-/// Performs an input twice, going back between them.
+/// Performs an order and then an input twice, going back between them.
 fn input_twice<A: Allocator>(machine: &mut Machine<A>) -> Option<Inputs> {
+    let started = status_after(machine);
     let at_input = mark(machine)?;
     let before = reading(machine);
     let first = status_after(machine);
@@ -162,18 +172,19 @@ fn input_twice<A: Allocator>(machine: &mut Machine<A>) -> Option<Inputs> {
     }
     let back = reading(machine);
     let second = status_after(machine);
-    Some(([first, second], [before, read, back, reading(machine)]))
+    Some((
+        [started, first, second],
+        [before, read, back, reading(machine)],
+    ))
 }
 
 #[test]
 fn the_tape_goes_back(rt: HostRuntime) -> Result<(), Fail> {
     let mut machine = with_input(rt.alloc(), b"12[16]3'")?;
-    let started = status_after(&mut machine);
-    let inputs = input_twice(&mut machine);
     let shows = [before_input(), after_input(), before_input(), after_input()];
     assert_eq!(rt;
-        (started, inputs),
-        (Ok(Status::Going), Some(([Ok(Status::Going); 2], shows)))
+        input_twice(&mut machine),
+        Some(([Ok(Status::Going); 3], shows))
     );
     Ok(())
 }
@@ -225,46 +236,43 @@ fn a_printed_code_goes_back(rt: HostRuntime) -> Result<(), Fail> {
     Ok(())
 }
 
-/// What shows three orders after the first of them, and again after going back to it.
-fn run_again<A: Allocator>(machine: &mut Machine<A>, in_one_call: bool) -> [After; 2] {
-    if !order(machine, in_one_call) {
-        return [None; 2];
+/// The first order, and the mark behind it; `None` where it was refused.
+fn mark_behind_first<A: Allocator>(machine: &mut Machine<A>, in_one_call: bool) -> Option<Mark> {
+    if order(machine, in_one_call) {
+        mark(machine)
+    } else {
+        None
     }
-    let Some(before_store) = mark(machine) else {
-        return [None; 2];
-    };
-    let first = after_orders(machine, 3, 1, in_one_call);
+}
+
+/// Goes back to a mark, with the changed order as it was; whether the way was gone.
+fn back_to<A: Allocator>(machine: &mut Machine<A>, mark: &Mark) -> bool {
     let change = Some((address(1), Word::of_bits(0x000d_0004)));
-    if return_to(machine, &before_store, change) != Some(true) {
-        return [first, None];
+    return_to(machine, mark, change) == Some(true)
+}
+
+/// What shows three orders after the first of them, and again after going back to it.
+fn run_again<A: Allocator>(machine: &mut Machine<A>, in_one_call: bool) -> Option<[After; 2]> {
+    let mark = mark_behind_first(machine, in_one_call)?;
+    let first = after_orders(machine, 3, 1, in_one_call);
+    if !back_to(machine, &mark) {
+        return None;
     }
-    [first, after_orders(machine, 3, 1, in_one_call)]
+    Some([first, after_orders(machine, 3, 1, in_one_call)])
 }
 
 /// The same by word times, and then in one call each.
-fn again_both_ways<A: Allocator + Copy>(alloc: A) -> Result<[After; 4], Fail> {
+fn again_both_ways<A: Allocator + Copy>(alloc: A) -> Result<[Option<[After; 2]>; 2], Fail> {
     let mut turning = started(alloc, &REPLACED)?;
-    let [first, again] = run_again(&mut turning, false);
+    let turned = run_again(&mut turning, false);
     let mut calling = started(alloc, &REPLACED)?;
-    let [called, called_again] = run_again(&mut calling, true);
-    Ok([first, again, called, called_again])
+    Ok([turned, run_again(&mut calling, true)])
 }
 
 #[test]
 fn an_order_is_read_again_after_going_back(rt: HostRuntime) -> Result<(), Fail> {
     let wanted = (shown(0, 0, 0x000a_0000, Status::Going, 204), 0x000a_0000);
-    assert_eq!(rt; again_both_ways(rt.alloc())?, [Some(wanted); 4]);
-    Ok(())
-}
-
-/// Mounts the tape of a text.
-fn mount_text<A: Allocator + Copy>(
-    machine: &mut Machine<A>,
-    alloc: A,
-    text: &[u8],
-) -> Result<(), Fail> {
-    let codes = read_tape_text(alloc, text)?;
-    mount(machine, codes)?;
+    assert_eq!(rt; again_both_ways(rt.alloc())?, [Some([Some(wanted); 2]); 2]);
     Ok(())
 }
 
@@ -275,23 +283,36 @@ fn set_text<A: Allocator + Copy>(
     alloc: A,
     text: &[u8],
     passed: usize,
-) -> Result<bool, Fail> {
-    let codes = read_tape_text(alloc, text)?;
-    if machine.mark().is_none() || passed > codes.len() || codes.len() > lgp_flexo::TAPE_LIMIT {
-        return Ok(false);
+) -> bool {
+    let Ok(codes) = read_tape_text(alloc, text) else {
+        return false;
+    };
+    if machine.mark().is_none() || passed > codes.len() || codes.len() > TAPE_LIMIT {
+        return false;
     }
     machine.set_tape(codes, passed);
-    Ok(true)
+    true
+}
+
+/// A tape that is mounted and another one that is set, whether each was, and how many codes have passed and are left then.
+fn mounted_and_set<A: Allocator + Copy>(
+    machine: &mut Machine<A>,
+    alloc: A,
+) -> (bool, bool, Option<usize>, Option<usize>) {
+    (
+        mount_text(machine, alloc, b"123'"),
+        set_text(machine, alloc, b"abc", 2),
+        tape_passed(machine),
+        tape_left(machine),
+    )
 }
 
 #[test]
 fn a_tape_is_set_within_itself(rt: HostRuntime) -> Result<(), Fail> {
     let mut machine = with_words(rt.alloc(), &[])?;
-    mount_text(&mut machine, rt.alloc(), b"123'")?;
-    let is_set = set_text(&mut machine, rt.alloc(), b"abc", 2)?;
     assert_eq!(rt;
-        (is_set, tape_passed(&machine), tape_left(&machine)),
-        (true, Some(2), Some(1))
+        mounted_and_set(&mut machine, rt.alloc()),
+        (true, true, Some(2), Some(1))
     );
     Ok(())
 }
