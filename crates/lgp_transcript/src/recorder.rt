@@ -63,7 +63,7 @@ impl<L, A: Allocator> Recorder<L, A> {
         &mut self.answers
     }
 
-    /// Keeps a line that is answered otherwise.
+    /// Keeps a line that is answered otherwise. A refused growth may leave a part of it kept.
     pub fn keep_line(&mut self, line: &[u8]) -> Result<(), AllocError>
         ensures { OnOk result (self.new ≡ with_line self.old line.now) }
     {
