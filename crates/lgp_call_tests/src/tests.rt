@@ -124,11 +124,10 @@ fn an_open_source_is_answered_at_the_end(rt: HostRuntime) -> Result<(), Fail> {
     Ok(())
 }
 
-/// The status of the first lines that are answered with a growth refused, or of the end; 3 where it was met.
-fn answered(scarce: &Scarce<Global>, nth: u64) -> u32 {
-    scarce.refuse(nth);
+/// The status of a session's lines and its end: 3 where a growth was refused, and nothing told.
+fn answered<A: Allocator + Copy>(alloc: A) -> u32 {
     let mut room = [b'.'; 64];
-    let Ok(mut session) = Session::new(scarce) else {
+    let Ok(mut session) = Session::new(alloc) else {
         return 3;
     };
     for (line, _, _) in ROWS {
@@ -144,7 +143,8 @@ fn answered(scarce: &Scarce<Global>, nth: u64) -> u32 {
 /// How many growths are refused one after another, each told by status 3; none where one is not.
 fn refused_in_turn(scarce: &Scarce<Global>) -> Option<u64> {
     for nth in 1..2000 {
-        let status = answered(scarce, nth);
+        scarce.refuse(nth);
+        let status = answered(scarce);
         if !scarce.was_refused() {
             return Some(nth - 1);
         }
