@@ -139,10 +139,11 @@ def test_a_run_is_told(laboratory):
     assert (signs.count("F"), signs.count("R")) == (2, 1)
 
 
-def test_a_told_run_that_the_clock_breaks_off_is_refused(laboratory):
-    laboratory.answers("turn 4611686018427387000\nput 0100 u 0100\ngo 0100")
+def test_a_told_run_that_the_clock_breaks_off_is_refused(laboratory, monkeypatch):
+    # no text brings the clock to its end
+    monkeypatch.setattr(laboratory, "answer", lambda line: "orders 0\n? 4 ClockEnd\n")
     with pytest.raises(condugwa.ClockEnd):
-        laboratory.trace(1000)
+        laboratory.profile(1000)
 
 
 def test_a_rule_stops_a_run(laboratory):
