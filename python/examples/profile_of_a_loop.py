@@ -3,7 +3,7 @@
     python python/examples/profile_of_a_loop.py docs/profile-of-a-loop.svg
 
 It types the words of examples/self-modifying.txt and starts the program, has each order accounted for, adds up the word times of the
-orders at each place by their phases, writes the sums, and draws them where a picture is named. Drawing needs matplotlib.
+orders at each place by their phases, writes the sums, and draws them as SVG where a picture is named. Drawing needs matplotlib.
 """
 
 import collections
@@ -53,7 +53,7 @@ def draw(places: "dict[str, collections.Counter[str]]", picture: str) -> None:
     axes.tick_params(axis="x", rotation=60)
     axes.legend()
     figure.tight_layout()
-    figure.savefig(picture, metadata={"Date": None})
+    figure.savefig(picture, format="svg", metadata={"Date": None})
 
 
 def main() -> None:
