@@ -4,3 +4,5 @@ pub mod Undoing
 pub mod RecordedSteps
 pub mod Trails
 pub mod StepLaws
+pub mod OriginLemmas
+pub mod OriginLaws

@@ -18,22 +18,22 @@ use Rattle.lgp_history.specs.declared.step.Step.TheVariants.{Perform, Press, Idl
 use Rattle.lgp_history.proofs.KeptSteps.{first_state-more, order_count, state_back-more, steps_back-more}
 use Rattle.lgp_history.proofs.Undoing.{undone-recorded}
 
-and_right : (x y : Bool) → (x && y) ≡ true → y ≡ true
+pub and_right : (x y : Bool) → (x && y) ≡ true → y ≡ true
 and_right true y e = e
 and_right false y e = absurd (true≢false (sym e))
 
-and_left : (x y : Bool) → (x && y) ≡ true → x ≡ true
+pub and_left : (x y : Bool) → (x && y) ≡ true → x ≡ true
 and_left true y e = refl
 and_left false y e = absurd (true≢false (sym e))
 
-with_tape-words : (tape : Option (List ℕ)) (passed : ℕ) (s : State) → (with_tape tape passed s).core.words ≡ s.core.words
+pub with_tape-words : (tape : Option (List ℕ)) (passed : ℕ) (s : State) → (with_tape tape passed s).core.words ≡ s.core.words
 with_tape-words None passed s = refl
 with_tape-words (Some codes) passed s = refl
 
-same_not_different : (x : ℕ) → not (x == x) ≡ false
+pub same_not_different : (x : ℕ) → not (x == x) ≡ false
 same_not_different x = rw (eq-eqb x x refl)
 
-differs_too : (x y : ℕ) → not (x == y) ≡ true → not (y == x) ≡ true
+pub differs_too : (x y : ℕ) → not (x == y) ≡ true → not (y == x) ≡ true
 differs_too x y e = grind (arith, nat_tests)
 
 -- the word that is put back is the only one that differs
@@ -94,7 +94,7 @@ module _ {X : Type 0} where
   drop-next (x ∷ xs) zero r is = cc
   drop-next (x ∷ xs) (suc i) r is = let e : suc i + 1 ≡ suc (i + 1) = omega arith in rw e (drop-next xs i r is)
 
-  order_is : (step : Step X) → is_order step ≡ true → step ≡ Perform
+  pub order_is : (step : Step X) → is_order step ≡ true → step ≡ Perform
   order_is Perform e = refl
   order_is (Press action) e = absurd (true≢false (sym e))
   order_is (Idle times) e = absurd (true≢false (sym e))
@@ -102,8 +102,28 @@ module _ {X : Type 0} where
   order_is (Put address word) e = absurd (true≢false (sym e))
 
   -- the state at the mark
-  abbrev before_mark : Recorded X → State → State
+  abbrev pub before_mark : Recorded X → State → State
   before_mark r after = state_at_mark (with_tape r.tape r.mark.passed after) r.mark r.lost
+
+  -- no step takes the clock back
+  not_back : (step : Step X) (s : State) → s.clock ≤ (stepped step s).clock
+  not_back Perform s = omega (arith, cost_more s)
+  not_back (Press action) s = omega arith
+  not_back (Idle times) s = omega arith
+  not_back (Mount codes) s = omega arith
+  not_back (Put address word) s = omega arith
+
+  -- a record from whose state its step leads to another belongs to that one
+  pub belonging : (r : Recorded X) (after : State) → stepped r.step (undone r after) ≡ after → belongs r after ≡ true
+  belonging r after leads =
+      elim (belongs r after) as (λ b. stepped r.step (cond b (before_mark r after) (record after { clock = after.clock + 1 })) ≡ after → b ≡ true) [
+        | true ↦ λ e. refl
+        | false ↦ λ e. absurd (omega (arith, not_back r.step (record after { clock = after.clock + 1 }), ap (λ (s : State). s.clock) e))
+      ]
+      leads
+
+  pub undone-belonging : (r : Recorded X) (after : State) → belongs r after ≡ true → undone r after ≡ before_mark r after
+  undone-belonging r after ok = ap (λ b. cond b (before_mark r after) (record after { clock = after.clock + 1 })) ok
 
   hit_at_mark : (r : Recorded X) (after : State) (rule : Rule) → can_restore r.lost after.core.words ≡ true → next (before_mark r after) ≡ after → is_hit (before_mark r after) rule ≡ is_recorded_hit r rule
   hit_at_mark r after (At address) ok leads = refl
@@ -113,11 +133,10 @@ module _ {X : Type 0} where
   -- a rule's hit is read off the record of an order
   hit_as_recorded : (r : Recorded X) (after : State) (rule : Rule) → is_order r.step ≡ true → stepped r.step (undone r after) ≡ after → is_hit (undone r after) rule ≡ is_recorded_hit r rule
   hit_as_recorded r after rule order leads =
-      elim (belongs r after) as (λ b. belongs r after ≡ b → next (cond b (before_mark r after) after) ≡ after → is_hit (cond b (before_mark r after) after) rule ≡ is_recorded_hit r rule) [
-        | true ↦ λ e n. hit_at_mark r after rule (and_right _ _ e) n
-        | false ↦ λ e n. absurd (omega (arith, cost_more after, ap (λ (s : State). s.clock) n))
-      ]
-      refl (subst (λ (step : Step X). stepped step (undone r after) ≡ after) (order_is r.step order) leads)
+      let ok = belonging r after leads in
+      let is = undone-belonging r after ok in
+      let performed : next (undone r after) ≡ after = subst (λ (step : Step X). stepped step (undone r after) ≡ after) (order_is r.step order) leads in
+      ap (λ (s : State). is_hit s rule) is ∙ hit_at_mark r after rule (and_right _ _ ok) (ap next (sym is) ∙ performed)
 
   pub first_hit_as_recorded : (r : Recorded X) (after : State) (rules : List Rule) → is_order r.step ≡ true → stepped r.step (undone r after) ≡ after → first_hit rules (undone r after) ≡ position (is_recorded_hit r) rules
   first_hit_as_recorded r after rules order leads = ap (λ (test : Rule → Bool). position test rules) (fun_ext (λ rule. hit_as_recorded r after rule order leads))
@@ -136,7 +155,7 @@ module _ {X : Type 0} where
   leads-drop (suc n) [] now led = led
   leads-drop (suc n) (k ∷ ks) now led = leads-drop n ks now led.2
 
-  leads-read : (n : ℕ) (rs : List (Recorded X)) (now : State) → Leads (read rs now) now → Leads (read (drop n rs) now) now
+  pub leads-read : (n : ℕ) (rs : List (Recorded X)) (now : State) → Leads (read rs now) now → Leads (read (drop n rs) now) now
   leads-read n rs now led = record { steps = subst (λ (ks : List (State × Step X)). AreStepsTo now ks) (sym (read-drop n rs now)) (leads-drop n (read rs now) now led.steps) }
 
   -- the records from the one before an index on
@@ -186,6 +205,13 @@ module _ {X : Type 0} where
       let past : length rs ≤ length rs - 1 + 1 = omega arith in
       sym (take-append-drop (length rs - 1) rs) ∙ ap (λ (xs : List (Recorded X)). take (length rs - 1) rs ++ xs) (drop-next rs (length rs - 1) r is ∙ ap (λ (xs : List (Recorded X)). r ∷ xs) (drop_of_length-le rs past))
 
+  -- the steps before the last one, which leads on
+  before_last : (ks : List (State × Step X)) (k : State × Step X) (now : State) → AreStepsTo now (ks ++ k ∷ []) → AreStepsTo k.0 ks × (stepped k.1 k.0 ≡ now)
+  before_last [] k now led = (tt, led.1)
+  before_last (x ∷ xs) k now led =
+      let rest = before_last xs k now led.2 in
+      ((led.0, led.1 ∙ first_state-more xs k now, rest.0), rest.1)
+
   -- undoing the last record
   module _ (rs : List (Recorded X)) (r : Recorded X) (s : State) (m : ℕ) (is : slice_get rs (length rs - 1) ≡ Some r) (some : 1 ≤ m + order_count r.step) (within : m + order_count r.step ≤ orders_recorded rs) where
     orders-left : m ≤ orders_recorded (take (length rs - 1) rs)
@@ -207,13 +233,20 @@ module _ {X : Type 0} where
         ap (λ (ks : List (State × Step X)). steps_back (m + order_count r.step) ks) read-last
         ∙ steps_back-more (read (take (length rs - 1) rs) (undone r s)) (undone r s, r.step) m some orders-read
 
+    led-last : Leads (read rs s) s → AreStepsTo (undone r s) (read (take (length rs - 1) rs) (undone r s)) × (stepped r.step (undone r s) ≡ s)
+    led-last led = before_last (read (take (length rs - 1) rs) (undone r s)) (undone r s, r.step) s (subst (λ (ks : List (State × Step X)). AreStepsTo s ks) read-last led.steps)
+
   pub record IsUndone (rs : List (Recorded X)) (r : Recorded X) (s : State) (m : ℕ) : Type 0 where
+    pub belongs_there : belongs r s ≡ true
+    pub leads : Leads (read (take (length rs - 1) rs) (undone r s)) (undone r s)
     pub recorded : m ≤ orders_recorded (take (length rs - 1) rs)
     pub state : state_back (m + order_count r.step) (read rs s) s ≡ state_back m (read (take (length rs - 1) rs) (undone r s)) (undone r s)
     pub steps : steps_back (m + order_count r.step) (read rs s) ≡ steps_back m (read (take (length rs - 1) rs) (undone r s))
 
-  pub undone-last : (rs : List (Recorded X)) (r : Recorded X) (s : State) (m : ℕ) → slice_get rs (length rs - 1) ≡ Some r → 1 ≤ m + order_count r.step → m + order_count r.step ≤ orders_recorded rs → IsUndone rs r s m
-  undone-last rs r s m is some within = record {
+  pub undone-last : (rs : List (Recorded X)) (r : Recorded X) (s : State) (m : ℕ) → slice_get rs (length rs - 1) ≡ Some r → 1 ≤ m + order_count r.step → m + order_count r.step ≤ orders_recorded rs → Leads (read rs s) s → IsUndone rs r s m
+  undone-last rs r s m is some within led = record {
+    belongs_there = belonging r s (led-last rs r s m is some within led).1;
+    leads = record { steps = (led-last rs r s m is some within led).0 };
     recorded = orders-left rs r s m is some within;
     state = state-undone rs r s m is some within;
     steps = steps-undone rs r s m is some within;

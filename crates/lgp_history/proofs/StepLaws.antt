@@ -26,7 +26,7 @@ rest_are : (b : Bool) (orders steps : ℕ) → orders ≤ steps → cond b 1 0 +
 rest_are true orders steps h e = omega arith
 rest_are false orders steps h e = absurd (omega arith)
 
-not_so_far : (b : Bool) (n more : ℕ) → n ≤ more → (b && (more + 1 == n)) ≡ false
+pub not_so_far : (b : Bool) (n more : ℕ) → n ≤ more → (b && (more + 1 == n)) ≡ false
 not_so_far true n more h = grind (arith, nat_tests)
 not_so_far false n more h = refl
 
@@ -34,7 +34,7 @@ untaken : (b : Bool) (x : ℕ) → cond b (Some x) None ≡ None → b ≡ false
 untaken true x e = cc
 untaken false x e = refl
 
-or_none : {Y : Type 0} (a b : Option Y) → option_or a b ≡ None → (a ≡ None) × (b ≡ None)
+pub or_none : {Y : Type 0} (a b : Option Y) → option_or a b ≡ None → (a ≡ None) × (b ≡ None)
 or_none None b e = (refl, e)
 or_none (Some y) b e = cc
 
@@ -66,11 +66,11 @@ module _ {A : Type 0} where
       let next_is : next k.0 ≡ f.0 = subst (λ (step : Step A). stepped step k.0 ≡ f.0) step led.1 in
       ap (λ (s : State). performed_again s (f ∷ later)) next_is ∙ performed_on now f later led.2 (rest_are (is_order k.1) (orders_in (f ∷ later)) (suc (length later)) few all)
 
-  orders_in-append : (earlier later : List (State × Step A)) → orders_in later ≤ orders_in (earlier ++ later)
+  pub orders_in-append : (earlier later : List (State × Step A)) → orders_in later ≤ orders_in (earlier ++ later)
   orders_in-append [] later = omega arith
   orders_in-append (k ∷ earlier) later = omega (arith, orders_in-append earlier later)
 
-  here_back : (k : State × Step A) (later : List (State × Step A)) → is_order k.1 ≡ true → is_order_back (orders_in (k ∷ later)) k later ≡ true
+  pub here_back : (k : State × Step A) (later : List (State × Step A)) → is_order k.1 ≡ true → is_order_back (orders_in (k ∷ later)) k later ≡ true
   here_back k later order = rw order (grind (arith, nat_tests))
 
   back_to : (earlier : List (State × Step A)) (k : State × Step A) (later : List (State × Step A)) (now : State) → is_order k.1 ≡ true → state_back (orders_in (k ∷ later)) (earlier ++ k ∷ later) now ≡ k.0

@@ -1,5 +1,6 @@
 pub mod Steps
 pub mod Hits
+pub mod Origins
 pub mod Laws
 pub mod RecordedInside
 pub mod CheckpointsInside

@@ -14,6 +14,9 @@ use Rattle.lgp_machine.specs.Marks.{mark_of, state_at_mark, with_tape_at}
 use Rattle.lgp_machine.specs.declared.mark.Mark.{Mark}
 use Rattle.lgp_history.specs.Steps.{first_state, is_order}
 use Rattle.lgp_history.specs.Hits.{is_going}
+use Rattle.lgp_history.specs.declared.origin.Changer.{Changer}
+use Rattle.lgp_history.specs.declared.origin.Changer.TheVariants.{Order, Hand}
+use Rattle.lgp_history.specs.declared.origin.PastOrder.{PastOrder}
 use Rattle.lgp_history.specs.declared.rule.Rule.{Rule}
 use Rattle.lgp_history.specs.declared.rule.Rule.TheVariants.{At, Changed}
 use Rattle.lgp_history.specs.declared.step.Step.{Step}
@@ -63,6 +66,11 @@ abbrev pub loses_at : Option (ℕ × ℕ) → ℕ → Bool
 loses_at None address = false
 loses_at (Some (lost, word)) address = lost == address
 
+-- the word that is lost at this address
+abbrev pub lost_at : Option (ℕ × ℕ) → ℕ → Option ℕ
+lost_at None address = None
+lost_at (Some (lost, word)) address = if lost == address then Some word else None
+
 abbrev pub with_tape : Option (List ℕ) → ℕ → State → State
 with_tape None passed s = s
 with_tape (Some codes) passed s = with_tape_at s codes passed
@@ -93,14 +101,29 @@ module _ {X : Type 0} where
       nat_le r.mark.printed (length s.printed) && (is_some r.tape || nat_le r.mark.passed (length s.core.tape.passed))
       && can_restore r.lost s.core.words
 
-  -- the state before the step; a state that cannot be the one after it stays
+  -- the state before the step; for a state that cannot be the one after it, one from which no step leads there
   abbrev pub undone : Recorded X → State → State
-  undone r s = if belongs r s then state_at_mark (with_tape r.tape r.mark.passed s) r.mark r.lost else s
+  undone r s =
+      if belongs r s then state_at_mark (with_tape r.tape r.mark.passed s) r.mark r.lost else record s { clock = s.clock + 1 }
 
   -- how many of the recorded steps are orders
   abbrev pub orders_recorded : List (Recorded X) → ℕ
   orders_recorded [] = 0
   orders_recorded (r ∷ later) = (if is_order r.step then 1 else 0) + orders_recorded later
+
+  -- where and when the recorded order began which stood in the register after it, so many orders back
+  abbrev pub recorded_order : Recorded X → ℕ → ℕ → PastOrder
+  recorded_order r register orders_back = record {
+    place = if is_going r.mark.panel.status then Some r.mark.panel.counter else None;
+    word = register;
+    clock = r.mark.clock;
+    orders_back = orders_back;
+  }
+
+  -- what did the recorded step
+  abbrev pub recorded_changer : Recorded X → ℕ → ℕ → Changer
+  recorded_changer r register orders_back =
+      if is_order r.step then Order (recorded_order r register orders_back) else Hand r.mark.clock
 
   -- whether a rule hits the recorded order, read off what is recorded
   abbrev pub is_recorded_hit : Recorded X → Rule → Bool

@@ -6,8 +6,9 @@ ghost use Rattle.lgp_word.specs.Address.{address_after};
 ghost use Rattle.lgp_table.specs.Interleaving.{at_boundary, is_boundary};
 ghost use Rattle.lgp_table.specs.declared.panel.Panel.{Panel};
 ghost use Rattle.lgp_history.specs.Steps.{is_order};
-ghost use Rattle.lgp_history.specs.RecordedInside.{can_restore, lost_by, lost_by_order, lost_in, lost_of, lost_word, tape_of, tape_or_none, with_tape};
+ghost use Rattle.lgp_history.specs.RecordedInside.{lost_by, lost_by_order, lost_in, lost_of, lost_word, tape_of, tape_or_none, with_tape};
 
+use crate::origin::{Changer, PastOrder};
 use crate::rule::Rule;
 use crate::step::{Step, Tape};
 use lgp_machine::{Machine, Mark};
@@ -184,7 +185,7 @@ impl<A: Allocator + Clone> Record<A> {
 }
 
 impl<A: Allocator> Record<A> {
-    ghost use Rattle.lgp_history.specs.RecordedInside.{is_recorded_hit, undone};
+    ghost use Rattle.lgp_history.specs.RecordedInside.{belongs, is_recorded_hit, lost_at, recorded_changer, recorded_order, undone};
 
     /// Whether the step is an order.
     pub fn is_order(&self) -> bool
@@ -224,9 +225,53 @@ impl<A: Allocator> Record<A> {
         Some(place as u8)
     }
 
-    /// Takes the machine back to the state before the step. A machine that cannot be where the step has led stays.
+    /// The word that the step lost at an address, if it changed the one there.
+    pub fn lost_at(&self, address: Address) -> Option<Word>
+        ensures { result ≡ lost_at self.now.lost address }
+    {
+        if self.lost.differs && self.lost.address == address {
+            Some(self.lost.word)
+        } else {
+            None
+        }
+    }
+
+    /// The instruction register before the step.
+    pub fn register(&self) -> Word
+        ensures { result ≡ self.now.mark.panel.register }
+    {
+        self.panel.register
+    }
+
+    /// The order, which is in the instruction register after it, so many orders back.
+    fn past_order(&self, register: Word, orders_back: u64) -> PastOrder
+        ensures { result ≡ recorded_order self.now register orders_back }
+    {
+        let counter = self.panel.counter;
+        let is_going = matches!(self.panel.status, Status::Going);
+        PastOrder {
+            place: is_going.then_some(counter),
+            word: register,
+            clock: self.clock,
+            orders_back,
+        }
+    }
+
+    /// What did the step, with the instruction register after it, so many orders back.
+    pub fn changer(&self, register: Word, orders_back: u64) -> Changer
+        ensures { result ≡ recorded_changer self.now register orders_back }
+    {
+        if self.is_order() {
+            Changer::Order(self.past_order(register, orders_back))
+        } else {
+            Changer::Hand(self.clock)
+        }
+    }
+
+    /// Takes the machine back from where the step has led to the state before it.
     pub fn undo(self, machine: &mut Machine<A>)
-        requires { machine.old ≡ at_boundary machine.old.state }
+        requires boundary { machine.old ≡ at_boundary machine.old.state }
+        requires belongs { IsTrue (belongs self machine.old.state) }
         ensures { machine.new ≡ at_boundary (undone self machine.old.state) }
     {
         let Record {
@@ -239,9 +284,6 @@ impl<A: Allocator> Record<A> {
             other,
         } = self;
         let lost = lost.word();
-        if printed > machine.printed().len() || !can_restore(machine, &lost) {
-            return;
-        }
         put_tape(machine, taken_tape(other), passed);
         let mark = Mark {
             panel,
@@ -271,19 +313,6 @@ fn put_tape<A: Allocator>(machine: &mut Machine<A>, tape: Option<Tape<A>>, passe
 {
     if let Some(tape) = tape {
         machine.set_tape(tape.into_codes(), passed);
-    }
-}
-
-/// Whether a lost word can be put back: there is another one in its place.
-fn can_restore<A: Allocator>(machine: &Machine<A>, lost: &Option<(Address, Word)>) -> bool
-    ensures { result ≡ can_restore lost.now machine.now.state.core.words }
-{
-    match lost {
-        None => true,
-        Some((address, word)) => {
-            let _number = address.number();
-            machine.word(*address) != *word
-        }
     }
 }
 

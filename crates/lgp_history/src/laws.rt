@@ -1,10 +1,12 @@
 //! What follows from the definitions, each law as the contract of a function that does nothing.
 
-ghost use Rattle.std.specs.Prelude.{◌≡◌, ◌<◌, ◌++◌, ℕ, List, Some, None, All, length};
-ghost use Rattle.lgp_table.specs.State.{State};
-ghost use Rattle.lgp_history.specs.Steps.{Leads, orders_in, state_back};
+ghost use Rattle.std.specs.Prelude.{◌≡◌, ◌<◌, ◌++◌, ◌∷◌, ℕ, List, Some, None, All, IsTrue, false, length};
+ghost use Rattle.lgp_table.specs.State.{State, word_at};
+ghost use Rattle.lgp_history.specs.Steps.{Leads, first_state, is_order, orders_in, state_back, steps_back};
 ghost use Rattle.lgp_history.specs.Hits.{last_hit};
 ghost use Rattle.lgp_history.specs.Laws.{IsLastHit, PassesRules, performed_again};
+ghost use Rattle.lgp_history.specs.Origins.{IsOrigin, changed_at, latest_change};
+ghost use Rattle.lgp_history.specs.declared.origin.Origin.{Origin};
 ghost use Rattle.lgp_history.specs.declared.rule.Rule.{Rule};
 ghost use Rattle.lgp_history.specs.declared.step.Step.{Step};
 
@@ -25,4 +27,29 @@ pub fn last_hits<A: Allocator>()
         → last_hit rules kept ≡ Some hit → IsLastHit rules kept hit }
     ensures none { (rules : List Rule) → (kept : List (State × Step A))
         → last_hit rules kept ≡ None → All (PassesRules rules) kept }
+{}
+
+/// A word stands as the step that is its origin left it, and no later step changed it. Where it has no origin, no kept step changed it, and it
+/// is the one with which the kept steps begin.
+#[tactic(auto, using(crate::proofs::OriginLaws::word_came, crate::proofs::OriginLaws::none_changed, crate::proofs::OriginLaws::word_kept))]
+pub fn words_come<A: Allocator>()
+    ensures origin { (address : ℕ) → (kept : List (State × Step A)) → (now : State)
+        → (origin : Origin) → Leads kept now → latest_change address kept ≡ Some origin
+        → IsOrigin address kept now origin }
+    ensures none { (address : ℕ) → (kept : List (State × Step A))
+        → latest_change address kept ≡ None
+        → All (λ k. changed_at address k ≡ false) kept }
+    ensures stays { (address : ℕ) → (kept : List (State × Step A)) → (now : State)
+        → Leads kept now → latest_change address kept ≡ None
+        → word_at now.core address ≡ word_at (first_state kept now).core address }
+{}
+
+/// Going back to the beginning of a kept order, a word has the origin that the steps before that order give it.
+#[tactic(auto, using(crate::proofs::OriginLaws::origin_back))]
+pub fn origins_go_back<A: Allocator>()
+    ensures { (address : ℕ) → (earlier : List (State × Step A)) → (order : State × Step A)
+        → (later : List (State × Step A)) → IsTrue (is_order order.1)
+        → latest_change address
+        (steps_back (orders_in (order ∷ later)) (earlier ++ order ∷ later))
+        ≡ latest_change address earlier }
 {}

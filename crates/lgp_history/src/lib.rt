@@ -5,12 +5,14 @@ mod changes;
 mod checkpoints;
 mod history;
 pub mod laws;
+mod origin;
 mod records;
 mod rule;
 mod step;
 
 pub use checkpoints::Checkpoints;
 pub use history::{BackFault, History};
+pub use origin::{Changer, Origin, Origins, PastOrder};
 pub use records::{CAPACITY_LIMIT, Records};
 pub use rule::Rule;
 pub use step::{Step, Tape};

@@ -3,15 +3,17 @@
 ghost use Rattle.std.specs.Prelude.{◌≡◌, ◌<◌, ◌≤◌, ℕ, [], true, IfOk, OnOk, length};
 ghost use Rattle.lgp_table.specs.State.{State};
 ghost use Rattle.lgp_table.specs.Interleaving.{at_boundary};
-ghost use Rattle.lgp_history.specs.Steps.{orders_in, state_back, steps_back};
+ghost use Rattle.lgp_history.specs.Steps.{Leads, orders_in, state_back, steps_back};
 ghost use Rattle.lgp_history.specs.RecordedInside.{orders_recorded, read, recorded};
 
 use crate::changes::Record;
 use crate::history::{BackFault, History};
+use crate::origin::{Origin, Origins};
 use crate::rule::Rule;
 use crate::step::Step;
 use circular_buffer::HeapCircularBuffer;
 use lgp_machine::Machine;
+use lgp_word::Address;
 use std::alloc::{AllocError, Allocator, Global};
 
 /// The most steps that a history can keep.
@@ -45,6 +47,7 @@ impl<A: Allocator> Records<A> {
         requires boundary { machine.old ≡ at_boundary machine.old.state }
         requires some { 1 ≤ orders }
         requires recorded { orders ≤ orders_recorded self.old.records.items }
+        requires leads { Leads (read self.old.records.items machine.old.state) machine.old.state }
         ensures state { machine.new ≡ at_boundary
             (state_back orders (read self.old.records.items machine.old.state) machine.old.state) }
         ensures steps { read self.new.records.items machine.new.state
@@ -128,5 +131,26 @@ impl<A: Allocator + Clone> History<A> for Records<A> {
 
     fn clear(&mut self) {
         self.records.clear();
+    }
+}
+
+impl<A: Allocator + Clone> Origins<A> for Records<A> {
+    fn origin(&self, now: &Machine<A>, address: Address) -> Option<Origin> {
+        let mut register = now.look()?.register;
+        let mut orders = 0;
+        let mut unread = self.records.len();
+        while unread > 0 {
+            unread -= 1;
+            let Some(record) = self.records.get(unread) else {
+                unreachable!()
+            };
+            orders += u64::from(record.is_order());
+            if let Some(lost) = record.lost_at(address) {
+                let changer = record.changer(register, orders);
+                return Some(Origin { changer, lost });
+            }
+            register = record.register();
+        }
+        None
     }
 }

@@ -5,6 +5,7 @@ ghost use Rattle.lgp_table.specs.Interleaving.{at_boundary};
 ghost use Rattle.lgp_history.specs.Steps.{CanStep, stepped};
 
 mod growths;
+mod origins;
 mod rows;
 
 use lgp_flexo::TAPE_LIMIT;

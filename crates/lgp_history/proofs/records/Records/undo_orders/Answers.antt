@@ -7,6 +7,14 @@ use Rattle.lgp_history.proofs.KeptSteps.{bool_byte-few, bool_byte-order, order_c
 use Rattle.lgp_history.proofs.RecordedSteps.{undone-last}
 use Rattle.lgp_history.proofs.records.Records.undo_orders.Goals as goal
 
+pub undo-requires-clause-belongs : goal.undo-requires-clause-belongs
+undo-requires-clause-belongs g c =
+    let r = c.in-Some.record in
+    let m = c.loop-left.left - c.from-left.result in
+    let count = bool_byte-order r.step c.is_order.result c.is_order.ensures in
+    let few = bool_byte-few c.is_order.result in
+    (undone-last c.loop-left.self.records.items r c.loop-left.machine.state m (sym c.in-Some.ensures.value) (omega arith) (omega arith) c.loop-left.invariant.leads).belongs_there
+
 pub loop-left-preserved : goal.loop-left-preserved
 loop-left-preserved g c =
     let rs = c.loop-left.self.records.items in
@@ -17,11 +25,12 @@ loop-left-preserved g c =
     let count = bool_byte-order r.step c.is_order.result c.is_order.ensures in
     let few = bool_byte-few c.is_order.result in
     let whole : m + order_count r.step ≡ c.loop-left.left = omega arith in
-    let u = undone-last rs r s m popped (omega arith) (omega arith) in
+    let u = undone-last rs r s m popped (omega arith) (omega arith) c.loop-left.invariant.leads in
     let items : c.pop_back.new.self.items ≡ take (length rs - 1) rs = ap (λ (b : Buffer (Recorded g.row.A.Denot)). b.items) c.in-Some.ensures.items in
     let state : c.undo.new.machine.state ≡ undone r s = ap (λ (now : Configuration). now.state) c.undo.ensures in
     record {
       boundary = c.undo.ensures ∙ ap at_boundary (sym state);
+      leads = rw (items, state) u.leads;
       recorded = rw items u.recorded;
       state = rw (items, state) (sym u.state ∙ ap (λ n. state_back n (read rs s) s) whole ∙ c.loop-left.invariant.state);
       steps = rw (items, state) (sym u.steps ∙ ap (λ n. steps_back n (read rs s)) whole ∙ c.loop-left.invariant.steps);
