@@ -1,5 +1,5 @@
 -- The four phases together, and where the head stands at their ends.
-use Rattle.std.proofs.Common.{◌≡◌, ℕ, ◌+◌, true, false, Some, None, option_map, refl, sym, ap, arith, cond}
+use Rattle.std.proofs.Common.{◌≡◌, ℕ, ◌+◌, ◌-◌, true, false, Some, None, option_map, refl, sym, ap, arith, cond}
 use Rattle.std.proofs.lemmas.Option.{none-some, same_Some}
 use Rattle.lgp_word.specs.declared.order.Op.{Op}
 use Rattle.lgp_word.specs.declared.order.Op.TheVariants.{Z, B, Y, R, I, D, N, M, P, E, U, T, H, C, A, S}
@@ -26,6 +26,10 @@ phases_by-time Reading core clock = omega arith
 pub phases_cost : (s : State) → all_phases (phases_of s) ≡ cost s
 unfolding phases_of cost_at
 phases_cost s = phases_by-time s.core.panel.status s.core s.clock
+
+-- with the first three and the cost the last one is known
+pub phases_last : (s : State) → cost s - ((phases_of s).find + (phases_of s).take + (phases_of s).seek) ≡ (phases_of s).act
+phases_last s = omega (arith, phases_cost s)
 
 -- a wait ends when the head has read the sector, and not before
 wait_read : (address clock : ℕ) → IsFirstRead address clock (wait (sector_of address) clock)

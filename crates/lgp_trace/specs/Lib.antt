@@ -4,6 +4,7 @@ pub mod Account
 pub mod Profile
 pub mod Columns
 pub mod AccountLines
+pub mod OriginLines
 pub mod DrumRows
 pub mod ProfileLines
 pub mod Runs

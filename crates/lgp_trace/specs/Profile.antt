@@ -36,13 +36,17 @@ abbrev pub added_elsewhere : Option ℕ → ℕ → ℕ → ℕ
 added_elsewhere None times elsewhere = elsewhere + times
 added_elsewhere (Some place) times elsewhere = elsewhere
 
--- a profile with one activity more, by its account
-abbrev pub with_account : Profiled → Account → Profiled
-with_account profile account = record {
-  phases = added_phases profile.phases account.phases;
-  places = added_at account.place (all_phases account.phases) profile.places;
-  elsewhere = added_elsewhere account.place (all_phases account.phases) profile.elsewhere;
+-- a profile with one activity more, by the place of its order and its phases
+abbrev pub with_phases : Profiled → Option ℕ → Phases → Profiled
+with_phases profile place phases = record {
+  phases = added_phases profile.phases phases;
+  places = added_at place (all_phases phases) profile.places;
+  elsewhere = added_elsewhere place (all_phases phases) profile.elsewhere;
 }
+
+-- the same by its account
+abbrev pub with_account : Profiled → Account → Profiled
+with_account profile account = with_phases profile account.place account.phases
 
 -- the profile of so many activities from a state on
 unfoldable pub profile_of : State → ℕ → Profiled

@@ -60,7 +60,7 @@ fn push_reference<L: Labels, A: Allocator>(
 
 /// Appends a word as the order that is performed.
 #[tactic(auto, unfolding(crate::specs::AccountLines::performed_text))]
-fn push_performed<L: Labels, A: Allocator>(
+pub(crate) fn push_performed<L: Labels, A: Allocator>(
     text: &mut Vec<u8, A>,
     word: Word,
     labels: &L,
@@ -77,8 +77,8 @@ fn push_performed<L: Labels, A: Allocator>(
     push_reference(text, op, address, labels)
 }
 
-/// Appends a word as a number.
-fn push_number<A: Allocator>(text: &mut Vec<u8, A>, word: Word) -> Result<(), AllocError>
+/// Appends a word as a whole number, with its point behind place 30.
+pub fn push_number<A: Allocator>(text: &mut Vec<u8, A>, word: Word) -> Result<(), AllocError>
     ensures { OnOk result (text.new.items ≡ text.old.items ++ number_text word) }
 {
     let bits = u64::from(word.get());
@@ -108,7 +108,7 @@ fn push_order_behind<L: Labels, A: Allocator>(
 
 /// Appends a word by its digits, as the order that it is, if it is one, and as a number.
 #[tactic(auto, unfolding(crate::specs::AccountLines::word_text))]
-fn push_word<L: Labels, A: Allocator>(
+pub(crate) fn push_word<L: Labels, A: Allocator>(
     text: &mut Vec<u8, A>,
     word: Word,
     labels: &L,

@@ -6,10 +6,10 @@ ghost use Rattle.lgp_table.specs.After.{after};
 ghost use Rattle.lgp_table.specs.Console.{is_at_rest};
 ghost use Rattle.lgp_machine.specs.Answers.{clock_end};
 ghost use Rattle.lgp_history.specs.declared.step.Step.{Step};
-ghost use Rattle.lgp_debugger.specs.Debugging.{after_step, first_stop, run_of};
+ghost use Rattle.lgp_debugger.specs.Debugging.{after_step, first_stop, performed, run_of};
 ghost use Rattle.lgp_trace.specs.Account.{account_of};
 ghost use Rattle.lgp_trace.specs.DrumRows.{signs_in_rows, signs_of};
-ghost use Rattle.lgp_trace.specs.Runs.{drawn, performed};
+ghost use Rattle.lgp_trace.specs.Runs.{drawn};
 
 use crate::account::Begun;
 use crate::drum_rows::push_drum;

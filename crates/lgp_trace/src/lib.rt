@@ -8,6 +8,7 @@ mod draw;
 mod drum_rows;
 mod labels;
 pub mod laws;
+mod origin_lines;
 mod phases;
 mod profile;
 mod profile_lines;
@@ -18,10 +19,13 @@ mod trace;
 mod uses;
 
 pub use account::{Account, Begun, Found, Operand};
-pub use account_lines::{push_account, push_account_details, push_account_line, push_heading};
+pub use account_lines::{
+    push_account, push_account_details, push_account_line, push_heading, push_number,
+};
 pub use draw::draw_run;
 pub use drum_rows::{push_drum, push_rows_begun, push_rows_ended};
 pub use labels::{Labels, NoLabels};
+pub use origin_lines::{order_origin, push_origin_lines, push_told, push_why, push_why_line};
 pub use phases::Phases;
 pub use profile::Profile;
 pub use profile_lines::push_profile;

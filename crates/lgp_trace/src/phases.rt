@@ -1,9 +1,8 @@
 //! The four phases of an activity.
 
-ghost use Rattle.std.specs.Prelude.{◌≡◌, IsTrue};
-ghost use Rattle.lgp_table.specs.Interleaving.{is_boundary};
+ghost use Rattle.std.specs.Prelude.{◌≡◌, ◌+◌, ◌-◌, ◌≤◌};
 ghost use Rattle.lgp_machine.specs.Look.{shown};
-ghost use Rattle.lgp_trace.specs.Phases.{all_phases, phases_of};
+ghost use Rattle.lgp_trace.specs.Phases.{phases_of};
 
 use lgp_machine::Machine;
 use lgp_phases::{seek_time, wait};
@@ -37,13 +36,23 @@ pub fn only_act(times: u64) -> Phases
 }
 
 impl Phases {
-    /// The phases of the activity that begins here, together its cost; `None` within an activity.
-    #[tactic(auto, unfolding(lgp_table::specs::Activity::cost_at, crate::specs::Phases::phases_of))]
+    /// The phases of the activity that begins here; together they are its cost. `None` within an activity.
+    #[tactic(auto, using(crate::proofs::PhaseLaws::phases_cost, crate::proofs::PhaseLaws::phases_last))]
     pub fn of<A: Allocator>(machine: &Machine<A>) -> Option<Phases>
         ensures { result ≡ shown machine.now (phases_of machine.now.state) }
     {
-        let look = machine.look()?;
+        let waits = Phases::before_acting(machine)?;
         let cost = machine.ahead()?.cost;
+        Some(waits.until(cost))
+    }
+
+    /// The same before the order acts, with no word time in which it does.
+    #[tactic(auto, unfolding(crate::specs::Phases::phases_of))]
+    pub fn before_acting<A: Allocator>(machine: &Machine<A>) -> Option<Phases>
+        ensures { result
+            ≡ shown machine.now (record (phases_of machine.now.state) { act = 0 }) }
+    {
+        let look = machine.look()?;
         let phases = match look.status {
             Status::Going => {
                 let find = wait(look.counter.sector(), look.clock, 0);
@@ -53,7 +62,7 @@ impl Phases {
                     find,
                     take: 1,
                     seek,
-                    act: cost - find - 1 - seek,
+                    act: 0,
                 }
             }
             Status::Executing => {
@@ -63,11 +72,23 @@ impl Phases {
                     find: 0,
                     take: 0,
                     seek,
-                    act: cost - seek,
+                    act: 0,
                 }
             }
-            Status::Halted(_) | Status::Waiting | Status::Reading => only_act(cost),
+            Status::Halted(_) | Status::Waiting | Status::Reading => only_act(0),
         };
         Some(phases)
+    }
+
+    /// The same with so long a last phase that all four together take so many word times.
+    pub fn until(self, times: u64) -> Phases
+        requires { self.find + self.take + self.seek ≤ times }
+        ensures { result
+            ≡ record self { act = times - (self.find + self.take + self.seek) } }
+    {
+        Phases {
+            act: times - (self.find + self.take + self.seek),
+            ..self
+        }
     }
 }

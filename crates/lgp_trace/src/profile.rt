@@ -2,7 +2,7 @@
 
 ghost use Rattle.std.specs.Prelude.{◌≡◌, ◌+◌, ◌^◌, ◌<◌, ◌≤◌, IfOk, slice_index, sum};
 ghost use Rattle.lgp_trace.specs.Phases.{all_phases};
-ghost use Rattle.lgp_trace.specs.Profile.{added_phases, empty_profile, with_account};
+ghost use Rattle.lgp_trace.specs.Profile.{added_phases, empty_profile, with_account, with_phases};
 
 use crate::account::Account;
 use crate::phases::{Phases, only_act};
@@ -54,15 +54,22 @@ impl<A: Allocator> Profile<A> {
     }
 
     /// Adds an activity by its account.
-    #[tactic(auto, using(crate::proofs::Sums::sums))]
     pub fn note(&mut self, account: &Account)
         requires { all_phases self.old.phases + all_phases account.now.phases < 2 ^ 64 }
         ensures { self.new ≡ with_account self.old account.now }
     {
-        let more = account.phases;
+        self.add(account.place, account.phases);
+    }
+
+    /// Adds an activity by the place of its order and its phases.
+    #[tactic(auto, using(crate::proofs::Sums::sums))]
+    pub(crate) fn add(&mut self, place: Option<Address>, more: Phases)
+        requires { all_phases self.old.phases + all_phases more < 2 ^ 64 }
+        ensures { self.new ≡ with_phases self.old place more }
+    {
         let times = more.find + more.take + more.seek + more.act;
         self.phases = added(self.phases, more);
-        match account.place {
+        match place {
             Some(place) => self.places[usize::from(place.number())] += times,
             None => self.elsewhere += times,
         }

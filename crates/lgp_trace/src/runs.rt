@@ -1,6 +1,6 @@
 //! Runs of a debugger whose orders are accounted for.
 
-ghost use Rattle.std.specs.Prelude.{◌≡◌, ◌+◌, ◌++◌, ◌<◌, ◌≤◌, ◌↔◌, Err, IfErr, IfOk, IsTrue, OnErr, OnOk, false, sum};
+ghost use Rattle.std.specs.Prelude.{◌≡◌, ◌+◌, ◌++◌, [], ◌<◌, ◌≤◌, ◌↔◌, Err, IfErr, IfOk, IsTrue, OnErr, OnOk, false, sum};
 ghost use Rattle.lgp_table.specs.Activity.{cost};
 ghost use Rattle.lgp_table.specs.Console.{is_at_rest};
 ghost use Rattle.lgp_machine.specs.Answers.{clock_end};
@@ -11,7 +11,8 @@ ghost use Rattle.lgp_trace.specs.Phases.{all_phases};
 ghost use Rattle.lgp_trace.specs.Profile.{profile_of, with_account};
 ghost use Rattle.lgp_trace.specs.Runs.{rule_of};
 
-use crate::account::{Account, Begun};
+use crate::account::{Account, place_of};
+use crate::phases::Phases;
 use crate::profile::Profile;
 use lgp_debugger::{Debugger, Ran, Reason, RunFault, RunRefusal, StepFault};
 use lgp_history::History;
@@ -19,6 +20,56 @@ use std::alloc::Allocator;
 
 /// One order of a run, and the number of the first rule that stops the run there.
 pub fn go_on<H: History<A>, A: Allocator>(
+    debugger: &mut Debugger<H, A>,
+) -> Result<Option<u8>, StepFault>
+    ensures performed { OnOk result (debugger.new ≡ after_step debugger.old Step.Perform) }
+    ensures stop { IfOk result (λ stop.
+        stop ≡ first_stop debugger.old.rules debugger.old.state) }
+    ensures at_work { OnOk result
+        (is_at_rest debugger.old.state.core.panel.status ≡ false) }
+    ensures within_clock { OnOk result (debugger.new.state.clock ≤ clock_end) }
+    ensures at_rest { (result ≡ Err StepFault.AtRest)
+        ↔ IsTrue (is_at_rest debugger.old.state.core.panel.status) }
+    ensures clock_end { IfErr result (λ fault. fault ≡ StepFault.ClockEnd
+        → clock_end < debugger.old.state.clock + cost debugger.old.state) }
+    ensures memory { IfErr result (λ fault. fault ≡ StepFault.Memory
+        → ¬ (clock_end < debugger.old.state.clock + cost debugger.old.state)) }
+    ensures unchanged { OnErr result (debugger.new ≡ debugger.old) }
+{
+    if debugger.rules().is_empty() {
+        return go_on_freely(debugger);
+    }
+    go_on_by_rules(debugger)
+}
+
+/// The same where there are no rules.
+#[inline(always)]
+fn go_on_freely<H: History<A>, A: Allocator>(
+    debugger: &mut Debugger<H, A>,
+) -> Result<Option<u8>, StepFault>
+    requires { debugger.old.rules ≡ [] }
+    ensures performed { OnOk result (debugger.new ≡ after_step debugger.old Step.Perform) }
+    ensures stop { IfOk result (λ stop.
+        stop ≡ first_stop debugger.old.rules debugger.old.state) }
+    ensures at_work { OnOk result
+        (is_at_rest debugger.old.state.core.panel.status ≡ false) }
+    ensures within_clock { OnOk result (debugger.new.state.clock ≤ clock_end) }
+    ensures at_rest { (result ≡ Err StepFault.AtRest)
+        ↔ IsTrue (is_at_rest debugger.old.state.core.panel.status) }
+    ensures clock_end { IfErr result (λ fault. fault ≡ StepFault.ClockEnd
+        → clock_end < debugger.old.state.clock + cost debugger.old.state) }
+    ensures memory { IfErr result (λ fault. fault ≡ StepFault.Memory
+        → ¬ (clock_end < debugger.old.state.clock + cost debugger.old.state)) }
+    ensures unchanged { OnErr result (debugger.new ≡ debugger.old) }
+{
+    match debugger.step() {
+        Ok(_) => Ok(None),
+        Err(fault) => Err(fault),
+    }
+}
+
+/// The same by the debugger's own run.
+fn go_on_by_rules<H: History<A>, A: Allocator>(
     debugger: &mut Debugger<H, A>,
 ) -> Result<Option<u8>, StepFault>
     ensures performed { OnOk result (debugger.new ≡ after_step debugger.old Step.Perform) }
@@ -58,7 +109,7 @@ fn rule_of(reason: Reason) -> Option<u8>
 }
 
 /// One order of a run, added to a profile, and the number of the first rule that stops the run there.
-#[tactic(auto, using(crate::proofs::PhaseLaws::phases_cost))]
+#[tactic(auto, using(crate::proofs::PhaseLaws::phases_cost, crate::proofs::PhaseLaws::phases_last))]
 fn note_order<H: History<A>, A: Allocator, B: Allocator>(
     debugger: &mut Debugger<H, A>,
     profile: &mut Profile<B>,
@@ -80,12 +131,15 @@ fn note_order<H: History<A>, A: Allocator, B: Allocator>(
     ensures unchanged { OnErr result (debugger.new ≡ debugger.old) }
     ensures profile_stays { OnErr result (profile.new ≡ profile.old) }
 {
-    let Some(begun) = Begun::of(debugger.machine()) else {
+    let place = place_of(debugger.machine());
+    let Some(phases) = Phases::before_acting(debugger.machine()) else {
         unreachable!()
     };
+    let begun = debugger.look().clock;
     match go_on(debugger) {
         Ok(stop) => {
-            profile.note(&begun.finish(debugger.machine()));
+            let times = debugger.look().clock - begun;
+            profile.add(place, phases.until(times));
             Ok(stop)
         }
         Err(fault) => Err(fault),

@@ -5,29 +5,30 @@ ghost use Rattle.lgp_table.specs.Activity.{cost};
 ghost use Rattle.lgp_table.specs.Console.{is_at_rest};
 ghost use Rattle.lgp_machine.specs.Answers.{clock_end};
 ghost use Rattle.lgp_history.specs.declared.step.Step.{Step};
-ghost use Rattle.lgp_debugger.specs.Debugging.{after_step, first_stop, run_of};
+ghost use Rattle.lgp_debugger.specs.Debugging.{after_step, first_stop, order_origin, order_origins, performed, run_of};
 ghost use Rattle.lgp_trace.specs.Account.{account_of};
-ghost use Rattle.lgp_trace.specs.AccountLines.{account_text};
-ghost use Rattle.lgp_trace.specs.Runs.{performed, told};
+ghost use Rattle.lgp_trace.specs.OriginLines.{told_account};
+ghost use Rattle.lgp_trace.specs.Runs.{told};
 
 use crate::account::Begun;
-use crate::account_lines::push_account;
 use crate::labels::Labels;
+use crate::origin_lines::{order_origin, push_told};
 use crate::runs::go_on;
 use lgp_debugger::{Debugger, Ran, Reason, RunFault, RunRefusal, StepFault};
-use lgp_history::History;
+use lgp_history::Origins;
 use std::alloc::Allocator;
 
 /// One order of a run, with its lines appended; the number of the first rule that stops the run there, and whether memory allowed the text.
 #[tactic(auto, using(crate::proofs::PhaseLaws::phases_cost))]
-fn tell_order<H: History<A>, L: Labels, A: Allocator, B: Allocator>(
+fn tell_order<H: Origins<A>, L: Labels, A: Allocator, B: Allocator>(
     debugger: &mut Debugger<H, A>,
     text: &mut Vec<u8, B>,
     labels: &L,
 ) -> Result<(Option<u8>, bool), StepFault>
     ensures performed { OnOk result (debugger.new ≡ after_step debugger.old Step.Perform) }
     ensures told { IfOk result (λ next. IsTrue next.1 → text.new.items ≡ text.old.items
-        ++ account_text (L.label labels.now) (account_of debugger.old.state)) }
+        ++ told_account (L.label labels.now) (account_of debugger.old.state)
+        (order_origin debugger.old)) }
     ensures stop { IfOk result (λ next.
         next.0 ≡ first_stop debugger.old.rules debugger.old.state) }
     ensures at_work { OnOk result
@@ -42,20 +43,21 @@ fn tell_order<H: History<A>, L: Labels, A: Allocator, B: Allocator>(
     let Some(begun) = Begun::of(debugger.machine()) else {
         unreachable!()
     };
+    let origin = order_origin(debugger);
     match go_on(debugger) {
         Ok(stop) => {
             let account = begun.finish(debugger.machine());
-            let told = push_account(text, &account, labels).is_ok();
+            let told = push_told(text, &account, origin, labels).is_ok();
             Ok((stop, told))
         }
         Err(fault) => Err(fault),
     }
 }
 
-/// Runs a debugger as `Debugger::run` does, and appends of each order its lines. Where the clock's end refuses an order, those
+/// Runs a debugger as `Debugger::run` does, and appends of each order its lines, with where it came from. Where the clock's end refuses an order, those
 /// before it stand and are told. Where memory is refused, as many orders stand as the fault says, and what the text has behind
 /// what it had is not said.
-pub fn trace_run<H: History<A>, L: Labels, A: Allocator, B: Allocator>(
+pub fn trace_run<H: Origins<A>, L: Labels, A: Allocator, B: Allocator>(
     debugger: &mut Debugger<H, A>,
     limit: u64,
     text: &mut Vec<u8, B>,
@@ -63,7 +65,7 @@ pub fn trace_run<H: History<A>, L: Labels, A: Allocator, B: Allocator>(
 ) -> Result<Ran, RunFault>
     ensures ran { IfOk result (λ ran. run_of limit debugger.old ≡ (ran, debugger.new)) }
     ensures told { IfOk result (λ ran. text.new.items ≡ text.old.items
-        ++ told (L.label labels.now) debugger.old.state ran.orders) }
+        ++ told (L.label labels.now) debugger.old.state (order_origins debugger.old) ran.orders) }
     ensures stands { IfErr result (λ fault.
         debugger.new ≡ performed debugger.old fault.orders) }
     ensures within { IfErr result (λ fault. fault.orders ≤ limit) }
@@ -76,7 +78,8 @@ pub fn trace_run<H: History<A>, L: Labels, A: Allocator, B: Allocator>(
         → clock_end < debugger.new.state.clock + cost debugger.new.state) }
     ensures told_to_end { IfErr result (λ fault. fault.fault ≡ RunRefusal.ClockEnd
         → text.new.items ≡ text.old.items
-        ++ told (L.label labels.now) debugger.old.state fault.orders) }
+        ++ told (L.label labels.now) debugger.old.state (order_origins debugger.old)
+        fault.orders) }
 {
     for orders in 0..limit {
         match tell_order(debugger, text, labels) {

@@ -3,7 +3,11 @@
 ghost use Rattle.std.specs.Prelude.{◌^◌, ◌<◌, IsTrue};
 ghost use Rattle.lgp_trace.specs.Phases.{all_phases};
 
+mod ends;
+mod exchanges;
+mod growths;
 mod lines;
+mod origins;
 mod runs;
 mod single;
 mod steps;

@@ -3,7 +3,7 @@
 use super::steps::{debugger, put_all};
 use super::{SUM_OF_A_TABLE, Shown, shown};
 use lgp_debugger::{Debugger, Ran, Reason, RunFault, RunRefusal};
-use lgp_history::History;
+use lgp_history::{History, Origins};
 use lgp_scarce::Scarce;
 use lgp_table::Action;
 use lgp_trace::{NoLabels, Profile, profile_run, trace_run};
@@ -35,7 +35,7 @@ fn a_run_is_profiled(rt: HostRuntime) -> Result<(), Fail> {
 }
 
 /// The program started; what its trace comes to where the first growth of the text is refused, and the clock then.
-fn told_without_memory<H: History<A>, A: Allocator, B: Allocator, C: Allocator>(
+fn told_without_memory<H: Origins<A>, A: Allocator, B: Allocator, C: Allocator>(
     scarce: &Scarce<B>,
     lab: &mut Debugger<H, A>,
     text: &mut Vec<u8, C>,

@@ -1,8 +1,10 @@
 //! Orders of a debugger, whose steps are kept.
 
+ghost use Rattle.std.specs.Prelude.{◌≤◌};
+
 use super::{ORDERS, Row, SUM_OF_A_TABLE, address, row_of};
 use lgp_debugger::{Debugger, StepFault};
-use lgp_history::{History, Records};
+use lgp_history::{CAPACITY_LIMIT, History, Records};
 use lgp_machine::Machine;
 use lgp_table::Action;
 use lgp_trace::step_account;
@@ -12,8 +14,19 @@ use std::test::Fail;
 
 /// A debugger over a new machine, which keeps 30 steps.
 pub fn debugger<A: Allocator + Copy>(alloc: A) -> Result<Debugger<Records<A>, A>, AllocError> {
+    debugger_of(alloc, 30)
+}
+
+/// A debugger over a new machine, which keeps so many steps.
+pub fn debugger_of<A: Allocator + Copy>(
+    alloc: A,
+    steps: usize,
+) -> Result<Debugger<Records<A>, A>, AllocError>
+    requires some { 1 ≤ steps }
+    requires few { steps ≤ CAPACITY_LIMIT }
+{
     let machine = Machine::new(alloc)?;
-    Ok(Debugger::new(machine, Records::new(alloc, 30)?))
+    Ok(Debugger::new(machine, Records::new(alloc, steps)?))
 }
 
 /// Puts words on the drum; false where one is refused.

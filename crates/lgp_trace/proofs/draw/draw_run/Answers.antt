@@ -5,7 +5,7 @@ use Rattle.lgp_debugger.specs.declared.fault.Ran.{Ran}
 use Rattle.lgp_debugger.specs.declared.fault.Reason.TheVariants as reasons
 use Rattle.lgp_debugger.proofs.RunLemmas.{HasRun, run_begun, run_limited, run_rested, run_step, run_stopped}
 use Rattle.lgp_table.specs.After.{after}
-use Rattle.lgp_trace.specs.Runs.{performed}
+use Rattle.lgp_debugger.specs.Debugging.{performed}
 use Rattle.lgp_trace.proofs.Telling.{performed_begun, performed_more, performed_state, drawn_begun, drawn_more}
 use Rattle.lgp_trace.proofs.draw.draw_run.Goals as goal
 

@@ -1,6 +1,7 @@
 use Rattle.std.proofs.Common.{◌≡◌, ◌++◌}
 use Rattle.lgp_debugger.proofs.RunLemmas.{HasRun}
-use Rattle.lgp_trace.specs.Runs.{drawn, performed}
+use Rattle.lgp_debugger.specs.Debugging.{performed}
+use Rattle.lgp_trace.specs.Runs.{drawn}
 use Rattle.lgp_trace.proofs.draw.draw_run.Given as goal
 
 abbrev pub invariant-loop-orders : goal.invariant-loop-orders

@@ -1,6 +1,6 @@
 -- Where the loop ends, the run has ended so, and the text tells its orders.
 use Rattle.std.proofs.Common.{◌≡◌, ◌∙◌, ◌+◌, ℕ, ap, arith, rules, subst, sym}
-use Rattle.lgp_debugger.specs.Debugging.{Debugging}
+use Rattle.lgp_debugger.specs.Debugging.{Debugging, order_origins}
 use Rattle.lgp_debugger.specs.declared.fault.Ran.{Ran}
 use Rattle.lgp_debugger.specs.declared.fault.Reason.TheVariants as reasons
 use Rattle.lgp_debugger.proofs.RunLemmas.{HasRun, run_begun, run_limited, run_rested, run_step, run_stopped}
@@ -13,7 +13,7 @@ same with_it e = ap with_it e
 
 pub loop-orders-init : goal.loop-orders-init
 loop-orders-init g c =
-    record { run = run_begun {A = g.row.A.Denot} c.args.debugger.now; stands = performed_begun {A = g.row.A.Denot} c.args.debugger.now; so_far = told_begun (g.L.Labels.label c.args.labels.now) c.args.debugger.now.state c.args.text.now.items }
+    record { run = run_begun {A = g.row.A.Denot} c.args.debugger.now; stands = performed_begun {A = g.row.A.Denot} c.args.debugger.now; so_far = told_begun (g.L.Labels.label c.args.labels.now) c.args.debugger.now.state (order_origins c.args.debugger.now) c.args.text.now.items }
 
 pub loop-orders-preserved : goal.loop-orders-preserved
 loop-orders-preserved g c =

@@ -5,7 +5,7 @@ use Rattle.lgp_machine.specs.Answers.{clock_end}
 use Rattle.lgp_debugger.specs.Debugging.{Debugging}
 use Rattle.lgp_debugger.specs.declared.fault.RunRefusal.TheVariants as refusals
 use Rattle.lgp_trace.proofs.RunSteps.{run_performed, run_refused, run_stop}
-use Rattle.lgp_trace.proofs.runs.go_on.Goals as goal
+use Rattle.lgp_trace.proofs.runs.go_on_by_rules.Goals as goal
 
 pub returns-in-Ok-clause-performed : goal.returns-in-Ok-clause-performed
 returns-in-Ok-clause-performed g c =

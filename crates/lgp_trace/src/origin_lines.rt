@@ -1,0 +1,242 @@
+//! Where words came from, in words.
+
+ghost use Rattle.std.specs.Prelude.{◌≡◌, ◌++◌, ◌^◌, ◌<◌, OnOk, decimal};
+ghost use Rattle.lgp_word.specs.Order.{decoded};
+ghost use Rattle.lgp_debugger.specs.Debugging.{order_origin};
+ghost use Rattle.lgp_trace.specs.OriginLines.{ago_text, before_it_was, changer_text, lost_text, origin_lines, origin_text, past_order_text, put_there, reason_text, stood_text, this_order_was, told_account, why_line, why_text};
+ghost use Rattle.lgp_trace.specs.Phases.{all_phases};
+
+use crate::account::Account;
+use crate::account_lines::{
+    push_account_details, push_account_line, push_number, push_performed, push_place, push_word,
+};
+use crate::labels::Labels;
+use lgp_debugger::Debugger;
+use lgp_history::{Changer, Origin, Origins, PastOrder};
+use lgp_table::Status;
+use lgp_text::{Piece, push_pieces};
+use lgp_word::{Address, Word, decode};
+use std::alloc::{AllocError, Allocator};
+
+/// Where the order came from that a debugger performs next; `None` where it is as it was when the kept steps begin, and where it
+/// stands in the instruction register alone.
+pub fn order_origin<H: Origins<A>, A: Allocator>(debugger: &Debugger<H, A>) -> Option<Origin>
+    ensures { result ≡ order_origin debugger.now }
+{
+    let look = debugger.look();
+    match look.status {
+        Status::Going => debugger.origin(look.counter),
+        _ => None,
+    }
+}
+
+/// Appends where an order stood.
+fn push_stood<L: Labels, A: Allocator>(
+    text: &mut Vec<u8, A>,
+    place: Option<Address>,
+    labels: &L,
+) -> Result<(), AllocError>
+    ensures { OnOk result (text.new.items
+        ≡ text.old.items ++ stood_text (L.label labels.now) place) }
+{
+    let Some(place) = place else {
+        return text.extend_from_slice(b" in the instruction register");
+    };
+    text.extend_from_slice(b" at ")?;
+    push_place(text, place, labels)
+}
+
+/// Appends how many orders ago.
+fn push_ago<A: Allocator>(text: &mut Vec<u8, A>, orders: u64) -> Result<(), AllocError>
+    ensures { OnOk result (text.new.items ≡ text.old.items ++ ago_text orders) }
+{
+    push_pieces(text, &[Piece::Number(orders)])?;
+    if orders == 1 {
+        return text.extend_from_slice(b" order ago");
+    }
+    text.extend_from_slice(b" orders ago")
+}
+
+/// Appends a clock.
+fn push_clock<A: Allocator>(text: &mut Vec<u8, A>, clock: u64) -> Result<(), AllocError>
+    ensures { OnOk result (text.new.items ≡ text.old.items ++ decimal clock) }
+{
+    push_pieces(text, &[Piece::Number(clock)])
+}
+
+/// Appends an order, where it stood and when.
+#[tactic(auto, unfolding(crate::specs::OriginLines::past_order_text))]
+fn push_past_order<L: Labels, A: Allocator>(
+    text: &mut Vec<u8, A>,
+    order: PastOrder,
+    labels: &L,
+) -> Result<(), AllocError>
+    ensures { OnOk result (text.new.items
+        ≡ text.old.items ++ past_order_text (L.label labels.now) order) }
+{
+    push_performed(text, order.word, labels)?;
+    push_stood(text, order.place, labels)?;
+    text.extend_from_slice(b", clock ")?;
+    push_clock(text, order.clock)?;
+    text.extend_from_slice(b", ")?;
+    push_ago(text, order.orders_back)
+}
+
+/// Appends what changed a word, and when.
+#[tactic(auto, unfolding(crate::specs::OriginLines::changer_text))]
+fn push_changer<L: Labels, A: Allocator>(
+    text: &mut Vec<u8, A>,
+    changer: Changer,
+    labels: &L,
+) -> Result<(), AllocError>
+    ensures { OnOk result (text.new.items
+        ≡ text.old.items ++ changer_text (L.label labels.now) changer) }
+{
+    match changer {
+        Changer::Order(order) => push_past_order(text, order, labels),
+        Changer::Hand(clock) => {
+            push_pieces(text, &[Piece::Text(b"hand, clock "), Piece::Number(clock)])
+        }
+    }
+}
+
+/// Appends a lost word.
+#[tactic(auto, unfolding(crate::specs::OriginLines::lost_text))]
+fn push_lost<L: Labels, A: Allocator>(
+    text: &mut Vec<u8, A>,
+    word: Word,
+    labels: &L,
+) -> Result<(), AllocError>
+    ensures { OnOk result (text.new.items
+        ≡ text.old.items ++ lost_text (L.label labels.now) (decoded word) word) }
+{
+    if decode(word).is_some() {
+        return push_performed(text, word, labels);
+    }
+    push_pieces(text, &[Piece::Digits(word.get()), Piece::Text(b" = ")])?;
+    push_number(text, word)
+}
+
+/// Appends the words before what changed a word.
+#[tactic(auto, unfolding(crate::specs::OriginLines::put_there))]
+fn push_put_there<A: Allocator>(text: &mut Vec<u8, A>) -> Result<(), AllocError>
+    ensures { OnOk result (text.new.items ≡ text.old.items ++ put_there) }
+{
+    text.extend_from_slice(b"put there by ")
+}
+
+/// Appends the words before a lost word.
+#[tactic(auto, unfolding(crate::specs::OriginLines::before_it_was))]
+fn push_before_it_was<A: Allocator>(text: &mut Vec<u8, A>) -> Result<(), AllocError>
+    ensures { OnOk result (text.new.items ≡ text.old.items ++ before_it_was) }
+{
+    text.extend_from_slice(b"; before it was ")
+}
+
+/// Appends what put a word where it stands, and what stood there before.
+#[tactic(auto, unfolding(crate::specs::OriginLines::origin_text))]
+fn push_origin<L: Labels, A: Allocator>(
+    text: &mut Vec<u8, A>,
+    origin: Origin,
+    labels: &L,
+) -> Result<(), AllocError>
+    ensures { OnOk result (text.new.items
+        ≡ text.old.items ++ origin_text (L.label labels.now) origin) }
+{
+    push_put_there(text)?;
+    push_changer(text, origin.changer, labels)?;
+    push_before_it_was(text)?;
+    push_lost(text, origin.lost, labels)?;
+    text.extend_from_slice(b"\n")
+}
+
+/// Appends the words before an order's origin.
+#[tactic(auto, unfolding(crate::specs::OriginLines::this_order_was))]
+fn push_this_order_was<A: Allocator>(text: &mut Vec<u8, A>) -> Result<(), AllocError>
+    ensures { OnOk result (text.new.items ≡ text.old.items ++ this_order_was) }
+{
+    text.extend_from_slice(b"        this order was ")
+}
+
+/// Appends the line below an account that says where its order came from.
+#[tactic(auto, unfolding(crate::specs::OriginLines::origin_lines))]
+pub fn push_origin_lines<L: Labels, A: Allocator>(
+    text: &mut Vec<u8, A>,
+    origin: Option<Origin>,
+    labels: &L,
+) -> Result<(), AllocError>
+    ensures { OnOk result (text.new.items
+        ≡ text.old.items ++ origin_lines (L.label labels.now) origin) }
+{
+    let Some(origin) = origin else {
+        return Ok(());
+    };
+    push_this_order_was(text)?;
+    push_origin(text, origin, labels)
+}
+
+/// Appends all lines of an account whose order came from there.
+#[tactic(auto, unfolding(crate::specs::OriginLines::told_account))]
+pub fn push_told<L: Labels, A: Allocator>(
+    text: &mut Vec<u8, A>,
+    account: &Account,
+    origin: Option<Origin>,
+    labels: &L,
+) -> Result<(), AllocError>
+    requires { all_phases account.now.phases < 2 ^ 64 }
+    ensures { OnOk result (text.new.items
+        ≡ text.old.items ++ told_account (L.label labels.now) account.now origin) }
+{
+    push_account_line(text, account, labels)?;
+    push_origin_lines(text, origin, labels)?;
+    push_account_details(text, account, labels)
+}
+
+/// Appends where a word came from, if a kept step changed it.
+#[tactic(auto, unfolding(crate::specs::OriginLines::reason_text))]
+fn push_reason<L: Labels, A: Allocator>(
+    text: &mut Vec<u8, A>,
+    origin: Option<Origin>,
+    labels: &L,
+) -> Result<(), AllocError>
+    ensures { OnOk result (text.new.items
+        ≡ text.old.items ++ reason_text (L.label labels.now) origin) }
+{
+    match origin {
+        Some(origin) => push_origin(text, origin, labels),
+        None => text.extend_from_slice(b"changed by no kept step\n"),
+    }
+}
+
+/// Appends a line that says what stands at an address, and where it came from.
+#[tactic(auto, unfolding(crate::specs::OriginLines::why_line))]
+pub fn push_why_line<L: Labels, A: Allocator>(
+    text: &mut Vec<u8, A>,
+    address: Address,
+    word: Word,
+    origin: Option<Origin>,
+    labels: &L,
+) -> Result<(), AllocError>
+    ensures { OnOk result (text.new.items
+        ≡ text.old.items ++ why_line (L.label labels.now) address word origin) }
+{
+    push_place(text, address, labels)?;
+    text.extend_from_slice(b": ")?;
+    push_word(text, word, labels)?;
+    text.extend_from_slice(b", ")?;
+    push_reason(text, origin, labels)
+}
+
+/// Appends that line about a word of a debugger's drum.
+pub fn push_why<H: Origins<A>, L: Labels, A: Allocator, B: Allocator>(
+    debugger: &Debugger<H, A>,
+    text: &mut Vec<u8, B>,
+    address: Address,
+    labels: &L,
+) -> Result<(), AllocError>
+    ensures { OnOk result (text.new.items
+        ≡ text.old.items ++ why_text (L.label labels.now) debugger.now address) }
+{
+    let word = debugger.machine().word(address);
+    push_why_line(text, address, word, debugger.origin(address), labels)
+}
