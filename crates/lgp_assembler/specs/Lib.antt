@@ -11,3 +11,4 @@ pub mod ScanInside
 pub mod KindNames
 pub mod Answers
 pub mod Laws
+pub mod Patch

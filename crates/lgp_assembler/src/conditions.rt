@@ -7,7 +7,7 @@ ghost use Rattle.lgp_assembler.specs.Parts.{is_loaders};
 ghost use Rattle.lgp_assembler.specs.FieldsSeenInside.{fields_seen};
 
 use crate::line_fields::Fields;
-use crate::name_table::Names;
+use crate::name_table::{NameValues, Names};
 use crate::operands::{Meaning, OperandFault, is_name, meaning_of};
 use crate::operations::Operation;
 use crate::output::LOADER_PLACES;

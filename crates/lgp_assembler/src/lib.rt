@@ -12,8 +12,11 @@ pub use laws::{
     cells_have_own_places, lines_have_cells, names_are_first_places, places_count_from_orgs,
 };
 pub use line_fields::has_word;
+pub use name_table::NameValues;
+pub use operands::{OperandFault, address_operand};
 pub use output::{Image, LOADER_PLACES, Name};
 use passes::scan_source;
+pub use patch::{Symbols, operation_word};
 pub use refusal::{AssembleError, Fault, FaultKind, FaultList};
 use std::alloc::{AllocError, Allocator};
 
@@ -27,6 +30,7 @@ mod operands;
 mod operations;
 mod output;
 mod passes;
+mod patch;
 mod refusal;
 
 /// Adds the fault of a source of so many lines that has not ended.

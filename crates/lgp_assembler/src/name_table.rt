@@ -1,6 +1,6 @@
 //! The names of a source with their values.
 
-ghost use Rattle.std.specs.Prelude.{◌≡◌, ◌++◌, [], ◌∷◌, None, OnOk, OnErr};
+ghost use Rattle.std.specs.Prelude.{◌≡◌, ◌++◌, [], ◌∷◌, None, OnOk, OnErr, List, ℕ};
 ghost use Rattle.std.specs.Str.{bytes_eq};
 ghost use Rattle.std.specs.Map.{lookup};
 
@@ -8,6 +8,16 @@ use indexmap::IndexMap;
 use std::alloc::{AllocError, Allocator};
 use std::hash::{BuildHasherDefault, FoldHasher};
 use std::marker::Model;
+
+/// Names that have values.
+pub trait NameValues {
+    /// The names, each with its value. Of several that are alike the first counts.
+    ghost values: { Self → List (List ℕ × ℕ) };
+
+    /// The value of a name, or `None` where it is not among them.
+    fn value(&self, name: &[u8]) -> Option<u64>
+        ensures { result ≡ lookup (bytes_eq name.now) (values self.now) };
+}
 
 /// The names of some lines in order, each with its value. Clauses see the list of both.
 #[derive(Drop)]
@@ -35,11 +45,10 @@ impl<'a, A: Allocator + Copy> Names<'a, A> {
     }
 }
 
-impl<'a, A: Allocator> Names<'a, A> {
-    /// The value of a name.
-    pub fn value(&self, name: &[u8]) -> Option<u64>
-        ensures { result ≡ lookup (bytes_eq name.now) self.now }
-    {
+impl<A: Allocator> NameValues for Names<'_, A> {
+    ghost values = { λ names. names };
+
+    fn value(&self, name: &[u8]) -> Option<u64> {
         self.entries.get(name).copied()
     }
 }

@@ -6,15 +6,14 @@ ghost use Rattle.std.specs.Option.{option_copied};
 ghost use Rattle.lgp_fraction.specs.Decimal.{decimal_fraction};
 ghost use Rattle.lgp_assembler.specs.Operands as spec;
 
-use crate::name_table::Names;
+use crate::name_table::NameValues;
 use crate::operations::Operation;
 use crate::output::NAME_LIMIT;
 use lgp_flexo::code_of;
 use lgp_fraction::{Fraction, FractionFault};
 use lgp_word::{Address, Op, Order, Word, encode, read_decimal, read_digits};
-use std::alloc::Allocator;
 
-/// Why operands stand for nothing.
+/// Why operands stand for nothing. Of several reasons the first in this order is told.
 #[derive(Clone, Copy, Debug, PartialEq, Eq)]
 pub enum OperandFault {
     /// Not in their form.
@@ -96,8 +95,8 @@ fn offset_of(text: &[u8]) -> Option<Offset>
 
 /// The number of a base: the place of the line, an address, or the value of a name.
 #[tactic(auto, unfolding(crate::specs::Operands::base_number))]
-fn base_number<A: Allocator>(names: &Names<A>, place: u64, base: &[u8]) -> Result<u64, OperandFault>
-    ensures { result ≡ spec.base_number names.now place base.now }
+fn base_number<N: NameValues>(names: &N, place: u64, base: &[u8]) -> Result<u64, OperandFault>
+    ensures { result ≡ spec.base_number (N.values names.now) place base.now }
 {
     if base == b"*".as_slice() {
         return Ok(place);
@@ -151,14 +150,16 @@ fn base_len(text: &[u8]) -> usize
     sign_place(text).unwrap_or(text.len())
 }
 
-/// The address that an operand stands for in a line's place.
+/// The address that an operand stands for in a line's place: a name, an address or `*`, the place itself, and behind it perhaps a
+/// sign and a number. `Misformed` where it is in no such form, `Unknown` where its name has no value, `Outside` where that is no
+/// place on the drum.
 #[tactic(auto, unfolding(crate::specs::Operands::address_operand))]
-fn address_operand<A: Allocator>(
-    names: &Names<A>,
+pub fn address_operand<N: NameValues>(
+    names: &N,
     place: u64,
     text: &[u8],
 ) -> Result<Address, OperandFault>
-    ensures { result ≡ spec.address_operand names.now place text.now }
+    ensures { result ≡ spec.address_operand (N.values names.now) place text.now }
 {
     let (base, behind) = text.split_at(base_len(text));
     let Some(offset) = offset_of(behind) else {
@@ -201,15 +202,15 @@ fn sign_operand(op: Op, text: &[u8]) -> Result<Meaning, OperandFault>
 
 /// What the operand of an order stands for.
 #[tactic(auto, unfolding(crate::specs::Operands::order_operand))]
-fn order_operand<A: Allocator>(
-    names: &Names<A>,
+fn order_operand<N: NameValues>(
+    names: &N,
     place: u64,
     minus: bool,
     op: Op,
     text: &[u8],
 ) -> Result<Meaning, OperandFault>
     requires { IsTrue minus → op ≡ Op.T }
-    ensures { result ≡ spec.order_operand names.now place minus op text.now }
+    ensures { result ≡ spec.order_operand (N.values names.now) place minus op text.now }
 {
     if !text.is_empty() && text[0] == b'=' {
         return sign_operand(op, text);
@@ -294,14 +295,14 @@ fn fraction_word(text: &[u8]) -> Result<Meaning, OperandFault>
 
 /// What the operands of a line stand for, in its place and with the names of the source.
 #[tactic(auto, unfolding(crate::specs::Operands::meaning))]
-pub fn meaning_of<A: Allocator>(
-    names: &Names<A>,
+pub fn meaning_of<N: NameValues>(
+    names: &N,
     place: u64,
     operation: Operation,
     first: Option<&[u8]>,
     second: Option<&[u8]>,
 ) -> Result<Meaning, OperandFault>
-    ensures { result ≡ spec.meaning names.now place operation
+    ensures { result ≡ spec.meaning (N.values names.now) place operation
         (option_copied first.entry) (option_copied second.entry) }
 {
     match (operation, first, second) {

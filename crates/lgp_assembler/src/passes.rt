@@ -8,7 +8,7 @@ ghost use Rattle.lgp_assembler.specs.Image.{all_lines};
 ghost use Rattle.lgp_assembler.specs.ScanInside.{Stands};
 
 use crate::line_fields::{Fields, fields_of};
-use crate::name_table::Names;
+use crate::name_table::{NameValues, Names};
 use crate::operations::Operation;
 use lgp_source::Lines;
 use lgp_word::Address;

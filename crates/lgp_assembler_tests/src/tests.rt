@@ -11,6 +11,7 @@ use std::test::Fail;
 
 mod bytes;
 mod growths;
+mod patches;
 mod sizes;
 
 const FIRST_PROGRAM: &[u8] = b"start b one ; take\n h 0050\n z\none frac .1\n end start\n";

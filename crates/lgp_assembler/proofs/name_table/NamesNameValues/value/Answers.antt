@@ -2,7 +2,7 @@ use Rattle.std.proofs.Common.{ap, ◌∙◌}
 use Rattle.std.specs.Str.{bytes_eq}
 use Rattle.std.specs.Map.{lookup}
 use Rattle.lgp_assembler.proofs.NameLookups.{lookup_seen}
-use Rattle.lgp_assembler.proofs.name_table.Names.value.Goals as goal
+use Rattle.lgp_assembler.proofs.name_table.NamesNameValues.value.Goals as goal
 
 pub returns : goal.returns
 returns g c =
