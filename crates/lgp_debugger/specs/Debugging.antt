@@ -5,6 +5,8 @@ use Rattle.lgp_table.specs.Activity.{next}
 use Rattle.lgp_table.specs.Console.{is_at_rest}
 use Rattle.lgp_history.specs.Steps.{state_back, stepped, steps_back, with_step}
 use Rattle.lgp_history.specs.Hits.{changes, goes_at}
+use Rattle.lgp_history.specs.Origins.{latest_change, place_by}
+use Rattle.lgp_history.specs.declared.origin.Origin.{Origin}
 use Rattle.lgp_history.specs.declared.rule.Rule.{Rule}
 use Rattle.lgp_history.specs.declared.rule.Rule.TheVariants.{At, Changed}
 use Rattle.lgp_history.specs.declared.step.Step.{Step}
@@ -49,6 +51,24 @@ module _ {A : Type 0} where
     state = state_back orders d.steps d.state;
     steps = steps_back orders d.steps;
   }
+
+  -- after so many orders, each of them kept
+  unfoldable pub performed : Debugging A → ℕ → Debugging A
+  performed d zero = d
+  performed d (suc count) = after_step (performed d count) Perform
+
+  -- the origin of the word at a place, if there is one
+  abbrev pub origin_at : Option ℕ → List (State × Step A) → Option Origin
+  origin_at None steps = None
+  origin_at (Some place) steps = latest_change place steps
+
+  -- where the order came from that begins here: one in the instruction register alone has no place
+  abbrev pub order_origin : Debugging A → Option Origin
+  order_origin d = origin_at (place_by d.state.core.panel.status d.state.core) d.steps
+
+  -- where the order came from that begins after so many
+  unfoldable pub order_origins : Debugging A → ℕ → Option Origin
+  order_origins d count = order_origin (performed d count)
 
   -- a run's outcome with one order before it
   abbrev pub one_order_more : Ran × Debugging A → Ran × Debugging A

@@ -8,6 +8,7 @@ ghost use Rattle.lgp_machine.specs.Answers.{clock_end};
 ghost use Rattle.lgp_machine.specs.Look.{look_of};
 ghost use Rattle.lgp_history.specs.declared.step.Step.{Step};
 ghost use Rattle.lgp_history.specs.Hits.{last_hit};
+ghost use Rattle.lgp_history.specs.Origins.{latest_change};
 ghost use Rattle.lgp_history.specs.Steps.{Leads, orders_in};
 ghost use Rattle.lgp_flexo.specs.TapeText.{tape_limit};
 ghost use Rattle.lgp_debugger.specs.WatchInside.{watches_of};
@@ -25,7 +26,7 @@ use crate::watch::{Watch, first_stop_now, watch_of};
 use arrayvec::ArrayVec;
 use lgp_assembler::Image;
 use lgp_flexo::{Code, TAPE_LIMIT};
-use lgp_history::{BackFault, History, Rule, Step, Tape};
+use lgp_history::{BackFault, History, Origin, Origins, Rule, Step, Tape};
 use lgp_loader::{LoadFault, load};
 use lgp_machine::{Look, Machine};
 use lgp_phases::Outcome;
@@ -458,6 +459,13 @@ impl<H: History<A>, A: Allocator> Debugger<H, A> {
         self.history.orders_kept()
     }
 
+    /// The rules, in the order of their numbers.
+    pub fn rules(&self) -> &[Rule]
+        ensures { result.now ≡ self.now.rules }
+    {
+        self.rules.as_slice()
+    }
+
     /// Adds a rule behind the others, and answers its number.
     pub fn add_rule(&mut self, rule: Rule) -> Result<u8, RuleFault>
         ensures added { OnOk result (self.new
@@ -582,5 +590,14 @@ impl<H: History<A>, A: Allocator + Copy> Debugger<H, A> {
             Err(LoadFault::Memory) => Err(LoadFault::Memory),
             Err(LoadFault::Moving | LoadFault::BadCut) => unreachable!(),
         }
+    }
+}
+
+impl<H: Origins<A>, A: Allocator> Debugger<H, A> {
+    /// The latest kept step that changed the word at an address, if one did.
+    pub fn origin(&self, address: Address) -> Option<Origin>
+        ensures { result ≡ latest_change address self.now.steps }
+    {
+        self.history.origin(&self.machine, address)
     }
 }

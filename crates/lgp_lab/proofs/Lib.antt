@@ -7,3 +7,4 @@ pub mod RunLemmas
 pub mod FileLemmas
 pub mod BatchLemmas
 pub mod LoadLaws
+pub mod AskingLaws

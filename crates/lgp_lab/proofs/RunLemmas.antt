@@ -5,8 +5,9 @@ use Rattle.lgp_table.specs.Activity.{cost, next}
 use Rattle.lgp_table.specs.Console.{is_at_rest}
 use Rattle.lgp_table.specs.State.{State}
 use Rattle.lgp_machine.specs.Answers.{clock_end}
+use Rattle.lgp_history.specs.declared.origin.Origin.{Origin}
 use Rattle.lgp_history.specs.declared.step.Step.TheVariants.{Perform}
-use Rattle.lgp_debugger.specs.Debugging.{Debugging, after_step, ended_for, first_stop, one_order_more, run_of, unless_stopped}
+use Rattle.lgp_debugger.specs.Debugging.{Debugging, after_step, ended_for, first_stop, one_order_more, order_origins, run_of, unless_stopped}
 use Rattle.lgp_debugger.specs.declared.fault.Ran.{Ran}
 use Rattle.lgp_debugger.specs.declared.fault.Reason.{Reason}
 use Rattle.lgp_debugger.specs.declared.fault.Reason.TheVariants.{Rest, Limit, Rule as ByRule}
@@ -161,12 +162,12 @@ module _ {A : Type 0} where
   orders_broken limit d orders cut = ap (orders_by limit d) cut
 
   -- what is told of it, and the reply behind
-  pub told_reply : (told : List (List ℕ × ℕ) → State → ℕ → List ℕ) (inside self : Standing A) (limit : ℕ) (names : List (List ℕ × ℕ)) (old middle new reply : List ℕ)
-      → inside ≡ self → names ≡ labels_of inside.source → middle ≡ old ++ told names inside.debugger.state (orders_run limit inside.debugger)
+  pub told_reply : (told : List (List ℕ × ℕ) → State → (ℕ → Option Origin) → ℕ → List ℕ) (inside self : Standing A) (limit : ℕ) (names : List (List ℕ × ℕ)) (old middle new reply : List ℕ)
+      → inside ≡ self → names ≡ labels_of inside.source → middle ≡ old ++ told names inside.debugger.state (order_origins inside.debugger) (orders_run limit inside.debugger)
       → new ≡ middle ++ reply → (answer_to_run inside limit).reply ≡ reply
-      → new ≡ old ++ (told (labels_of self.source) self.debugger.state (orders_run limit self.debugger) ++ (answer_to_run self limit).reply)
+      → new ≡ old ++ (told (labels_of self.source) self.debugger.state (order_origins self.debugger) (orders_run limit self.debugger) ++ (answer_to_run self limit).reply)
   told_reply told inside self limit names old middle new reply same named front back answer =
-      back ∙ (ap (λ (t : List ℕ). t ++ reply) (front ∙ ap (λ (n : List (List ℕ × ℕ)). old ++ told n inside.debugger.state (orders_run limit inside.debugger)) named)
-      ∙ (append_assoc old (told (labels_of inside.source) inside.debugger.state (orders_run limit inside.debugger)) reply
-      ∙ (ap (λ (t : List ℕ). old ++ (told (labels_of inside.source) inside.debugger.state (orders_run limit inside.debugger) ++ t)) (sym answer)
-      ∙ ap (λ (s : Standing A). old ++ (told (labels_of s.source) s.debugger.state (orders_run limit s.debugger) ++ (answer_to_run s limit).reply)) same)))
+      back ∙ (ap (λ (t : List ℕ). t ++ reply) (front ∙ ap (λ (n : List (List ℕ × ℕ)). old ++ told n inside.debugger.state (order_origins inside.debugger) (orders_run limit inside.debugger)) named)
+      ∙ (append_assoc old (told (labels_of inside.source) inside.debugger.state (order_origins inside.debugger) (orders_run limit inside.debugger)) reply
+      ∙ (ap (λ (t : List ℕ). old ++ (told (labels_of inside.source) inside.debugger.state (order_origins inside.debugger) (orders_run limit inside.debugger) ++ t)) (sym answer)
+      ∙ ap (λ (s : Standing A). old ++ (told (labels_of s.source) s.debugger.state (order_origins s.debugger) (orders_run limit s.debugger) ++ (answer_to_run s limit).reply)) same)))

@@ -1,6 +1,6 @@
 -- Part of the public promise: the script language. A script is its lines, each of which has at most one reply, and a script's text
 -- is its replies one after another, from a machine in its opening state on.
-use Rattle.std.specs.Prelude.{ℕ, ◌==◌, ◌||◌, Bool, if◌then◌else◌, nat_lt, Option, Some, None, List, length, slice_index}
+use Rattle.std.specs.Prelude.{ℕ, ◌==◌, ◌||◌, Bool, true, false, if◌then◌else◌, nat_lt, Option, Some, None, List, length, slice_index}
 use Rattle.std.specs.List.{concat}
 use Rattle.std.specs.Str.{byte}
 use Rattle.lgp_lab.specs.Command.{command_of, text_behind}
@@ -23,6 +23,16 @@ use Rattle.lgp_lab.specs.declared.refusal.Refusal.TheVariants.{Form, TooLong}
 -- a line without a reply: no word stands on it, or it begins with a semicolon
 abbrev pub is_passed_over : List ℕ → Bool
 is_passed_over line = has_no_word line || (slice_index line 0 == byte ";")
+
+-- the commands that only ask
+abbrev pub only_asks : Option Command → Bool
+only_asks (Some commands.Panel) = true
+only_asks (Some (commands.Words range)) = true
+only_asks (Some (commands.Show range)) = true
+only_asks (Some commands.Printed) = true
+only_asks (Some commands.Dump) = true
+only_asks (Some commands.List) = true
+only_asks _ = false
 
 module _ {A : Type 0} where
   -- the answer to a command; the text is that of mount and type

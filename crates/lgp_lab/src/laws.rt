@@ -1,6 +1,6 @@
 //! What follows from the definitions, each law as the contract of a function that does nothing.
 
-ghost use Rattle.std.specs.Prelude.{◌≡◌, ◌+◌, ℕ, List, None, Some, [], length};
+ghost use Rattle.std.specs.Prelude.{◌≡◌, ◌+◌, IsTrue, ℕ, List, None, Some, [], length};
 ghost use Rattle.lgp_assembler.specs.Image.{faults_of, image_of};
 ghost use Rattle.lgp_loader.specs.BlockLoading.{longest_load};
 ghost use Rattle.lgp_loader.specs.LoadedOver.{IsLoadedOver};
@@ -8,7 +8,9 @@ ghost use Rattle.lgp_loader.specs.Loading.{loading_cost, loading_stopped};
 ghost use Rattle.lgp_word.specs.Drum.{blank_words};
 ghost use Rattle.lgp_table.specs.State.{opening};
 ghost use Rattle.lgp_lab.specs.Files.{loaded_new};
+ghost use Rattle.lgp_lab.specs.Command.{command_of};
 ghost use Rattle.lgp_lab.specs.LoadCommand.{answer_to_load};
+ghost use Rattle.lgp_lab.specs.Script.{only_asks, script_language};
 ghost use Rattle.lgp_lab.specs.Standing.{Standing};
 
 use std::alloc::Allocator;
@@ -39,4 +41,12 @@ pub fn run_begins_with_the_source()
         → IsLoadedOver blank_words (loaded_new source).core.words (image_of source).cells }
     ensures time { (source : List ℕ) → (loaded_new source).clock
         ≡ loading_cost (opening blank_words) (longest_load (image_of source)) }
+{}
+
+/// A line of a script that only asks leaves the laboratory where it stood. So a script leads to the same place without such lines.
+#[tactic(auto, using(crate::proofs::AskingLaws::unmoved))]
+pub fn questions_change_nothing<A: Allocator>()
+    ensures { (standing : Standing A) → (line : List ℕ) → standing.opened ≡ None
+        → IsTrue (only_asks (command_of line))
+        → script_language.after standing line ≡ standing }
 {}

@@ -8,6 +8,7 @@ pub use lgp_stream::{Failed, Feed, FeedOf, Sink, SinkOf, StreamFault as LabFault
 pub use lgp_task::{FileName, FileNames, Task, TaskFault, task_of};
 pub use limits::READS;
 pub use script::{batch_part, run_script};
+pub use span::Span;
 pub use tasks::{
     FileFault, Folder, Job, NotOpened, WordFault, obey, perform, refuse, refuse_unread,
     refuse_words, run_batch, status_of, work, work_on_file,

@@ -40,6 +40,13 @@ impl Span {
         }
     }
 
+    /// The address of the first word.
+    pub fn first(&self) -> Address
+        ensures { result ≡ self.now.first }
+    {
+        self.first
+    }
+
     /// How many words there are.
     pub fn count(&self) -> u64
         ensures { result ≡ self.now.count }

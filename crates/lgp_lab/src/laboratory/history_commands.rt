@@ -1,7 +1,7 @@
 //! Rules and the way back.
 
 ghost use Rattle.std.specs.Prelude.{◌≡◌, ◌++◌, ℕ, IfOk, IfSome, OnOk, None, Some};
-ghost use Rattle.lgp_debugger.specs.Debugging.{run_of};
+ghost use Rattle.lgp_debugger.specs.Debugging.{order_origins, run_of};
 ghost use Rattle.lgp_lab.specs.HistoryCommands.{answer_to_back, answer_to_drop, answer_to_last, answer_to_rule, answer_to_run, broken_off, hit_text, orders_run, ran_text, reason_text};
 ghost use Rattle.lgp_lab.specs.Standing.{labels_of};
 
@@ -79,7 +79,8 @@ impl<A: Allocator + Copy> Laboratory<A> {
     ) -> Result<(), AllocError>
         ensures reply { OnOk result (reply.new.items ≡ reply.old.items
             ++ (T.told teller.now (labels_of self.old.source) self.old.debugger.state
-            (orders_run limit self.old.debugger) ++ (answer_to_run self.old limit).reply)) }
+            (order_origins self.old.debugger) (orders_run limit self.old.debugger)
+            ++ (answer_to_run self.old limit).reply)) }
         ensures after { OnOk result (self.new ≡ (answer_to_run self.old limit).after) }
     {
         let names = labels_in(&self.program);
@@ -168,7 +169,8 @@ fn tell_within<T: Teller, A: Allocator + Copy>(
         × (broken_off limit debugger.old ≡ Some orders)
         × (debugger.new ≡ (run_of orders debugger.old).1)) }
     ensures told { OnOk result (text.new.items ≡ text.old.items
-        ++ T.told teller.now names.now debugger.old.state (orders_run limit debugger.old)) }
+        ++ T.told teller.now names.now debugger.old.state (order_origins debugger.old)
+        (orders_run limit debugger.old)) }
 {
     let outcome = teller.run(alloc, debugger, limit, names, text);
     // That the clock is within its end is what the mark's clause says.

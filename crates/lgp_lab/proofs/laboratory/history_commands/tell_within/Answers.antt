@@ -2,7 +2,7 @@ use Rattle.std.proofs.Common.{◌≡◌, ◌<◌, ◌≤◌, ◌+◌, ◌++◌, 
 use Rattle.std.proofs.lemmas.Bool.Decides.{nat_tests}
 use Rattle.lgp_table.specs.Activity.{cost}
 use Rattle.lgp_machine.specs.Answers.{clock_end}
-use Rattle.lgp_debugger.specs.Debugging.{run_of}
+use Rattle.lgp_debugger.specs.Debugging.{order_origins, run_of}
 use Rattle.lgp_debugger.specs.declared.fault.Reason.TheVariants.{Limit}
 use Rattle.lgp_debugger.specs.declared.fault.RunRefusal.TheVariants as refusals
 use Rattle.lgp_debugger.proofs.ClockLemmas.{mark_within}
@@ -23,7 +23,7 @@ returns-in-Ok-clause-told g c =
     let same : run_of c.args.limit c.args.debugger.now ≡ (c.in-Ok.ran, c.run-outcome.new.debugger) = c.in-Ok.ensures.ran in
     let fits : (run_of c.args.limit c.args.debugger.now).1.state.clock ≤ clock_end = rw same within in
     c.in-Ok.ensures.told
-    ∙ ap (λ (n : ℕ). c.args.text.now.items ++ g.T.Teller.told c.args.teller.now c.args.names.now c.args.debugger.now.state n)
+    ∙ ap (λ (n : ℕ). c.args.text.now.items ++ g.T.Teller.told c.args.teller.now c.args.names.now c.args.debugger.now.state (order_origins c.args.debugger.now) n)
     (sym (orders_ran c.args.limit c.args.debugger.now c.run-outcome.new.debugger c.in-Ok.ran (run_whole c.args.limit c.args.debugger.now fits) same))
 
 pub returns-in-ClockEnd-clause-broken : goal.returns-in-ClockEnd-clause-broken
@@ -46,6 +46,6 @@ returns-in-ClockEnd-clause-told g c =
     let beyond : clock_end < c.run-outcome.new.debugger.state.clock + cost c.run-outcome.new.debugger.state = c.in-Err.ensures.clock_end ended in
     let passes : passes_end c.run-outcome.new.debugger ≡ true = grind (arith, nat_tests) in
     c.in-Err.ensures.told_to_end ended
-    ∙ ap (λ (n : ℕ). c.args.text.now.items ++ g.T.Teller.told c.args.teller.now c.args.names.now c.args.debugger.now.state n)
+    ∙ ap (λ (n : ℕ). c.args.text.now.items ++ g.T.Teller.told c.args.teller.now c.args.names.now c.args.debugger.now.state (order_origins c.args.debugger.now) n)
     (sym (orders_broken c.args.limit c.args.debugger.now c.in-Err.broken.orders
     (run_cut c.in-Err.broken.orders c.args.limit c.args.debugger.now (c.in-Err.ensures.within_limit ended) (rw same refl) (rw same within) (rw same passes))))
