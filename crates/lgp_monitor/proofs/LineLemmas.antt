@@ -6,12 +6,12 @@ use Rattle.std.specs.Str.Lines.{lines}
 use Rattle.lgp_word.specs.Digits.{address_digits, digit_byte, digits, digits_of, four_digits}
 use Rattle.lgp_stream.specs.KeptLine.{kept_of, line_limit}
 use Rattle.lgp_stream.specs.Language.{is_line_feed, state_after}
-use Rattle.lgp_stream.specs.LineWords.{behind_word, is_space, is_visible, without_spaces}
+use Rattle.lgp_stream.specs.LineWords.{behind_word, first_word, is_space, is_visible, without_spaces}
 use Rattle.lgp_transcript.specs.Transcript.{AreLines, IsLine, IsToldByTranscript, Recorded, stand_in, untouched}
 use Rattle.lgp_transcript.proofs.LineLaws.{told_by_transcript}
 use Rattle.lgp_lab.specs.Script.{script_language}
 use Rattle.lgp_lab.specs.Standing.{Standing, opening_standing}
-use Rattle.lgp_monitor.specs.Monitor.{go_lines, jump_line, meaning_at, meaning_of, monitor_language, put_line, run_line, typed_at}
+use Rattle.lgp_monitor.specs.Monitor.{go_lines, jump_line, meaning_at, meaning_of, monitor_language, placed_line, put_line, run_line, typed_at}
 use Rattle.lgp_monitor.specs.declared.typed.Typed.{Typed}
 use Rattle.lgp_monitor.specs.declared.typed.Typed.TheVariants as typed
 
@@ -100,12 +100,37 @@ free-run line free = (
   ),
 )
 
+free-without : (line : List ℕ) → IsLine line → IsLine (without_spaces line)
+unfolding without_spaces
+free-without line free = free-drop (position_or_len is_visible line) line free
+
+free-first : (line : List ℕ) → IsLine line → IsLine (first_word line)
+unfolding first_word
+free-first line free = free-take (position_or_len is_space (without_spaces line)) (without_spaces line) (free-without line free)
+
+free-behind : (line : List ℕ) → IsLine line → IsLine (behind_word line)
+unfolding behind_word
+free-behind line free = free-drop (position_or_len is_space (without_spaces line)) (without_spaces line) (free-without line free)
+
+free-front : (line : List ℕ) → IsLine line → IsLine (kept_of line).front
+unfolding kept_of
+free-front line free = free-take line_limit line free
+
+free-placed : (address : ℕ) (line : List ℕ) → IsLine line → IsLine (placed_line address (kept_of line).front)
+unfolding placed_line
+free-placed address line free =
+    let front = free-front line free in
+    free-append (first_word (kept_of line).front) (codes " " ++ (address_digits address ++ behind_word (behind_word (kept_of line).front))) (free-first (kept_of line).front front)
+    (refl, free-append (address_digits address) (behind_word (behind_word (kept_of line).front)) (free-address address) (free-behind (behind_word (kept_of line).front) (free-behind (kept_of line).front front)))
+
 free-meaning : (asked : Typed) (line : List ℕ) → IsLine line → AreLines (meaning_of asked (kept_of line))
 free-meaning typed.Itself line free = (free-stand_in line free, tt)
 free-meaning typed.Misformed line free = (free-stand_in line free, tt)
+free-meaning (typed.Placed address) line free = (free-placed address line free, tt)
 free-meaning (typed.Go address) line free = free-go address
 free-meaning (typed.Put address word) line free = (free-put address word, tt)
 free-meaning (typed.Told telling limit) line free = (free-run line free, tt)
+free-meaning (typed.Asked question) line free = tt
 free-meaning typed.Transcript line free = tt
 free-meaning typed.New line free = tt
 free-meaning typed.Help line free = tt

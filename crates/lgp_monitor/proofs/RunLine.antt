@@ -16,8 +16,10 @@ use Rattle.lgp_lab.specs.Script.{answer_in, answer_to_command, answer_to_line, s
 use Rattle.lgp_lab.specs.SourceText.{SourceText}
 use Rattle.lgp_lab.specs.Standing.{Answer, Standing}
 use Rattle.lgp_transcript.specs.Transcript.{Recorded, after_lines, ended, replies_text, text_of, with_line, with_standing}
-use Rattle.lgp_monitor.specs.Monitor.{reply_of, run_line, told_of, typed_at}
-use Rattle.lgp_monitor.specs.Typed.{go_by, go_typed, help_by, help_typed, lone, put_by, put_typed, told_by, told_typed, typed_by, typed_line, typed_of}
+use Rattle.lgp_monitor.specs.Monitor.{counter_at, names_at, reply_of, run_line, told_of, typed_at}
+use Rattle.lgp_lab.specs.Span.{WordRange}
+use Rattle.lgp_monitor.specs.declared.question.Question.TheVariants as questions
+use Rattle.lgp_monitor.specs.Typed.{go_by, go_typed, help_by, help_typed, lone, numbers_by, numbers_typed, placed_by, placed_range, placed_range_by, placed_typed, put_by, put_typed, put_word, range_at, told_by, told_typed, typed_by, typed_line, typed_of, value_at, why_by, why_typed}
 use Rattle.lgp_monitor.specs.Verbs.{verb_names}
 use Rattle.lgp_monitor.specs.declared.telling.Telling.{Telling}
 use Rattle.lgp_monitor.specs.declared.telling.Telling.TheVariants as tellings
@@ -149,10 +151,29 @@ itself telling limit e = cc
 help : IsOther typed.Help
 help telling limit e = cc
 
-other_put : (address word : Option ℕ) → IsOther (put_by address word)
-other_put (Some address) (Some word) = λ telling limit e. cc
-other_put (Some address) None = misformed
-other_put None word = misformed
+other_word : (address : ℕ) (word : Option ℕ) → IsOther (put_word address word)
+other_word address (Some word) = λ telling limit e. cc
+other_word address None = misformed
+
+other_put : (names : List (List ℕ × ℕ)) (address : Option ℕ) (operands : List ℕ) → IsOther (put_by names address operands)
+other_put names (Some address) operands = other_word address (value_at names address operands)
+other_put names None operands = misformed
+
+other_placed : (address : Option ℕ) → IsOther (placed_by address)
+other_placed (Some address) = λ telling limit e. cc
+other_placed None = misformed
+
+other_range : (range : Option WordRange) → IsOther (placed_range_by range)
+other_range (Some range) = λ telling limit e. cc
+other_range None = misformed
+
+other_why : (address : Option ℕ) → IsOther (why_by address)
+other_why (Some address) = λ telling limit e. cc
+other_why None = misformed
+
+other_numbers : (range : Option WordRange) → IsOther (numbers_by range)
+other_numbers (Some range) = λ telling limit e. cc
+other_numbers None = misformed
 
 other_go : (address : Option ℕ) → IsOther (go_by address)
 other_go (Some address) = λ telling limit e. cc
@@ -165,13 +186,29 @@ other_help None = misformed
 other_alone : (asked : Typed) (operands : List ℕ) → IsOther asked → IsOther (lone asked operands)
 other_alone asked operands other = other_if (has_no_word operands) asked typed.Misformed other misformed
 
-puts : (operands : List ℕ) → IsOther (put_typed operands)
+puts : (names : List (List ℕ × ℕ)) (counter : ℕ) (operands : List ℕ) → IsOther (put_typed names counter operands)
 unfolding put_typed
-puts operands = other_put _ _
+puts names counter operands = other_put names _ _
 
-goes : (operands : List ℕ) → IsOther (go_typed operands)
+goes : (names : List (List ℕ × ℕ)) (counter : ℕ) (operands : List ℕ) → IsOther (go_typed names counter operands)
 unfolding go_typed
-goes operands = other_if _ _ _ (other_go _) misformed
+goes names counter operands = other_if _ _ _ (other_go _) misformed
+
+places : (names : List (List ℕ × ℕ)) (counter : ℕ) (operands : List ℕ) → IsOther (placed_typed names counter operands)
+unfolding placed_typed
+places names counter operands = other_if _ _ _ (other_placed _) misformed
+
+ranges : (names : List (List ℕ × ℕ)) (counter : ℕ) (operands : List ℕ) → IsOther (placed_range names counter operands)
+unfolding placed_range
+ranges names counter operands = other_range (range_at names counter operands)
+
+whys : (names : List (List ℕ × ℕ)) (counter : ℕ) (operands : List ℕ) → IsOther (why_typed names counter operands)
+unfolding why_typed
+whys names counter operands = other_if _ _ _ (other_why _) misformed
+
+numbers : (names : List (List ℕ × ℕ)) (counter : ℕ) (operands : List ℕ) → IsOther (numbers_typed names counter operands)
+unfolding numbers_typed
+numbers names counter operands = other_numbers (range_at names counter operands)
 
 helps : (operands : List ℕ) → IsOther (help_typed operands)
 unfolding help_typed
@@ -192,35 +229,39 @@ operand_told : (how telling : Telling) (operands : List ℕ) (limit : ℕ) → t
 unfolding told_typed
 operand_told how telling operands limit e = number_told how telling (lone_number operands) limit e
 
-told_only : (verb : Option Verb) (operands : List ℕ) (telling : Telling) (limit : ℕ) → typed_by verb operands ≡ typed.Told telling limit → IsTold verb operands limit
-told_only None operands telling limit e = absurd (misformed telling limit e)
-told_only (Some verbs.Trace) operands telling limit e = record { operand = operand_told tellings.Trace telling operands limit e; name = refl }
-told_only (Some verbs.Profile) operands telling limit e = record { operand = operand_told tellings.Profile telling operands limit e; name = refl }
-told_only (Some verbs.Drum) operands telling limit e = record { operand = operand_told tellings.Drum telling operands limit e; name = refl }
-told_only (Some verbs.Put) operands telling limit e = absurd (puts operands telling limit e)
-told_only (Some verbs.Go) operands telling limit e = absurd (goes operands telling limit e)
-told_only (Some verbs.Transcript) operands telling limit e = absurd (other_alone typed.Transcript operands (λ telling limit e. cc) telling limit e)
-told_only (Some verbs.New) operands telling limit e = absurd (other_alone typed.New operands (λ telling limit e. cc) telling limit e)
-told_only (Some verbs.Help) operands telling limit e = absurd (helps operands telling limit e)
-told_only (Some verbs.Mount) operands telling limit e = absurd (misformed telling limit e)
-told_only (Some verbs.Press) operands telling limit e = absurd (misformed telling limit e)
-told_only (Some verbs.Type) operands telling limit e = absurd (misformed telling limit e)
-told_only (Some verbs.Turn) operands telling limit e = absurd (misformed telling limit e)
-told_only (Some verbs.Orders) operands telling limit e = absurd (misformed telling limit e)
-told_only (Some verbs.Run) operands telling limit e = absurd (misformed telling limit e)
-told_only (Some verbs.Back) operands telling limit e = absurd (misformed telling limit e)
-told_only (Some verbs.Last) operands telling limit e = absurd (misformed telling limit e)
-told_only (Some verbs.Panel) operands telling limit e = absurd (misformed telling limit e)
-told_only (Some verbs.Words) operands telling limit e = absurd (misformed telling limit e)
-told_only (Some verbs.Show) operands telling limit e = absurd (misformed telling limit e)
-told_only (Some verbs.Printed) operands telling limit e = absurd (misformed telling limit e)
-told_only (Some verbs.Dump) operands telling limit e = absurd (misformed telling limit e)
-told_only (Some verbs.Source) operands telling limit e = absurd (misformed telling limit e)
-told_only (Some verbs.List) operands telling limit e = absurd (misformed telling limit e)
-told_only (Some verbs.Load) operands telling limit e = absurd (misformed telling limit e)
-told_only (Some verbs.Break) operands telling limit e = absurd (misformed telling limit e)
-told_only (Some verbs.Watch) operands telling limit e = absurd (misformed telling limit e)
-told_only (Some verbs.Drop) operands telling limit e = absurd (misformed telling limit e)
+told_only : (names : List (List ℕ × ℕ)) (counter : ℕ) (verb : Option Verb) (operands : List ℕ) (telling : Telling) (limit : ℕ) → typed_by names counter verb operands ≡ typed.Told telling limit → IsTold verb operands limit
+told_only names counter None operands telling limit e = absurd (misformed telling limit e)
+told_only names counter (Some verbs.Trace) operands telling limit e = record { operand = operand_told tellings.Trace telling operands limit e; name = refl }
+told_only names counter (Some verbs.Profile) operands telling limit e = record { operand = operand_told tellings.Profile telling operands limit e; name = refl }
+told_only names counter (Some verbs.Drum) operands telling limit e = record { operand = operand_told tellings.Drum telling operands limit e; name = refl }
+told_only names counter (Some verbs.Put) operands telling limit e = absurd (puts names counter operands telling limit e)
+told_only names counter (Some verbs.Go) operands telling limit e = absurd (goes names counter operands telling limit e)
+told_only names counter (Some verbs.Numbers) operands telling limit e = absurd (numbers names counter operands telling limit e)
+told_only names counter (Some verbs.Why) operands telling limit e = absurd (whys names counter operands telling limit e)
+told_only names counter (Some verbs.Labels) operands telling limit e = absurd (other_alone (typed.Asked questions.Labels) operands (λ telling limit e. cc) telling limit e)
+told_only names counter (Some verbs.Rules) operands telling limit e = absurd (other_alone (typed.Asked questions.Rules) operands (λ telling limit e. cc) telling limit e)
+told_only names counter (Some verbs.Transcript) operands telling limit e = absurd (other_alone typed.Transcript operands (λ telling limit e. cc) telling limit e)
+told_only names counter (Some verbs.New) operands telling limit e = absurd (other_alone typed.New operands (λ telling limit e. cc) telling limit e)
+told_only names counter (Some verbs.Help) operands telling limit e = absurd (helps operands telling limit e)
+told_only names counter (Some verbs.Mount) operands telling limit e = absurd (misformed telling limit e)
+told_only names counter (Some verbs.Press) operands telling limit e = absurd (misformed telling limit e)
+told_only names counter (Some verbs.Type) operands telling limit e = absurd (misformed telling limit e)
+told_only names counter (Some verbs.Turn) operands telling limit e = absurd (misformed telling limit e)
+told_only names counter (Some verbs.Orders) operands telling limit e = absurd (misformed telling limit e)
+told_only names counter (Some verbs.Run) operands telling limit e = absurd (misformed telling limit e)
+told_only names counter (Some verbs.Back) operands telling limit e = absurd (misformed telling limit e)
+told_only names counter (Some verbs.Last) operands telling limit e = absurd (misformed telling limit e)
+told_only names counter (Some verbs.Panel) operands telling limit e = absurd (misformed telling limit e)
+told_only names counter (Some verbs.Words) operands telling limit e = absurd (ranges names counter operands telling limit e)
+told_only names counter (Some verbs.Show) operands telling limit e = absurd (ranges names counter operands telling limit e)
+told_only names counter (Some verbs.Printed) operands telling limit e = absurd (misformed telling limit e)
+told_only names counter (Some verbs.Dump) operands telling limit e = absurd (misformed telling limit e)
+told_only names counter (Some verbs.Source) operands telling limit e = absurd (misformed telling limit e)
+told_only names counter (Some verbs.List) operands telling limit e = absurd (misformed telling limit e)
+told_only names counter (Some verbs.Load) operands telling limit e = absurd (misformed telling limit e)
+told_only names counter (Some verbs.Break) operands telling limit e = absurd (places names counter operands telling limit e)
+told_only names counter (Some verbs.Watch) operands telling limit e = absurd (places names counter operands telling limit e)
+told_only names counter (Some verbs.Drop) operands telling limit e = absurd (misformed telling limit e)
 
 -- what such a line is: outside a source, kept whole, a name longer than `run` and the operand of one
 record IsToldLine (is_open : Bool) (kept : Kept) (limit : ℕ) : Type 0 where
@@ -249,15 +290,15 @@ by_command : (command : Bool) (asked : Typed) (telling : Telling) (limit : ℕ) 
 by_command true asked telling limit e = absurd (itself telling limit e)
 by_command false asked telling limit e = e
 
-line_told : (line : List ℕ) (telling : Telling) (limit : ℕ) → typed_line line ≡ typed.Told telling limit → IsTold (named verb_names (first_word line)) (behind_word line) limit
+line_told : (names : List (List ℕ × ℕ)) (counter : ℕ) (line : List ℕ) (telling : Telling) (limit : ℕ) → typed_line names counter line ≡ typed.Told telling limit → IsTold (named verb_names (first_word line)) (behind_word line) limit
 unfolding typed_line
-line_told line telling limit e = told_only (named verb_names (first_word line)) (behind_word line) telling limit (by_command (is_some (command_of line)) (typed_by (named verb_names (first_word line)) (behind_word line)) telling limit e)
+line_told names counter line telling limit e = told_only names counter (named verb_names (first_word line)) (behind_word line) telling limit (by_command (is_some (command_of line)) (typed_by names counter (named verb_names (first_word line)) (behind_word line)) telling limit e)
 
-told_line : (is_open : Bool) (kept : Kept) (telling : Telling) (limit : ℕ) → typed.Told telling limit ≡ typed_of is_open kept → IsToldLine is_open kept limit
+told_line : (is_open : Bool) (names : List (List ℕ × ℕ)) (counter : ℕ) (kept : Kept) (telling : Telling) (limit : ℕ) → typed.Told telling limit ≡ typed_of is_open names counter kept → IsToldLine is_open kept limit
 unfolding typed_of
-told_line is_open kept telling limit e =
-    let flags = by_flags is_open kept.longer kept.blank (slice_index kept.front 0 == 59) (typed_line kept.front) telling limit e in
-    let told = line_told kept.front telling limit flags.1 in
+told_line is_open names counter kept telling limit e =
+    let flags = by_flags is_open kept.longer kept.blank (slice_index kept.front 0 == 59) (typed_line names counter kept.front) telling limit e in
+    let told = line_told names counter kept.front telling limit flags.1 in
     record { closed = flags.0; operand = told.operand; long = long_name (named verb_names (first_word kept.front)) kept.front refl told.name }
 
 none_opened : (opened : Option SourceText) → is_some opened ≡ false → opened ≡ None
@@ -270,11 +311,11 @@ closed_answer : {A : Type 0} (s : Standing A) (line : List ℕ) → s.opened ≡
 unfolding answer_to_line
 closed_answer s line closed = ap (λ (o : Option SourceText). answer_in o s line) closed
 
-run_answer : {A : Type 0} (s : Standing A) (text : List ℕ) (telling : Telling) (limit : ℕ) → typed.Told telling limit ≡ typed_of (is_some s.opened) (kept_of text) → answer_to_line s (run_line (kept_of text).front) ≡ answer_to_run s limit
+run_answer : {A : Type 0} (s : Standing A) (names : List (List ℕ × ℕ)) (counter : ℕ) (text : List ℕ) (telling : Telling) (limit : ℕ) → typed.Told telling limit ≡ typed_of (is_some s.opened) names counter (kept_of text) → answer_to_line s (run_line (kept_of text).front) ≡ answer_to_run s limit
 unfolding run_line
-run_answer s text telling limit e =
+run_answer s names counter text telling limit e =
     let front : List ℕ = (kept_of text).front in
-    let told = told_line (is_some s.opened) (kept_of text) telling limit e in
+    let told = told_line (is_some s.opened) names counter (kept_of text) telling limit e in
     let long : 3 ≤ length (first_word (kept_of text).front) = told.long in
     let parts = word_length (kept_of text).front in
     let most = front_short text in
@@ -293,7 +334,7 @@ module _ {A : Type 0} where
       let lines : run ≡ run_line (kept_of text).front = line ∙ ap (λ (k : Kept). run_line k.front) is in
       let stood : s₁ ≡ r₀.standing = lent ∙ ap (λ (r : Recorded (Standing A)). r.standing) kept_line in
       let stands : s₂ ≡ (answer_to_line r₀.standing (run_line (kept_of text).front)).after =
-      done ∙ (ap (λ (s : Standing A). (answer_to_run s limit).after) stood ∙ ap (λ (a : Answer A). a.after) (sym (run_answer r₀.standing text telling limit asked))) in
+      done ∙ (ap (λ (s : Standing A). (answer_to_run s limit).after) stood ∙ ap (λ (a : Answer A). a.after) (sym (run_answer r₀.standing (names_at r₀) (counter_at r₀) text telling limit asked))) in
       after ∙ (ap (λ (r : Recorded (Standing A)). with_standing r s₂) kept_line
       ∙ (ap (λ (l : List ℕ). record { standing = s₂; transcript = r₀.transcript ++ ended l }) lines
       ∙ (ap (λ (t : List ℕ). record { standing = s₂; transcript = r₀.transcript ++ t }) (sym (append-nil (ended (run_line (kept_of text).front))))
@@ -307,6 +348,6 @@ module _ {A : Type 0} where
   told_replies r₀ r₁ s₁ kept text telling limit run before after is asked kept_line lent replied =
       let stood : s₁ ≡ r₀.standing = lent ∙ ap (λ (r : Recorded (Standing A)). r.standing) kept_line in
       replied ∙ (ap (λ (s : Standing A). before ++ (told_of s telling limit ++ (answer_to_run s limit).reply)) stood
-      ∙ (ap (λ (a : Answer A). before ++ (told_of r₀.standing telling limit ++ a.reply)) (sym (run_answer r₀.standing text telling limit asked))
+      ∙ (ap (λ (a : Answer A). before ++ (told_of r₀.standing telling limit ++ a.reply)) (sym (run_answer r₀.standing (names_at r₀) (counter_at r₀) text telling limit asked))
       ∙ (ap (λ (t : List ℕ). before ++ (told_of r₀.standing telling limit ++ t)) (sym (append-nil (answer_to_line r₀.standing (run_line (kept_of text).front)).reply))
       ∙ ap (λ (k : Kept). before ++ reply_of r₀ (typed.Told telling limit) k) (sym is))))

@@ -1,6 +1,9 @@
 pub mod Verbs
+pub mod Reasons
 pub mod Telling
+pub mod Questions
 pub mod Typed
 pub mod Monitor
 pub mod Running
 pub mod Sessions
+pub mod Attending

@@ -1,21 +1,28 @@
 -- Part of the public promise: the monitor, a language in which a typed line stands for lines of a script.
-use Rattle.std.specs.Prelude.{ℕ, false, is_some, Option, Some, None, List, [], ◌∷◌, ◌++◌, codes}
+use Rattle.std.specs.Prelude.{ℕ, Bool, true, false, if◌then◌else◌, is_some, Option, Some, None, Result, Ok, Err, List, [], ◌∷◌, ◌++◌, codes}
 use Rattle.lgp_word.specs.Digits.{address_digits, digits_of}
 use Rattle.lgp_word.specs.Order.{order_word}
 use Rattle.lgp_word.specs.declared.order.Op.TheVariants.{U}
 use Rattle.lgp_stream.specs.KeptLine.{Kept, kept_of}
 use Rattle.lgp_stream.specs.Language.{Language}
-use Rattle.lgp_stream.specs.LineWords.{behind_word, first_word}
+use Rattle.lgp_assembler.specs.Operands.{address_operand}
+use Rattle.lgp_assembler.specs.declared.operands.OperandFault.{OperandFault}
+use Rattle.lgp_assembler.specs.declared.operands.OperandFault.TheVariants.{Misformed, Unknown, Outside}
+use Rattle.lgp_stream.specs.LineWords.{behind_word, first_word, has_no_word}
 use Rattle.lgp_text.specs.NamedValues.{named}
 use Rattle.lgp_transcript.specs.Transcript.{Meaning, Lines, Anew, Recorded, after_meaning, replies_text, stand_in}
+use Rattle.lgp_debugger.specs.Debugging.{order_origins}
 use Rattle.lgp_lab.specs.Script.{script_language}
 use Rattle.lgp_lab.specs.HistoryCommands.{orders_run}
 use Rattle.lgp_lab.specs.Standing.{Standing, labels_of, opening_standing}
+use Rattle.lgp_monitor.specs.Questions.{answer_to}
+use Rattle.lgp_monitor.specs.Reasons.{explained}
 use Rattle.lgp_monitor.specs.Telling.{told_text}
 use Rattle.lgp_monitor.specs.Typed.{typed_of}
 use Rattle.lgp_monitor.specs.Verbs.{form_of, verb_names}
 use Rattle.lgp_monitor.specs.declared.telling.Telling.{Telling}
 use Rattle.lgp_monitor.specs.declared.verb.Verb.{Verb}
+use Rattle.lgp_monitor.specs.declared.verb.Verb.TheVariants as verbs
 use Rattle.lgp_monitor.specs.declared.typed.Typed.{Typed}
 use Rattle.lgp_monitor.specs.declared.typed.Typed.TheVariants as typed
 
@@ -41,13 +48,20 @@ go_lines address = codes "press manual" ∷ jump_line address ∷ lines_behind_j
 unfoldable pub run_line : List ℕ → List ℕ
 run_line line = codes "run" ++ behind_word line
 
+-- a command whose first operand is written otherwise than in a script: the same with its address
+unfoldable pub placed_line : ℕ → List ℕ → List ℕ
+placed_line address line =
+    first_word line ++ (codes " " ++ (address_digits address ++ behind_word (behind_word line)))
+
 -- of a line of which this is kept
 abbrev pub meaning_of : Typed → Kept → Meaning
 meaning_of typed.Itself kept = Lines (stand_in kept ∷ [])
 meaning_of typed.Misformed kept = Lines (stand_in kept ∷ [])
+meaning_of (typed.Placed address) kept = Lines (placed_line address kept.front ∷ [])
 meaning_of (typed.Go address) kept = Lines (go_lines address)
 meaning_of (typed.Put address word) kept = Lines (put_line address word ∷ [])
 meaning_of (typed.Told telling limit) kept = Lines (run_line kept.front ∷ [])
+meaning_of (typed.Asked question) kept = Lines []
 meaning_of typed.Transcript kept = Lines []
 meaning_of typed.New kept = Anew
 meaning_of typed.Help kept = Lines []
@@ -66,27 +80,69 @@ form_lines (name ∷ more) = form_line name.1 ++ form_lines more
 abbrev pub help_text : List ℕ
 help_text = form_lines verb_names
 
--- why a line is in no command's form
-abbrev pub reason_by : Option Verb → List ℕ
-reason_by None = codes "there is no such command, help lists them"
-reason_by (Some verb) = form_of verb
+-- the commands whose first operand is an address
+abbrev pub takes_address : Verb → Bool
+takes_address verbs.Put = true
+takes_address verbs.Go = true
+takes_address verbs.Words = true
+takes_address verbs.Show = true
+takes_address verbs.Numbers = true
+takes_address verbs.Why = true
+takes_address verbs.Break = true
+takes_address verbs.Watch = true
+takes_address verb = false
 
-unfoldable pub misformed_text : List ℕ → List ℕ
-misformed_text line = codes "? 1 Form: " ++ (reason_by (named verb_names (first_word line)) ++ codes "\n")
+-- why a line is in no command's form: its first operand is no address, or it is not written so
+abbrev pub fault_reason : OperandFault → List ℕ
+fault_reason Misformed = codes " is no address: a track and a sector, each 00 to 63, or a label"
+fault_reason Unknown = codes " names no label of the last source"
+fault_reason Outside = codes " is not on the drum"
+
+abbrev pub address_reason : Result ℕ OperandFault → List ℕ → Verb → List ℕ
+address_reason (Ok address) operand verb = form_of verb
+address_reason (Err fault) operand verb = operand ++ fault_reason fault
+
+unfoldable pub operand_reason : List (List ℕ × ℕ) → ℕ → Verb → List ℕ → List ℕ
+operand_reason names counter verb operands =
+    if has_no_word operands then form_of verb
+    else address_reason (address_operand names counter (first_word operands)) (first_word operands) verb
+
+abbrev pub reason_by : List (List ℕ × ℕ) → ℕ → Option Verb → List ℕ → List ℕ
+reason_by names counter None operands = codes "there is no such command, help lists them"
+reason_by names counter (Some verb) operands =
+    if takes_address verb then operand_reason names counter verb operands else form_of verb
+
+unfoldable pub misformed_text : List (List ℕ × ℕ) → ℕ → List ℕ → List ℕ
+misformed_text names counter line =
+    codes "? 1 Form: " ++ (reason_by names counter (named verb_names (first_word line)) (behind_word line) ++ codes "\n")
 
 module _ {A : Type 0} where
   -- what is written about the orders of a run
   abbrev pub told_of : Standing A → Telling → ℕ → List ℕ
   told_of standing telling limit =
-      told_text telling (labels_of standing.source) standing.debugger.state (orders_run limit standing.debugger)
+      told_text telling (labels_of standing.source) standing.debugger.state (order_origins standing.debugger)
+      (orders_run limit standing.debugger)
+
+  -- the names of the last source that assembled, and the counter
+  abbrev pub names_at : Recorded (Standing A) → List (List ℕ × ℕ)
+  names_at recorded = labels_of recorded.standing.source
+
+  abbrev pub counter_at : Recorded (Standing A) → ℕ
+  counter_at recorded = recorded.standing.debugger.state.core.panel.counter
+
+  -- the reply to a script's line, a refusal with its reason
+  abbrev pub explained_reply : Recorded (Standing A) → List ℕ → List ℕ
+  explained_reply recorded line = explained (replies_text script_language recorded (line ∷ []))
 
   abbrev pub reply_of : Recorded (Standing A) → Typed → Kept → List ℕ
-  reply_of recorded typed.Itself kept = replies_text script_language recorded (stand_in kept ∷ [])
-  reply_of recorded typed.Misformed kept = misformed_text kept.front
+  reply_of recorded typed.Itself kept = explained_reply recorded (stand_in kept)
+  reply_of recorded typed.Misformed kept = misformed_text (names_at recorded) (counter_at recorded) kept.front
+  reply_of recorded (typed.Placed address) kept = explained_reply recorded (placed_line address kept.front)
   reply_of recorded (typed.Go address) kept = replies_text script_language recorded (go_lines address)
-  reply_of recorded (typed.Put address word) kept = replies_text script_language recorded (put_line address word ∷ [])
+  reply_of recorded (typed.Put address word) kept = explained_reply recorded (put_line address word)
   reply_of recorded (typed.Told telling limit) kept =
       told_of recorded.standing telling limit ++ replies_text script_language recorded (run_line kept.front ∷ [])
+  reply_of recorded (typed.Asked question) kept = answer_to question recorded.standing
   reply_of recorded typed.Transcript kept = recorded.transcript
   reply_of recorded typed.New kept = codes "new\n"
   reply_of recorded typed.Help kept = help_text
@@ -96,7 +152,8 @@ module _ {A : Type 0} where
 
   -- what a line asks for; in an open source each line is the source's
   unfoldable pub typed_at : Recorded (Standing A) → List ℕ → Typed
-  typed_at recorded line = typed_of (is_some recorded.standing.opened) (kept_of line)
+  typed_at recorded line =
+      typed_of (is_some recorded.standing.opened) (names_at recorded) (counter_at recorded) (kept_of line)
 
   unfoldable pub meaning_at : Recorded (Standing A) → List ℕ → Meaning
   meaning_at recorded line = meaning_of (typed_at recorded line) (kept_of line)

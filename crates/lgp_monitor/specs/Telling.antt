@@ -1,7 +1,8 @@
 -- Part of the public promise: what is written about the orders of a run, with names as labels of the addresses that are their values.
-use Rattle.std.specs.Prelude.{ℕ, ◌==◌, ◌++◌, if◌then◌else◌, List, [], ◌∷◌, codes}
+use Rattle.std.specs.Prelude.{ℕ, ◌==◌, ◌++◌, if◌then◌else◌, List, [], ◌∷◌, Option, codes}
 use Rattle.lgp_table.specs.After.{after}
 use Rattle.lgp_table.specs.State.{State}
+use Rattle.lgp_history.specs.declared.origin.Origin.{Origin}
 use Rattle.lgp_trace.specs.AccountLines.{heading_text}
 use Rattle.lgp_trace.specs.DrumRows.{rows_begun, rows_ended}
 use Rattle.lgp_trace.specs.Profile.{profile_of}
@@ -15,9 +16,9 @@ unfoldable pub label_of : List (List ℕ × ℕ) → ℕ → List ℕ
 label_of [] address = []
 label_of (name ∷ more) address = if name.1 == address then codes " " ++ name.0 else label_of more address
 
--- the account of each order below the heading
-abbrev pub traced : List (List ℕ × ℕ) → State → ℕ → List ℕ
-traced names s orders = heading_text ++ told (label_of names) s orders
+-- the account of each order below the heading, with where its order came from
+abbrev pub traced : List (List ℕ × ℕ) → State → (ℕ → Option Origin) → ℕ → List ℕ
+traced names s origins orders = heading_text ++ told (label_of names) s origins orders
 
 -- what all orders took together
 abbrev pub profiled : List (List ℕ × ℕ) → State → ℕ → List ℕ
@@ -28,7 +29,7 @@ abbrev pub pictured : List (List ℕ × ℕ) → State → ℕ → List ℕ
 pictured names s orders = rows_begun s.clock ++ (drawn s orders ++ rows_ended (after s orders).clock)
 
 -- what is written about so many orders from a state on
-unfoldable pub told_text : Telling → List (List ℕ × ℕ) → State → ℕ → List ℕ
-told_text tellings.Trace names s orders = traced names s orders
-told_text tellings.Profile names s orders = profiled names s orders
-told_text tellings.Drum names s orders = pictured names s orders
+unfoldable pub told_text : Telling → List (List ℕ × ℕ) → State → (ℕ → Option Origin) → ℕ → List ℕ
+told_text tellings.Trace names s origins orders = traced names s origins orders
+told_text tellings.Profile names s origins orders = profiled names s orders
+told_text tellings.Drum names s origins orders = pictured names s orders

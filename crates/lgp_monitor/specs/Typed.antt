@@ -1,18 +1,21 @@
 -- Part of the public promise: what a typed line asks for.
-use Rattle.std.specs.Prelude.{ℕ, ◌-◌, ◌*◌, ◌%◌, ◌^◌, ◌==◌, ◌&&◌, ◌||◌, Bool, true, false, nat_le, nat_lt, if◌then◌else◌, is_some, Option, Some, None, Result, Ok, Err, List, drop, length, codes, slice_index, ℤ, pos, ◌*ℤ◌}
+use Rattle.std.specs.Prelude.{ℕ, ◌==◌, ◌||◌, Bool, if◌then◌else◌, is_some, Option, Some, None, Result, Ok, Err, List, codes, slice_index, ℤ, pos, ◌*ℤ◌}
+use Rattle.std.specs.Option.{option_or}
 use Rattle.std.specs.Str.{byte, bytes_eq}
-use Rattle.lgp_word.specs.Decimal.{decimal_number}
-use Rattle.lgp_word.specs.Digits.{address_text}
-use Rattle.lgp_word.specs.Order.{op_of_letter, order_word}
-use Rattle.lgp_word.specs.declared.order.Op.{Op}
+use Rattle.lgp_word.specs.Digits.{word_of_digits}
 use Rattle.lgp_fraction.specs.Arithmetic.{low_bits}
 use Rattle.lgp_fraction.specs.Decimal.{decimal_fraction}
 use Rattle.lgp_fraction.specs.declared.fraction.FractionFault.{FractionFault}
+use Rattle.lgp_assembler.specs.Operands.{address_operand}
+use Rattle.lgp_assembler.specs.Patch.{operation_word}
+use Rattle.lgp_assembler.specs.declared.operands.OperandFault.{OperandFault}
 use Rattle.lgp_stream.specs.KeptLine.{Kept}
 use Rattle.lgp_stream.specs.LineWords.{behind_word, first_word, has_no_word}
 use Rattle.lgp_text.specs.NamedValues.{named}
 use Rattle.lgp_lab.specs.Command.{command_of, lone_number}
+use Rattle.lgp_lab.specs.Span.{WordRange, range_of}
 use Rattle.lgp_monitor.specs.Verbs.{verb_names}
+use Rattle.lgp_monitor.specs.declared.question.Question.TheVariants as questions
 use Rattle.lgp_monitor.specs.declared.telling.Telling.{Telling}
 use Rattle.lgp_monitor.specs.declared.telling.Telling.TheVariants as tellings
 use Rattle.lgp_monitor.specs.declared.verb.Verb.{Verb}
@@ -20,34 +23,42 @@ use Rattle.lgp_monitor.specs.declared.verb.Verb.TheVariants as verbs
 use Rattle.lgp_monitor.specs.declared.typed.Typed.{Typed}
 use Rattle.lgp_monitor.specs.declared.typed.Typed.TheVariants as typed
 
+-- ---- addresses
+
+-- an address is written as an operand of the last source: as ttss, by a name, or by `*`, which is here the counter, and perhaps
+-- with a sign and a number behind
+abbrev pub address_by : Result ℕ OperandFault → Option ℕ
+address_by (Ok address) = Some address
+address_by (Err fault) = None
+
+unfoldable pub address_at : List (List ℕ × ℕ) → ℕ → List ℕ → Option ℕ
+address_at names counter text = address_by (address_operand names counter text)
+
 -- ---- the word behind `put ttss`
 
--- an order: its letter and an address
-abbrev pub order_by : Option Op → Option ℕ → Option ℕ
-order_by (Some op) (Some address) = Some (order_word (record { minus = false; op = op; address = address }))
-order_by _ _ = None
+abbrev pub word_by : Result ℕ OperandFault → Option ℕ
+word_by (Ok word) = Some word
+word_by (Err fault) = None
 
-unfoldable pub order_at : List ℕ → Option ℕ
-order_at operands =
-    if (length (first_word operands) == 1) && has_no_word (behind_word (behind_word operands))
-    then order_by (op_of_letter (slice_index (first_word operands) 0)) (address_text (first_word (behind_word operands)))
+abbrev pub operand_at : List ℕ → Option (List ℕ)
+operand_at operands = if has_no_word operands then None else Some (first_word operands)
+
+-- an operation of the last source with at most two operands, where the place of the word is that of its `*`
+unfoldable pub operation_at : List (List ℕ × ℕ) → ℕ → List ℕ → Option ℕ
+operation_at names place line =
+    if has_no_word (behind_word (behind_word (behind_word line)))
+    then word_by (operation_word names place (first_word line) (operand_at (behind_word line)) (operand_at (behind_word (behind_word line))))
     else None
 
--- a whole number with its point behind place 30, from -2^30 up to below 2^30: its word is twice the number
-abbrev pub whole_word : Bool → ℕ → Option ℕ
-whole_word minus size =
-    if minus then (if nat_le size (2 ^ 30) then Some ((2 ^ 32 - 2 * size) % 2 ^ 32) else None)
-    else (if nat_lt size (2 ^ 30) then Some (2 * size) else None)
+-- behind `=` a whole number and the place behind which its point is, 30 where none is given
+abbrev pub point_at : List ℕ → List ℕ
+point_at operands = if has_no_word operands then codes "30" else first_word operands
 
-abbrev pub whole_by : Bool → Option ℕ → Option ℕ
-whole_by minus None = None
-whole_by minus (Some size) = whole_word minus size
-
--- perhaps a minus, and one to ten digits
-unfoldable pub whole_at : List ℕ → Option ℕ
-whole_at text =
-    if slice_index text 0 == byte "-" then whole_by true (decimal_number 10 (drop 1 text))
-    else whole_by false (decimal_number 10 text)
+unfoldable pub whole_at : List (List ℕ × ℕ) → ℕ → List ℕ → Option ℕ
+whole_at names place operands =
+    if has_no_word (behind_word (behind_word operands))
+    then word_by (operation_word names place (codes "int") (Some (first_word operands)) (Some (point_at (behind_word operands))))
+    else None
 
 -- a fraction
 abbrev pub fraction_by : Result ℤ FractionFault → Option ℕ
@@ -57,28 +68,78 @@ fraction_by (Err fault) = None
 unfoldable pub fraction_at : List ℕ → Option ℕ
 fraction_at text = fraction_by (decimal_fraction text)
 
--- what stands behind the address: `=` and a number, a fraction, or an order
-unfoldable pub value_at : List ℕ → Option ℕ
-value_at operands =
-    if bytes_eq (first_word operands) (codes "=")
-    then (if has_no_word (behind_word (behind_word operands)) then whole_at (first_word (behind_word operands)) else None)
-    else (if has_no_word (behind_word operands) then fraction_at (first_word operands) else order_at operands)
+-- eight digits or a fraction
+abbrev pub digits_or_fraction : List ℕ → Option ℕ
+digits_or_fraction text = option_or (word_of_digits text) (fraction_at text)
+
+-- `=` and a number, eight digits, a fraction, or an operation
+unfoldable pub value_at : List (List ℕ × ℕ) → ℕ → List ℕ → Option ℕ
+value_at names place operands =
+    if bytes_eq (first_word operands) (codes "=") then whole_at names place (behind_word operands)
+    else (if has_no_word (behind_word operands)
+    then option_or (digits_or_fraction (first_word operands)) (operation_at names place operands)
+    else operation_at names place operands)
 
 -- ---- the commands
 
-abbrev pub put_by : Option ℕ → Option ℕ → Typed
-put_by (Some address) (Some word) = typed.Put address word
-put_by _ _ = typed.Misformed
+abbrev pub put_word : ℕ → Option ℕ → Typed
+put_word address (Some word) = typed.Put address word
+put_word address None = typed.Misformed
 
-unfoldable pub put_typed : List ℕ → Typed
-put_typed operands = put_by (address_text (first_word operands)) (value_at (behind_word operands))
+abbrev pub put_by : List (List ℕ × ℕ) → Option ℕ → List ℕ → Typed
+put_by names (Some address) operands = put_word address (value_at names address operands)
+put_by names None operands = typed.Misformed
+
+unfoldable pub put_typed : List (List ℕ × ℕ) → ℕ → List ℕ → Typed
+put_typed names counter operands = put_by names (address_at names counter (first_word operands)) (behind_word operands)
 
 abbrev pub go_by : Option ℕ → Typed
 go_by (Some address) = typed.Go address
 go_by None = typed.Misformed
 
-unfoldable pub go_typed : List ℕ → Typed
-go_typed operands = if has_no_word (behind_word operands) then go_by (address_text (first_word operands)) else typed.Misformed
+unfoldable pub go_typed : List (List ℕ × ℕ) → ℕ → List ℕ → Typed
+go_typed names counter operands =
+    if has_no_word (behind_word operands) then go_by (address_at names counter (first_word operands)) else typed.Misformed
+
+-- a command of scripts whose address is written otherwise than there
+abbrev pub placed_by : Option ℕ → Typed
+placed_by (Some address) = typed.Placed address
+placed_by None = typed.Misformed
+
+unfoldable pub placed_typed : List (List ℕ × ℕ) → ℕ → List ℕ → Typed
+placed_typed names counter operands =
+    if has_no_word (behind_word operands) then placed_by (address_at names counter (first_word operands)) else typed.Misformed
+
+-- a range of words, by an address and a number
+abbrev pub range_by : Option ℕ → Option ℕ → Option WordRange
+range_by (Some address) (Some count) = range_of address count
+range_by _ _ = None
+
+unfoldable pub range_at : List (List ℕ × ℕ) → ℕ → List ℕ → Option WordRange
+range_at names counter operands =
+    range_by (address_at names counter (first_word operands)) (lone_number (behind_word operands))
+
+abbrev pub placed_range_by : Option WordRange → Typed
+placed_range_by (Some range) = typed.Placed range.first
+placed_range_by None = typed.Misformed
+
+unfoldable pub placed_range : List (List ℕ × ℕ) → ℕ → List ℕ → Typed
+placed_range names counter operands = placed_range_by (range_at names counter operands)
+
+abbrev pub numbers_by : Option WordRange → Typed
+numbers_by (Some range) = typed.Asked (questions.Numbers range)
+numbers_by None = typed.Misformed
+
+unfoldable pub numbers_typed : List (List ℕ × ℕ) → ℕ → List ℕ → Typed
+numbers_typed names counter operands = numbers_by (range_at names counter operands)
+
+abbrev pub why_by : Option ℕ → Typed
+why_by (Some address) = typed.Asked (questions.Why address)
+why_by None = typed.Misformed
+
+unfoldable pub why_typed : List (List ℕ × ℕ) → ℕ → List ℕ → Typed
+why_typed names counter operands =
+    if has_no_word (behind_word operands) then why_by (address_at names counter (first_word operands)) else typed.Misformed
 
 -- a run that is told: its operand is that of `run`
 abbrev pub told_by : Telling → Option ℕ → Typed
@@ -101,25 +162,36 @@ help_typed operands =
 abbrev pub lone : Typed → List ℕ → Typed
 lone asked operands = if has_no_word operands then asked else typed.Misformed
 
-abbrev pub typed_by : Option Verb → List ℕ → Typed
-typed_by (Some verbs.Put) operands = put_typed operands
-typed_by (Some verbs.Go) operands = go_typed operands
-typed_by (Some verbs.Trace) operands = told_typed tellings.Trace operands
-typed_by (Some verbs.Profile) operands = told_typed tellings.Profile operands
-typed_by (Some verbs.Drum) operands = told_typed tellings.Drum operands
-typed_by (Some verbs.Transcript) operands = lone typed.Transcript operands
-typed_by (Some verbs.New) operands = lone typed.New operands
-typed_by (Some verbs.Help) operands = help_typed operands
-typed_by _ operands = typed.Misformed
+abbrev pub typed_by : List (List ℕ × ℕ) → ℕ → Option Verb → List ℕ → Typed
+typed_by names counter (Some verbs.Put) operands = put_typed names counter operands
+typed_by names counter (Some verbs.Go) operands = go_typed names counter operands
+typed_by names counter (Some verbs.Words) operands = placed_range names counter operands
+typed_by names counter (Some verbs.Show) operands = placed_range names counter operands
+typed_by names counter (Some verbs.Break) operands = placed_typed names counter operands
+typed_by names counter (Some verbs.Watch) operands = placed_typed names counter operands
+typed_by names counter (Some verbs.Numbers) operands = numbers_typed names counter operands
+typed_by names counter (Some verbs.Why) operands = why_typed names counter operands
+typed_by names counter (Some verbs.Labels) operands = lone (typed.Asked questions.Labels) operands
+typed_by names counter (Some verbs.Rules) operands = lone (typed.Asked questions.Rules) operands
+typed_by names counter (Some verbs.Trace) operands = told_typed tellings.Trace operands
+typed_by names counter (Some verbs.Profile) operands = told_typed tellings.Profile operands
+typed_by names counter (Some verbs.Drum) operands = told_typed tellings.Drum operands
+typed_by names counter (Some verbs.Transcript) operands = lone typed.Transcript operands
+typed_by names counter (Some verbs.New) operands = lone typed.New operands
+typed_by names counter (Some verbs.Help) operands = help_typed operands
+typed_by names counter _ operands = typed.Misformed
 
 -- a line in the form of a script's command asks for that
-unfoldable pub typed_line : List ℕ → Typed
-typed_line line =
-    if is_some (command_of line) then typed.Itself else typed_by (named verb_names (first_word line)) (behind_word line)
+unfoldable pub typed_line : List (List ℕ × ℕ) → ℕ → List ℕ → Typed
+typed_line names counter line =
+    if is_some (command_of line) then typed.Itself
+    else typed_by names counter (named verb_names (first_word line)) (behind_word line)
 
 -- lines that are taken as they stand: all of an open source, too long ones, and those on which nothing is asked
 abbrev pub stands_for_itself : Bool → Kept → Bool
 stands_for_itself is_open kept = is_open || kept.longer || kept.blank || (slice_index kept.front 0 == byte ";")
 
-unfoldable pub typed_of : Bool → Kept → Typed
-typed_of is_open kept = if stands_for_itself is_open kept then typed.Itself else typed_line kept.front
+-- what a line asks for, with the names of the last source and the counter
+unfoldable pub typed_of : Bool → List (List ℕ × ℕ) → ℕ → Kept → Typed
+typed_of is_open names counter kept =
+    if stands_for_itself is_open kept then typed.Itself else typed_line names counter kept.front

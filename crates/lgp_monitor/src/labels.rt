@@ -28,7 +28,7 @@ impl Labels for NamedAddresses<'_> {
 
 /// Appends a blank and the first name of a value, or nothing where no name has it.
 #[tactic(auto, unfolding(crate::specs::Telling::label_of))]
-fn push_name<A: Allocator>(
+pub fn push_name<A: Allocator>(
     text: &mut Vec<u8, A>,
     names: &[(Name, u16)],
     value: u16,

@@ -1,16 +1,21 @@
 //! The monitor: the program through which a person works the machine.
 #![tactic(auto)]
 
+pub use attending::attend;
 pub use monitor::Monitor;
+pub use question::Question;
 pub use running::run_monitor;
 pub use session::{hold_session, obey_session};
 pub use telling::Telling;
 pub use typed::Typed;
 pub use verb::Verb;
 
+mod attending;
 mod labels;
 pub mod laws;
 mod monitor;
+mod question;
+mod reason;
 mod running;
 mod session;
 mod telling;

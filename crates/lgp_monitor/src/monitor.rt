@@ -1,18 +1,22 @@
 //! The monitor: typed lines, each answered by the script lines that it stands for.
 
-ghost use Rattle.std.specs.Prelude.{◌≡◌, ◌++◌, ◌∷◌, [], List, ℕ, IfOk, OnOk, codes};
+ghost use Rattle.std.specs.Prelude.{◌≡◌, ◌++◌, ◌∷◌, [], List, ℕ, IfOk, OnOk, codes, is_some};
 ghost use Rattle.lgp_stream.specs.KeptLine.{kept_of};
 ghost use Rattle.lgp_text.specs.NamedValues.{pairs_of};
 ghost use Rattle.lgp_transcript.specs.Transcript.{after_lines, after_meaning, replies_text, stand_in, untouched};
 ghost use Rattle.lgp_lab.specs.Script.{script_language};
-ghost use Rattle.lgp_lab.specs.Standing.{opening_standing};
-ghost use Rattle.lgp_monitor.specs.Monitor.{form_line, form_lines, go_lines, help_text, jump_line, meaning_of, misformed_text, monitor_language, put_line, reason_by, reply_of, run_line, typed_at};
+ghost use Rattle.lgp_lab.specs.Standing.{labels_of, opening_standing};
+ghost use Rattle.lgp_monitor.specs.Typed.{typed_of};
+ghost use Rattle.lgp_monitor.specs.Monitor.{address_reason, counter_at, explained_reply, fault_reason, form_line, form_lines, go_lines, help_text, jump_line, meaning_of, misformed_text, monitor_language, names_at, operand_reason, placed_line, put_line, reason_by, reply_of, run_line, takes_address, typed_at};
 
+use crate::question::push_answer;
+use crate::reason::push_explained;
 use crate::telling::{Telling, run_told};
 use crate::typed::{Typed, typed_of};
 use crate::verb::{VERBS, Verb, form_of, verb_named};
+use lgp_assembler::{Name, OperandFault, Symbols, address_operand};
 use lgp_lab::Laboratory;
-use lgp_stream::{Answers, LineBytes, split_word};
+use lgp_stream::{Answers, LineBytes, has_no_word, split_word};
 use lgp_text::{Named, Piece, push_pieces};
 use lgp_transcript::Recorder;
 use lgp_word::{Address, Op, Order, Word, encode};
@@ -81,6 +85,42 @@ fn jump_line<A: Allocator>(alloc: A, address: Address) -> Result<Vec<u8, A>, All
     Ok(line)
 }
 
+/// Answers a script's line, a refusal with its reason.
+fn explain<A: Allocator + Copy>(
+    alloc: A,
+    recorder: &mut Recorder<Laboratory<A>, A>,
+    line: &[u8],
+    reply: &mut Vec<u8, A>,
+) -> Result<(), AllocError>
+    ensures reply { OnOk result (reply.new.items
+        ≡ reply.old.items ++ explained_reply recorder.old line.now) }
+    ensures after { OnOk result (recorder.new
+        ≡ after_lines script_language recorder.old (line.now ∷ [])) }
+{
+    let mut said = Vec::new(alloc);
+    recorder.answer_line(line, &mut said)?;
+    push_explained(reply, &said)
+}
+
+/// Answers a script's line of which this was kept, a refusal with its reason.
+fn explain_kept<A: Allocator + Copy>(
+    alloc: A,
+    recorder: &mut Recorder<Laboratory<A>, A>,
+    line: &LineBytes,
+    reply: &mut Vec<u8, A>,
+) -> Result<(), AllocError>
+    ensures reply { (text : List ℕ) → line.now ≡ kept_of text
+        → OnOk result (reply.new.items
+        ≡ reply.old.items ++ explained_reply recorder.old (stand_in line.now)) }
+    ensures after { (text : List ℕ) → line.now ≡ kept_of text
+        → OnOk result (recorder.new
+        ≡ after_lines script_language recorder.old (stand_in line.now ∷ [])) }
+{
+    let mut said = Vec::new(alloc);
+    recorder.answer_kept(line, &mut said)?;
+    push_explained(reply, &said)
+}
+
 /// Puts a word by a script's line.
 fn put<A: Allocator + Copy>(
     alloc: A,
@@ -89,13 +129,13 @@ fn put<A: Allocator + Copy>(
     word: Word,
     reply: &mut Vec<u8, A>,
 ) -> Result<(), AllocError>
-    ensures reply { OnOk result (reply.new.items ≡ reply.old.items
-        ++ replies_text script_language recorder.old (put_line address word ∷ [])) }
+    ensures reply { OnOk result (reply.new.items
+        ≡ reply.old.items ++ explained_reply recorder.old (put_line address word)) }
     ensures after { OnOk result (recorder.new
         ≡ after_lines script_language recorder.old (put_line address word ∷ [])) }
 {
     let line = put_line(alloc, address, word)?;
-    recorder.answer_line(&line, reply)
+    explain(alloc, recorder, &line, reply)
 }
 
 /// Starts the machine at an address by a script's lines.
@@ -177,30 +217,157 @@ fn push_help<A: Allocator>(text: &mut Vec<u8, A>) -> Result<(), AllocError>
     push_forms(text, &VERBS)
 }
 
-/// Why a line is in no command's form.
-fn reason_by(verb: Option<Verb>) -> &'static [u8]
-    ensures { result.now ≡ reason_by verb }
+/// The script line that names an address in the place of a line's first operand.
+#[tactic(auto, unfolding(crate::specs::Monitor::placed_line))]
+fn placed_line<A: Allocator>(
+    alloc: A,
+    address: Address,
+    line: &[u8],
+) -> Result<Vec<u8, A>, AllocError>
+    ensures { IfOk result (λ text. text.items ≡ placed_line address line.now) }
 {
-    match verb {
-        Some(verb) => form_of(verb),
-        None => b"there is no such command, help lists them",
+    let command = split_word(line);
+    let mut text = Vec::new(alloc);
+    push_pieces(
+        &mut text,
+        &[
+            Piece::Text(command.word),
+            Piece::Text(b" "),
+            Piece::Place(address),
+            Piece::Text(split_word(command.behind).behind),
+        ],
+    )?;
+    Ok(text)
+}
+
+/// Does what a script's command asks for with an address in the place of its first operand.
+fn place<A: Allocator + Copy>(
+    alloc: A,
+    recorder: &mut Recorder<Laboratory<A>, A>,
+    address: Address,
+    line: &[u8],
+    reply: &mut Vec<u8, A>,
+) -> Result<(), AllocError>
+    ensures reply { OnOk result (reply.new.items
+        ≡ reply.old.items ++ explained_reply recorder.old (placed_line address line.now)) }
+    ensures after { OnOk result (recorder.new
+        ≡ after_lines script_language recorder.old (placed_line address line.now ∷ [])) }
+{
+    let line = placed_line(alloc, address, line)?;
+    explain(alloc, recorder, &line, reply)
+}
+
+/// Whether a command's first operand is an address.
+fn takes_address(verb: Verb) -> bool
+    ensures { result ≡ takes_address verb }
+{
+    matches!(
+        verb,
+        Verb::Put
+            | Verb::Go
+            | Verb::Words
+            | Verb::Show
+            | Verb::Numbers
+            | Verb::Why
+            | Verb::Break
+            | Verb::Watch
+    )
+}
+
+/// What is wrong with an operand that is no address.
+fn fault_reason(fault: OperandFault) -> &'static [u8]
+    ensures { result.now ≡ fault_reason fault }
+{
+    match fault {
+        OperandFault::Misformed => {
+            b" is no address: a track and a sector, each 00 to 63, or a label"
+        }
+        OperandFault::Unknown => b" names no label of the last source",
+        OperandFault::Outside => b" is not on the drum",
     }
 }
 
-/// Appends why a line is in no command's form.
-#[tactic(auto, unfolding(crate::specs::Monitor::misformed_text))]
-fn push_misformed<A: Allocator>(text: &mut Vec<u8, A>, line: &[u8]) -> Result<(), AllocError>
-    ensures { OnOk result (text.new.items ≡ text.old.items ++ misformed_text line.now) }
+/// Appends why a line with this operand is in no command's form.
+fn push_address_reason<A: Allocator>(
+    text: &mut Vec<u8, A>,
+    address: Result<Address, OperandFault>,
+    operand: &[u8],
+    verb: Verb,
+) -> Result<(), AllocError>
+    ensures { OnOk result (text.new.items
+        ≡ text.old.items ++ address_reason address operand.now verb) }
 {
-    let verb = verb_named(split_word(line).word);
-    push_pieces(
+    match address {
+        Ok(_) => text.extend_from_slice(form_of(verb)),
+        Err(fault) => push_pieces(
+            text,
+            &[Piece::Text(operand), Piece::Text(fault_reason(fault))],
+        ),
+    }
+}
+
+/// Appends why a line is in no command's form whose command takes an address first.
+#[tactic(auto, unfolding(crate::specs::Monitor::operand_reason))]
+fn push_operand_reason<A: Allocator>(
+    text: &mut Vec<u8, A>,
+    names: &[(Name, u16)],
+    counter: Address,
+    verb: Verb,
+    operands: &[u8],
+) -> Result<(), AllocError>
+    ensures { OnOk result (text.new.items
+        ≡ text.old.items ++ operand_reason names.now counter verb operands.now) }
+{
+    if has_no_word(operands) {
+        return text.extend_from_slice(form_of(verb));
+    }
+    let operand = split_word(operands).word;
+    let address = address_operand(&Symbols { names }, u64::from(counter.number()), operand);
+    push_address_reason(text, address, operand, verb)
+}
+
+/// Appends why a line is in no command's form.
+fn push_reason<A: Allocator>(
+    text: &mut Vec<u8, A>,
+    names: &[(Name, u16)],
+    counter: Address,
+    verb: Option<Verb>,
+    operands: &[u8],
+) -> Result<(), AllocError>
+    ensures { OnOk result (text.new.items
+        ≡ text.old.items ++ reason_by names.now counter verb operands.now) }
+{
+    match verb {
+        None => text.extend_from_slice(b"there is no such command, help lists them"),
+        Some(verb) if takes_address(verb) => {
+            push_operand_reason(text, names, counter, verb, operands)
+        }
+        Some(verb) => text.extend_from_slice(form_of(verb)),
+    }
+}
+
+/// Appends a refusal that says why a line is in no command's form.
+#[tactic(auto, unfolding(crate::specs::Monitor::misformed_text))]
+fn push_misformed<A: Allocator>(
+    text: &mut Vec<u8, A>,
+    names: &[(Name, u16)],
+    counter: Address,
+    line: &[u8],
+) -> Result<(), AllocError>
+    ensures { OnOk result (text.new.items
+        ≡ text.old.items ++ misformed_text names.now counter line.now) }
+{
+    let command = split_word(line);
+    text.extend_from_slice(b"? 1 Form: ")?;
+    push_reason(
         text,
-        &[
-            Piece::Text(b"? 1 Form: "),
-            Piece::Text(reason_by(verb)),
-            Piece::Text(b"\n"),
-        ],
-    )
+        names,
+        counter,
+        verb_named(command.word),
+        command.behind,
+    )?;
+    text.push(b'\n')?;
+    Ok(())
 }
 
 /// Hands a line that is in no command's form to the laboratory, whose refusal is replaced by one with a reason.
@@ -210,13 +377,19 @@ fn misform<A: Allocator + Copy>(
     line: &LineBytes,
     reply: &mut Vec<u8, A>,
 ) -> Result<(), AllocError>
-    ensures reply { OnOk result (reply.new.items
-        ≡ reply.old.items ++ misformed_text line.now.front) }
+    ensures reply { OnOk result (reply.new.items ≡ reply.old.items
+        ++ misformed_text (names_at recorder.old) (counter_at recorder.old) line.now.front) }
     ensures after { (text : List ℕ) → line.now ≡ kept_of text
         → OnOk result (recorder.new
         ≡ after_lines script_language recorder.old (stand_in line.now ∷ [])) }
 {
-    push_misformed(reply, line.front())?;
+    let laboratory = recorder.answers();
+    push_misformed(
+        reply,
+        laboratory.labels(),
+        laboratory.debugger().look().counter,
+        line.front(),
+    )?;
     let mut refusal = Vec::new(alloc);
     recorder.answer_kept(line, &mut refusal)
 }
@@ -233,6 +406,19 @@ fn begin_anew<A: Allocator + Copy>(
     let laboratory = Laboratory::new(alloc)?;
     recorder.begin_anew(laboratory);
     reply.extend_from_slice(b"new\n")
+}
+
+/// What a line asks for where a laboratory stands.
+fn typed_at<A: Allocator + Copy>(laboratory: &Laboratory<A>, line: &LineBytes) -> Typed
+    ensures { result ≡ typed_of (is_some laboratory.now.opened) (labels_of laboratory.now.source)
+        laboratory.now.debugger.state.core.panel.counter line.now }
+{
+    typed_of(
+        laboratory.has_open_source(),
+        laboratory.labels(),
+        laboratory.debugger().look().counter,
+        line,
+    )
 }
 
 /// Does what a line asks for of which this was kept.
@@ -253,11 +439,13 @@ fn perform<A: Allocator + Copy>(
         recorder.old (meaning_of typed line.now)) }
 {
     match typed {
-        Typed::Itself => recorder.answer_kept(line, reply),
+        Typed::Itself => explain_kept(alloc, recorder, line, reply),
         Typed::Misformed => misform(alloc, recorder, line, reply),
+        Typed::Placed(address) => place(alloc, recorder, address, line.front(), reply),
         Typed::Go(address) => go(alloc, recorder, address, reply),
         Typed::Put(address, word) => put(alloc, recorder, address, word, reply),
         Typed::Told(telling, limit) => tell(alloc, recorder, telling, limit, line, reply),
+        Typed::Asked(question) => push_answer(reply, &question, recorder.answers()),
         Typed::Transcript => reply.extend_from_slice(recorder.transcript()),
         Typed::New => begin_anew(alloc, recorder, reply),
         Typed::Help => push_help(reply),
@@ -276,13 +464,20 @@ impl<A: Allocator + Copy> Monitor<Laboratory<A>, A> {
             recorder: Recorder::new(alloc, laboratory),
         })
     }
+
+    /// The laboratory in which its lines are answered.
+    pub fn laboratory(&self) -> &Laboratory<A>
+        ensures { result.now ≡ self.now.standing }
+    {
+        self.recorder.answers()
+    }
 }
 
 impl<A: Allocator + Copy> Answers<A> for Monitor<Laboratory<A>, A> {
     ghost language = { monitor_language };
 
     fn answer(&mut self, line: &LineBytes, reply: &mut Vec<u8, A>) -> Result<(), AllocError> {
-        let typed = typed_of(self.recorder.answers().has_open_source(), line);
+        let typed = typed_at(self.recorder.answers(), line);
         perform(self.alloc, &mut self.recorder, typed, line, reply)
     }
 

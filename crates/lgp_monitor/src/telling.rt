@@ -1,6 +1,7 @@
 //! Runs that are told: order by order, added up, or along the drum.
 
 ghost use Rattle.std.specs.Prelude.{◌≡◌, ◌++◌, OnOk};
+ghost use Rattle.lgp_debugger.specs.Debugging.{order_origins};
 ghost use Rattle.lgp_lab.specs.HistoryCommands.{answer_to_run, orders_run};
 ghost use Rattle.lgp_lab.specs.Standing.{labels_of};
 ghost use Rattle.lgp_monitor.specs.Telling.{pictured, profiled, told_text, traced};
@@ -37,7 +38,7 @@ const NO_MEMORY: RunFault = RunFault {
 struct OrderByOrder;
 
 impl Teller for OrderByOrder {
-    ghost told = { λ _ names s orders. traced names s orders };
+    ghost told = { λ _ names s origins orders. traced names s origins orders };
 
     fn run<A: Allocator + Copy>(
         &self,
@@ -58,7 +59,7 @@ impl Teller for OrderByOrder {
 struct AddedUp;
 
 impl Teller for AddedUp {
-    ghost told = { λ _ names s orders. profiled names s orders };
+    ghost told = { λ _ names s _ orders. profiled names s orders };
 
     fn run<A: Allocator + Copy>(
         &self,
@@ -87,7 +88,7 @@ impl Teller for AddedUp {
 struct AlongTheDrum;
 
 impl Teller for AlongTheDrum {
-    ghost told = { λ _ names s orders. pictured names s orders };
+    ghost told = { λ _ names s _ orders. pictured names s orders };
 
     fn run<A: Allocator + Copy>(
         &self,
@@ -118,7 +119,8 @@ pub fn run_told<A: Allocator + Copy>(
 ) -> Result<(), AllocError>
     ensures reply { OnOk result (reply.new.items ≡ reply.old.items
         ++ (told_text telling (labels_of laboratory.old.source) laboratory.old.debugger.state
-        (orders_run limit laboratory.old.debugger) ++ (answer_to_run laboratory.old limit).reply)) }
+        (order_origins laboratory.old.debugger) (orders_run limit laboratory.old.debugger)
+        ++ (answer_to_run laboratory.old limit).reply)) }
     ensures after { OnOk result (laboratory.new ≡ (answer_to_run laboratory.old limit).after) }
 {
     match telling {

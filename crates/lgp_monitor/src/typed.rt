@@ -1,15 +1,18 @@
 //! What a typed line asks for.
 
 ghost use Rattle.std.specs.Prelude.{◌≡◌, ◌==◌, slice_index};
+ghost use Rattle.std.specs.Option.{option_copied};
 ghost use Rattle.std.specs.Str.{byte};
-ghost use Rattle.lgp_monitor.specs.Typed.{fraction_at, go_typed, help_typed, lone, order_at, put_typed, stands_for_itself, told_typed, typed_by, typed_line, typed_of, value_at, whole_at, whole_word};
+ghost use Rattle.lgp_monitor.specs.Typed.{address_at, digits_or_fraction, fraction_at, go_typed, help_typed, lone, numbers_typed, operand_at, operation_at, placed_range, placed_typed, point_at, put_by, put_typed, range_at, stands_for_itself, told_typed, typed_by, typed_line, typed_of, value_at, whole_at, why_typed, word_by};
 
+use crate::question::Question;
 use crate::telling::Telling;
 use crate::verb::{Verb, verb_named};
+use lgp_assembler::{Name, OperandFault, Symbols, address_operand, operation_word};
 use lgp_fraction::Fraction;
-use lgp_lab::{is_command, lone_number};
+use lgp_lab::{Span, is_command, lone_number};
 use lgp_stream::{LineBytes, Split, has_no_word, split_word};
-use lgp_word::{Address, Op, Order, Word, encode, read_decimal};
+use lgp_word::{Address, Word, read_digits};
 
 /// What a typed line asks for.
 #[derive(Clone, Copy)]
@@ -18,12 +21,16 @@ pub enum Typed {
     Itself,
     /// It is in no command's form.
     Misformed,
+    /// What it says as a line of a script, with this address in the place of its first operand.
+    Placed(Address),
     /// The machine started at an address.
     Go(Address),
     /// A word put at an address.
     Put(Address, Word),
     /// A run of at most so many orders that is told.
     Told(Telling, u64),
+    /// Something that is shown and changes nothing.
+    Asked(Question),
     /// The script lines so far.
     Transcript,
     /// A new laboratory.
@@ -34,51 +41,85 @@ pub enum Typed {
     HelpOf(Verb),
 }
 
-/// The word of an order, its letter and an address.
-#[tactic(auto, unfolding(crate::specs::Typed::order_at))]
-fn order_at(operands: &[u8]) -> Option<Word>
-    ensures { result ≡ order_at operands.now }
+/// The address that a text is, by the names of the last source and the counter.
+#[tactic(auto, unfolding(crate::specs::Typed::address_at))]
+fn address_at(names: &[(Name, u16)], counter: Address, text: &[u8]) -> Option<Address>
+    ensures { result ≡ address_at names.now counter text.now }
 {
-    let letter = split_word(operands);
-    let address = split_word(letter.behind);
-    if letter.word.len() != 1 || !has_no_word(address.behind) {
-        return None;
-    }
-    match (Op::of_letter(letter.word[0]), Address::parse(address.word)) {
-        (Some(op), Some(address)) => Some(encode(Order {
-            minus: false,
-            op,
-            address,
-        })),
-        _ => None,
+    let symbols = Symbols { names };
+    match address_operand(&symbols, u64::from(counter.number()), text) {
+        Ok(address) => Some(address),
+        Err(_) => None,
     }
 }
 
-/// The word of a whole number with its point behind place 30.
-fn whole_word(minus: bool, size: u64) -> Option<Word>
-    ensures { result ≡ whole_word minus size }
+/// A word, where there is one.
+fn word_by(word: Result<Word, OperandFault>) -> Option<Word>
+    ensures { result ≡ word_by word }
 {
-    if minus {
-        if size > 1 << 30 {
-            return None;
-        }
-        return Some(Word::of_bits((((1 << 32) - 2 * size) % (1 << 32)) as u32));
+    match word {
+        Ok(word) => Some(word),
+        Err(_) => None,
     }
-    if size >= 1 << 30 {
-        return None;
-    }
-    Some(Word::of_bits((2 * size) as u32))
 }
 
-/// The word of a whole number's text.
+/// The first of some operands.
+fn operand_at(operands: &[u8]) -> Option<&[u8]>
+    ensures { option_copied result ≡ operand_at operands.now }
+{
+    if has_no_word(operands) {
+        return None;
+    }
+    Some(split_word(operands).word)
+}
+
+/// The word of an operation, in the place of the word.
+#[tactic(auto, unfolding(crate::specs::Typed::operation_at))]
+fn operation_at(names: &[(Name, u16)], place: Address, line: &[u8]) -> Option<Word>
+    ensures { result ≡ operation_at names.now place line.now }
+{
+    let operation = split_word(line);
+    let first = split_word(operation.behind);
+    let second = split_word(first.behind);
+    if !has_no_word(second.behind) {
+        return None;
+    }
+    word_by(operation_word(
+        &Symbols { names },
+        u64::from(place.number()),
+        operation.word,
+        operand_at(operation.behind),
+        operand_at(first.behind),
+    ))
+}
+
+/// The place behind which a number's point is.
+fn point_at(operands: &[u8]) -> &[u8]
+    ensures { result.now ≡ point_at operands.now }
+{
+    if has_no_word(operands) {
+        return b"30";
+    }
+    split_word(operands).word
+}
+
+/// The word of a whole number.
 #[tactic(auto, unfolding(crate::specs::Typed::whole_at))]
-fn whole_at(text: &[u8]) -> Option<Word>
-    ensures { result ≡ whole_at text.now }
+fn whole_at(names: &[(Name, u16)], place: Address, operands: &[u8]) -> Option<Word>
+    ensures { result ≡ whole_at names.now place operands.now }
 {
-    match text {
-        [b'-', digits @ ..] => whole_word(true, read_decimal(digits, 10)?),
-        _ => whole_word(false, read_decimal(text, 10)?),
+    let number = split_word(operands);
+    let point = split_word(number.behind);
+    if !has_no_word(point.behind) {
+        return None;
     }
+    word_by(operation_word(
+        &Symbols { names },
+        u64::from(place.number()),
+        b"int",
+        Some(number.word),
+        Some(point_at(number.behind)),
+    ))
 }
 
 /// The word of a fraction's text.
@@ -92,49 +133,131 @@ fn fraction_at(text: &[u8]) -> Option<Word>
     }
 }
 
+/// The word of eight digits or of a fraction.
+fn digits_or_fraction(text: &[u8]) -> Option<Word>
+    ensures { result ≡ digits_or_fraction text.now }
+{
+    match read_digits(text) {
+        Some(word) => Some(word),
+        None => fraction_at(text),
+    }
+}
+
 /// The word that stands behind an address.
 #[tactic(auto, unfolding(crate::specs::Typed::value_at))]
-fn value_at(operands: &[u8]) -> Option<Word>
-    ensures { result ≡ value_at operands.now }
+fn value_at(names: &[(Name, u16)], place: Address, operands: &[u8]) -> Option<Word>
+    ensures { result ≡ value_at names.now place operands.now }
 {
     let first = split_word(operands);
     if first.word == b"=".as_slice() {
-        let number = split_word(first.behind);
-        if !has_no_word(number.behind) {
-            return None;
-        }
-        return whole_at(number.word);
+        return whole_at(names, place, first.behind);
     }
-    if has_no_word(first.behind) {
-        fraction_at(first.word)
-    } else {
-        order_at(operands)
+    if !has_no_word(first.behind) {
+        return operation_at(names, place, operands);
+    }
+    match digits_or_fraction(first.word) {
+        Some(word) => Some(word),
+        None => operation_at(names, place, operands),
+    }
+}
+
+/// A word for an address.
+fn put_by(names: &[(Name, u16)], address: Option<Address>, operands: &[u8]) -> Typed
+    ensures { result ≡ put_by names.now address operands.now }
+{
+    let Some(address) = address else {
+        return Typed::Misformed;
+    };
+    match value_at(names, address, operands) {
+        Some(word) => Typed::Put(address, word),
+        None => Typed::Misformed,
     }
 }
 
 /// The operands of `put`.
 #[tactic(auto, unfolding(crate::specs::Typed::put_typed))]
-fn put_typed(operands: &[u8]) -> Typed
-    ensures { result ≡ put_typed operands.now }
+fn put_typed(names: &[(Name, u16)], counter: Address, operands: &[u8]) -> Typed
+    ensures { result ≡ put_typed names.now counter operands.now }
 {
     let Split { word, behind } = split_word(operands);
-    match (Address::parse(word), value_at(behind)) {
-        (Some(address), Some(word)) => Typed::Put(address, word),
-        _ => Typed::Misformed,
-    }
+    put_by(names, address_at(names, counter, word), behind)
 }
 
 /// The operand of `go`.
 #[tactic(auto, unfolding(crate::specs::Typed::go_typed))]
-fn go_typed(operands: &[u8]) -> Typed
-    ensures { result ≡ go_typed operands.now }
+fn go_typed(names: &[(Name, u16)], counter: Address, operands: &[u8]) -> Typed
+    ensures { result ≡ go_typed names.now counter operands.now }
 {
     let Split { word, behind } = split_word(operands);
     if !has_no_word(behind) {
         return Typed::Misformed;
     }
-    match Address::parse(word) {
+    match address_at(names, counter, word) {
         Some(address) => Typed::Go(address),
+        None => Typed::Misformed,
+    }
+}
+
+/// The operand of a script's command that takes an address.
+#[tactic(auto, unfolding(crate::specs::Typed::placed_typed))]
+fn placed_typed(names: &[(Name, u16)], counter: Address, operands: &[u8]) -> Typed
+    ensures { result ≡ placed_typed names.now counter operands.now }
+{
+    let Split { word, behind } = split_word(operands);
+    if !has_no_word(behind) {
+        return Typed::Misformed;
+    }
+    match address_at(names, counter, word) {
+        Some(address) => Typed::Placed(address),
+        None => Typed::Misformed,
+    }
+}
+
+/// A range of words.
+#[tactic(auto, unfolding(crate::specs::Typed::range_at))]
+fn range_at(names: &[(Name, u16)], counter: Address, operands: &[u8]) -> Option<Span>
+    ensures { result ≡ range_at names.now counter operands.now }
+{
+    let Split { word, behind } = split_word(operands);
+    match (address_at(names, counter, word), lone_number(behind)) {
+        (Some(address), Some(count)) => Span::new(address, count),
+        _ => None,
+    }
+}
+
+/// The operands of a script's command that takes a range of words.
+#[tactic(auto, unfolding(crate::specs::Typed::placed_range))]
+fn placed_range(names: &[(Name, u16)], counter: Address, operands: &[u8]) -> Typed
+    ensures { result ≡ placed_range names.now counter operands.now }
+{
+    match range_at(names, counter, operands) {
+        Some(range) => Typed::Placed(range.first()),
+        None => Typed::Misformed,
+    }
+}
+
+/// The operands of `numbers`.
+#[tactic(auto, unfolding(crate::specs::Typed::numbers_typed))]
+fn numbers_typed(names: &[(Name, u16)], counter: Address, operands: &[u8]) -> Typed
+    ensures { result ≡ numbers_typed names.now counter operands.now }
+{
+    match range_at(names, counter, operands) {
+        Some(range) => Typed::Asked(Question::Numbers(range)),
+        None => Typed::Misformed,
+    }
+}
+
+/// The operand of `why`.
+#[tactic(auto, unfolding(crate::specs::Typed::why_typed))]
+fn why_typed(names: &[(Name, u16)], counter: Address, operands: &[u8]) -> Typed
+    ensures { result ≡ why_typed names.now counter operands.now }
+{
+    let Split { word, behind } = split_word(operands);
+    if !has_no_word(behind) {
+        return Typed::Misformed;
+    }
+    match address_at(names, counter, word) {
+        Some(address) => Typed::Asked(Question::Why(address)),
         None => Typed::Misformed,
     }
 }
@@ -180,12 +303,18 @@ fn lone(asked: Typed, operands: &[u8]) -> Typed
 }
 
 /// A command with its operands.
-fn typed_by(verb: Option<Verb>, operands: &[u8]) -> Typed
-    ensures { result ≡ typed_by verb operands.now }
+fn typed_by(names: &[(Name, u16)], counter: Address, verb: Option<Verb>, operands: &[u8]) -> Typed
+    ensures { result ≡ typed_by names.now counter verb operands.now }
 {
     match verb {
-        Some(Verb::Put) => put_typed(operands),
-        Some(Verb::Go) => go_typed(operands),
+        Some(Verb::Put) => put_typed(names, counter, operands),
+        Some(Verb::Go) => go_typed(names, counter, operands),
+        Some(Verb::Words | Verb::Show) => placed_range(names, counter, operands),
+        Some(Verb::Break | Verb::Watch) => placed_typed(names, counter, operands),
+        Some(Verb::Numbers) => numbers_typed(names, counter, operands),
+        Some(Verb::Why) => why_typed(names, counter, operands),
+        Some(Verb::Labels) => lone(Typed::Asked(Question::Labels), operands),
+        Some(Verb::Rules) => lone(Typed::Asked(Question::Rules), operands),
         Some(Verb::Trace) => told_typed(Telling::Trace, operands),
         Some(Verb::Profile) => told_typed(Telling::Profile, operands),
         Some(Verb::Drum) => told_typed(Telling::Drum, operands),
@@ -198,14 +327,14 @@ fn typed_by(verb: Option<Verb>, operands: &[u8]) -> Typed
 
 /// What a line asks for where it is not taken as it stands.
 #[tactic(auto, unfolding(crate::specs::Typed::typed_line))]
-fn typed_line(line: &[u8]) -> Typed
-    ensures { result ≡ typed_line line.now }
+fn typed_line(names: &[(Name, u16)], counter: Address, line: &[u8]) -> Typed
+    ensures { result ≡ typed_line names.now counter line.now }
 {
     if is_command(line) {
         return Typed::Itself;
     }
     let Split { word, behind } = split_word(line);
-    typed_by(verb_named(word), behind)
+    typed_by(names, counter, verb_named(word), behind)
 }
 
 /// Whether a line begins with a semicolon.
@@ -225,13 +354,13 @@ fn stands_for_itself(is_open: bool, line: &LineBytes) -> bool
     is_open || line.is_longer() || line.has_no_word() || is_comment(line.front())
 }
 
-/// What a line asks for, where a source is open and where none is.
+/// What a line asks for, where a source is open and where none is, with the names of the last source and the counter.
 #[tactic(auto, unfolding(crate::specs::Typed::typed_of))]
-pub fn typed_of(is_open: bool, line: &LineBytes) -> Typed
-    ensures { result ≡ typed_of is_open line.now }
+pub fn typed_of(is_open: bool, names: &[(Name, u16)], counter: Address, line: &LineBytes) -> Typed
+    ensures { result ≡ typed_of is_open names.now counter line.now }
 {
     if stands_for_itself(is_open, line) {
         return Typed::Itself;
     }
-    typed_line(line.front())
+    typed_line(names, counter, line.front())
 }

@@ -20,11 +20,13 @@ pub enum Verb {
     Trace,
     Profile,
     Drum,
+    Why,
     Back,
     Last,
     Panel,
     Words,
     Show,
+    Numbers,
     Printed,
     Dump,
     Source,
@@ -33,13 +35,15 @@ pub enum Verb {
     Break,
     Watch,
     Drop,
+    Rules,
+    Labels,
     Transcript,
     New,
     Help,
 }
 
 /// The commands by their first word.
-pub const VERBS: [Named<Verb>; 27] = [
+pub const VERBS: [Named<Verb>; 31] = [
     Named {
         name: b"put",
         value: Verb::Put,
@@ -85,6 +89,10 @@ pub const VERBS: [Named<Verb>; 27] = [
         value: Verb::Drum,
     },
     Named {
+        name: b"why",
+        value: Verb::Why,
+    },
+    Named {
         name: b"back",
         value: Verb::Back,
     },
@@ -103,6 +111,10 @@ pub const VERBS: [Named<Verb>; 27] = [
     Named {
         name: b"show",
         value: Verb::Show,
+    },
+    Named {
+        name: b"numbers",
+        value: Verb::Numbers,
     },
     Named {
         name: b"printed",
@@ -137,6 +149,14 @@ pub const VERBS: [Named<Verb>; 27] = [
         value: Verb::Drop,
     },
     Named {
+        name: b"rules",
+        value: Verb::Rules,
+    },
+    Named {
+        name: b"labels",
+        value: Verb::Labels,
+    },
+    Named {
         name: b"transcript",
         value: Verb::Transcript,
     },
@@ -163,10 +183,14 @@ pub fn form_of(verb: Verb) -> &'static [u8]
     ensures { result.now ≡ form_of verb }
 {
     match verb {
-        Verb::Put => b"put ttss WORD, put ttss ORDER, put ttss = NUMBER or put ttss FRACTION",
+        Verb::Put => {
+            b"put ttss WORD, FRACTION or OPERATION as in a source, or put ttss = NUMBER or = NUMBER POINT"
+        }
         Verb::Go => b"go ttss",
         Verb::Mount => b"mount TEXT",
-        Verb::Press => b"press BUTTON or press SWITCH up or press SWITCH down",
+        Verb::Press => {
+            b"press normal, oneop, manual, start, clear, fill, execute, compute or read, or bp32, bp16, bp8, bp4, transfer or sixbit with up or down"
+        }
         Verb::Type => b"type TEXT",
         Verb::Turn => b"turn NUMBER",
         Verb::Orders => b"orders NUMBER",
@@ -174,11 +198,13 @@ pub fn form_of(verb: Verb) -> &'static [u8]
         Verb::Trace => b"trace NUMBER",
         Verb::Profile => b"profile NUMBER",
         Verb::Drum => b"drum NUMBER",
+        Verb::Why => b"why ttss",
         Verb::Back => b"back NUMBER",
         Verb::Last => b"last",
         Verb::Panel => b"panel",
         Verb::Words => b"words ttss NUMBER, at most 64",
         Verb::Show => b"show ttss NUMBER, at most 64",
+        Verb::Numbers => b"numbers ttss NUMBER, at most 64",
         Verb::Printed => b"printed",
         Verb::Dump => b"dump",
         Verb::Source => b"source, then its lines, then a point alone",
@@ -187,6 +213,8 @@ pub fn form_of(verb: Verb) -> &'static [u8]
         Verb::Break => b"break ttss",
         Verb::Watch => b"watch ttss",
         Verb::Drop => b"drop NUMBER",
+        Verb::Rules => b"rules",
+        Verb::Labels => b"labels",
         Verb::Transcript => b"transcript",
         Verb::New => b"new",
         Verb::Help => b"help or help COMMAND",

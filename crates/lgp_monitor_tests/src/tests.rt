@@ -1,6 +1,7 @@
 //! Typed lines and what is written for them. A helper without clauses stands around each call, and a test is a table of texts with what
 //! is written for each.
 
+mod attending;
 mod sessions;
 
 use lgp_lab::{FeedOf, READS, SinkOf};
@@ -13,7 +14,7 @@ use std::process::Abort;
 /// Typed lines, what is written for them, and how many replies begin with a question mark.
 type Row = (&'static [u8], &'static [u8], u64);
 
-const ROWS: [Row; 12] = [
+const ROWS: [Row; 18] = [
     // Words by order, number and fraction: the machine's word of n at 30 is 2n, and -.5 is -2^30 of 2^31 steps.
     (
         b"put 0050 = 385\nput 0051 = -1\nput 0052 -.5\nput 0053 h 6363\nwords 0050 4\n",
@@ -34,8 +35,14 @@ const ROWS: [Row; 12] = [
     // Refused with a reason, and in the transcript.
     (
         b"go 0164\nput 0000 = 1073741824\n\njump\ntranscript\n",
-        b"? 1 Form: go ttss\n? 1 Form: put ttss WORD, put ttss ORDER, put ttss = NUMBER or put ttss FRACTION\n? 1 Form: there is no such command, help lists them\ngo 0164\nput 0000 = 1073741824\n\njump\n",
+        b"? 1 Form: 0164 is no address: a track and a sector, each 00 to 63, or a label\n? 1 Form: put ttss WORD, FRACTION or OPERATION as in a source, or put ttss = NUMBER or = NUMBER POINT\n? 1 Form: there is no such command, help lists them\ngo 0164\nput 0000 = 1073741824\n\njump\n",
         3,
+    ),
+    // The refusals of the script language, with their reasons: at work a word, an order and a tape, then word times; in manual the rest.
+    (
+        b"press start\nput 0000 00000002\nput *+1 z\nmount 12\nturn 1\npress manual\ndrop 0\nback 1\nlast\nlist\nmount 12A\ntranscript\n",
+        b"live\n? 2 Moving: the machine is at work, press manual halts it\n? 2 Moving: the machine is at work, press manual halts it\n? 2 Moving: the machine is at work, press manual halts it\n? 3 AtWork: the machine is at work, and turn is for one at rest\nlive\n? 6 NoRule: no rule has this number, rules lists them\n? 7 TooFar 0\n? 8 NoHit 0\n? 10 NoImage: no source has assembled yet\n? 12 BadSign 2: the byte at this place of the text, counted from 0, begins no sign of a tape\npress start\nput 0000 00000002\nput 0001 00000000\nmount 12\nturn 1\npress manual\ndrop 0\nback 1\nlast\nlist\nmount 12A\n",
+        9,
     ),
     // A new laboratory, with an empty transcript.
     (
@@ -52,14 +59,21 @@ const ROWS: [Row; 12] = [
     // Two orders told one by one; the transcript has the run.
     (
         b"put 0000 b 0003\nput 0001 z 0000\nput 0003 = 4\npress start\ntrace 9\ntranscript\n",
-        b"ok\nok\nok\nlive\n  clock  at           order           find take seek  act   sum  accumulator\n      0  0000         b 0003            64    1   26    1    92  00000000 -> 00000008\n     92  0001         z 0000            45    1    1    1    48  00000008\nran 2 rest\nput 0000 0001000j\nput 0001 00000000\nput 0003 00000008\npress start\nrun 9\n",
+        b"ok\nok\nok\nlive\n  clock  at           order           find take seek  act   sum  accumulator\n      0  0000         b 0003            64    1   26    1    92  00000000 -> 00000008\n        this order was put there by hand, clock 0; before it was z 0000\n     92  0001         z 0000            45    1    1    1    48  00000008\nran 2 rest\nput 0000 0001000j\nput 0001 00000000\nput 0003 00000008\npress start\nrun 9\n",
         0,
     ),
     // No order, one that a rule stops behind, one before rest, and none at rest. The operands stand in the transcript as they were typed.
     (
         b"put 0000 b 0003\nput 0001 z 0000\nbreak 0001\npress start\ntrace 0\ntrace   9  \ntrace 9999999999\ntrace 3\ntranscript\n",
-        b"ok\nok\nrule 0\nlive\n  clock  at           order           find take seek  act   sum  accumulator\nran 0 limit\n  clock  at           order           find take seek  act   sum  accumulator\n      0  0000         b 0003            64    1   26    1    92  00000000\nran 1 rule 0\n  clock  at           order           find take seek  act   sum  accumulator\n     92  0001         z 0000            45    1    1    1    48  00000000\nran 1 rest\n  clock  at           order           find take seek  act   sum  accumulator\nran 0 rest\nput 0000 0001000j\nput 0001 00000000\nbreak 0001\npress start\nrun 0\nrun   9  \nrun 9999999999\nrun 3\n",
+        b"ok\nok\nrule 0\nlive\n  clock  at           order           find take seek  act   sum  accumulator\nran 0 limit\n  clock  at           order           find take seek  act   sum  accumulator\n      0  0000         b 0003            64    1   26    1    92  00000000\n        this order was put there by hand, clock 0; before it was z 0000\nran 1 rule 0\n  clock  at           order           find take seek  act   sum  accumulator\n     92  0001         z 0000            45    1    1    1    48  00000000\nran 1 rest\n  clock  at           order           find take seek  act   sum  accumulator\nran 0 rest\nput 0000 0001000j\nput 0001 00000000\nbreak 0001\npress start\nrun 0\nrun   9  \nrun 9999999999\nrun 3\n",
         0,
+    ),
+    // An order that another one put there, with a label, one that was put by hand, and a word that no kept step changed. It stands for
+    // no line but where it is in no command's form.
+    (
+        b"source\nfirst z\n end\n.\nput 0000 y 0001\nput 0001 u 0005\npress start\nrun 1\nwhy 0001\nwhy 0000\nwhy 0002\nwhy\nwhy 0164\nwhy 0000 1\ntranscript\n",
+        b"cells 1 start none\nok\nok\nlive\nran 1 limit\n0001: 000f0000 u 0000 first = 327680, put there by y 0001 at 0000 first, clock 0, 1 order ago; before it was u 0005\n0000 first: 00020004 y 0001 = 65538, put there by hand, clock 0; before it was z 0000\n0002: 00000000 z 0000 = 0, changed by no kept step\n? 1 Form: why ttss\n? 1 Form: 0164 is no address: a track and a sector, each 00 to 63, or a label\n? 1 Form: why ttss\nsource\nfirst z\n end\n.\nput 0000 00020004\nput 0001 000f0014\npress start\nrun 1\nwhy\nwhy 0164\nwhy 0000 1\n",
+        3,
     ),
     // Refused as every line in no command's form.
     (
@@ -82,8 +96,32 @@ const ROWS: [Row; 12] = [
     // The names of the last source that assembled are the labels, whatever stands on the drum. Of two names of a place the first is its label.
     (
         b"source\nfirst b four\n z\nfour word 00000004\nsame org 0000\n end\n.\nput 0000 b 0002\nput 0001 z 0000\nput 0002 = 1\npress start\ntrace 9\n",
-        b"cells 3 start none\nok\nok\nok\nlive\n  clock  at           order           find take seek  act   sum  accumulator\n      0  0000 first   b 0002 four       64    1   17    1    83  00000000 -> 00000002\n     83  0001         z 0000            54    1    1    1    57  00000002\nran 2 rest\n",
+        b"cells 3 start none\nok\nok\nok\nlive\n  clock  at           order           find take seek  act   sum  accumulator\n      0  0000 first   b 0002 four       64    1   17    1    83  00000000 -> 00000002\n        this order was put there by hand, clock 0; before it was z 0000\n     83  0001         z 0000            54    1    1    1    57  00000002\nran 2 rest\n",
         0,
+    ),
+    // Addresses by the names of the last source, by `*` for the counter, and a little further; the transcript has them by number.
+    (
+        b"source\nfirst b four\n z\nfour word 00000004\n end\n.\nlabels\nput four = -1\nput first+1 u first\nwords four 1\nshow  first  2\nbreak first+1\nwatch four\nbreak *\nrules\ntranscript\n",
+        b"cells 3 start none\nfirst 0000\nfour 0002\nok\nok\n0002 wwwwwwwq\n0000 z 0000\n0001 u 0000\nrule 0\nrule 1\nrule 2\nrule 0 break 0001\nrule 1 watch 0002 four\nrule 2 break 0000 first\nsource\nfirst b four\n z\nfour word 00000004\n end\n.\nput 0002 wwwwwwwq\nput 0001 000f0000\nwords 0002 1\nshow 0000  2\nbreak 0001\nwatch 0002\nbreak 0000\n",
+        0,
+    ),
+    // Words by operations of a source, by digits at a label, and by numbers with a point: 5 behind 10 is 5 times 2 to the power 21.
+    (
+        b"source\nhere z\n end\n.\nput 0005 int 5 10\nput 0006 = 3 29\nput 0007 z\nput 0008 p =a\nput 0009 -t *+1\nput here 0000000q\nput here+1 .5\nwords 0000 2\nwords 0005 5\n",
+        b"cells 1 start none\nok\nok\nok\nok\nok\nok\nok\n0000 0000000q\n0001 40000000\n0005 00f00000\n0006 0000000j\n0007 00000000\n0008 00083900\n0009 800g0028\n",
+        0,
+    ),
+    // Words as fractions and as whole numbers: one step is about .0000000009.
+    (
+        b"put 0002 = -1\nput 0003 = 385\nput 0004 -.5\nnumbers 0002 4\nrules\nlabels\ntranscript\n",
+        b"ok\nok\nok\n0002 wwwwwwwq  -.0000000009  -1\n0003 00000302   .0000003586  385\n0004 j0000000  -.5000000000  -536870912\n0005 00000000   .0000000000  0\nput 0002 wwwwwwwq\nput 0003 00000302\nput 0004 j0000000\n",
+        0,
+    ),
+    // Why an operand is no address.
+    (
+        b"go 2064\nbreak none+1\nwords 6363+1 1\nnumbers 0000-1 2\nwords 0000 65\nwatch\npress run\n",
+        b"? 1 Form: 2064 is no address: a track and a sector, each 00 to 63, or a label\n? 1 Form: none+1 names no label of the last source\n? 1 Form: 6363+1 is not on the drum\n? 1 Form: 0000-1 is not on the drum\n? 1 Form: words ttss NUMBER, at most 64\n? 1 Form: watch ttss\n? 1 Form: press normal, oneop, manual, start, clear, fill, execute, compute or read, or bp32, bp16, bp8, bp4, transfer or sixbit with up or down\n",
+        7,
     ),
 ];
 
@@ -127,7 +165,7 @@ const LINES: usize = 27;
 const TOLD: [(&[u8], &[u8]); 2] = [
     (
         b"trace 4\n",
-        b"  clock  at           order           find take seek  act   sum  accumulator\n      0  0000         r 0017            64    1   24    1    90  00000000\n        0017: 000f0000 u 0000 = 327680 -> 000f0008 u 0002 = 327684\n     90  0001         u 0004            47    1    1    1    50  00000000\n    140  0004         b 0020            24    1   15    1    41  00000000 -> 00000100\n    181  0005         y 0009            56    1   35    1    93  00000100\n        0009: 000q0000 a 0000 = 458752 -> 000q0100 a 0100 = 458880\nran 4 limit\n",
+        b"  clock  at           order           find take seek  act   sum  accumulator\n      0  0000         r 0017            64    1   24    1    90  00000000\n        this order was put there by hand, clock 0; before it was z 0000\n        0017: 000f0000 u 0000 = 327680 -> 000f0008 u 0002 = 327684\n     90  0001         u 0004            47    1    1    1    50  00000000\n        this order was put there by hand, clock 0; before it was z 0000\n    140  0004         b 0020            24    1   15    1    41  00000000 -> 00000100\n        this order was put there by hand, clock 0; before it was z 0000\n    181  0005         y 0009            56    1   35    1    93  00000100\n        this order was put there by hand, clock 0; before it was z 0000\n        0009: 000q0000 a 0000 = 458752 -> 000q0100 a 0100 = 458880\nran 4 limit\n",
     ),
     (
         b"profile 100\n",

@@ -1,9 +1,18 @@
 //! What the monitor's program does with the words of its command line.
 
+use lgp_desk::{Bell, Manner};
 use lgp_lab::{FeedOf, READS, SinkOf, WordFault};
 use lgp_monitor::obey_session;
 use std::alloc::{AllocError, Global};
 use std::process::Abort;
+
+/// A bell that nobody hears.
+#[derive(Drop)]
+pub struct Mute;
+
+impl Bell for Mute {
+    fn ring(&self) {}
+}
 
 /// Words as the runtime gives them.
 fn words_of(alloc: Global, typed: &[&str]) -> Result<Vec<String>, AllocError> {
@@ -24,7 +33,16 @@ fn status_for(
     let mut input = FeedOf::new(b"put 0000 = 1\nbar".as_slice(), READS);
     let mut output = SinkOf::new(output);
     let mut messages = SinkOf::new(messages);
-    obey_session(alloc, alloc, words, &mut input, &mut output, &mut messages)
+    obey_session(
+        alloc,
+        alloc,
+        words,
+        Manner::Bare,
+        Mute,
+        &mut input,
+        &mut output,
+        &mut messages,
+    )
 }
 
 /// The status for words that are typed.

@@ -1,0 +1,62 @@
+//! The monitor at a desk.
+
+ghost use Rattle.std.specs.Prelude.{◌≡◌, ◌∷◌, [], IfErr, IfOk, IfSome, OnOk};
+ghost use Rattle.std.specs.Io.KnownBytes.{Appends, IsAtEnd};
+ghost use Rattle.lgp_stream.specs.Language.{HasCause, StandsWritten};
+ghost use Rattle.lgp_transcript.specs.Transcript.{untouched};
+ghost use Rattle.lgp_desk.specs.Desk.{opening_text, taken_seat};
+ghost use Rattle.lgp_lab.specs.Standing.{opening_standing};
+ghost use Rattle.lgp_monitor.specs.Attending.{attended_faults, attended_language, attended_text, prompt_at, takes_commands_at};
+
+use crate::monitor::Monitor;
+use lgp_desk::{Attended, Bell, Manner, sit};
+use lgp_lab::Laboratory;
+use lgp_stream::{Feed, Sink, StreamFault};
+use std::alloc::{AllocError, Allocator};
+
+impl<B: Allocator + Copy> Attended for Monitor<Laboratory<B>, B> {
+    ghost takes_commands = { takes_commands_at };
+
+    ghost prompt = { prompt_at };
+
+    fn takes_commands(&self) -> bool {
+        !self.laboratory().has_open_source()
+    }
+
+    #[tactic(auto, unfolding(crate::specs::Attending::prompt_at))]
+    fn push_prompt<A: Allocator>(&self, text: &mut Vec<u8, A>) -> Result<(), AllocError> {
+        let laboratory = self.laboratory();
+        if laboratory.has_open_source() {
+            return text.extend_from_slice(b"source> ");
+        }
+        text.extend_from_slice(&laboratory.debugger().look().counter.print())?;
+        text.extend_from_slice(b"> ")
+    }
+}
+
+/// Reads typed lines to the reader's end or to `quit` and writes the reply to each, in this manner; answers how many replies begin
+/// with a question mark. The bell rings at `quit`.
+pub fn attend<A: Allocator + Copy, B: Bell, R: Feed, W: Sink>(
+    alloc: A,
+    manner: Manner,
+    bell: B,
+    reader: &mut R,
+    writer: &mut W,
+) -> Result<u64, StreamFault>
+    ensures read { OnOk result (IsAtEnd (R.remaining reader.new)) }
+    ensures text { OnOk result (IfSome (R.remaining reader.old) (λ typed.
+        Appends (W.contents writer.old) (W.contents writer.new) (attended_text A manner typed))) }
+    ensures faults { IfOk result (λ faults. IfSome (R.remaining reader.old) (λ typed.
+        faults ≡ attended_faults A manner typed)) }
+    ensures cause { IfErr result (λ fault.
+        HasCause fault (R.failed reader.new) (W.failed writer.new)) }
+    ensures stands { IfErr result (λ fault. IfSome (R.remaining reader.old) (λ typed.
+        StandsWritten (opening_text manner (prompt_at (untouched (opening_standing {A = A}))) ∷ [])
+        (attended_language {A = A}) (taken_seat manner (untouched opening_standing)) fault typed
+        (R.remaining reader.new) (W.contents writer.old) (W.contents writer.new))) }
+{
+    let Ok(monitor) = Monitor::new(alloc) else {
+        return Err(StreamFault::Memory);
+    };
+    sit(alloc, monitor, manner, bell, reader, writer)
+}

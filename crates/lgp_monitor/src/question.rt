@@ -1,0 +1,207 @@
+//! What is shown and changes nothing.
+
+ghost use Rattle.std.specs.Prelude.{◌≡◌, ◌++◌, ◌+◌, ◌<◌, OnOk};
+ghost use Rattle.lgp_lab.specs.DrumCommands.{lines_text};
+ghost use Rattle.lgp_lab.specs.Standing.{labels_of};
+ghost use Rattle.lgp_trace.specs.OriginLines.{why_text};
+ghost use Rattle.lgp_monitor.specs.Telling.{label_of};
+ghost use Rattle.lgp_monitor.specs.Questions.{answer_to, label_line, label_lines, number_line, rule_address, rule_command, rule_line, rule_lines, value_text};
+
+use crate::labels::{NamedAddresses, push_name};
+use lgp_assembler::Name;
+use lgp_fraction::Fraction;
+use lgp_history::Rule;
+use lgp_lab::{Laboratory, Span};
+use lgp_machine::Machine;
+use lgp_text::{Piece, push_pieces};
+use lgp_trace::{push_number, push_why};
+use lgp_word::{Address, Word};
+use std::alloc::{AllocError, Allocator};
+
+/// What is shown and changes nothing.
+#[derive(Clone, Copy)]
+pub enum Question {
+    /// Words by their digits, as fractions and as whole numbers.
+    Numbers(Span),
+    /// Where the word at an address came from.
+    Why(Address),
+    /// The names of the last source with their values.
+    Labels,
+    /// The rules with their numbers.
+    Rules,
+}
+
+/// Appends a word by its digits, as a fraction and as a whole number.
+#[tactic(auto, unfolding(crate::specs::Questions::number_line))]
+fn push_number_line<A: Allocator>(
+    text: &mut Vec<u8, A>,
+    address: Address,
+    word: Word,
+) -> Result<(), AllocError>
+    ensures { OnOk result (text.new.items ≡ text.old.items ++ number_line address word) }
+{
+    let fraction = Fraction::of_word(word).to_decimal();
+    push_pieces(
+        text,
+        &[
+            Piece::Place(address),
+            Piece::Text(b" "),
+            Piece::Digits(word.get()),
+            Piece::Text(b"  "),
+            Piece::Text(&fraction),
+            Piece::Text(b"  "),
+        ],
+    )?;
+    push_number(text, word)?;
+    text.push(b'\n')?;
+    Ok(())
+}
+
+/// Appends the lines of a range of words as numbers.
+fn push_numbers<A: Allocator>(
+    text: &mut Vec<u8, A>,
+    machine: &Machine<A>,
+    range: &Span,
+) -> Result<(), AllocError>
+    ensures { OnOk result (text.new.items ≡ text.old.items
+        ++ lines_text number_line machine.now.state range.now.first range.now.count) }
+{
+    for place in 0..range.count() {
+        let address = range.address(place);
+        push_number_line(text, address, machine.word(address))?;
+    }
+    Ok(())
+}
+
+/// Appends a name's value.
+fn push_value<A: Allocator>(text: &mut Vec<u8, A>, value: u16) -> Result<(), AllocError>
+    ensures { OnOk result (text.new.items ≡ text.old.items ++ value_text value) }
+{
+    match Address::new(value) {
+        Some(address) => text.extend_from_slice(&address.print()),
+        None => text.extend_from_slice(b"past the drum"),
+    }
+}
+
+/// Appends the line of a name.
+#[tactic(auto, unfolding(crate::specs::Questions::label_line))]
+fn push_label_line<A: Allocator>(
+    text: &mut Vec<u8, A>,
+    symbol: &(Name, u16),
+) -> Result<(), AllocError>
+    ensures { OnOk result (text.new.items ≡ text.old.items ++ label_line symbol.now) }
+{
+    text.extend_from_slice(symbol.0.bytes())?;
+    text.push(b' ')?;
+    push_value(text, symbol.1)?;
+    text.push(b'\n')?;
+    Ok(())
+}
+
+/// Appends the lines of names.
+#[tactic(auto, unfolding(crate::specs::Questions::label_lines))]
+fn push_label_lines<A: Allocator>(
+    text: &mut Vec<u8, A>,
+    symbols: &[(Name, u16)],
+) -> Result<(), AllocError>
+    ensures { OnOk result (text.new.items ≡ text.old.items ++ label_lines symbols.now) }
+{
+    for symbol in symbols {
+        push_label_line(text, symbol)?;
+    }
+    Ok(())
+}
+
+/// The command that makes a rule.
+fn rule_command(rule: &Rule) -> &'static [u8]
+    ensures { result.now ≡ rule_command rule.now }
+{
+    match rule {
+        Rule::At(_) => b" break ",
+        Rule::Changed(_) => b" watch ",
+    }
+}
+
+/// A rule's address.
+fn rule_address(rule: &Rule) -> Address
+    ensures { result ≡ rule_address rule.now }
+{
+    match rule {
+        Rule::At(address) | Rule::Changed(address) => *address,
+    }
+}
+
+/// Appends the line of a rule.
+#[tactic(auto, unfolding(crate::specs::Questions::rule_line))]
+fn push_rule_line<A: Allocator>(
+    text: &mut Vec<u8, A>,
+    names: &[(Name, u16)],
+    number: u64,
+    rule: &Rule,
+) -> Result<(), AllocError>
+    ensures { OnOk result (text.new.items
+        ≡ text.old.items ++ rule_line names.now number rule.now) }
+{
+    let address = rule_address(rule);
+    push_pieces(
+        text,
+        &[
+            Piece::Text(b"rule "),
+            Piece::Number(number),
+            Piece::Text(rule_command(rule)),
+            Piece::Place(address),
+        ],
+    )?;
+    push_name(text, names, address.number())?;
+    text.push(b'\n')?;
+    Ok(())
+}
+
+/// Appends the lines of rules.
+#[tactic(auto, unfolding(crate::specs::Questions::rule_lines))]
+fn push_rule_lines<A: Allocator>(
+    text: &mut Vec<u8, A>,
+    names: &[(Name, u16)],
+    rules: &[Rule],
+) -> Result<(), AllocError>
+    ensures { OnOk result (text.new.items ≡ text.old.items ++ rule_lines names.now 0 rules.now) }
+{
+    for (number, rule) in rules.iter().enumerate() {
+        push_rule_line(text, names, number as u64, rule)?;
+    }
+    Ok(())
+}
+
+/// Appends where the word at an address came from.
+fn push_why_at<A: Allocator + Copy>(
+    text: &mut Vec<u8, A>,
+    address: Address,
+    laboratory: &Laboratory<A>,
+) -> Result<(), AllocError>
+    ensures { OnOk result (text.new.items ≡ text.old.items
+        ++ why_text (label_of (labels_of laboratory.now.source)) laboratory.now.debugger address) }
+{
+    let names = laboratory.labels();
+    let labels = NamedAddresses { names };
+    push_why(laboratory.debugger(), text, address, &labels)
+}
+
+/// Appends what is answered to a question.
+#[tactic(auto, unfolding(crate::specs::Questions::answer_to))]
+pub fn push_answer<A: Allocator + Copy>(
+    text: &mut Vec<u8, A>,
+    question: &Question,
+    laboratory: &Laboratory<A>,
+) -> Result<(), AllocError>
+    ensures { OnOk result (text.new.items
+        ≡ text.old.items ++ answer_to question.now laboratory.now) }
+{
+    match question {
+        Question::Numbers(range) => push_numbers(text, laboratory.debugger().machine(), range),
+        Question::Why(address) => push_why_at(text, *address, laboratory),
+        Question::Labels => push_label_lines(text, laboratory.labels()),
+        Question::Rules => {
+            push_rule_lines(text, laboratory.labels(), laboratory.debugger().rules())
+        }
+    }
+}

@@ -1,0 +1,63 @@
+//! What is written for lines that are typed at a desk.
+
+use crate::tests::sessions::Mute;
+use lgp_desk::Manner;
+use lgp_lab::{FeedOf, READS, SinkOf};
+use lgp_monitor::attend;
+use lgp_stream::StreamFault;
+use std::alloc::{Allocator, Global};
+use std::process::Abort;
+
+/// Typed lines, how they are written, and what is written.
+type Row = (Manner, &'static [u8], &'static [u8]);
+
+const ROWS: [Row; 4] = [
+    // The counter stands in front of each line but those of a source, in which quit is a line as others.
+    (
+        Manner::Prompting,
+        b"put 0003 u 0102\ngo 0003\nrun 1\nsource\nquit z\n end\n.\nlabels\nquit\nlabels\n",
+        b"0000> ok\n0000> live\nlive 8 dead 0\nlive\nlive\nlive\norders 1 halted step\nlive\nlive\n0003> ran 1 limit\n0102> source> source> source> cells 1 start none\n0102> quit 0000\n0102> ",
+    ),
+    (
+        Manner::Prompting,
+        b"panels\n",
+        b"0000> ? 1 Form: there is no such command, help lists them\n0000> \n",
+    ),
+    (
+        Manner::Echoing,
+        b"put 0000 = 1\npanels\nquit\n",
+        b"> put 0000 = 1\nok\n? panels\n? 1 Form: there is no such command, help lists them\n> quit\n",
+    ),
+    // It stands for no line.
+    (
+        Manner::Bare,
+        b"quit now\ntranscript\n quit\ntranscript\n",
+        b"? 1 Form: there is no such command, help lists them\nquit now\n",
+    ),
+];
+
+/// Answers typed lines; what is written stands behind `written`.
+fn run<A: Allocator + Copy>(
+    alloc: A,
+    manner: Manner,
+    typed: &[u8],
+    written: &mut Vec<u8>,
+) -> Result<u64, StreamFault> {
+    let mut feed = FeedOf::new(typed, READS);
+    let mut sink = SinkOf::new(written);
+    attend(alloc, manner, Mute, &mut feed, &mut sink)
+}
+
+/// Expects what is written for typed lines.
+fn expect(rt: &impl Abort, alloc: Global, row: &Row) {
+    let mut written = Vec::new(alloc);
+    let answer = run(alloc, row.0, row.1, &mut written);
+    assert_eq!(rt; (answer.is_ok(), written.as_slice()), (true, row.2));
+}
+
+#[test]
+fn lines_at_a_desk_are_answered(rt: HostRuntime) {
+    for row in &ROWS {
+        expect(&rt, rt.alloc(), row);
+    }
+}
