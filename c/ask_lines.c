@@ -4,6 +4,7 @@
  *     printf 'put 0100 z 0000\ngo 0100\n' | ./ask_lines
  */
 #include "lgp30.h"
+#include "lines.h"
 
 #include <stdio.h>
 #include <stdlib.h>
@@ -33,34 +34,12 @@ static uint32_t write_reply(struct lgp_session *session, struct room *room, stru
     return status;
 }
 
-/* Reads a line into a room of 4097 bytes, without its line feed and a carriage return before that. Of a
- * longer line as many bytes are kept, which is enough to have it refused. */
-static int read_line(uint8_t *line, size_t *length)
-{
-    int byte = getchar();
-    if (byte == EOF) {
-        return 0;
-    }
-    *length = 0;
-    int last = 0;
-    for (; byte != EOF && byte != '\n'; byte = getchar()) {
-        if (*length < 4097) {
-            line[(*length)++] = (uint8_t)byte;
-        }
-        last = byte;
-    }
-    if (byte == '\n' && last == '\r' && *length > 0 && line[*length - 1] == '\r') {
-        --*length;
-    }
-    return 1;
-}
-
 int main(void)
 {
     struct lgp_session session = {0};
     struct lgp_outcome outcome;
     struct room room = {malloc(1), 1};
-    uint8_t line[4097];
+    uint8_t line[LINE_ROOM];
     size_t length;
     uint32_t status = room.at == NULL ? LGP_NO_MEMORY : lgp_open(&session);
     uint32_t worst = status;

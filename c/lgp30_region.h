@@ -27,6 +27,35 @@ uint32_t lgp_run_script_in(struct lgp_memory memory,
                            uint8_t *room, size_t room_length,
                            struct lgp_outcome *outcome);
 
+/* A session over memory that is handed over: the calls of lgp30.h, each with the same statuses and the
+ * same promises, over a struct lgp_session that only they are used with. It is all zeros while none is
+ * open. */
+
+/* Opens a session. The memory is handed over for good whatever the status is, also with LGP_IS_OPEN.
+ * LGP_WELL; LGP_NO_MEMORY, and then none is open; LGP_IS_OPEN, and then nothing has changed.
+ *
+ * Of these bytes 4,096 are the region's own, and an opened session takes some 600 kilobytes. A block that it has no more use for serves a later request of
+ * its size, so that lines that leave nothing behind need no more memory as they go on. What a session
+ * keeps does: the transcript, the steps that lead back, a source and the words that a program reads. */
+uint32_t lgp_open_in(struct lgp_memory memory, struct lgp_session *session);
+
+/* Answers a line, as lgp_answer does. With LGP_NO_MEMORY the session is closed. */
+uint32_t lgp_answer_in(struct lgp_session *session,
+                       const uint8_t *line, size_t line_length,
+                       uint8_t *room, size_t room_length,
+                       struct lgp_outcome *outcome);
+
+/* Gives the last reply once more, as lgp_reply does. */
+uint32_t lgp_reply_in(struct lgp_session *session,
+                      uint8_t *room, size_t room_length,
+                      struct lgp_outcome *outcome);
+
+/* Closes a session, as lgp_close does, with the reply to a source that is open. Its memory is not given
+ * back. */
+uint32_t lgp_close_in(struct lgp_session *session,
+                      uint8_t *room, size_t room_length,
+                      struct lgp_outcome *outcome);
+
 #ifdef __cplusplus
 }
 #endif

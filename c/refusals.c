@@ -1,47 +1,10 @@
 /* Tries what the header promises beside the replies themselves: rooms of each kind, empty scripts, any
- * bytes, and memory that is refused at each growth in turn. It is linked with -Wl,--wrap=malloc and
- * -Wl,--wrap=realloc, so that growths are counted. Ends with 0 where all is as promised. */
+ * bytes, and memory that is refused at each growth in turn. Ends with 0 where all is as promised. */
 #include "lgp30.h"
+#include "trial.h"
 
 #include <stdio.h>
-#include <stdlib.h>
 #include <string.h>
-
-void *__real_malloc(size_t size);
-void *__real_realloc(void *at, size_t size);
-
-/* The number of the growth that is refused, counted from now on; 0 for none. */
-static size_t refused_growth = 0;
-static int was_refused = 0;
-
-static int is_refused(void)
-{
-    if (refused_growth == 0 || --refused_growth > 0) {
-        return 0;
-    }
-    was_refused = 1;
-    return 1;
-}
-
-void *__wrap_malloc(size_t size)
-{
-    return is_refused() ? NULL : __real_malloc(size);
-}
-
-void *__wrap_realloc(void *at, size_t size)
-{
-    return is_refused() ? NULL : __real_realloc(at, size);
-}
-
-static int failures = 0;
-
-static void expect(int holds, const char *what)
-{
-    if (!holds) {
-        fprintf(stderr, "refusals: not so: %s\n", what);
-        failures++;
-    }
-}
 
 /* The replies to a script in a room of 32 bytes, of which so many may be used. */
 struct run {
@@ -91,12 +54,12 @@ static void memory(void)
 {
     const char *script = "source\n z\n end\n.\nload\npanel\nlist\n";
     size_t growths = 0;
+    int was_refused;
     struct run got;
     do {
-        refused_growth = ++growths;
-        was_refused = 0;
+        refuse_growth(++growths);
         got = run(script, strlen(script), 32);
-        refused_growth = 0;
+        was_refused = !grown_freely();
         if (was_refused) {
             expect(got.status == LGP_NO_MEMORY, "a refused growth is told");
             expect(got.outcome.length == 0 && got.outcome.questions == 0, "nothing is counted then");
@@ -112,5 +75,5 @@ int main(void)
     rooms();
     scripts();
     memory();
-    return failures == 0 ? 0 : 1;
+    return failures() == 0 ? 0 : 1;
 }

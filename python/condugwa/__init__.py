@@ -8,7 +8,7 @@ Commands and replies are those of docs/FORMATS.md. Bytes that are no UTF-8 text 
 "surrogateescape" has them, so that nothing is lost in either direction.
 """
 
-from condugwa.accounts import Account, Stored, Word, accounts_of
+from condugwa.accounts import Account, PutThere, Stored, Word, accounts_of
 from condugwa.assembling import Fault, Faults, Listing, assemble
 from condugwa.laboratories import Laboratory, Run
 from condugwa.library import OutOfMemory, Unread
@@ -51,6 +51,7 @@ __all__ = [
     "Panel",
     "Place",
     "Profile",
+    "PutThere",
     "Refusal",
     "Replies",
     "Run",

@@ -15,6 +15,10 @@ _WORD = r"(\S{8})(?: (-?[a-z] \d{4}(?: \S+)?))? = (-?\d+)"
 _STORED = re.compile(rf" {{8}}(\d{{4}})(?: (\S+))?: {_WORD} -> {_WORD}")
 _PRINTED = re.compile(r' {8}printed code (\d+)(?:, sign "(.)")?')
 _PASSED = re.compile(r" {8}codes passed: (\d+)")
+_PUT_THERE = re.compile(
+    rf" {{8}}this order was put there by (?:hand|(?P<order>-?[a-z] \d{{4}}(?: \S+)?) (?:in the instruction register|at (?P<at>\d{{4}})(?: \S+)?))"
+    rf", clock (?P<clock>\d+)(?:, (?P<ago>\d+) orders? ago)?; before it was (?P<lost>.+)"
+)
 _IN_REGISTER = "        the order stood in the instruction register"
 
 
@@ -44,6 +48,26 @@ class Stored:
 
     before: Word
     after: Word
+
+
+@dataclasses.dataclass(frozen=True)
+class PutThere:
+    """What put an order where it stands, since the steps that are kept begin."""
+
+    order: Optional[str]
+    """The order that did, such as `y 0009`, with a label behind its address where there is one; None where it was put by hand."""
+
+    at: Optional[str]
+    """Where that order stood, as `ttss`; None where it stood in the instruction register, and for a put by hand."""
+
+    clock: int
+    """The word times that had passed then."""
+
+    orders_ago: Optional[int]
+    """How many orders ago that was; None for a put by hand."""
+
+    lost: str
+    """What stood there before: an order, or a word's digits and its number."""
 
 
 @dataclasses.dataclass(frozen=True)
@@ -83,6 +107,9 @@ class Account:
     in_register: bool = False
     """Whether the order stood in the instruction register."""
 
+    put_there: Optional[PutThere] = None
+    """What put the order there; None where it is as it was when the steps that are kept begin."""
+
     stored: Optional[Stored] = None
     printed: Optional[int] = None
     """The code that it has printed."""
@@ -120,6 +147,10 @@ def _with_detail(account: Account, line: str) -> Account:
     """The account with what a line below it says."""
     if line == _IN_REGISTER:
         return dataclasses.replace(account, in_register=True)
+    if put := _PUT_THERE.fullmatch(line):
+        found = put.groupdict()
+        ago = int(found["ago"]) if found["ago"] else None
+        return dataclasses.replace(account, put_there=PutThere(found["order"], found["at"], int(found["clock"]), ago, found["lost"]))
     if stored := _STORED.fullmatch(line):
         address, label, *words = stored.groups()
         return dataclasses.replace(account, stored=Stored(address, label, _word(*words[:3]), _word(*words[3:])))

@@ -4,8 +4,8 @@
 class Refusal(Exception):
     """A reply that begins with a question mark.
 
-    `reply` is its line without the line feed, and `detail` the number that TooFar, NoHit and BadSign tell, or None. What a laboratory
-    says behind Form, the command's form, stands in the reply alone.
+    `reply` is its line without the line feed, and `detail` the number that TooFar, NoHit and BadSign tell, or None. The reason that a
+    laboratory gives behind them stands in the reply alone.
     """
 
     number = 0
@@ -13,7 +13,7 @@ class Refusal(Exception):
     def __init__(self, reply: str):
         super().__init__(reply)
         self.reply = reply
-        words = reply.split()
+        words = reply.partition(":")[0].split()
         self.detail = int(words[3]) if len(words) > 3 and words[3].isdecimal() else None
 
 

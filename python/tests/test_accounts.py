@@ -46,6 +46,25 @@ def test_labels_and_details_are_read():
     assert (account.stored.label, account.stored.after) == ("table+1", accounts.Word("80000000", None, -1073741824))
 
 
+@pytest.mark.parametrize(
+    ("said", "put_there"),
+    [
+        ("y 0001 at 0000, clock 0, 1 order ago; before it was u 0005", ("y 0001", "0000", 0, 1, "u 0005")),
+        ("r 0017 exit at 0064 call, clock 90, 12 orders ago; before it was z 0000", ("r 0017 exit", "0064", 90, 12, "z 0000")),
+        ("h 0136 in the instruction register, clock 69, 2 orders ago; before it was 00000008 = 4", ("h 0136", None, 69, 2, "00000008 = 4")),
+        ("hand, clock 5; before it was z 0000", (None, None, 5, None, "z 0000")),
+    ],
+)
+def test_what_put_an_order_there_is_read(said, put_there):
+    (account,) = accounts.accounts_of(
+        [
+            "     74  0001         u 0000            63    1    1    1    66  00000000",
+            f"        this order was put there by {said}",
+        ]
+    )
+    assert account.put_there == accounts.PutThere(*put_there)
+
+
 def test_what_stood_at_no_address_is_read():
     (account,) = accounts.accounts_of(["      7               reading            0    0    0  768   768  00000000"])
     assert (account.at, account.order, account.act) == (None, "reading", 768)

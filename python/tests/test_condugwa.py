@@ -158,6 +158,10 @@ def test_a_refusal_is_raised_and_changes_nothing(laboratory):
     with pytest.raises(condugwa.Form) as refusal:
         laboratory.answer("jump 0100")
     assert refusal.value.reply.startswith("? 1 Form: ")
+    with pytest.raises(condugwa.BadSign) as refusal:
+        laboratory.answer("mount 12A")
+    assert refusal.value.detail == 2
+    assert refusal.value.reply.startswith("? 12 BadSign 2: ")
     assert laboratory.panel().clock == 0
 
 

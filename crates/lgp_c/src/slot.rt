@@ -52,7 +52,8 @@ impl Slot {
 
     /// The session that is open here, if there is one.
     pub(crate) fn into_parts(self) -> Option<BoxParts<Session<Global>, Global>>
-        ensures { MatchOption result (self.held ≡ None) (λ parts. self.held ≡ Some parts.value) }
+        ensures { MatchOption result (self.held ≡ None)
+            (λ parts. self.held ≡ Some parts.value) }
     {
         let Slot { is_open, at, alloc } = self;
         if is_open {

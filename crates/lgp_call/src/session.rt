@@ -119,7 +119,8 @@ impl<A: Allocator + Copy> Session<A> {
     pub fn close_into(mut self, room: &mut [u8], outcome: &mut Outcome) -> u32
         ensures status { result < unread_status
             → result ≡ answered_status (questions_in (closing_reply self)) }
-        ensures written { result < unread_status → room.new ≡ filled (closing_reply self) room.old }
+        ensures written { result < unread_status
+            → room.new ≡ filled (closing_reply self) room.old }
         ensures told { result < unread_status → outcome.new ≡ outcome_of (closing_reply self) }
         ensures known { unread_status ≤ result → result ≡ memory_status }
         ensures unwritten { unread_status ≤ result → room.new ≡ room.old }

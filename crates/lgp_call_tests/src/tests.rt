@@ -103,8 +103,9 @@ fn odd_lines<A: Allocator + Copy>(session: &mut Session<A>) -> [Told; 2] {
 #[test]
 fn a_line_may_be_long_and_have_any_bytes(rt: HostRuntime) -> Result<(), Fail> {
     let mut session = Session::new(rt.alloc())?;
+    let long = b"? 11 TooLong: a line has at most 4096 bytes, a source 1048576\n".len() as u64;
     let form = b"? 1 Form: there is no such command, help lists them\n".len() as u64;
-    assert_eq!(rt; odd_lines(&mut session), [(1, 1, 13), (1, 1, form)]);
+    assert_eq!(rt; odd_lines(&mut session), [(1, 1, long), (1, 1, form)]);
     Ok(())
 }
 

@@ -2,5 +2,7 @@
 #![tactic(auto)]
 
 mod parts;
+mod unfreed;
 
 pub use parts::BoxParts;
+pub use unfreed::{Unfreed, for_good};

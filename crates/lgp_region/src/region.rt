@@ -1,15 +1,19 @@
 //! The allocator.
-ghost use Rattle.std.specs.Prelude.{◌≡◌, ◌%◌, ◌^◌, ◌<◌, ◌≤◌, IfSome};
+ghost use Rattle.std.specs.Prelude.{◌≡◌, ◌%◌, ◌^◌, ◌<◌, ◌≤◌, IfSome, IsErr};
 ghost use Rattle.lgp_region.specs.Room.{block_size, block_token};
 
 use crate::block::Block;
 use crate::memory::Memory;
 use crate::shelf::{SHELVES, shelf, size_on};
+use lgp_parts::for_good;
 use std::alloc::{AllocError, Allocator};
 use std::cell::Cell;
 
 /// How many freed blocks of a size are kept.
 const PLACES: usize = 4;
+
+/// How many bytes of its own memory a lasting region takes for itself.
+const OWN_ROOM: usize = 4096;
 
 /// An allocator over memory that was handed over for good.
 ///
@@ -34,6 +38,20 @@ impl Region {
             rest: Cell::new(Some(memory)),
             kept: std::array::from_fn(|_| Cell::new(None)),
         }
+    }
+
+    /// A region that lasts as long as the program. It lies in the first 4,096 bytes of the memory itself, and gives out the bytes
+    /// behind them. Of less memory there is none.
+    pub fn lasting(memory: Memory) -> Result<&'static Region, AllocError>
+        ensures { memory.size < 4096 → IsErr result }
+    {
+        if memory.size < OWN_ROOM {
+            return Err(AllocError);
+        }
+        let (front, behind) = memory.cut(OWN_ROOM);
+        let room = Region::new(front);
+        let whole = Box::new(&room, Region::new(behind))?;
+        Ok(Box::leak(for_good(whole)))
     }
 
     /// A block for a request, if there is one.

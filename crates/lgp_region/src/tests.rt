@@ -127,3 +127,30 @@ fn vectors_side_by_side_keep_their_numbers(rt: HostRuntime) -> Result<(), Fail> 
     assert!(rt; grow_side_by_side(&region)?);
     Ok(())
 }
+
+/// How many of three requests for 16 bytes a region meets that lasts and lies in so many bytes; `None` where there is none.
+fn met_by_lasting<A: Allocator>(alloc: &A, size: usize) -> Result<Option<usize>, AllocError> {
+    match Region::lasting(Memory::taken_for_good(alloc, size)?) {
+        Ok(region) => Ok(Some(met_of_three(region, 16))),
+        Err(_) => Ok(None),
+    }
+}
+
+/// The same for sizes around the 4,096 bytes that it takes for itself.
+fn around_its_own<A: Allocator>(alloc: &A) -> Result<[Option<usize>; 4], AllocError> {
+    Ok([
+        met_by_lasting(alloc, 4_080)?,
+        met_by_lasting(alloc, 4_096)?,
+        met_by_lasting(alloc, 4_112)?,
+        met_by_lasting(alloc, 4_144)?,
+    ])
+}
+
+#[test]
+fn a_region_that_lasts_takes_4096_bytes_for_itself(rt: HostRuntime) -> Result<(), Fail> {
+    assert_eq!(rt;
+        around_its_own(&rt.alloc())?,
+        [None, Some(0), Some(1), Some(3)]
+    );
+    Ok(())
+}

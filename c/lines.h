@@ -1,0 +1,15 @@
+/* What the programs share that answer lines as they come: a line of standard input. */
+#ifndef LINES_H
+#define LINES_H
+
+#include <stddef.h>
+#include <stdint.h>
+
+/* How many bytes of a line are kept: one more than a line may have, which is enough to have it refused. */
+enum { LINE_ROOM = 4097 };
+
+/* Reads a line into a room of LINE_ROOM bytes, without its line feed and a carriage return before that.
+ * Whether there was one. */
+int read_line(uint8_t *line, size_t *length);
+
+#endif
