@@ -1,0 +1,30 @@
+// Addresses as they are written: track and sector, two decimal digits each, in one count of 64 sectors a track.
+
+/** How many words the drum has. */
+export const PLACES = 4096;
+
+/** How many sectors a track has, and so how many word times a turn takes. */
+export const SECTORS = 64;
+
+/** The number of an address. */
+export const numberOf = (address) => SECTORS * Number(address.slice(0, 2)) + Number(address.slice(2));
+
+/** The address of a number. */
+export const addressOf = (number) => `${String(Math.floor(number / SECTORS)).padStart(2, "0")}${String(number % SECTORS).padStart(2, "0")}`;
+
+/** The address in a text, such as an order's, or null. */
+export const addressIn = (text) => /\b(\d{4})\b/.exec(text)?.[1] ?? null;
+
+/** The first of so many places that show an address, a few before it. */
+export function windowAt(address, count) {
+    return addressOf(Math.max(0, Math.min(PLACES - count, numberOf(address) - Math.floor(count / 3))));
+}
+
+/** Whether an address lies among so many places from another one on. */
+export function isAmong(address, first, count) {
+    const distance = numberOf(address) - numberOf(first);
+    return distance >= 0 && distance < count;
+}
+
+/** The position of a sector on the drum's circle, by the interlace that docs/MACHINE.md draws. */
+export const positionOf = (sector) => (9 * sector) % SECTORS;

@@ -1,0 +1,27 @@
+// Puts the one file together: node assemble.mjs TEMPLATE STYLE MAIN WORKER MODULE EXAMPLES FORMATS, written to standard output.
+import { readFileSync, readdirSync } from "node:fs";
+import { join } from "node:path";
+import { questionsIn } from "./lines.mjs";
+
+const [template, style, main, worker, module, shelf, formats] = process.argv.slice(2);
+const text = (path) => readFileSync(path, "utf8");
+
+/** All scripts below a folder, by their names without the ending. */
+function scriptsBelow(folder, name = "") {
+    const entries = readdirSync(folder, { withFileTypes: true }).sort((one, other) => (one.name < other.name ? -1 : 1));
+    return entries.flatMap((entry) => {
+        const path = name + entry.name;
+        if (entry.isDirectory()) return scriptsBelow(join(folder, entry.name), `${path}/`);
+        return entry.name.endsWith(".txt") ? [[path.slice(0, -".txt".length), text(join(folder, entry.name))]] : [];
+    });
+}
+
+/** Text that may stand within a script element: nothing in it ends that element. */
+const inert = (script) => script.replaceAll("</", "<\\/").replaceAll("<!--", "<\\!--");
+
+const parts = {
+    STYLE: text(style), MAIN: inert(text(main)), WORKER: inert(text(worker)), MODULE: readFileSync(module).toString("base64"),
+    EXAMPLES: inert(JSON.stringify(Object.fromEntries(scriptsBelow(shelf)))).replaceAll("<\\!--", "\\u003c!--"),
+    QUESTIONS: JSON.stringify(questionsIn(text(formats))),
+};
+process.stdout.write(text(template).replace(/@([A-Z]+)@/g, (whole, name) => parts[name] ?? whole));

@@ -1,0 +1,88 @@
+// What was done, as far as it can be gone back over: the orders and the deeds of the operator between them. What `back` has undone is
+// kept as well, so that it can be performed again.
+
+/** Splits so many orders off the end of a list of deeds: what stays, and what goes. A deed is a line, or a number of orders. */
+function split(deeds, orders) {
+    const gone = [];
+    const stays = [...deeds];
+    let missing = orders;
+    while (missing > 0 && stays.length > 0) {
+        const deed = stays.pop();
+        if (deed.orders > missing) stays.push({ orders: deed.orders - missing });
+        gone.unshift(deed.orders > missing ? { orders: missing } : deed);
+        missing -= Math.min(missing, deed.orders);
+    }
+    return { stays, gone };
+}
+
+const sum = (deeds) => deeds.reduce((total, deed) => total + deed.orders, 0);
+
+/** The deeds done and the deeds undone. */
+export class Deeds {
+    #done = [];
+    #undone = [];
+    #forgotten = 0;
+
+    /** How many orders lie behind, as far as they may be gone back over. */
+    get behind() {
+        return sum(this.#done);
+    }
+
+    /** How many orders were undone. */
+    get ahead() {
+        return sum(this.#undone);
+    }
+
+    /** How many orders no longer count, since no step of them is kept. */
+    get forgotten() {
+        return this.#forgotten;
+    }
+
+    /** Orders were performed. Two runs on end become one deed. */
+    orders(count, isAgain = false) {
+        const last = this.#done.at(-1);
+        if (count > 0 && last?.line === undefined && last !== undefined) last.orders += count;
+        else if (count > 0) this.#done.push({ orders: count });
+        if (!isAgain && count > 0) this.#undone = [];
+    }
+
+    /** A line that is a step was done. */
+    line(line, isAgain = false) {
+        this.#done.push({ line, orders: 0 });
+        if (!isAgain) this.#undone = [];
+    }
+
+    /** So many orders, and what the operator did behind the first of them, were undone. */
+    back(orders) {
+        const { stays, gone } = split(this.#done, orders);
+        this.#done = stays;
+        this.#undone = [...gone, ...this.#undone];
+    }
+
+    /** Takes the next deed to be performed again, of at most so many orders; null where there is none. */
+    next(limit) {
+        const deed = this.#undone.shift();
+        if (deed === undefined) return null;
+        if (deed.orders > limit) this.#undone.unshift({ orders: deed.orders - limit });
+        return deed.orders > limit ? { orders: limit } : deed;
+    }
+
+    /** Only so many orders can be gone back over: those before are forgotten. */
+    keep(orders) {
+        this.#forgotten += Math.max(0, this.behind - orders);
+        this.#done = split(this.#done, orders).gone;
+    }
+
+    /** Nothing can be gone back over. */
+    clear() {
+        this.#done = [];
+        this.#undone = [];
+        this.#forgotten = 0;
+    }
+
+    /** The mounted tape's text, as far as it was mounted by a line that counts; null where none was. */
+    get tape() {
+        const mounted = this.#done.findLast((deed) => /^ *mount( |$)/.test(deed.line ?? ""));
+        return mounted === undefined ? null : mounted.line.replace(/^ *mount ?/, "");
+    }
+}

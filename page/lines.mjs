@@ -1,0 +1,47 @@
+// Scripts as lines, and what a script of examples/ says about itself.
+
+const COMMENT = /^;/;
+const BLANK = /^ *\r?$/;
+
+/** The lines of a text. */
+export const linesIn = (text) => text.replace(/\r\n/g, "\n").replace(/\n$/, "").split("\n");
+
+/** The comment at the head of a script, as paragraphs; the first sentence is its title. */
+export function headOf(script) {
+    const comments = [];
+    for (const line of linesIn(script)) {
+        if (!COMMENT.test(line)) break;
+        comments.push(line.replace(/^; ?/, ""));
+    }
+    const paragraphs = comments.join("\n").split(/\n\s*\n/).filter((paragraph) => paragraph.trim() !== "");
+    const title = /^([^.]*)\./.exec(paragraphs[0] ?? "")?.[1].replace(/\s+/g, " ") ?? "";
+    return { title, paragraphs };
+}
+
+const RUNS = /^ *(run|orders|trace|profile|drum)( |$)/;
+const STARTS = /^ *press +start *$/;
+
+/** How many lines of a script come before the first that starts a run, or, if asked, the machine: those set the machine up. */
+export function setUp(lines, isBeforeStart = false) {
+    const first = lines.findIndex((line) => RUNS.test(line) || (isBeforeStart && STARTS.test(line)));
+    return first < 0 ? lines.length : first;
+}
+
+/** Whether a line of a script asks for nothing. */
+export const isIdle = (line) => BLANK.test(line) || COMMENT.test(line);
+
+/** The commands that only ask: those of which the table of commands in docs/FORMATS.md, this text, says that they do nothing. */
+export const questionsIn = (formats) => [...formats.matchAll(/^\| `([a-z]+)[^|]*` \| +\| [^|]+ \|$/gm)].map(([, name]) => name);
+
+/** A script without the lines that only ask, by the names of their commands. What stands in a source is no command, and stays. */
+export function withoutQuestions(script, questions) {
+    const asks = new RegExp(`^ *(${questions.join("|")})( |$)`);
+    let isInSource = false;
+    const stays = (written) => {
+        const line = written.replace(/\r?\n?$/, "");
+        const isWithin = isInSource;
+        isInSource = isWithin ? line !== "." : /^ *source *$/.test(line);
+        return isWithin || !asks.test(line);
+    };
+    return (script.match(/[^\n]*\n|[^\n]+$/g) ?? []).filter(stays).join("");
+}

@@ -1,0 +1,25 @@
+// What the page's address asks for: an example or a script, a language, the kiosk.
+
+/** What an address says behind `?` and `#`: `?kiosk`, `?kiosk=games/matches`, `?idle=60`, `?lang=de`, `#first-run`, `#kiosk`, `#script=..`. */
+export function askedIn({ search, hash }) {
+    const query = new URLSearchParams(search);
+    const behind = decoded(hash.replace(/^#/, ""));
+    const script = behind.startsWith("script=") ? behind.slice("script=".length) : null;
+    const isKiosk = query.has("kiosk") || behind === "kiosk";
+    const example = script !== null || behind === "kiosk" || behind === "" ? null : behind;
+    return {
+        isKiosk, script,
+        example: query.get("kiosk") || example || null,
+        language: query.get("lang"),
+        idleSeconds: Number(query.get("idle")) || null,
+    };
+}
+
+function decoded(text) {
+    try {
+        return decodeURIComponent(text);
+    } catch (failure) {
+        if (failure instanceof URIError) return text;
+        throw failure;
+    }
+}

@@ -1,0 +1,79 @@
+import assert from "node:assert/strict";
+import { test } from "node:test";
+import { addressIn, addressOf, isAmong, numberOf, positionOf, windowAt } from "../addresses.mjs";
+import { Deeds } from "../deeds.mjs";
+import { nextPortion, sourceIn } from "../laboratory.mjs";
+import { headOf, linesIn, setUp } from "../lines.mjs";
+import { askedIn } from "../opening.mjs";
+
+test("orders gone back over are ahead, with the presses between them", () => {
+    const deeds = new Deeds();
+    deeds.line("press start");
+    deeds.orders(3);
+    deeds.line("press bp4 down");
+    deeds.orders(2);
+    deeds.back(4);
+    assert.deepEqual([deeds.behind, deeds.ahead], [1, 4]);
+    assert.deepEqual([deeds.next(9), deeds.next(9), deeds.next(1), deeds.next(9), deeds.next(9)],
+        [{ orders: 2 }, { line: "press bp4 down", orders: 0 }, { orders: 1 }, { orders: 1 }, null]);
+});
+
+test("a deed that is new leaves nothing ahead", () => {
+    const deeds = new Deeds();
+    deeds.orders(5);
+    deeds.back(2);
+    deeds.line("put 0000 00000000");
+    assert.deepEqual([deeds.behind, deeds.ahead], [3, 0]);
+});
+
+test("what is no longer kept is forgotten", () => {
+    const deeds = new Deeds();
+    deeds.orders(5000);
+    deeds.keep(4096);
+    assert.deepEqual([deeds.behind, deeds.forgotten], [4096, 904]);
+});
+
+test("the tape is that of the last mounting that counts", () => {
+    const deeds = new Deeds();
+    deeds.line("mount 1'");
+    deeds.orders(1);
+    deeds.line("mount 2'");
+    assert.equal(deeds.tape, "2'");
+    deeds.back(1);
+    assert.equal(deeds.tape, "1'");
+});
+
+test("addresses", () => {
+    assert.deepEqual([numberOf("0100"), addressOf(63), addressOf(4095), addressIn("b 0050 table+1"), addressIn("word 00000001")], [64, "0063", "6363", "0050", null]);
+    assert.deepEqual([windowAt("0000", 16), windowAt("6363", 16), windowAt("0100", 16)], ["0000", "6348", "0059"]);
+    assert.deepEqual([isAmong("0100", "0059", 16), isAmong("0058", "0059", 16)], [true, false]);
+});
+
+test("sectors lie as docs/MACHINE.md draws them", () => {
+    const order = Array.from({ length: 64 }, (unused, sector) => sector).sort((one, other) => positionOf(one) - positionOf(other));
+    assert.deepEqual(order.slice(0, 8), [0, 57, 50, 43, 36, 29, 22, 15]);
+});
+
+test("portions come near to their time", () => {
+    assert.deepEqual([nextPortion(1000, 50), nextPortion(1000, 100), nextPortion(1000, 1), nextPortion(1000, 5000)], [1000, 500, 4000, 250]);
+});
+
+test("the head of a script, and how far it sets up", () => {
+    const script = "; The first run: one. More.\n; still\n;\n; Second.\nput 0000 00000000\npress start\norders 10\npanel\n";
+    assert.equal(headOf(script).title, "The first run: one");
+    assert.equal(headOf(script).paragraphs.length, 2);
+    assert.deepEqual([setUp(linesIn(script)), setUp(linesIn(script), true)], [6, 5]);
+});
+
+test("the last source among lines", () => {
+    assert.equal(sourceIn(["source", " z", " end", ".", "load"]), " z\n end");
+    assert.equal(sourceIn(["put 0000 00000000"]), null);
+});
+
+test("what an address asks for", () => {
+    assert.deepEqual(askedIn({ search: "?kiosk=games/matches&idle=60&lang=de", hash: "" }),
+        { isKiosk: true, script: null, example: "games/matches", language: "de", idleSeconds: 60 });
+    assert.equal(askedIn({ search: "", hash: "#script=put%200000%2000000000%0Apanel" }).script, "put 0000 00000000\npanel");
+    assert.deepEqual([askedIn({ search: "", hash: "#kiosk" }).isKiosk, askedIn({ search: "", hash: "#first-run" }).example], [true, "first-run"]);
+    assert.equal(askedIn({ search: "", hash: "#%E0%A4%A" }).example, "%E0%A4%A");
+});

@@ -1,0 +1,30 @@
+// The lines that only ask: which they are, and a script without them.
+import assert from "node:assert/strict";
+import { readFileSync } from "node:fs";
+import { dirname, join } from "node:path";
+import { test } from "node:test";
+import { fileURLToPath } from "node:url";
+import { questionsIn, withoutQuestions } from "../lines.mjs";
+
+const formats = readFileSync(join(dirname(fileURLToPath(import.meta.url)), "../../docs/FORMATS.md"), "utf8");
+const questions = questionsIn(formats);
+
+test("the questions are the commands of which docs/FORMATS.md says that they do nothing", () => {
+    assert.deepEqual(questions, ["panel", "words", "show", "printed", "dump", "list"]);
+    assert.deepEqual(questionsIn("| `on ttss` | turns it on | `ok` |\n| `ask N`, `ask` | | N lines |\n| a line | | none |\n"), ["ask"]);
+});
+
+test("a script without the lines that only ask", () => {
+    const cases = [
+        ["", ""],
+        ["panel\nput 0000 b 0001\nwords 0000 1\n", "put 0000 b 0001\n"],
+        ["  show 0000 16  \n; panel\n\nrun 1\nprinted", "; panel\n\nrun 1\n"],
+        ["panels\npanel\tx\npanel\r\ndump\r\r\n", "panels\npanel\tx\ndump\r\r\n"],
+        ["source\npanel z\n list\n .\n.\nlist\n", "source\npanel z\n list\n .\n.\n"],
+        [" source \r\npanel\n.\r\npanel\n", " source \r\npanel\n.\r\n"],
+        ["source x\npanel\n.\n", "source x\n.\n"],
+        ["source\t\npanel\n", "source\t\n"],
+        ["source\npanel\n", "source\npanel\n"],
+    ];
+    for (const [script, short] of cases) assert.equal(withoutQuestions(script, questions), short, JSON.stringify(script));
+});

@@ -1,0 +1,66 @@
+// A session of the native monitor, for trying the controller where there is no module: the program of ./lgp_monitor, line by line.
+import { spawn } from "node:child_process";
+
+const MARK = "help go";
+const MARKED = "go ttss\n";
+
+/** A link to a native monitor, with the functions that the page's link to its Worker has. */
+export class NativeLink {
+    #program;
+    #process;
+    #text = "";
+    #arrived = () => {};
+    #sourceIsOpen = false;
+    opened = Promise.resolve();
+
+    constructor(program) {
+        this.#program = program;
+        this.#start();
+    }
+
+    #start() {
+        this.#text = "";
+        this.#sourceIsOpen = false;
+        this.#process = spawn(this.#program, { stdio: ["pipe", "pipe", "ignore"] });
+        this.#process.stdout.setEncoding("utf8").on("data", (piece) => {
+            this.#text += piece;
+            this.#arrived();
+        });
+    }
+
+    #isWhole() {
+        return this.#text === MARKED || this.#text.endsWith(`\n${MARKED}`);
+    }
+
+    /** The reply to a line. The mark behind it tells where it ends; in an open source there is neither. */
+    async ask(line) {
+        this.#text = "";
+        this.#process.stdin.write(`${line}\n`);
+        if (this.#sourceIsOpen && line !== ".") return "";
+        this.#sourceIsOpen = !this.#sourceIsOpen && line.trim() === "source";
+        if (this.#sourceIsOpen) return "";
+        this.#process.stdin.write(`${MARK}\n`);
+        while (!this.#isWhole()) await new Promise((resolve) => { this.#arrived = resolve; });
+        return this.#text.slice(0, -MARKED.length);
+    }
+
+    /** The replies to several lines, one behind the other. */
+    async askAll(lines) {
+        let text = "";
+        for (const line of lines) text += await this.ask(line);
+        return text;
+    }
+
+    /** Gives the monitor up and starts another one. */
+    async anew() {
+        await this.end();
+        this.#start();
+    }
+
+    /** Ends the monitor. */
+    end() {
+        const ended = new Promise((resolve) => this.#process.once("exit", resolve));
+        this.#process.stdin.end();
+        return ended;
+    }
+}

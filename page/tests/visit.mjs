@@ -1,0 +1,471 @@
+// Visits the page in Chromium: node visit.mjs laboratory.html [FOLDER FOR PICTURES]. Ends with 1 where something is not as it should be.
+//
+// The page is opened from disk. A visitor of a museum sees the kiosk print; a class does what the first lesson says, and compares the
+// numbers of its tables with what the page shows; another one walks through the first steps of a later lesson; a source with a fault is
+// mended; each example gives its stored replies; a long run is measured; a browser without memory64 is told; people who cannot see all, or
+// have no mouse, reach all. Behind each visit the script that Save gives is run, and has to end where the visit did: by the module, and by
+// the program that LAB names where it names one.
+import assert from "node:assert/strict";
+import { spawnSync } from "node:child_process";
+import { readFileSync, readdirSync, statSync } from "node:fs";
+import { dirname, join, resolve } from "node:path";
+import { fileURLToPath, pathToFileURL } from "node:url";
+import { questionsIn, withoutQuestions } from "../lines.mjs";
+import { disorder, faint, losesFocus, nameless, noteMouse, strike, unreached } from "./access.mjs";
+import { Browser } from "./browser.mjs";
+
+const [file, pictures] = process.argv.slice(2);
+const address = pathToFileURL(resolve(file)).href;
+const top = join(dirname(fileURLToPath(import.meta.url)), "../..");
+const shelf = join(top, "examples");
+const hour = readFileSync(join(top, "docs/lessons/a-computer-on-a-drum.md"), "utf8");
+const questions = questionsIn(readFileSync(join(top, "docs/FORMATS.md"), "utf8"));
+const LEAST_SPEED = Number(process.env.LEAST_SPEED ?? 10e6);
+
+const textOf = (browser, selector) => browser.value(`document.querySelector(${JSON.stringify(selector)})?.innerText ?? ""`);
+const settled = (browser) => browser.value("laboratoryOfPage().settled()");
+const panelOf = (browser) => browser.value("(({ counter, accumulator, status, clock }) => ({ counter, accumulator, status, clock: String(clock) }))(laboratoryOfPage().panel)");
+
+async function press(browser, selector) {
+    await browser.press(selector);
+    await settled(browser);
+}
+
+async function picture(browser, name) {
+    if (pictures !== undefined) await browser.picture(join(pictures, `page-${name}.png`));
+}
+
+/** A visitor of a museum presses Start and sees what is printed; left alone, the kiosk begins anew. */
+async function kiosk(browser) {
+    await browser.open(`${address}?kiosk=message&lang=en&idle=2`);
+    const buttons = await browser.value("[...document.querySelectorAll('.kiosk-bar button')].map((it) => it.textContent)");
+    assert.deepEqual(buttons, ["Start", "One order", "Let it run", "From the beginning"]);
+    await press(browser, ".kiosk-bar button:nth-of-type(1)");
+    await press(browser, ".kiosk-bar button:nth-of-type(2)");
+    await browser.press(".kiosk-bar button:nth-of-type(3)");
+    await browser.waitFor("laboratoryOfPage().panel.status === 'halted stop'");
+    await settled(browser);
+    assert.notEqual((await textOf(browser, ".paper")).trim(), "");
+    await picture(browser, "kiosk");
+    await browser.waitFor("laboratoryOfPage().deeds.behind === 0 && laboratoryOfPage().printed.count === 0", 8000);
+}
+
+/** The rows of the first hour's table whose heading begins with these cells; an empty cell is not compared. */
+function tableOf(...heading) {
+    const lines = hour.split("\n");
+    const begin = lines.findIndex((line) => line.startsWith(`| ${heading.join(" | ")} |`.replaceAll("|  |", "| |")));
+    assert.ok(begin >= 0, heading.join(", "));
+    const rows = lines.slice(begin + 2);
+    return rows.slice(0, rows.findIndex((line) => !line.startsWith("|"))).map((line) => line.split("|").slice(1, -1).map((cell) => cell.trim()));
+}
+
+/** Types a line in the part for lines, as the first hour's class does. */
+async function type(browser, line) {
+    await browser.value(`(() => { const form = document.querySelector('.lines form'); form.querySelector('input').value = ${JSON.stringify(line)}; form.requestSubmit(); })()`);
+    await settled(browser);
+    assert.equal(await browser.value("laboratoryOfPage().talk.at(-1).reply"), "ok\n", line);
+}
+
+/** A new machine with these lines, started. */
+async function started(browser, ...lines) {
+    await press(browser, ".choices button");
+    for (const line of lines) await type(browser, line);
+    await press(browser, ".console button[data-name='start']");
+}
+
+/** The cells of the account at the top: clock, at, order, find, take, seek, act, sum. */
+const told = (browser) => browser.value("[...document.querySelector('.accounts tbody tr').cells].slice(0, 8).map((cell) => cell.textContent)");
+const shownClock = (browser) => browser.value("document.querySelector('.panel dl dd:last-of-type').innerText.trim()");
+
+/** A class that has never programmed does what the first lesson says, and compares its tables with the page. */
+async function firstHour(browser) {
+    await browser.open(`${address}?lang=en`);
+    assert.deepEqual(await panelOf(browser), { counter: "0000", accumulator: "00000000", status: "halted operator", clock: "0" });
+    await started(browser, "put 0000 b 0050", "put 0050 = 6");
+    await press(browser, "#step");
+    assert.deepEqual((await told(browser)).slice(3), tableOf("phase", "what happens").map((row) => row[2]));
+    assert.match(await textOf(browser, ".panel"), /whole number 6,/);
+    assert.deepEqual([(await panelOf(browser)).counter, await shownClock(browser)], ["0001", "67"]);
+    await browser.value("scrollTo(0, 0)");
+    await picture(browser, "first-order");
+    await groups(browser);
+    await household(browser);
+    await ownProgram(browser);
+}
+
+/** Each group places the word elsewhere; and two orders, of which the second comes in time or has gone by. */
+async function groups(browser) {
+    for (const [place, seek, sum] of tableOf("the word lies at", "seek")) {
+        await started(browser, `put 0000 b ${place}`, `put ${place} = 6`);
+        await press(browser, "#step");
+        assert.deepEqual((await told(browser)).slice(5), [seek, "1", sum], place);
+    }
+    for (const [place, sum, find] of tableOf("the word lies at", "the first order takes")) {
+        await started(browser, `put 0000 b ${place}`);
+        await press(browser, "#step");
+        assert.equal((await told(browser))[7], sum, place);
+        await press(browser, "#step");
+        assert.equal((await told(browser))[3], find, place);
+    }
+}
+
+/** Presses `Next line` until something holds, so often at most. */
+async function nextLines(browser, holds, most = 30) {
+    for (let pressed = 0; pressed < most && !(await holds()); pressed += 1) await press(browser, ".script button");
+    assert.ok(await holds());
+}
+
+/** The household's loop, placed badly and well: a week is two lines of the script. */
+async function household(browser) {
+    await browser.value("(() => { const it = document.querySelector('#example'); it.value = 'drum/placed-badly-and-well'; it.dispatchEvent(new Event('change')); })()");
+    await settled(browser);
+    const [before, behind, times, turns] = tableOf("", "placed badly").map((row) => row.slice(1));
+    for (const at of [0, 1]) {
+        await nextLines(browser, async () => (await shownClock(browser)) === before[at]);
+        for (let line = 0; line < 2; line += 1) await press(browser, ".script button");
+        assert.equal(await shownClock(browser), behind[at]);
+        const number = (text) => Number(text.replaceAll(",", ""));
+        assert.deepEqual([number(behind[at]) - number(before[at]), number(times[at]) / 64], [number(times[at]), number(turns[at])]);
+    }
+    await nextLines(browser, async () => (await textOf(browser, ".paper")) === "3\n3\n");
+}
+
+/** Three orders that print, undone and done again; a word of four letters; and a program without an end, at a walk. */
+async function ownProgram(browser) {
+    await started(browser, "put 0000 p =h", "put 0001 p =i", "put 0002 z 0000");
+    for (const [order, find, take, seek, act, sum, clock] of tableOf("order", "find")) {
+        await press(browser, "#step");
+        assert.deepEqual((await told(browser)).slice(2), [order, find, take, seek, act, sum]);
+        assert.equal(await shownClock(browser), clock);
+    }
+    assert.match(await textOf(browser, "tr[data-address='0000']"), /p 4900/);
+    for (const [way, paper] of [["back", "hi"], ["back", "h"], ["forward", "hi"], ["forward", "hi"]]) {
+        await press(browser, `.time button[aria-label='One order ${way}']`);
+        assert.equal(await textOf(browser, ".paper"), paper);
+    }
+    assert.equal(await shownClock(browser), "853");
+    await started(browser, ...[..."drum"].map((letter, place) => `put 000${place} p =${letter}`));
+    await press(browser, "#run");
+    assert.deepEqual([await textOf(browser, ".paper"), await shownClock(browser)], ["drum", "1,639"]);
+    await started(browser, "put 0000 p =h", "put 0001 p =i", "put 0002 u 0000");
+    await browser.press("#walk");
+    await browser.waitFor("laboratoryOfPage().printed.text.startsWith('hih')");
+    await press(browser, "#halt");
+    assert.equal((await panelOf(browser)).status, "going");
+}
+
+/** A class walks through the loop that changes its own order, and back. */
+async function lesson(browser) {
+    await browser.open(`${address}?lang=en#self-modifying`);
+    assert.equal((await panelOf(browser)).status, "going");
+    for (let order = 0; order < 4; order += 1) await press(browser, "#step");
+    assert.equal((await panelOf(browser)).clock, "274");
+    const stored = await browser.value("laboratoryOfPage().writerOf('0009').order");
+    assert.equal(stored, "y 0009");
+    assert.match(await textOf(browser, "tr[data-address='0009']"), /a 0100[^]*changed by y 0009 at 0005/);
+    await browser.press("tr[data-address='0009'] button");
+    await settled(browser);
+    assert.notEqual(await textOf(browser, ".why"), "");
+    await picture(browser, "order-changed");
+    await press(browser, ".time button[aria-label='One order back']");
+    assert.deepEqual(await panelOf(browser), { counter: "0005", accumulator: "00000100", status: "going", clock: "181" });
+    assert.match(await textOf(browser, "tr[data-address='0009']"), /a 0000/);
+    await press(browser, ".time button[aria-label='One order forward']");
+    assert.equal((await panelOf(browser)).clock, "274");
+    await browser.value("laboratoryOfPage().step(20)");
+    await browser.value("(() => { const it = document.querySelector('.time input'); it.value = '10'; it.dispatchEvent(new Event('change')); })()");
+    await settled(browser);
+    assert.equal(await browser.value("laboratoryOfPage().deeds.behind"), 10);
+    await browser.value("laboratoryOfPage().forward(9)");
+    await picture(browser, "loop");
+    await press(browser, "#run");
+    assert.equal((await panelOf(browser)).status, "halted stop");
+    await browser.value("laboratoryOfPage().say('words 0025 1')");
+    assert.equal(await browser.value("laboratoryOfPage().talk.at(-1).reply"), "0025 00000014\n");
+}
+
+/** What Save gives stands in its dialog, at first without the lines that only ask; it leads to the same place. */
+async function saved(browser) {
+    const before = await panelOf(browser);
+    const whole = await browser.value("laboratoryOfPage().transcript()");
+    await browser.press("#save");
+    await browser.waitFor("document.querySelector('dialog')");
+    const shown = () => browser.value("[document.querySelector('.transcript').textContent, document.querySelector('dialog a').download]");
+    const [script, name] = await shown();
+    assert.deepEqual([script, name], [withoutQuestions(whole, questions), "laboratory.txt"]);
+    assert.ok(script.length < whole.length);
+    await browser.press("#with-questions");
+    assert.equal((await shown())[0], whole);
+    await browser.press("dialog > button");
+    await browser.value(`laboratoryOfPage().openScript('saved', ${JSON.stringify(script)})`);
+    await browser.value("laboratoryOfPage().scriptLines(Infinity)");
+    assert.deepEqual(await panelOf(browser), before);
+}
+
+/** A source with a fault, mended, loaded and run, and its profile. */
+async function source(browser) {
+    await browser.open(`${address}?lang=en`);
+    const faulty = "start   b one       ; take\n        a tow       ; no line has this label\n        h sum\n        z\none     word 00000002\ntwo     word 00000004\nsum     word 00000000\n        end start";
+    const write = (text) => browser.value(`(() => { const it = document.querySelector('.source textarea'); it.value = ${JSON.stringify(text)}; it.dispatchEvent(new Event('input')); })()`);
+    await write(faulty);
+    await press(browser, ".source .line button:nth-of-type(1)");
+    assert.match(await textOf(browser, ".source .told"), /1 fault[^]*line 2: no line has that label/);
+    assert.equal(await browser.value("document.querySelector('.gutter .fault').textContent"), "2");
+    await browser.value("document.querySelector('.source').scrollIntoView({ block: 'center' })");
+    await picture(browser, "fault");
+    await write(faulty.replace("tow", "two"));
+    await press(browser, ".source .line button:nth-of-type(1)");
+    assert.match(await textOf(browser, ".source .told"), /7 words, start 0000/);
+    await press(browser, ".source .line button:nth-of-type(2)");
+    await press(browser, "#run");
+    assert.equal(await browser.value("laboratoryOfPage().words.find(({ address }) => address === '0006').digits"), "00000006");
+}
+
+/** The profile of the primes, as bars. */
+async function profile(browser) {
+    await browser.open(`${address}?lang=en#tables/primes`);
+    await press(browser, ".profile button");
+    assert.match(await textOf(browser, ".profile"), /orders, [\d,]+ word times/);
+    await browser.value("document.querySelector('.profile').scrollIntoView({ block: 'center' })");
+    await picture(browser, "profile");
+}
+
+/** All examples give their stored replies, line by line in a session. */
+async function examples(browser) {
+    await browser.open(`${address}?lang=en`);
+    const names = readdirSync(shelf, { recursive: true }).map(String).filter((name) => name.endsWith(".txt")).sort();
+    for (const name of names) {
+        const path = join(shelf, name);
+        assert.ok(statSync(path).isFile());
+        const replies = await browser.value(`laboratoryOfPage().repliesTo(${JSON.stringify(readFileSync(path, "utf8"))})`);
+        assert.equal(replies, readFileSync(path.replace(/txt$/, "expected"), "utf8"), name);
+    }
+    return names.length;
+}
+
+/** A loop without end runs fast, and can be stopped. */
+async function longRun(browser) {
+    await browser.open(`${address}?lang=en`);
+    await browser.value("laboratoryOfPage().say('put 0000 b 0010', 'put 0001 a 0011', 'put 0002 h 0010', 'put 0003 u 0000', 'press start')");
+    await browser.press("#run");
+    await new Promise((resolve) => setTimeout(resolve, 4000));
+    await browser.press("#halt");
+    await settled(browser);
+    const { orders, milliseconds } = await browser.value("laboratoryOfPage().lastRun");
+    return (1000 * orders) / milliseconds;
+}
+
+/** What is wrong is named, and nothing is lost. */
+async function badInput(browser) {
+    await browser.open(`${address}?lang=en#no-such-example`);
+    assert.match(await textOf(browser, "#notice"), /names no example: no-such-example/);
+    await browser.value("laboratoryOfPage().say('jump 0100')");
+    assert.match(await textOf(browser, "#notice"), /Refused: Form/);
+    await browser.value("laboratoryOfPage().say('mount 12A')");
+    assert.match(await textOf(browser, "#notice"), /BadSign/);
+    await browser.value("laboratoryOfPage().assemble(('; ' + 'x'.repeat(4000) + '\\n').repeat(300))");
+    assert.match(await textOf(browser, "#notice"), /TooLong/);
+    await browser.value("laboratoryOfPage().say('panel')");
+    assert.match(await browser.value("laboratoryOfPage().talk.at(-1).reply"), /^counter 0000/);
+}
+
+/** Where memory is used up, the page says so, keeps the lines, and goes on with a new laboratory. */
+async function usedUp(browser) {
+    await browser.open(`${address}?lang=en`);
+    await browser.value("laboratoryOfPage().say('put 0050 = 3', ...Array(17000).fill('; ' + 'x'.repeat(4000)))");
+    assert.match(await textOf(browser, "#notice"), /There was not enough memory/);
+    assert.equal(await browser.value("laboratoryOfPage().notice.lines.slice(0, 13)"), "put 0050 = 3\n");
+    await browser.value("laboratoryOfPage().say('words 0050 1')");
+    assert.equal(await browser.value("laboratoryOfPage().talk.at(-1).reply"), "0050 00000000\n");
+    await started(browser, "put 0000 p =h", "put 0001 u 0000");
+    await press(browser, "#run");
+    assert.match(await textOf(browser, "#notice"), /There was not enough memory/);
+    assert.equal(await textOf(browser, ".paper"), "");
+}
+
+/** Dead buttons are shown dead, everything has a name, and German is there. */
+async function forPeople(browser) {
+    await browser.open(`${address}?lang=de`);
+    const dead = await browser.value("[...document.querySelectorAll('.console .dead')].map((it) => it.dataset.name).sort()");
+    assert.deepEqual(dead, ["compute", "execute", "read"]);
+    assert.match(await textOf(browser, "h1"), /bewiesen/);
+    const nameless = await browser.value("[...document.querySelectorAll('button, input, select, textarea')].filter((it) => !(it.textContent.trim() || it.getAttribute('aria-label') || it.closest('label')?.textContent.trim())).map((it) => it.outerHTML)");
+    assert.deepEqual(nameless, []);
+    assert.equal(await browser.value("document.querySelectorAll('[id]').length === new Set([...document.querySelectorAll('[id]')].map((it) => it.id)).size"), true);
+    await browser.ask("Emulation.setDeviceMetricsOverride", { width: 380, height: 800, deviceScaleFactor: 1, mobile: true });
+    assert.equal(await browser.value("document.documentElement.scrollWidth <= 380"), true);
+}
+
+/** The troubles of the page as it stands, in light and in dark, and by Tab. */
+async function troubles(browser) {
+    const found = [...await disorder(browser), ...await nameless(browser), ...await unreached(browser)];
+    for (const scheme of ["light", "dark"]) {
+        await browser.ask("Emulation.setEmulatedMedia", { features: [{ name: "prefers-color-scheme", value: scheme }] });
+        found.push(...(await faint(browser)).map((trouble) => `${scheme}: ${trouble}`));
+    }
+    await browser.ask("Emulation.setEmulatedMedia", { features: [] });
+    return found;
+}
+
+/** Opens an address with what listens to a mouse noted. */
+async function openNoted(browser, behind) {
+    const { identifier } = await noteMouse(browser);
+    await browser.open(`${address}${behind}`);
+    await browser.ask("Page.removeScriptToEvaluateOnNewDocument", { identifier });
+}
+
+/** Names, contrast, headings and landmarks, and the way by Tab: with nearly all that the page can show, in both languages and dialogs. */
+async function everyone(browser) {
+    await browser.ask("Accessibility.enable");
+    for (const language of ["en", "de"]) {
+        await openNoted(browser, `?lang=${language}#self-modifying`);
+        assert.deepEqual(await troubles(browser), []);
+        await browser.value("laboratoryOfPage().step(8)");
+        await browser.value("laboratoryOfPage().say('break 0100', 'watch 0009', 'mount 1[16]2', 'press bp4 down', 'profile 3', 'go 0164')");
+        await browser.value("laboratoryOfPage().assemble(' b none\\n z\\n end')");
+        await press(browser, "tr[data-address='0009'] button");
+        assert.deepEqual(await troubles(browser), []);
+        for (const opener of ["#save", "#about"]) {
+            await browser.press(opener);
+            await browser.waitFor("document.querySelector('dialog')");
+            assert.deepEqual([...await nameless(browser), ...await faint(browser)], []);
+            await strike(browser, "Escape");
+        }
+        await openNoted(browser, `?kiosk=message&lang=${language}`);
+        await press(browser, ".kiosk-bar button:nth-of-type(3)");
+        assert.deepEqual(await troubles(browser), []);
+    }
+    await browser.ask("Accessibility.disable");
+}
+
+/** By keys alone: an order is stepped over and gone back, a line is typed, no press loses the focus, and the short keys can be put off. */
+async function byKeys(browser) {
+    await browser.open(`${address}?lang=en#self-modifying`);
+    const clock = async () => { await settled(browser); return (await panelOf(browser)).clock; };
+    const clocks = [];
+    for (const key of ["s", "s", "[", "]", "["]) {
+        await strike(browser, key, "", key);
+        clocks.push(await clock());
+    }
+    const [one, two] = clocks;
+    assert.notEqual(one, two);
+    assert.deepEqual(clocks, [one, two, one, two, one]);
+    await browser.press("#about");
+    await browser.press("#short-keys");
+    await strike(browser, "Escape");
+    await strike(browser, "s", "", "s");
+    assert.equal(await clock(), one);
+    await browser.value("laboratoryOfPage().say('break 0100', 'break 0101')");
+    assert.deepEqual(await losesFocus(browser, "#page button:not([data-name='key'])"), []);
+    await browser.value("document.querySelector('.lines input').focus()");
+    await browser.ask("Input.insertText", { text: "new" });
+    await strike(browser, "Enter", "Enter", "\r");
+    assert.equal(await clock(), "0");
+}
+
+/** What is read out: of a line typed, the line and its reply and nothing that stood there before; of the paper, what is printed now. */
+async function readOut(browser) {
+    await browser.open(`${address}?lang=en`);
+    for (const line of ["put 0000 p =h", "put 0001 p =i", "put 0002 z 0000", "press start"]) await browser.value(`laboratoryOfPage().say('${line}')`);
+    await browser.value(`(() => {
+        globalThis.added = {};
+        for (const log of document.querySelectorAll("[role=log]")) {
+            added[log.getAttribute("aria-label")] = "";
+            new MutationObserver((changes) => { for (const { addedNodes } of changes) for (const node of addedNodes) added[log.getAttribute("aria-label")] += node.textContent; }).observe(log, { childList: true, subtree: true });
+        }
+    })()`);
+    const heard = [];
+    for (const line of ["words 0000 1", "orders 1", "orders 1", "jump"]) {
+        await browser.value(`laboratoryOfPage().say('${line}')`);
+        heard.push(await browser.value("(() => { const heard = Object.values(added); for (const name in added) added[name] = ''; return heard; })()"));
+    }
+    assert.deepEqual(heard, [["", "words 0000 1\n0000 00083100\n"], ["h", "orders 1\norders 1 going\n"], ["i", "orders 1\norders 1 going\n"],
+        ["", "jump\n? 1 Form: there is no such command, help lists them\n"]]);
+    const roles = await browser.value("['notice', 'progress'].map((id) => document.getElementById(id).getAttribute('role'))");
+    assert.deepEqual(roles, ["alert", "status"]);
+    assert.match(await textOf(browser, "#notice"), /no such command/);
+}
+
+/** Nothing moves by itself: no animation runs behind any step, whether motion is wanted or not. */
+async function stillness(browser) {
+    for (const value of ["no-preference", "reduce"]) {
+        await browser.ask("Emulation.setEmulatedMedia", { features: [{ name: "prefers-reduced-motion", value }] });
+        await browser.open(`${address}?lang=en#self-modifying`);
+        for (let order = 0; order < 5; order += 1) {
+            await press(browser, "#step");
+            assert.equal(await browser.value("document.getAnimations().length"), 0, value);
+        }
+    }
+    await browser.ask("Emulation.setEmulatedMedia", { features: [] });
+}
+
+/** A browser without WebAssembly, as a Chromium is that may make no machine code, is told the same sentence. */
+async function withoutWebAssembly() {
+    const other = await Browser.start(800, 600, ["--js-flags=--jitless"]);
+    try {
+        await other.open(`${address}?lang=en`, "document.querySelector('.sentence')");
+        assert.equal(await other.value("typeof WebAssembly"), "undefined");
+        assert.match(await textOf(other, "#page"), /^This browser cannot open the laboratory/);
+        assert.deepEqual(other.told, []);
+    } finally {
+        await other.end();
+    }
+}
+
+/** A browser that says that it takes no memory64, is told one sentence. No flag of Chromium puts memory64 off any more. */
+async function withoutMemory64(browser) {
+    const { identifier } = await browser.ask("Page.addScriptToEvaluateOnNewDocument", { source: "WebAssembly.validate = () => false" });
+    await browser.open(`${address}?lang=en`, "document.querySelector('.sentence')");
+    assert.match(await textOf(browser, "#page"), /^This browser cannot open the laboratory/);
+    await browser.ask("Page.removeScriptToEvaluateOnNewDocument", { identifier });
+}
+
+/** The replies of a script by each program that runs scripts. */
+function repliesTo(script) {
+    const module = [process.execPath, ...process.execArgv, join(top, "page/run_script.mjs"), join(top, "page/lgp_c_region.wasm")];
+    const programs = process.env.LAB === undefined ? [module] : [module, [process.env.LAB]];
+    return programs.map(([program, ...words]) => {
+        const { status, stdout, stderr } = spawnSync(program, words, { input: script, encoding: "utf8", maxBuffer: 1 << 26 });
+        assert.ok(status === 0 || status === 1, `${program}: status ${status}, ${stderr}`);
+        return stdout;
+    });
+}
+
+/** What is asked where a visit has ended: the panel, all words, what is printed, and the same one order back. */
+const AT_THE_END = ["panel", "dump", "printed", "back 1", "panel", "dump"];
+
+/** The script that Save gives at first ends where the visit has. Gives the numbers of lines with and without those that only ask. */
+async function endsThere(browser) {
+    if (!await browser.value("globalThis.laboratoryOfPage?.() != null")) return null;
+    const whole = await browser.value("laboratoryOfPage().transcript()");
+    const short = withoutQuestions(whole, questions);
+    let here = "";
+    for (const line of AT_THE_END) here += await browser.value(`laboratoryOfPage().say(${JSON.stringify(line)})`);
+    const before = repliesTo(short);
+    const there = repliesTo(`${short}${AT_THE_END.join("\n")}\n`).map((replies, place) => replies.slice(before[place].length));
+    for (const replies of there) assert.equal(replies, here);
+    return [whole, short].map((script) => script.split("\n").length - 1);
+}
+
+const visits = { kiosk, firstHour, lesson, saved, source, profile, examples, badInput, usedUp, longRun, forPeople, everyone, byKeys, readOut, stillness, withoutMemory64, withoutWebAssembly };
+const browser = await Browser.start();
+let failed = 0;
+for (const [name, visit] of Object.entries(visits)) {
+    const began = Date.now();
+    try {
+        const found = await visit(browser);
+        if (name === "longRun") assert.ok(found >= LEAST_SPEED, `${Math.round(found)} orders a second`);
+        const lines = name === "withoutWebAssembly" ? null : await endsThere(browser);
+        const saves = lines === null ? "" : `, ${lines[1]} lines saved of ${lines[0]}`;
+        console.log(`${name}: well${found === undefined ? "" : `, ${Math.round(found)}`}${saves}, ${((Date.now() - began) / 1000).toFixed(1)} s`);
+    } catch (failure) {
+        failed += 1;
+        console.log(`${name}: ${failure.message}`);
+    }
+}
+if (browser.told.length > 0) {
+    failed += 1;
+    console.log(`the page has told: ${browser.told.join("\n")}`);
+}
+await browser.end();
+process.exitCode = failed === 0 ? 0 : 1;

@@ -1,0 +1,60 @@
+// Elements of the page, made by short calls.
+
+const SVG = "http://www.w3.org/2000/svg";
+
+function filled(node, attributes, children) {
+    for (const [name, value] of Object.entries(attributes)) {
+        if (name.startsWith("on")) node.addEventListener(name.slice(2), value);
+        else if (value === true) node.setAttribute(name, "");
+        else if (value !== false && value !== null && value !== undefined) node.setAttribute(name, value);
+    }
+    node.append(...children.filter((child) => child !== null && child !== undefined));
+    return node;
+}
+
+/** An element of the page. An attribute that begins with `on` is a listener; one that is false or null is left out. */
+export const h = (name, attributes = {}, ...children) => filled(document.createElement(name), attributes, children);
+
+/** An element of a drawing. */
+export const s = (name, attributes = {}, ...children) => filled(document.createElementNS(SVG, name), attributes, children);
+
+let made = 0;
+
+/** A part of the page with its heading. */
+export function part(name, heading, ...children) {
+    made += 1;
+    const id = `part-${made}`;
+    return h("section", { class: `part ${name}`, "aria-labelledby": id }, h("h2", { id }, heading), ...children);
+}
+
+/** Shows new text in a place whose additions are read out: what was there already stays, so that only what is new is read. */
+export function tellMore(place, text) {
+    const before = place.textContent;
+    if (text.startsWith(before)) place.append(text.slice(before.length));
+    else place.textContent = text;
+}
+
+/** Fills a place anew; the focus stays on the control that it was on, known by its `data-name`. */
+export function refill(place, ...children) {
+    const name = place.contains(document.activeElement) ? document.activeElement.dataset.name : undefined;
+    place.replaceChildren(...children);
+    if (name !== undefined) place.querySelector(`[data-name="${CSS.escape(name)}"]`)?.focus();
+}
+
+/** A control that does something only while it is live. */
+export const guarded = (text, attributes, deed) => {
+    const control = button(text, () => { if (control.getAttribute("aria-disabled") !== "true") deed(); }, attributes);
+    return control;
+};
+
+/** Shows a control dead or live. It can be reached while dead, so that the focus stays and a screen reader tells of it. */
+export function showLive(control, live) {
+    control.setAttribute("aria-disabled", String(!live));
+    control.classList.toggle("dead", !live);
+}
+
+/** Text for a screen reader alone. */
+export const unseen = (text) => h("span", { class: "unseen" }, text);
+
+/** A button with its text; what it does is told when it is pressed. */
+export const button = (text, onclick, attributes = {}) => h("button", { type: "button", onclick, ...attributes }, text);

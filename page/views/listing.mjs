@@ -1,0 +1,64 @@
+// The words around the counter: the next order lit, changed words in colour with an arrow from the order that wrote them.
+import { button, h, part, refill, s, unseen } from "./dom.mjs";
+
+const NAME_OF_ORDER = /^-?([a-z]) /;
+
+/** What is told of the order that changed a word, if there was one. */
+const toldOf = (writer, text) => (writer === null ? "" : text("changed", { order: writer.order, at: writer.at ?? "–", clock: writer.clock }));
+
+function row(word, laboratory, { text, table }, ask) {
+    const { panel } = laboratory;
+    const writer = laboratory.writerOf(word.address);
+    const isNext = word.address === panel.counter;
+    const labels = laboratory.labels.get(word.address) ?? [];
+    const meaning = table.orders[NAME_OF_ORDER.exec(word.order)?.[1]] ?? "";
+    return h("tr", { class: `${isNext ? "next" : ""} ${writer === null ? "" : "changed"}`, "data-address": word.address, "aria-current": isNext ? "true" : null },
+        h("td", {}, button(word.address, () => ask(word.address), { class: "plain", title: `${word.address}: ${text("whyHint")}`, "data-name": word.address })),
+        h("td", { class: "label" }, labels.join(" ")), h("td", {}, h("code", {}, word.digits)),
+        h("td", { title: meaning }, h("code", {}, word.order), unseen(meaning === "" ? "" : ` ${meaning}`)), h("td", { class: "told" }, toldOf(writer, text)));
+}
+
+/** An arrow beside the rows, from the order that wrote last to what it wrote, where both are shown. */
+function arrow(body, laboratory) {
+    const writer = laboratory.accounts.at(-1);
+    const rowAt = (address) => body.querySelector(`tr[data-address="${address}"]`);
+    const [from, to] = [rowAt(writer?.at), rowAt(writer?.stored?.address)];
+    if (from === null || to === null || from === to) return null;
+    const middle = (line) => line.offsetTop + line.offsetHeight / 2;
+    const [start, end] = [middle(from), middle(to)];
+    return s("svg", { class: "arrow", width: 26, height: body.offsetHeight + body.offsetTop, "aria-hidden": "true" },
+        s("path", { d: `M 24 ${start} C 2 ${start} 2 ${end} 18 ${end}` }),
+        s("polygon", { points: `18,${end - 5} 26,${end} 18,${end + 5}` }));
+}
+
+/** The part of the page that shows words of the drum. */
+export function makeListing(laboratory, texts) {
+    const { text } = texts;
+    const body = h("tbody");
+    const heads = ["address", "label", "digits", "order", "change"].map((name) => h("th", { scope: "col" }, ["label", "change"].includes(name) ? unseen(text(name)) : text(name)));
+    const table = h("table", { class: "words-table" }, h("thead", {}, h("tr", {}, ...heads)), body);
+    const arrows = h("div", { class: "arrows" });
+    const answer = h("p", { class: "why", role: "status" });
+    let askedAt = null;
+    const ask = async (address) => {
+        const lines = await laboratory.why(address);
+        askedAt = laboratory.panel.clock;
+        answer.textContent = lines === null ? `${address}: ${toldOf(laboratory.writerOf(address), text) || text("noWhy")}` : lines.join("\n");
+    };
+    const place = h("input", { size: 4, maxlength: 4, pattern: "[0-9]{4}", inputmode: "numeric", "aria-label": text("goTo"), value: "0000" });
+    const form = h("form", { class: "line", onsubmit: (event) => event.preventDefault() }, h("label", {}, `${text("address")} `, place), " ",
+        button(text("show"), () => laboratory.showAt(place.value.padStart(4, "0"))), " ", button(text("startHere"), () => laboratory.say(`go ${place.value}`)), " ",
+        button(text("breakAt"), () => laboratory.say(`break ${place.value}`)), " ", button(text("watchAt"), () => laboratory.say(`watch ${place.value}`)));
+    const rules = h("ul", { class: "rules", "aria-label": text("rules") });
+    const show = () => {
+        refill(body, ...laboratory.words.map((word) => row(word, laboratory, texts, ask)));
+        if (laboratory.panel.clock !== askedAt) answer.textContent = "";
+        const drawn = arrow(body, laboratory);
+        arrows.replaceChildren(...(drawn === null ? [] : [drawn]));
+        refill(rules, ...laboratory.rules.map((rule, number) => {
+            const [kind, address] = rule.split(" ");
+            return h("li", {}, `${number}: ${texts.table.ruleKind[kind]} ${address} `, button("×", () => laboratory.say(`drop ${number}`), { "aria-label": text("dropRule", { number }), "data-name": number }));
+        }));
+    };
+    return { node: part("listing", text("words"), h("div", { class: "with-arrows" }, arrows, h("div", { class: "scroll" }, table)), answer, form, rules), show };
+}

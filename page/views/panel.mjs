@@ -1,0 +1,36 @@
+// The panel: registers as bits with their readings, status, mode and clock.
+import { bitsOf, fractionOf, wholeOf } from "../replies.mjs";
+import { counted } from "../words.mjs";
+import { h, part } from "./dom.mjs";
+
+/** The bits of a word as lamps. The order and the address stand out. */
+function lamps(digits, name) {
+    const bits = bitsOf(digits);
+    const field = (place) => (place >= 12 && place < 16 ? "of-order" : place >= 18 && place < 30 ? "of-address" : "");
+    const lamp = (bit, place) => h("span", { class: `lamp ${bit ? "lit" : ""} ${field(place)} ${place % 4 === 0 ? "apart" : ""}` });
+    return h("span", { class: "lamps", role: "img", "aria-label": `${name} ${bits.join("")}` }, ...bits.map(lamp));
+}
+
+/** The order that was performed last, where the register holds it. */
+const orderIn = (laboratory) => {
+    const last = laboratory.accounts.at(-1);
+    return last !== undefined && last.clock + BigInt(last.sum) === laboratory.panel.clock ? last.order : null;
+};
+
+/** The part of the page with the registers. */
+export function makePanel(laboratory, { text, table, code }) {
+    const body = h("dl", { class: "registers" });
+    const item = (name, ...values) => [h("dt", {}, name), h("dd", {}, ...values)];
+    const reading = (digits) => `${text("asWhole")} ${counted(wholeOf(digits), code)}, ${text("asFraction")} ${fractionOf(digits).toFixed(9)}`;
+    const show = () => {
+        const { panel } = laboratory;
+        const order = orderIn(laboratory);
+        body.replaceChildren(
+            ...item(text("counter"), h("code", { class: "large" }, panel.counter)),
+            ...item(text("accumulator"), h("code", { class: "large" }, panel.accumulator), lamps(panel.accumulator, `${text("bitsOf")} ${text("accumulator")}`), h("small", {}, reading(panel.accumulator))),
+            ...item(text("register"), h("code", { class: "large" }, panel.register), lamps(panel.register, `${text("bitsOf")} ${text("register")}`), h("small", {}, order === null ? "" : `${text("asOrder")} ${order}`)),
+            ...item(text("status"), h("strong", { class: `status ${panel.status.split(" ")[0]}` }, table.statuses[panel.status] ?? panel.status), h("small", {}, ` ${table.modes[panel.mode] ?? panel.mode}`)),
+            ...item(text("clockLong"), h("code", {}, counted(panel.clock, code))));
+    };
+    return { node: part("panel", text("panel"), body), show };
+}
