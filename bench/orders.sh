@@ -1,7 +1,9 @@
 #!/bin/sh
 # Instructions an order, as callgrind counts them, of the program on two loops, by the script commands `orders` and `run`, and of the
-# monitor by `run`: 120,001 orders less 20,001, so that starting and ending do not count. Where SIMH's LGP-30 is installed (Debian package simh,
-# program lgp), it runs the same loops in the same way. Needs valgrind. Nothing of this is part of the check.
+# monitor by `run` and by `profile`, which makes an account of each: 120,001 orders less 20,001, so that starting and ending do not count.
+# Then of the monitor by `trace`, whose lines say where each order came from, behind 5,000 orders, so that the kept steps are 4,096: 2,000
+# orders less 1,000. Where SIMH's LGP-30 is installed (Debian package simh, program lgp), it runs the same loops in the same way. Needs
+# valgrind. Nothing of this is part of the check.
 set -eu
 top=$(cd "$(dirname "$0")/.." && pwd)
 work=$(mktemp -d)
@@ -86,12 +88,22 @@ counted() {
     per_order "$a" "$b"
 }
 
+# The same of the monitor by `trace`, for a loop's words.
+traced() {
+    for orders in 1000 2000; do
+        { script "$1" run 5000; echo "trace $orders"; } >"$work/trace-$orders"
+    done
+    a=$(instructions "$work/trace-1000" "$top/crates/lgp30m/out/lgp30m")
+    b=$(instructions "$work/trace-2000" "$top/crates/lgp30m/out/lgp30m")
+    echo "$a $b" | awk '{ printf "%.0f", ($2 - $1) / 1000 }'
+}
+
 "$top/prove"
 "$top/prove" lgp30m
 for loop in small large; do
     eval "words=\$$loop"
     for orders in $short $long; do
-        for command in orders run; do
+        for command in orders run profile; do
             script "$words" "$command" "$orders" >"$work/$command-$orders"
         done
         simh_script "$words" "$orders" >"$work/simh-$orders"
@@ -102,6 +114,10 @@ for loop in small large; do
     done
     count=$(counted lgp30m run)
     echo "$loop: $count by run in the monitor"
+    count=$(counted lgp30m profile)
+    echo "$loop: $count by profile in the monitor"
+    count=$(traced "$words")
+    echo "$loop: $count by trace in the monitor, with where each order came from"
     if command -v lgp >/dev/null 2>&1; then
         a=$(instructions /dev/null lgp "$work/simh-$short")
         b=$(instructions /dev/null lgp "$work/simh-$long")
