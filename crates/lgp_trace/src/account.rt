@@ -64,6 +64,7 @@ pub struct Account {
 }
 
 /// Where the order stands of the activity that begins here.
+#[inline(always)]
 pub fn place_of<A: Allocator>(machine: &Machine<A>) -> Option<Address>
     ensures { IsTrue (is_boundary machine.now) → result ≡ place_of machine.now.state }
 {

@@ -47,6 +47,7 @@ impl Phases {
     }
 
     /// The same before the order acts, with no word time in which it does.
+    #[inline(always)]
     #[tactic(auto, unfolding(crate::specs::Phases::phases_of))]
     pub fn before_acting<A: Allocator>(machine: &Machine<A>) -> Option<Phases>
         ensures { result
@@ -81,6 +82,7 @@ impl Phases {
     }
 
     /// The same with so long a last phase that all four together take so many word times.
+    #[inline(always)]
     pub fn until(self, times: u64) -> Phases
         requires { self.find + self.take + self.seek ≤ times }
         ensures { result

@@ -62,6 +62,7 @@ impl<A: Allocator> Profile<A> {
     }
 
     /// Adds an activity by the place of its order and its phases.
+    #[inline(always)]
     #[tactic(auto, using(crate::proofs::Sums::sums))]
     pub(crate) fn add(&mut self, place: Option<Address>, more: Phases)
         requires { all_phases self.old.phases + all_phases more < 2 ^ 64 }
@@ -118,6 +119,7 @@ impl<A: Allocator> Profile<A> {
 }
 
 /// Phases together with others.
+#[inline(always)]
 fn added(phases: Phases, more: Phases) -> Phases
     requires { all_phases phases + all_phases more < 2 ^ 64 }
     ensures { result ≡ added_phases phases more }

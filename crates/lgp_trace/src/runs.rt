@@ -1,6 +1,6 @@
 //! Runs of a debugger whose orders are accounted for.
 
-ghost use Rattle.std.specs.Prelude.{◌≡◌, ◌+◌, ◌++◌, [], ◌<◌, ◌≤◌, ◌↔◌, Err, IfErr, IfOk, IsTrue, OnErr, OnOk, false, sum};
+ghost use Rattle.std.specs.Prelude.{◌≡◌, ◌+◌, ◌<◌, ◌≤◌, ◌↔◌, Err, IfErr, IfOk, IsTrue, OnErr, OnOk, false, sum};
 ghost use Rattle.lgp_table.specs.Activity.{cost};
 ghost use Rattle.lgp_table.specs.Console.{is_at_rest};
 ghost use Rattle.lgp_machine.specs.Answers.{clock_end};
@@ -19,6 +19,7 @@ use lgp_history::History;
 use std::alloc::Allocator;
 
 /// One order of a run, and the number of the first rule that stops the run there.
+#[inline(always)]
 pub fn go_on<H: History<A>, A: Allocator>(
     debugger: &mut Debugger<H, A>,
 ) -> Result<Option<u8>, StepFault>
@@ -37,55 +38,11 @@ pub fn go_on<H: History<A>, A: Allocator>(
     ensures unchanged { OnErr result (debugger.new ≡ debugger.old) }
 {
     if debugger.rules().is_empty() {
-        return go_on_freely(debugger);
+        return match debugger.step() {
+            Ok(_) => Ok(None),
+            Err(fault) => Err(fault),
+        };
     }
-    go_on_by_rules(debugger)
-}
-
-/// The same where there are no rules.
-#[inline(always)]
-fn go_on_freely<H: History<A>, A: Allocator>(
-    debugger: &mut Debugger<H, A>,
-) -> Result<Option<u8>, StepFault>
-    requires { debugger.old.rules ≡ [] }
-    ensures performed { OnOk result (debugger.new ≡ after_step debugger.old Step.Perform) }
-    ensures stop { IfOk result (λ stop.
-        stop ≡ first_stop debugger.old.rules debugger.old.state) }
-    ensures at_work { OnOk result
-        (is_at_rest debugger.old.state.core.panel.status ≡ false) }
-    ensures within_clock { OnOk result (debugger.new.state.clock ≤ clock_end) }
-    ensures at_rest { (result ≡ Err StepFault.AtRest)
-        ↔ IsTrue (is_at_rest debugger.old.state.core.panel.status) }
-    ensures clock_end { IfErr result (λ fault. fault ≡ StepFault.ClockEnd
-        → clock_end < debugger.old.state.clock + cost debugger.old.state) }
-    ensures memory { IfErr result (λ fault. fault ≡ StepFault.Memory
-        → ¬ (clock_end < debugger.old.state.clock + cost debugger.old.state)) }
-    ensures unchanged { OnErr result (debugger.new ≡ debugger.old) }
-{
-    match debugger.step() {
-        Ok(_) => Ok(None),
-        Err(fault) => Err(fault),
-    }
-}
-
-/// The same by the debugger's own run.
-fn go_on_by_rules<H: History<A>, A: Allocator>(
-    debugger: &mut Debugger<H, A>,
-) -> Result<Option<u8>, StepFault>
-    ensures performed { OnOk result (debugger.new ≡ after_step debugger.old Step.Perform) }
-    ensures stop { IfOk result (λ stop.
-        stop ≡ first_stop debugger.old.rules debugger.old.state) }
-    ensures at_work { OnOk result
-        (is_at_rest debugger.old.state.core.panel.status ≡ false) }
-    ensures within_clock { OnOk result (debugger.new.state.clock ≤ clock_end) }
-    ensures at_rest { (result ≡ Err StepFault.AtRest)
-        ↔ IsTrue (is_at_rest debugger.old.state.core.panel.status) }
-    ensures clock_end { IfErr result (λ fault. fault ≡ StepFault.ClockEnd
-        → clock_end < debugger.old.state.clock + cost debugger.old.state) }
-    ensures memory { IfErr result (λ fault. fault ≡ StepFault.Memory
-        → ¬ (clock_end < debugger.old.state.clock + cost debugger.old.state)) }
-    ensures unchanged { OnErr result (debugger.new ≡ debugger.old) }
-{
     if debugger.look().status.is_at_rest() {
         return Err(StepFault::AtRest);
     }
@@ -110,6 +67,7 @@ fn rule_of(reason: Reason) -> Option<u8>
 
 /// One order of a run, added to a profile, and the number of the first rule that stops the run there.
 #[tactic(auto, using(crate::proofs::PhaseLaws::phases_cost, crate::proofs::PhaseLaws::phases_last))]
+#[inline(always)]
 fn note_order<H: History<A>, A: Allocator, B: Allocator>(
     debugger: &mut Debugger<H, A>,
     profile: &mut Profile<B>,
