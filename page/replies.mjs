@@ -81,7 +81,7 @@ const RUN = /^ran (\d+) (rest|limit|rule (\d+))$/;
 
 /** What a run did: its orders, why it ended, and the rule that stopped it. */
 export function runOf(reply) {
-    const [, orders, end, rule] = matched(RUN, linesOf(reply).at(-1) ?? "", "run");
+    const [, orders, end, rule] = matched(RUN, toldOf(reply).end, "run");
     return { orders: Number(orders), end: end.startsWith("rule") ? "rule" : end, rule: rule === undefined ? null : Number(rule) };
 }
 
@@ -167,7 +167,7 @@ function accountOf(line) {
     };
 }
 
-/** The accounts in front of the last line of a reply of `trace`. */
+/** The accounts in front of the line that ends a reply of `trace`. */
 export function accountsOf(lines) {
     const accounts = [];
     for (const line of lines) {
@@ -206,10 +206,11 @@ export function profileOf(lines) {
     };
 }
 
-/** What stands in front of the last line of a reply, and that line. */
+/** What a run tells of its orders, and the line that ends it. What the monitor says behind that line begins with a blank. */
 export function toldOf(reply) {
     const lines = linesOf(reply);
-    return { told: lines.slice(0, -1), end: lines.at(-1) ?? "" };
+    const last = lines.findLastIndex((line) => !line.startsWith(" "));
+    return { told: lines.slice(0, Math.max(last, 0)), end: lines[last] ?? "" };
 }
 
 /** What a source was answered: its words and start, or its faults by their lines. */

@@ -22,6 +22,8 @@ test("readings of a word", () => {
 test("runs and their ends", () => {
     assert.deepEqual(replies.runOf("ran 3 rule 1\n"), { orders: 3, end: "rule", rule: 1 });
     assert.deepEqual(replies.runOf("ran 0 rest\n"), { orders: 0, end: "rest", rule: null });
+    assert.deepEqual(replies.runOf("ran 0 rest\n        a stop order halted the machine: press start lets it go on\n"),
+        { orders: 0, end: "rest", rule: null });
     assert.throws(() => replies.runOf("? 4 ClockEnd\n"), replies.ReplyError);
 });
 

@@ -22,7 +22,7 @@ class Run:
     @classmethod
     def of(cls, reply: str) -> "Run":
         """The run that a reply of `run` tells. Raises ValueError where it is none."""
-        words = reply.split()
+        words = reply.split("\n", 1)[0].split()
         if len(words) < 3 or words[0] != "ran":
             raise ValueError(f"no run: {reply!r}")
         return cls(int(words[1]), words[2], int(words[3]) if len(words) > 3 else None)
@@ -98,7 +98,10 @@ class Laboratory:
 
     def _told(self, command: str, limit: int) -> "list[str]":
         """What stands in front of the reply of the run. Where the clock's end has broken the run off, that refusal is raised."""
-        *told, end = self.answer(f"{command} {limit}").removesuffix("\n").split("\n")
+        lines = self.answer(f"{command} {limit}").removesuffix("\n").split("\n")
+        while len(lines) > 1 and lines[-1].startswith(" "):
+            lines.pop()  # what the monitor says behind the reply
+        *told, end = lines
         if end.startswith("?"):
             raise refusals.refusal_in(end)
         return told

@@ -148,7 +148,13 @@ def test_a_told_run_that_the_clock_breaks_off_is_refused(laboratory, monkeypatch
 
 def test_a_rule_stops_a_run(laboratory):
     laboratory.answers("put 0100 u 0100\nbreak 0100\ngo 0100\n")
-    assert laboratory.run(10).end == "rule"
+    assert laboratory.run(10) == condugwa.Run(1, "rule", 0)
+    assert len(laboratory.trace(10)) == 1
+
+
+def test_a_run_at_rest_performs_nothing(laboratory):
+    assert laboratory.run(10) == condugwa.Run(0, "rest", None)
+    assert laboratory.trace(10) == []
 
 
 def test_a_refusal_is_raised_and_changes_nothing(laboratory):
