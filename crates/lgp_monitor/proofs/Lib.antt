@@ -2,3 +2,4 @@ pub mod GoLemmas
 pub mod LineLemmas
 pub mod RunLine
 pub mod Pictures
+pub mod LastLine

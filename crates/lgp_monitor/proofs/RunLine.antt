@@ -16,7 +16,7 @@ use Rattle.lgp_lab.specs.Script.{answer_in, answer_to_command, answer_to_line, s
 use Rattle.lgp_lab.specs.SourceText.{SourceText}
 use Rattle.lgp_lab.specs.Standing.{Answer, Standing}
 use Rattle.lgp_transcript.specs.Transcript.{Recorded, after_lines, ended, replies_text, text_of, with_line, with_standing}
-use Rattle.lgp_monitor.specs.Monitor.{counter_at, names_at, reply_of, run_line, told_of, typed_at}
+use Rattle.lgp_monitor.specs.Monitor.{counter_at, names_at, run_line, told_of, told_reply, typed_at}
 use Rattle.lgp_lab.specs.Span.{WordRange}
 use Rattle.lgp_monitor.specs.declared.question.Question.TheVariants as questions
 use Rattle.lgp_monitor.specs.Typed.{go_by, go_typed, help_by, help_typed, lone, numbers_by, numbers_typed, placed_by, placed_range, placed_range_by, placed_typed, put_by, put_typed, put_word, range_at, told_by, told_typed, typed_by, typed_line, typed_of, value_at, why_by, why_typed}
@@ -262,6 +262,7 @@ told_only names counter (Some verbs.Load) operands telling limit e = absurd (mis
 told_only names counter (Some verbs.Break) operands telling limit e = absurd (places names counter operands telling limit e)
 told_only names counter (Some verbs.Watch) operands telling limit e = absurd (places names counter operands telling limit e)
 told_only names counter (Some verbs.Drop) operands telling limit e = absurd (misformed telling limit e)
+told_only names counter (Some verbs.Quit) operands telling limit e = absurd (misformed telling limit e)
 
 -- what such a line is: outside a source, kept whole, a name longer than `run` and the operand of one
 record IsToldLine (is_open : Bool) (kept : Kept) (limit : ℕ) : Type 0 where
@@ -343,11 +344,11 @@ module _ {A : Type 0} where
 
   pub told_replies : (r₀ r₁ : Recorded (Standing A)) (s₁ : Standing A) (kept : Kept) (text : List ℕ) (telling : Telling) (limit : ℕ) (run before after : List ℕ) → kept ≡ kept_of text → typed.Told telling limit ≡ typed_at r₀ text
       → r₁ ≡ with_line r₀ run → s₁ ≡ r₁.standing → after ≡ before ++ (told_of s₁ telling limit ++ (answer_to_run s₁ limit).reply)
-      → after ≡ before ++ reply_of r₀ (typed.Told telling limit) kept
+      → after ≡ before ++ told_reply r₀ telling limit kept.front
   unfolding typed_at replies_text
   told_replies r₀ r₁ s₁ kept text telling limit run before after is asked kept_line lent replied =
       let stood : s₁ ≡ r₀.standing = lent ∙ ap (λ (r : Recorded (Standing A)). r.standing) kept_line in
       replied ∙ (ap (λ (s : Standing A). before ++ (told_of s telling limit ++ (answer_to_run s limit).reply)) stood
       ∙ (ap (λ (a : Answer A). before ++ (told_of r₀.standing telling limit ++ a.reply)) (sym (run_answer r₀.standing (names_at r₀) (counter_at r₀) text telling limit asked))
       ∙ (ap (λ (t : List ℕ). before ++ (told_of r₀.standing telling limit ++ t)) (sym (append-nil (answer_to_line r₀.standing (run_line (kept_of text).front)).reply))
-      ∙ ap (λ (k : Kept). before ++ reply_of r₀ (typed.Told telling limit) k) (sym is))))
+      ∙ ap (λ (k : Kept). before ++ told_reply r₀ telling limit k.front) (sym is))))

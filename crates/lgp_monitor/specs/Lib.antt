@@ -1,4 +1,5 @@
 pub mod Verbs
+pub mod RunEnds
 pub mod Reasons
 pub mod Telling
 pub mod Questions

@@ -10,7 +10,8 @@ use Rattle.lgp_assembler.specs.declared.operands.OperandFault.{OperandFault}
 use Rattle.lgp_assembler.specs.declared.operands.OperandFault.TheVariants.{Misformed, Unknown, Outside}
 use Rattle.lgp_stream.specs.LineWords.{behind_word, first_word, has_no_word}
 use Rattle.lgp_text.specs.NamedValues.{named}
-use Rattle.lgp_transcript.specs.Transcript.{Meaning, Lines, Anew, Recorded, after_meaning, replies_text, stand_in}
+use Rattle.lgp_table.specs.declared.panel.Panel.{Panel}
+use Rattle.lgp_transcript.specs.Transcript.{Meaning, Lines, Anew, Recorded, after_lines, after_meaning, replies_text, stand_in}
 use Rattle.lgp_debugger.specs.Debugging.{order_origins}
 use Rattle.lgp_lab.specs.Script.{script_language}
 use Rattle.lgp_lab.specs.HistoryCommands.{orders_run}
@@ -130,9 +131,23 @@ module _ {A : Type 0} where
   abbrev pub counter_at : Recorded (Standing A) → ℕ
   counter_at recorded = recorded.standing.debugger.state.core.panel.counter
 
-  -- the reply to a script's line, a refusal with its reason
+  abbrev pub panel_at : Standing A → Panel
+  panel_at standing = standing.debugger.state.core.panel
+
+  -- a reply in whose end a script's line is answered, with what is said behind it
+  abbrev pub explained_behind : Recorded (Standing A) → List ℕ → List ℕ → List ℕ
+  explained_behind recorded line reply =
+      let panel = panel_at (after_lines script_language recorded (line ∷ [])).standing in
+      explained panel.status panel.mode reply
+
+  -- the reply to a script's line, with what is said behind it
   abbrev pub explained_reply : Recorded (Standing A) → List ℕ → List ℕ
-  explained_reply recorded line = explained (replies_text script_language recorded (line ∷ []))
+  explained_reply recorded line = explained_behind recorded line (replies_text script_language recorded (line ∷ []))
+
+  -- what is written about the orders of a run, and the reply to its script's line
+  abbrev pub told_reply : Recorded (Standing A) → Telling → ℕ → List ℕ → List ℕ
+  told_reply recorded telling limit line =
+      told_of recorded.standing telling limit ++ replies_text script_language recorded (run_line line ∷ [])
 
   abbrev pub reply_of : Recorded (Standing A) → Typed → Kept → List ℕ
   reply_of recorded typed.Itself kept = explained_reply recorded (stand_in kept)
@@ -141,7 +156,7 @@ module _ {A : Type 0} where
   reply_of recorded (typed.Go address) kept = replies_text script_language recorded (go_lines address)
   reply_of recorded (typed.Put address word) kept = explained_reply recorded (put_line address word)
   reply_of recorded (typed.Told telling limit) kept =
-      told_of recorded.standing telling limit ++ replies_text script_language recorded (run_line kept.front ∷ [])
+      explained_behind recorded (run_line kept.front) (told_reply recorded telling limit kept.front)
   reply_of recorded (typed.Asked question) kept = answer_to question recorded.standing
   reply_of recorded typed.Transcript kept = recorded.transcript
   reply_of recorded typed.New kept = codes "new\n"

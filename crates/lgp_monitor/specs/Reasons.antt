@@ -1,8 +1,12 @@
--- Part of the public promise: the reasons behind the refusals of the script language.
-use Rattle.std.specs.Prelude.{ℕ, ◌-◌, if◌then◌else◌, Option, Some, None, List, [], ◌∷◌, ◌++◌, codes, length, take}
+-- Part of the public promise: what is said behind replies of the script language: the reasons of refusals, and how the machine
+-- stands.
+use Rattle.std.specs.Prelude.{ℕ, zero, suc, ◌-◌, ◌==◌, if◌then◌else◌, Option, Some, None, List, [], ◌∷◌, ◌++◌, codes, drop, length, slice_index, take}
 use Rattle.std.specs.Str.{bytes_eq}
 use Rattle.lgp_stream.specs.LineWords.{behind_word, first_word}
+use Rattle.lgp_table.specs.declared.panel.Mode.{Mode}
+use Rattle.lgp_table.specs.declared.panel.Status.{Status}
 use Rattle.lgp_text.specs.NamedValues.{named}
+use Rattle.lgp_monitor.specs.RunEnds.{stand_text, tells_standstill}
 use Rattle.lgp_monitor.specs.declared.reason.RefusalKind.{RefusalKind}
 use Rattle.lgp_monitor.specs.declared.reason.RefusalKind.TheVariants as kinds
 
@@ -29,16 +33,29 @@ reason_of kinds.NoImage = codes "no source has assembled yet"
 reason_of kinds.TooLong = codes "a line has at most 4096 bytes, a source 1048576"
 reason_of kinds.BadSign = codes "the byte at this place of the text, counted from 0, begins no sign of a tape"
 
--- a reply of one line, with something said behind it
-abbrev pub with_reason : Option RefusalKind → List ℕ → List ℕ
-with_reason None reply = reply
-with_reason (Some kind) reply = take (length reply - 1) reply ++ (codes ": " ++ (reason_of kind ++ codes "\n"))
+-- where the line begins in which a place lies
+unfoldable pub line_start : List ℕ → ℕ → ℕ
+line_start text zero = 0
+line_start text (suc place) = if slice_index text place == 10 then suc place else line_start text place
 
--- the kind of a refusal; None of any other reply
+-- the last line of a text, with the line feed that ends it
+unfoldable pub last_line : List ℕ → List ℕ
+last_line text = drop (line_start text (length text - 1)) text
+
+-- the kind of a refusal; None of any other line
 unfoldable pub refusal_in : List ℕ → Option RefusalKind
-refusal_in reply =
-    if bytes_eq (first_word reply) (codes "?") then named refusal_numbers (first_word (behind_word reply)) else None
+refusal_in line =
+    if bytes_eq (first_word line) (codes "?") then named refusal_numbers (first_word (behind_word line)) else None
 
--- a refusal has its reason behind it, any other reply stands as it is
-abbrev pub explained : List ℕ → List ℕ
-explained reply = with_reason (refusal_in reply) reply
+-- a reply with the reason behind its last line
+abbrev pub with_reason : RefusalKind → List ℕ → List ℕ
+with_reason kind reply = take (length reply - 1) reply ++ (codes ": " ++ (reason_of kind ++ codes "\n"))
+
+-- a reply behind which the machine stands so: where its last line is a refusal, with the reason behind that; where it leaves open how
+-- the machine stands, with a line that says it
+abbrev pub explained_by : Option RefusalKind → Status → Mode → List ℕ → List ℕ
+explained_by (Some kind) status mode reply = with_reason kind reply
+explained_by None status mode reply = if tells_standstill (last_line reply) then reply ++ stand_text status mode else reply
+
+unfoldable pub explained : Status → Mode → List ℕ → List ℕ
+explained status mode reply = explained_by (refusal_in (last_line reply)) status mode reply

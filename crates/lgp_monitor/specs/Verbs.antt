@@ -1,4 +1,5 @@
--- Part of the public promise: the commands of the monitor, each with its form. Those of the script language are among them.
+-- Part of the public promise: the commands of the monitor, each with its form. Those of the script language are among them, and the
+-- desk's `quit`.
 use Rattle.std.specs.Prelude.{ℕ, List, [], ◌∷◌, codes}
 use Rattle.lgp_monitor.specs.declared.verb.Verb.{Verb}
 use Rattle.lgp_monitor.specs.declared.verb.Verb.TheVariants as verbs
@@ -37,6 +38,7 @@ verb_names =
     ∷ (codes "transcript", verbs.Transcript)
     ∷ (codes "new", verbs.New)
     ∷ (codes "help", verbs.Help)
+    ∷ (codes "quit", verbs.Quit)
     ∷ []
 
 -- the form in which a command is written
@@ -72,3 +74,4 @@ form_of verbs.Labels = codes "labels"
 form_of verbs.Transcript = codes "transcript"
 form_of verbs.New = codes "new"
 form_of verbs.Help = codes "help or help COMMAND"
+form_of verbs.Quit = codes "quit, which ends the program lgp_monitor"

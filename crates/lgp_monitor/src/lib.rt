@@ -16,6 +16,7 @@ pub mod laws;
 mod monitor;
 mod question;
 mod reason;
+mod run_end;
 mod running;
 mod session;
 mod telling;

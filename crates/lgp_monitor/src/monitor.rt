@@ -7,7 +7,8 @@ ghost use Rattle.lgp_transcript.specs.Transcript.{after_lines, after_meaning, re
 ghost use Rattle.lgp_lab.specs.Script.{script_language};
 ghost use Rattle.lgp_lab.specs.Standing.{labels_of, opening_standing};
 ghost use Rattle.lgp_monitor.specs.Typed.{typed_of};
-ghost use Rattle.lgp_monitor.specs.Monitor.{address_reason, counter_at, explained_reply, fault_reason, form_line, form_lines, go_lines, help_text, jump_line, meaning_of, misformed_text, monitor_language, names_at, operand_reason, placed_line, put_line, reason_by, reply_of, run_line, takes_address, typed_at};
+ghost use Rattle.lgp_monitor.specs.Monitor.{address_reason, counter_at, explained_behind, explained_reply, fault_reason, form_line, form_lines, go_lines, help_text, jump_line, meaning_of, misformed_text, monitor_language, names_at, operand_reason, panel_at, placed_line, put_line, reason_by, reply_of, run_line, takes_address, told_reply, typed_at};
+ghost use Rattle.lgp_monitor.specs.Reasons.{explained};
 
 use crate::question::push_answer;
 use crate::reason::push_explained;
@@ -85,7 +86,20 @@ fn jump_line<A: Allocator>(alloc: A, address: Address) -> Result<Vec<u8, A>, All
     Ok(line)
 }
 
-/// Answers a script's line, a refusal with its reason.
+/// Appends a reply, with what is said behind it where the laboratory then stands.
+fn push_reply<A: Allocator + Copy>(
+    text: &mut Vec<u8, A>,
+    reply: &[u8],
+    laboratory: &Laboratory<A>,
+) -> Result<(), AllocError>
+    ensures { OnOk result (text.new.items ≡ text.old.items
+        ++ explained (panel_at laboratory.now).status (panel_at laboratory.now).mode reply.now) }
+{
+    let look = laboratory.debugger().look();
+    push_explained(text, reply, look.status, look.mode)
+}
+
+/// Answers a script's line, with what is said behind its reply.
 fn explain<A: Allocator + Copy>(
     alloc: A,
     recorder: &mut Recorder<Laboratory<A>, A>,
@@ -99,10 +113,10 @@ fn explain<A: Allocator + Copy>(
 {
     let mut said = Vec::new(alloc);
     recorder.answer_line(line, &mut said)?;
-    push_explained(reply, &said)
+    push_reply(reply, &said, recorder.answers())
 }
 
-/// Answers a script's line of which this was kept, a refusal with its reason.
+/// Answers a script's line of which this was kept, with what is said behind its reply.
 fn explain_kept<A: Allocator + Copy>(
     alloc: A,
     recorder: &mut Recorder<Laboratory<A>, A>,
@@ -118,7 +132,7 @@ fn explain_kept<A: Allocator + Copy>(
 {
     let mut said = Vec::new(alloc);
     recorder.answer_kept(line, &mut said)?;
-    push_explained(reply, &said)
+    push_reply(reply, &said, recorder.answers())
 }
 
 /// Puts a word by a script's line.
@@ -180,7 +194,7 @@ fn tell<A: Allocator + Copy>(
     ensures reply { (text : List ℕ) → line.now ≡ kept_of text
         → Typed.Told telling limit ≡ typed_at recorder.old text
         → OnOk result (reply.new.items ≡ reply.old.items
-        ++ reply_of recorder.old (Typed.Told telling limit) line.now) }
+        ++ told_reply recorder.old telling limit line.now.front) }
     ensures after { (text : List ℕ) → line.now ≡ kept_of text
         → Typed.Told telling limit ≡ typed_at recorder.old text
         → OnOk result (recorder.new
@@ -189,6 +203,30 @@ fn tell<A: Allocator + Copy>(
     let run = run_line(alloc, line.front())?;
     recorder.keep_line(&run)?;
     run_told(recorder.answers_mut(), telling, limit, reply)
+}
+
+/// Performs a run that is told, with what is said behind its reply.
+fn explain_told<A: Allocator + Copy>(
+    alloc: A,
+    recorder: &mut Recorder<Laboratory<A>, A>,
+    telling: Telling,
+    limit: u64,
+    line: &LineBytes,
+    reply: &mut Vec<u8, A>,
+) -> Result<(), AllocError>
+    ensures reply { (text : List ℕ) → line.now ≡ kept_of text
+        → Typed.Told telling limit ≡ typed_at recorder.old text
+        → OnOk result (reply.new.items ≡ reply.old.items
+        ++ explained_behind recorder.old (run_line line.now.front)
+        (told_reply recorder.old telling limit line.now.front)) }
+    ensures after { (text : List ℕ) → line.now ≡ kept_of text
+        → Typed.Told telling limit ≡ typed_at recorder.old text
+        → OnOk result (recorder.new
+        ≡ after_lines script_language recorder.old (run_line line.now.front ∷ [])) }
+{
+    let mut said = Vec::new(alloc);
+    tell(alloc, recorder, telling, limit, line, &mut said)?;
+    push_reply(reply, &said, recorder.answers())
 }
 
 /// Appends the form of a command.
@@ -444,7 +482,7 @@ fn perform<A: Allocator + Copy>(
         Typed::Placed(address) => place(alloc, recorder, address, line.front(), reply),
         Typed::Go(address) => go(alloc, recorder, address, reply),
         Typed::Put(address, word) => put(alloc, recorder, address, word, reply),
-        Typed::Told(telling, limit) => tell(alloc, recorder, telling, limit, line, reply),
+        Typed::Told(telling, limit) => explain_told(alloc, recorder, telling, limit, line, reply),
         Typed::Asked(question) => push_answer(reply, &question, recorder.answers()),
         Typed::Transcript => reply.extend_from_slice(recorder.transcript()),
         Typed::New => begin_anew(alloc, recorder, reply),

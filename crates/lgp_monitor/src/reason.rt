@@ -1,10 +1,12 @@
-//! The reasons behind the refusals of the script language.
+//! What is said behind replies of the script language: the reasons of refusals, and how the machine stands.
 
-ghost use Rattle.std.specs.Prelude.{◌≡◌, ◌++◌, OnOk};
+ghost use Rattle.std.specs.Prelude.{◌≡◌, ◌++◌, ◌-◌, ◌≤◌, length, OnOk};
 ghost use Rattle.lgp_text.specs.NamedValues.{named};
-ghost use Rattle.lgp_monitor.specs.Reasons.{explained, reason_of, refusal_in, refusal_numbers};
+ghost use Rattle.lgp_monitor.specs.Reasons.{explained, last_line, line_start, reason_of, refusal_in, refusal_numbers};
 
+use crate::run_end::{push_stand, tells_standstill};
 use lgp_stream::split_word;
+use lgp_table::{Mode, Status};
 use lgp_text::{Named, Piece, push_pieces, value_named};
 use std::alloc::{AllocError, Allocator};
 
@@ -83,12 +85,33 @@ fn reason_of(kind: RefusalKind) -> &'static [u8]
     }
 }
 
+/// Where the line begins in which a place lies.
+fn line_start(text: &[u8], place: usize) -> usize
+    requires { place ≤ length text.now }
+    ensures value { result ≡ line_start text.now place }
+    ensures bound { result ≤ place }
+{
+    let mut start = place;
+    while start > 0 && text[start - 1] != b'\n' {
+        start -= 1;
+    }
+    start
+}
+
+/// The last line of a text.
+#[tactic(auto, unfolding(crate::specs::Reasons::last_line))]
+fn last_line(text: &[u8]) -> &[u8]
+    ensures { result.now ≡ last_line text.now }
+{
+    &text[line_start(text, text.len().saturating_sub(1))..]
+}
+
 /// The kind of a refusal.
 #[tactic(auto, unfolding(crate::specs::Reasons::refusal_in))]
-fn refusal_in(reply: &[u8]) -> Option<RefusalKind>
-    ensures { result ≡ refusal_in reply.now }
+fn refusal_in(line: &[u8]) -> Option<RefusalKind>
+    ensures { result ≡ refusal_in line.now }
 {
-    let mark = split_word(reply);
+    let mark = split_word(line);
     if mark.word == b"?".as_slice() {
         kind_numbered(split_word(mark.behind).word)
     } else {
@@ -96,13 +119,20 @@ fn refusal_in(reply: &[u8]) -> Option<RefusalKind>
     }
 }
 
-/// Appends a reply, with the reason behind it where it is a refusal.
-pub fn push_explained<A: Allocator>(text: &mut Vec<u8, A>, reply: &[u8]) -> Result<(), AllocError>
-    ensures { OnOk result (text.new.items ≡ text.old.items ++ explained reply.now) }
+/// Appends a reply behind which the machine stands so, with what is said behind it.
+#[tactic(auto, unfolding(crate::specs::Reasons::explained))]
+pub fn push_explained<A: Allocator>(
+    text: &mut Vec<u8, A>,
+    reply: &[u8],
+    status: Status,
+    mode: Mode,
+) -> Result<(), AllocError>
+    ensures { OnOk result (text.new.items
+        ≡ text.old.items ++ explained status mode reply.now) }
 {
-    match refusal_in(reply) {
-        None => text.extend_from_slice(reply),
-        Some(kind) => push_pieces(
+    let line = last_line(reply);
+    if let Some(kind) = refusal_in(line) {
+        return push_pieces(
             text,
             &[
                 Piece::Text(&reply[..reply.len().saturating_sub(1)]),
@@ -110,6 +140,11 @@ pub fn push_explained<A: Allocator>(text: &mut Vec<u8, A>, reply: &[u8]) -> Resu
                 Piece::Text(reason_of(kind)),
                 Piece::Text(b"\n"),
             ],
-        ),
+        );
     }
+    text.extend_from_slice(reply)?;
+    if tells_standstill(line) {
+        push_stand(text, status, mode)?;
+    }
+    Ok(())
 }

@@ -40,10 +40,11 @@ pub enum Verb {
     Transcript,
     New,
     Help,
+    Quit,
 }
 
 /// The commands by their first word.
-pub const VERBS: [Named<Verb>; 31] = [
+pub const VERBS: [Named<Verb>; 32] = [
     Named {
         name: b"put",
         value: Verb::Put,
@@ -168,6 +169,10 @@ pub const VERBS: [Named<Verb>; 31] = [
         name: b"help",
         value: Verb::Help,
     },
+    Named {
+        name: b"quit",
+        value: Verb::Quit,
+    },
 ];
 
 /// The command of a first word.
@@ -218,5 +223,6 @@ pub fn form_of(verb: Verb) -> &'static [u8]
         Verb::Transcript => b"transcript",
         Verb::New => b"new",
         Verb::Help => b"help or help COMMAND",
+        Verb::Quit => b"quit, which ends the program lgp_monitor",
     }
 }

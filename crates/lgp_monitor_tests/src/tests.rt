@@ -14,7 +14,7 @@ use std::process::Abort;
 /// Typed lines, what is written for them, and how many replies begin with a question mark.
 type Row = (&'static [u8], &'static [u8], u64);
 
-const ROWS: [Row; 18] = [
+const ROWS: [Row; 22] = [
     // Words by order, number and fraction: the machine's word of n at 30 is 2n, and -.5 is -2^30 of 2^31 steps.
     (
         b"put 0050 = 385\nput 0051 = -1\nput 0052 -.5\nput 0053 h 6363\nwords 0050 4\n",
@@ -65,7 +65,7 @@ const ROWS: [Row; 18] = [
     // No order, one that a rule stops behind, one before rest, and none at rest. The operands stand in the transcript as they were typed.
     (
         b"put 0000 b 0003\nput 0001 z 0000\nbreak 0001\npress start\ntrace 0\ntrace   9  \ntrace 9999999999\ntrace 3\ntranscript\n",
-        b"ok\nok\nrule 0\nlive\n  clock  at           order           find take seek  act   sum  accumulator\nran 0 limit\n  clock  at           order           find take seek  act   sum  accumulator\n      0  0000         b 0003            64    1   26    1    92  00000000\n        this order was put there by hand, clock 0; before it was z 0000\nran 1 rule 0\n  clock  at           order           find take seek  act   sum  accumulator\n     92  0001         z 0000            45    1    1    1    48  00000000\nran 1 rest\n  clock  at           order           find take seek  act   sum  accumulator\nran 0 rest\nput 0000 0001000j\nput 0001 00000000\nbreak 0001\npress start\nrun 0\nrun   9  \nrun 9999999999\nrun 3\n",
+        b"ok\nok\nrule 0\nlive\n  clock  at           order           find take seek  act   sum  accumulator\nran 0 limit\n  clock  at           order           find take seek  act   sum  accumulator\n      0  0000         b 0003            64    1   26    1    92  00000000\n        this order was put there by hand, clock 0; before it was z 0000\nran 1 rule 0\n        the machine is still going: run goes on, press manual halts it\n  clock  at           order           find take seek  act   sum  accumulator\n     92  0001         z 0000            45    1    1    1    48  00000000\nran 1 rest\n  clock  at           order           find take seek  act   sum  accumulator\nran 0 rest\n        a stop order halted the machine: press start lets it go on\nput 0000 0001000j\nput 0001 00000000\nbreak 0001\npress start\nrun 0\nrun   9  \nrun 9999999999\nrun 3\n",
         0,
     ),
     // An order that another one put there, with a label, one that was put by hand, and a word that no kept step changed. It stands for
@@ -84,13 +84,13 @@ const ROWS: [Row; 18] = [
     // The same two orders added up, and none.
     (
         b"put 0000 b 0003\nput 0001 z 0000\npress start\nprofile 9\nprofile 9\ntranscript\n",
-        b"ok\nok\nlive\norders 2, word times 140, turns of the drum 2.1\n  waiting for orders       109   77 %\n  into the register          2    1 %\n  waiting for words         27   19 %\n  acting                     2    1 %\n  at no address              0    0 %\nthe ten places with most word times\n  0000                      92   65 %\n  0001                      48   34 %\nran 2 rest\norders 0, word times 0, turns of the drum 0.0\n  waiting for orders         0    0 %\n  into the register          0    0 %\n  waiting for words          0    0 %\n  acting                     0    0 %\n  at no address              0    0 %\nthe ten places with most word times\nran 0 rest\nput 0000 0001000j\nput 0001 00000000\npress start\nrun 9\nrun 9\n",
+        b"ok\nok\nlive\norders 2, word times 140, turns of the drum 2.1\n  waiting for orders       109   77 %\n  into the register          2    1 %\n  waiting for words         27   19 %\n  acting                     2    1 %\n  at no address              0    0 %\nthe ten places with most word times\n  0000                      92   65 %\n  0001                      48   34 %\nran 2 rest\norders 0, word times 0, turns of the drum 0.0\n  waiting for orders         0    0 %\n  into the register          0    0 %\n  waiting for words          0    0 %\n  acting                     0    0 %\n  at no address              0    0 %\nthe ten places with most word times\nran 0 rest\n        a stop order halted the machine: press start lets it go on\nput 0000 0001000j\nput 0001 00000000\npress start\nrun 9\nrun 9\n",
         0,
     ),
     // Along the drum, each from the row in which it begins to that in which it ends.
     (
         b"put 0000 b 0003\nput 0001 z 0000\npress start\ndrum 1\ndrum 9\ndrum 9\ntranscript\n",
-        b"ok\nok\nlive\n      0  ...............................................................F\n     64  i.........................Rx\nran 1 limit\n     64                              ....................................\n    128  ........Fi-x\nran 1 rest\n    128              \nran 0 rest\nput 0000 0001000j\nput 0001 00000000\npress start\nrun 1\nrun 9\nrun 9\n",
+        b"ok\nok\nlive\n      0  ...............................................................F\n     64  i.........................Rx\nran 1 limit\n     64                              ....................................\n    128  ........Fi-x\nran 1 rest\n    128              \nran 0 rest\n        a stop order halted the machine: press start lets it go on\nput 0000 0001000j\nput 0001 00000000\npress start\nrun 1\nrun 9\nrun 9\n",
         0,
     ),
     // The names of the last source that assembled are the labels, whatever stands on the drum. Of two names of a place the first is its label.
@@ -116,6 +116,30 @@ const ROWS: [Row; 18] = [
         b"put 0002 = -1\nput 0003 = 385\nput 0004 -.5\nnumbers 0002 4\nrules\nlabels\ntranscript\n",
         b"ok\nok\nok\n0002 wwwwwwwq  -.0000000009  -1\n0003 00000302   .0000003586  385\n0004 j0000000  -.5000000000  -536870912\n0005 00000000   .0000000000  0\nput 0002 wwwwwwwq\nput 0003 00000302\nput 0004 j0000000\n",
         0,
+    ),
+    // A run that finds the machine at rest, in each mode, and with no order asked for.
+    (
+        b"run 9\npress oneop\nrun 0\npress manual\nrun 1\ntranscript\n",
+        b"ran 0 rest\n        the operator halted the machine, or has not started it: press start lets it go on\nlive\nran 0 rest\n        the operator halted the machine, or has not started it: press start lets it do one order\nlive\nran 0 rest\n        the operator halted the machine, or has not started it: press normal, then press start lets it go on\nrun 9\npress oneop\nrun 0\npress manual\nrun 1\n",
+        0,
+    ),
+    // Behind an overflow, an input without a tape, and one operation. Nothing is said of a run that performed an order.
+    (
+        b"put 0000 d 0010\nput 0001 i\nput 0002 u *\npress start\nrun 9\nrun 9\npress start\nrun 9\nrun 9\npress oneop\npress compute\nrun 9\npress start\nrun 9\nrun 9\n",
+        b"ok\nok\nok\nlive\nran 1 rest\nran 0 rest\n        an overflow halted the machine: press start lets it go on\nlive\nran 1 rest\nran 0 rest\n        an input waits for codes: press read lets the tape pass, press compute ends the input\nlive\nlive\nran 0 rest\n        the machine halted behind one operation: press start lets it do one order\nlive\nran 1 rest\nran 0 rest\n        the machine halted behind one operation: press start lets it do one order\n",
+        0,
+    ),
+    // Two rules: the order to which one leads is still to come, and behind that the other one has halted the machine with its order.
+    (
+        b"put 0000 u 0001\nput 0001 h 0004\nbreak 0001\nwatch 0004\npress manual\ntype 0000000q\npress normal\npress start\nrun 9\npress oneop\npress start\nrun 9\n",
+        b"ok\nok\nrule 0\nrule 1\nlive\nlive 8 dead 0\nlive\nlive\nran 1 rule 0\n        the machine is still going: run goes on, press manual halts it\nlive\nlive\nran 1 rule 1\n        the machine halted behind one operation: press start lets it do one order\n",
+        0,
+    ),
+    // The last line of a listing that reads like a run.
+    (
+        b"source\nrule z\nran end rule\n.\nlist\nquit\nhelp quit\n",
+        b"cells 1 start 0000\n0000 00000000 rule z\n              ran end rule\n? 1 Form: quit, which ends the program lgp_monitor\nquit, which ends the program lgp_monitor\n",
+        1,
     ),
     // Why an operand is no address.
     (

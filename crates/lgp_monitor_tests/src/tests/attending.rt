@@ -32,7 +32,7 @@ const ROWS: [Row; 4] = [
     (
         Manner::Bare,
         b"quit now\ntranscript\n quit\ntranscript\n",
-        b"? 1 Form: there is no such command, help lists them\nquit now\n",
+        b"? 1 Form: quit, which ends the program lgp_monitor\nquit now\n",
     ),
 ];
 
