@@ -1,7 +1,7 @@
 #!/usr/bin/env python3
 """How fast a session from Python is: so many orders in one line (10,000,000 without an argument) beside the same in the proved program,
 and the time of a line `panel`, also in the program. Build the program by ./prove and the library by .ci/library first. Times on the
-wall vary; each is the best of five. No part of the check."""
+wall vary; each is the best of nine. No part of the check."""
 import os
 import subprocess
 import sys
@@ -18,14 +18,16 @@ LOOP = ["put 0000 000100j8", "put 0001 000q00jj", "put 0002 000j00j8", "put 0003
 PANELS = 100_000
 
 
-def best_of_five(call):
-    """The shortest of five times, in seconds."""
-    times = []
-    for _ in range(5):
-        begun = time.perf_counter()
-        call()
-        times.append(time.perf_counter() - begun)
-    return min(times)
+def seconds(call):
+    begun = time.perf_counter()
+    call()
+    return time.perf_counter() - begun
+
+
+def best_of_nine(first, second):
+    """The shortest of nine times of each, in seconds. They take turns, so that both meet the same machine."""
+    times = [(seconds(first), seconds(second)) for _ in range(9)]
+    return tuple(map(min, zip(*times)))
 
 
 def in_program(lines):
@@ -42,11 +44,10 @@ def in_session(line, count):
 
 def main():
     orders = f"orders {sys.argv[1] if len(sys.argv) > 1 else 10_000_000}"
-    program, session = best_of_five(lambda: in_program([orders])), best_of_five(lambda: in_session(orders, 1))
+    program, session = best_of_nine(lambda: in_program([orders]), lambda: in_session(orders, 1))
     print(f"{orders}: {program:.3f} s in the program, {session:.3f} s in a session: {program / session:.2f} of its speed")
-    program = best_of_five(lambda: in_program(["panel"] * PANELS)) / PANELS * 1e6
-    session = best_of_five(lambda: in_session("panel", PANELS)) / PANELS * 1e6
-    print(f"panel: {program:.1f} microseconds in the program, {session:.1f} from Python")
+    program, session = best_of_nine(lambda: in_program(["panel"] * PANELS), lambda: in_session("panel", PANELS))
+    print(f"panel: {program / PANELS * 1e6:.1f} microseconds in the program, {session / PANELS * 1e6:.1f} from Python")
 
 
 if __name__ == "__main__":
