@@ -104,28 +104,30 @@ impl<A: Allocator + Copy> Laboratory<A> {
         ensures after { OnOk result (self.new ≡ (answer_to self.old command.now text.now).after) }
     {
         match command {
-            Command::Put(address, word) => self.put(*address, *word, reply)?,
-            Command::Mount => self.mount(text, reply)?,
-            Command::Press(action) => self.press(*action, reply)?,
-            Command::Type => self.type_text(text, reply)?,
-            Command::Turn(times) => self.turn(*times, reply)?,
-            Command::Orders(limit) => self.orders(*limit, reply)?,
-            Command::Panel => self.panel(reply)?,
-            Command::Words(span) => self.words(span, reply)?,
-            Command::Show(span) => self.show(span, reply)?,
-            Command::Printed => self.printed(reply)?,
-            Command::Dump => self.dump(reply)?,
-            Command::Source => self.open_source(),
-            Command::List => self.list(reply)?,
-            Command::Load => self.load(reply)?,
-            Command::Break(address) => self.add_rule(Rule::At(*address), reply)?,
-            Command::Watch(address) => self.add_rule(Rule::Changed(*address), reply)?,
-            Command::Drop(number) => self.drop_rule(*number, reply)?,
-            Command::Run(limit) => self.run(*limit, reply)?,
-            Command::Back(orders) => self.back(*orders, reply)?,
-            Command::Last => self.last(reply)?,
+            Command::Put(address, word) => self.put(*address, *word, reply),
+            Command::Mount => self.mount(text, reply),
+            Command::Press(action) => self.press(*action, reply),
+            Command::Type => self.type_text(text, reply),
+            Command::Turn(times) => self.turn(*times, reply),
+            Command::Orders(limit) => self.orders(*limit, reply),
+            Command::Panel => self.panel(reply),
+            Command::Words(span) => self.words(span, reply),
+            Command::Show(span) => self.show(span, reply),
+            Command::Printed => self.printed(reply),
+            Command::Dump => self.dump(reply),
+            Command::Source => {
+                self.open_source();
+                Ok(())
+            }
+            Command::List => self.list(reply),
+            Command::Load => self.load(reply),
+            Command::Break(address) => self.add_rule(Rule::At(*address), reply),
+            Command::Watch(address) => self.add_rule(Rule::Changed(*address), reply),
+            Command::Drop(number) => self.drop_rule(*number, reply),
+            Command::Run(limit) => self.run(*limit, reply),
+            Command::Back(orders) => self.back(*orders, reply),
+            Command::Last => self.last(reply),
         }
-        Ok(())
     }
 }
 

@@ -1,13 +1,13 @@
 //! The drum.
 
-ghost use Rattle.std.specs.Prelude.{◌≡◌, ◌++◌, ◌+◌, ◌<◌, if◌then◌else◌, IfOk, OnOk, count_by};
+ghost use Rattle.std.specs.Prelude.{◌≡◌, ◌++◌, ◌+◌, ◌<◌, if◌then◌else◌, IfOk, OnOk, codes, count_by, decimal};
 ghost use Rattle.lgp_listing.specs.Dump.{dump_of, word_line};
 ghost use Rattle.lgp_lab.specs.DrumCommands.{answer_to_dump, answer_to_put, answer_to_show, answer_to_words, digits_line, dump_text, is_used, lines_text, order_line};
 ghost use Rattle.lgp_lab.specs.Limits.{drum_size};
 
 use super::Laboratory;
 use crate::limits::DRUM_SIZE;
-use crate::refusal::{Refusal, push_refusal};
+use crate::refusal::{Refusal, push_counted, push_refusal};
 use crate::span::Span;
 use lgp_debugger::PutFault;
 use lgp_listing::disassemble;
@@ -29,11 +29,10 @@ impl<A: Allocator + Copy> Laboratory<A> {
         ensures after { OnOk result (self.new ≡ (answer_to_put self.old address word).after) }
     {
         match self.debugger.put(address, word) {
-            Ok(()) => reply.extend_from_slice(b"ok\n")?,
-            Err(PutFault::Moving) => push_refusal(reply, Refusal::Moving)?,
-            Err(PutFault::Memory) => return Err(AllocError),
+            Ok(()) => reply.extend_from_slice(b"ok\n"),
+            Err(PutFault::Moving) => push_refusal(reply, Refusal::Moving),
+            Err(PutFault::Memory) => Err(AllocError),
         }
-        Ok(())
     }
 
     /// Shows words by their digits.
@@ -179,6 +178,20 @@ fn used_words<A: Allocator>(alloc: A, machine: &Machine<A>) -> Result<WordLines<
     Ok(lines)
 }
 
+/// Appends how many words are not zero, and their lines.
+fn push_lines<A: Allocator>(
+    text: &mut Vec<u8, A>,
+    count: u64,
+    lines: &[u8],
+) -> Result<(), AllocError>
+    ensures { OnOk result (text.new.items ≡ text.old.items
+        ++ (codes "dump " ++ (decimal count ++ (codes "\n" ++ lines.now)))) }
+{
+    push_counted(text, b"dump ", count)?;
+    text.extend_from_slice(lines)?;
+    Ok(())
+}
+
 /// Appends the dump of the drum.
 #[tactic(auto, unfolding(crate::specs::DrumCommands::dump_text))]
 fn push_dump<A: Allocator + Copy>(
@@ -190,14 +203,5 @@ fn push_dump<A: Allocator + Copy>(
         ≡ text.old.items ++ dump_text machine.now.state.core.words) }
 {
     let lines = used_words(alloc, machine)?;
-    push_pieces(
-        text,
-        &[
-            Piece::Text(b"dump "),
-            Piece::Number(lines.count),
-            Piece::Text(b"\n"),
-        ],
-    )?;
-    text.extend_from_slice(&lines.text)?;
-    Ok(())
+    push_lines(text, lines.count, &lines.text)
 }

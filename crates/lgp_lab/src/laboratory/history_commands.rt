@@ -27,10 +27,9 @@ impl<A: Allocator + Copy> Laboratory<A> {
         ensures after { OnOk result (self.new ≡ (answer_to_rule self.old rule).after) }
     {
         match self.debugger.add_rule(rule) {
-            Ok(number) => push_counted(reply, b"rule ", u64::from(number))?,
-            Err(RuleFault::Full) => push_refusal(reply, Refusal::Full)?,
+            Ok(number) => push_counted(reply, b"rule ", u64::from(number)),
+            Err(RuleFault::Full) => push_refusal(reply, Refusal::Full),
         }
-        Ok(())
     }
 
     /// Takes a rule out.
@@ -45,14 +44,12 @@ impl<A: Allocator + Copy> Laboratory<A> {
         ensures after { OnOk result (self.new ≡ (answer_to_drop self.old number).after) }
     {
         if number >= RULE_LIMIT {
-            push_refusal(reply, Refusal::NoRule)?;
-            return Ok(());
+            return push_refusal(reply, Refusal::NoRule);
         }
         match self.debugger.remove_rule(number as u8) {
-            Some(_) => reply.extend_from_slice(b"ok\n")?,
-            None => push_refusal(reply, Refusal::NoRule)?,
+            Some(_) => reply.extend_from_slice(b"ok\n"),
+            None => push_refusal(reply, Refusal::NoRule),
         }
-        Ok(())
     }
 
     /// Performs orders until a rule stops them.
@@ -121,11 +118,10 @@ impl<A: Allocator + Copy> Laboratory<A> {
         ensures after { OnOk result (self.new ≡ (answer_to_last self.old).after) }
     {
         match self.debugger.last_hit() {
-            Ok((orders, rule)) => push_hit(reply, orders, rule)?,
-            Err(HitFault::NoHit(kept)) => push_refusal(reply, Refusal::NoHit(kept))?,
-            Err(HitFault::Memory) => return Err(AllocError),
+            Ok((orders, rule)) => push_hit(reply, orders, rule),
+            Err(HitFault::NoHit(kept)) => push_refusal(reply, Refusal::NoHit(kept)),
+            Err(HitFault::Memory) => Err(AllocError),
         }
-        Ok(())
     }
 }
 

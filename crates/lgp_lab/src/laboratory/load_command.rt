@@ -17,15 +17,13 @@ impl<A: Allocator + Copy> Laboratory<A> {
         ensures after { OnOk result (self.new ≡ (answer_to_load self.old).after) }
     {
         let Some(program) = &self.program else {
-            push_refusal(reply, Refusal::NoImage)?;
-            return Ok(());
+            return push_refusal(reply, Refusal::NoImage);
         };
         match self.debugger.load(self.alloc, program.image()) {
-            Ok(orders) => push_counted(reply, b"loaded ", orders)?,
-            Err(LoadFault::ClockEnd) => push_refusal(reply, Refusal::ClockEnd)?,
-            Err(LoadFault::Memory) => return Err(AllocError),
+            Ok(orders) => push_counted(reply, b"loaded ", orders),
+            Err(LoadFault::ClockEnd) => push_refusal(reply, Refusal::ClockEnd),
+            Err(LoadFault::Memory) => Err(AllocError),
             Err(LoadFault::Moving | LoadFault::BadCut) => unreachable!(),
         }
-        Ok(())
     }
 }

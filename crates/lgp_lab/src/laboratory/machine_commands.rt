@@ -76,11 +76,9 @@ impl<A: Allocator + Copy> Laboratory<A> {
     {
         let run = perform(&mut self.debugger, limit)?;
         if run.stopped {
-            push_refusal(reply, Refusal::ClockEnd)?;
-        } else {
-            push_orders(reply, run.done, self.debugger.look().status)?;
+            return push_refusal(reply, Refusal::ClockEnd);
         }
-        Ok(())
+        push_orders(reply, run.done, self.debugger.look().status)
     }
 
     /// Shows the panel.

@@ -1,8 +1,9 @@
 //! Sources and their listings.
 
-ghost use Rattle.std.specs.Prelude.{◌≡◌, ◌++◌, List, ℕ, None, OnOk};
+ghost use Rattle.std.specs.Prelude.{◌≡◌, ◌++◌, List, ℕ, None, Some, OnOk, codes};
 ghost use Rattle.lgp_stream.specs.KeptLine.{kept_of};
 ghost use Rattle.lgp_lab.specs.SourceCommands.{answer_in_source, answer_to_list, answer_to_end, answer_to_source, cells_text, faults_text, start_text};
+ghost use Rattle.lgp_assembler.specs.Image.{image_of};
 ghost use Rattle.lgp_lab.specs.Standing.{with_opened};
 
 use super::Laboratory;
@@ -58,22 +59,28 @@ impl<A: Allocator + Copy> Laboratory<A> {
     {
         self.opened = None;
         if source.is_too_long() {
-            push_refusal(reply, Refusal::TooLong)?;
-            return Ok(());
+            return push_refusal(reply, Refusal::TooLong);
         }
         match Program::new(self.alloc, source.into_text()) {
-            Ok(program) => {
-                push_cells(reply, program.image())?;
-                self.program = Some(program);
-                Ok(())
-            }
-            Err(AssembleError::Faults(list)) => {
-                reply.extend_from_slice(b"? 9 Faults\n")?;
-                push_faults(reply, list.faults())?;
-                Ok(())
-            }
+            Ok(program) => self.keep(program, reply),
+            Err(AssembleError::Faults(list)) => push_fault_list(reply, list.faults()),
             Err(AssembleError::Memory) => Err(AllocError),
         }
+    }
+
+    /// Keeps a program as the last one, and tells what it has made.
+    fn keep(&mut self, program: Program<A>, reply: &mut Vec<u8, A>) -> Result<(), AllocError>
+        ensures reply { OnOk result (reply.new.items
+            ≡ reply.old.items ++ cells_text (image_of program)) }
+        ensures after { OnOk result (self.new ≡ record {
+          debugger = self.old.debugger;
+          source = Some program;
+          opened = self.old.opened;
+        }) }
+    {
+        push_cells(reply, program.image())?;
+        self.program = Some(program);
+        Ok(())
     }
 
     /// Lists the last source that assembled.
@@ -115,6 +122,16 @@ fn push_cells<A: Allocator>(text: &mut Vec<u8, A>, image: &Image<A>) -> Result<(
         ],
     )?;
     push_start(text, image.start())?;
+    Ok(())
+}
+
+/// Appends that a source has faults, and a line for each of them.
+fn push_fault_list<A: Allocator>(text: &mut Vec<u8, A>, faults: &[Fault]) -> Result<(), AllocError>
+    ensures { OnOk result (text.new.items
+        ≡ text.old.items ++ (codes "? 9 Faults\n" ++ faults_text faults.now)) }
+{
+    text.extend_from_slice(b"? 9 Faults\n")?;
+    push_faults(text, faults)?;
     Ok(())
 }
 

@@ -1,6 +1,6 @@
 //! The tape and the paper.
 
-ghost use Rattle.std.specs.Prelude.{◌≡◌, ◌++◌, ◌≤◌, IfErr, IfOk, OnOk, length, vec_len};
+ghost use Rattle.std.specs.Prelude.{◌≡◌, ◌++◌, ◌≤◌, IfErr, IfOk, OnOk, codes, decimal, length, vec_len};
 ghost use Rattle.lgp_flexo.specs.TapeText.{codes_of_text};
 ghost use Rattle.lgp_stream.specs.KeptLine.{line_limit};
 ghost use Rattle.lgp_lab.specs.TapeCommands.{answer_to_mount, answer_to_printed, answer_to_tape, count_text, printed_text};
@@ -21,10 +21,9 @@ impl<A: Allocator + Copy> Laboratory<A> {
         ensures after { OnOk result (self.new ≡ (answer_to_mount self.old text.now).after) }
     {
         match read_codes(self.alloc, text)? {
-            Ok(codes) => self.mount_codes(codes, reply)?,
-            Err(place) => push_refusal(reply, Refusal::BadSign(place))?,
+            Ok(codes) => self.mount_codes(codes, reply),
+            Err(place) => push_refusal(reply, Refusal::BadSign(place)),
         }
-        Ok(())
     }
 
     /// Mounts a tape.
@@ -37,12 +36,11 @@ impl<A: Allocator + Copy> Laboratory<A> {
     {
         let count = codes.len() as u64;
         match self.debugger.mount(codes) {
-            Ok(()) => push_count(reply, count)?,
-            Err((MountFault::Moving, _)) => push_refusal(reply, Refusal::Moving)?,
+            Ok(()) => push_count(reply, count),
+            Err((MountFault::Moving, _)) => push_refusal(reply, Refusal::Moving),
             Err((MountFault::TooLong, _)) => unreachable!(),
-            Err((MountFault::Memory, _)) => return Err(AllocError),
+            Err((MountFault::Memory, _)) => Err(AllocError),
         }
-        Ok(())
     }
 
     /// Shows what is printed.
@@ -88,6 +86,28 @@ fn push_count<A: Allocator>(text: &mut Vec<u8, A>, count: u64) -> Result<(), All
     )
 }
 
+/// Appends so many codes by their text.
+fn push_written<A: Allocator>(
+    text: &mut Vec<u8, A>,
+    count: u64,
+    written: &[u8],
+) -> Result<(), AllocError>
+    ensures { OnOk result (text.new.items ≡ text.old.items
+        ++ (codes "printed " ++ (decimal count ++ (codes " " ++ (written.now ++ codes "\n"))))) }
+{
+    push_pieces(
+        text,
+        &[
+            Piece::Text(b"printed "),
+            Piece::Number(count),
+            Piece::Text(b" "),
+        ],
+    )?;
+    text.extend_from_slice(written)?;
+    text.push(b'\n')?;
+    Ok(())
+}
+
 /// Appends what is printed.
 #[tactic(auto, unfolding(crate::specs::TapeCommands::printed_text))]
 pub fn push_printed<A: Allocator + Copy>(
@@ -98,19 +118,8 @@ pub fn push_printed<A: Allocator + Copy>(
     ensures { OnOk result (text.new.items ≡ text.old.items ++ printed_text codes.now) }
 {
     if codes.is_empty() {
-        text.extend_from_slice(b"printed 0\n")?;
-        return Ok(());
+        return text.extend_from_slice(b"printed 0\n");
     }
     let written = write_tape_text(alloc, codes)?;
-    push_pieces(
-        text,
-        &[
-            Piece::Text(b"printed "),
-            Piece::Number(codes.len() as u64),
-            Piece::Text(b" "),
-        ],
-    )?;
-    text.extend_from_slice(&written)?;
-    text.push(b'\n')?;
-    Ok(())
+    push_written(text, codes.len() as u64, &written)
 }
