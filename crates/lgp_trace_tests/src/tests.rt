@@ -14,6 +14,9 @@ mod steps;
 
 use lgp_machine::{Machine, OrderFault};
 use lgp_table::Action;
+use lgp_trace::laws::{
+    codes_pass, phases_read, phases_together, profiles, signs_are_word_times, words_stay,
+};
 use lgp_trace::{Account, Phases, Profile, take_account};
 use lgp_word::{Address, Word};
 use std::alloc::Allocator;
@@ -253,4 +256,14 @@ fn the_profile_of_a_program(rt: HostRuntime) -> Result<(), Fail> {
     let seen = profiled(&mut machine, &mut profile);
     assert_eq!(rt; seen, ((1562, 42, 1264, 42), 406, 0, 0));
     Ok(())
+}
+
+#[test]
+fn the_laws_do_nothing(_rt: HostRuntime) {
+    phases_together();
+    phases_read();
+    words_stay();
+    codes_pass();
+    profiles();
+    signs_are_word_times();
 }
