@@ -17,7 +17,7 @@ use Rattle.lgp_lab.specs.Script.{script_language}
 use Rattle.lgp_lab.specs.HistoryCommands.{orders_run}
 use Rattle.lgp_lab.specs.Standing.{Standing, labels_of, opening_standing}
 use Rattle.lgp_monitor.specs.Questions.{answer_to}
-use Rattle.lgp_monitor.specs.Reasons.{explained}
+use Rattle.lgp_monitor.specs.Reasons.{explained, reasoned}
 use Rattle.lgp_monitor.specs.Telling.{told_text}
 use Rattle.lgp_monitor.specs.Typed.{typed_of}
 use Rattle.lgp_monitor.specs.Verbs.{form_of, verb_names}
@@ -134,20 +134,20 @@ module _ {A : Type 0} where
   abbrev pub panel_at : Standing A → Panel
   panel_at standing = standing.debugger.state.core.panel
 
-  -- a reply in whose end a script's line is answered, with what is said behind it
-  abbrev pub explained_behind : Recorded (Standing A) → List ℕ → List ℕ → List ℕ
-  explained_behind recorded line reply =
-      let panel = panel_at (after_lines script_language recorded (line ∷ [])).standing in
-      explained panel.status panel.mode reply
-
-  -- the reply to a script's line, with what is said behind it
+  -- the reply to a script's line, a refusal with its reason
   abbrev pub explained_reply : Recorded (Standing A) → List ℕ → List ℕ
-  explained_reply recorded line = explained_behind recorded line (replies_text script_language recorded (line ∷ []))
+  explained_reply recorded line = reasoned (replies_text script_language recorded (line ∷ []))
 
   -- what is written about the orders of a run, and the reply to its script's line
   abbrev pub told_reply : Recorded (Standing A) → Telling → ℕ → List ℕ → List ℕ
   told_reply recorded telling limit line =
       told_of recorded.standing telling limit ++ replies_text script_language recorded (run_line line ∷ [])
+
+  -- the same with what is said behind it, where its script's line leaves the machine
+  abbrev pub explained_run : Recorded (Standing A) → Telling → ℕ → List ℕ → List ℕ
+  explained_run recorded telling limit line =
+      let panel = panel_at (after_lines script_language recorded (run_line line ∷ [])).standing in
+      explained panel.status panel.mode (told_reply recorded telling limit line)
 
   abbrev pub reply_of : Recorded (Standing A) → Typed → Kept → List ℕ
   reply_of recorded typed.Itself kept = explained_reply recorded (stand_in kept)
@@ -155,8 +155,7 @@ module _ {A : Type 0} where
   reply_of recorded (typed.Placed address) kept = explained_reply recorded (placed_line address kept.front)
   reply_of recorded (typed.Go address) kept = replies_text script_language recorded (go_lines address)
   reply_of recorded (typed.Put address word) kept = explained_reply recorded (put_line address word)
-  reply_of recorded (typed.Told telling limit) kept =
-      explained_behind recorded (run_line kept.front) (told_reply recorded telling limit kept.front)
+  reply_of recorded (typed.Told telling limit) kept = explained_run recorded telling limit kept.front
   reply_of recorded (typed.Asked question) kept = answer_to question recorded.standing
   reply_of recorded typed.Transcript kept = recorded.transcript
   reply_of recorded typed.New kept = codes "new\n"

@@ -1,5 +1,5 @@
--- Part of the public promise: what is said behind replies of the script language: the reasons of refusals, and how the machine
--- stands.
+-- Part of the public promise: what is said behind replies: the reasons of refusals, and how the machine stands behind a run that is
+-- told.
 use Rattle.std.specs.Prelude.{ℕ, zero, suc, ◌-◌, ◌==◌, if◌then◌else◌, Option, Some, None, List, [], ◌∷◌, ◌++◌, codes, drop, length, slice_index, take}
 use Rattle.std.specs.Str.{bytes_eq}
 use Rattle.lgp_stream.specs.LineWords.{behind_word, first_word}
@@ -51,11 +51,15 @@ refusal_in line =
 abbrev pub with_reason : RefusalKind → List ℕ → List ℕ
 with_reason kind reply = take (length reply - 1) reply ++ (codes ": " ++ (reason_of kind ++ codes "\n"))
 
--- a reply behind which the machine stands so: where its last line is a refusal, with the reason behind that; where it leaves open how
--- the machine stands, with a line that says it
-abbrev pub explained_by : Option RefusalKind → Status → Mode → List ℕ → List ℕ
-explained_by (Some kind) status mode reply = with_reason kind reply
-explained_by None status mode reply = if tells_standstill (last_line reply) then reply ++ stand_text status mode else reply
+-- a reply, of which the last line has its reason behind it where that is a refusal
+abbrev pub reasoned_by : Option RefusalKind → List ℕ → List ℕ
+reasoned_by (Some kind) reply = with_reason kind reply
+reasoned_by None reply = reply
 
+unfoldable pub reasoned : List ℕ → List ℕ
+reasoned reply = reasoned_by (refusal_in (last_line reply)) reply
+
+-- what is told of a run behind which the machine stands so: where the reply at its end leaves open how the machine stands, with a line
+-- that says it
 unfoldable pub explained : Status → Mode → List ℕ → List ℕ
-explained status mode reply = explained_by (refusal_in (last_line reply)) status mode reply
+explained status mode told = if tells_standstill (last_line told) then told ++ stand_text status mode else reasoned told

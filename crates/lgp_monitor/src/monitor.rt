@@ -7,11 +7,11 @@ ghost use Rattle.lgp_transcript.specs.Transcript.{after_lines, after_meaning, re
 ghost use Rattle.lgp_lab.specs.Script.{script_language};
 ghost use Rattle.lgp_lab.specs.Standing.{labels_of, opening_standing};
 ghost use Rattle.lgp_monitor.specs.Typed.{typed_of};
-ghost use Rattle.lgp_monitor.specs.Monitor.{address_reason, counter_at, explained_behind, explained_reply, fault_reason, form_line, form_lines, go_lines, help_text, jump_line, meaning_of, misformed_text, monitor_language, names_at, operand_reason, panel_at, placed_line, put_line, reason_by, reply_of, run_line, takes_address, told_reply, typed_at};
+ghost use Rattle.lgp_monitor.specs.Monitor.{address_reason, counter_at, explained_reply, explained_run, fault_reason, form_line, form_lines, go_lines, help_text, jump_line, meaning_of, misformed_text, monitor_language, names_at, operand_reason, panel_at, placed_line, put_line, reason_by, reply_of, run_line, takes_address, told_reply, typed_at};
 ghost use Rattle.lgp_monitor.specs.Reasons.{explained};
 
 use crate::question::push_answer;
-use crate::reason::push_explained;
+use crate::reason::{push_explained, push_reasoned};
 use crate::telling::{Telling, run_told};
 use crate::typed::{Typed, typed_of};
 use crate::verb::{VERBS, Verb, form_of, verb_named};
@@ -86,20 +86,20 @@ fn jump_line<A: Allocator>(alloc: A, address: Address) -> Result<Vec<u8, A>, All
     Ok(line)
 }
 
-/// Appends a reply, with what is said behind it where the laboratory then stands.
-fn push_reply<A: Allocator + Copy>(
+/// Appends what is told of a run, with what is said behind it where the laboratory then stands.
+fn push_told<A: Allocator + Copy>(
     text: &mut Vec<u8, A>,
-    reply: &[u8],
+    told: &[u8],
     laboratory: &Laboratory<A>,
 ) -> Result<(), AllocError>
     ensures { OnOk result (text.new.items ≡ text.old.items
-        ++ explained (panel_at laboratory.now).status (panel_at laboratory.now).mode reply.now) }
+        ++ explained (panel_at laboratory.now).status (panel_at laboratory.now).mode told.now) }
 {
     let look = laboratory.debugger().look();
-    push_explained(text, reply, look.status, look.mode)
+    push_explained(text, told, look.status, look.mode)
 }
 
-/// Answers a script's line, with what is said behind its reply.
+/// Answers a script's line, a refusal with its reason.
 fn explain<A: Allocator + Copy>(
     alloc: A,
     recorder: &mut Recorder<Laboratory<A>, A>,
@@ -113,10 +113,10 @@ fn explain<A: Allocator + Copy>(
 {
     let mut said = Vec::new(alloc);
     recorder.answer_line(line, &mut said)?;
-    push_reply(reply, &said, recorder.answers())
+    push_reasoned(reply, &said)
 }
 
-/// Answers a script's line of which this was kept, with what is said behind its reply.
+/// Answers a script's line of which this was kept, a refusal with its reason.
 fn explain_kept<A: Allocator + Copy>(
     alloc: A,
     recorder: &mut Recorder<Laboratory<A>, A>,
@@ -132,7 +132,7 @@ fn explain_kept<A: Allocator + Copy>(
 {
     let mut said = Vec::new(alloc);
     recorder.answer_kept(line, &mut said)?;
-    push_reply(reply, &said, recorder.answers())
+    push_reasoned(reply, &said)
 }
 
 /// Puts a word by a script's line.
@@ -217,8 +217,7 @@ fn explain_told<A: Allocator + Copy>(
     ensures reply { (text : List ℕ) → line.now ≡ kept_of text
         → Typed.Told telling limit ≡ typed_at recorder.old text
         → OnOk result (reply.new.items ≡ reply.old.items
-        ++ explained_behind recorder.old (run_line line.now.front)
-        (told_reply recorder.old telling limit line.now.front)) }
+        ++ explained_run recorder.old telling limit line.now.front) }
     ensures after { (text : List ℕ) → line.now ≡ kept_of text
         → Typed.Told telling limit ≡ typed_at recorder.old text
         → OnOk result (recorder.new
@@ -226,7 +225,7 @@ fn explain_told<A: Allocator + Copy>(
 {
     let mut said = Vec::new(alloc);
     tell(alloc, recorder, telling, limit, line, &mut said)?;
-    push_reply(reply, &said, recorder.answers())
+    push_told(reply, &said, recorder.answers())
 }
 
 /// Appends the form of a command.

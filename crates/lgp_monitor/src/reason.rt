@@ -1,8 +1,8 @@
-//! What is said behind replies of the script language: the reasons of refusals, and how the machine stands.
+//! What is said behind replies: the reasons of refusals, and how the machine stands behind a run that is told.
 
 ghost use Rattle.std.specs.Prelude.{◌≡◌, ◌++◌, ◌-◌, ◌≤◌, length, OnOk};
 ghost use Rattle.lgp_text.specs.NamedValues.{named};
-ghost use Rattle.lgp_monitor.specs.Reasons.{explained, last_line, line_start, reason_of, refusal_in, refusal_numbers};
+ghost use Rattle.lgp_monitor.specs.Reasons.{explained, last_line, line_start, reason_of, reasoned, refusal_in, refusal_numbers, with_reason};
 
 use crate::run_end::{push_stand, tells_standstill};
 use lgp_stream::split_word;
@@ -119,32 +119,49 @@ fn refusal_in(line: &[u8]) -> Option<RefusalKind>
     }
 }
 
-/// Appends a reply behind which the machine stands so, with what is said behind it.
+/// Appends a reply with the reason behind its last line.
+fn push_with_reason<A: Allocator>(
+    text: &mut Vec<u8, A>,
+    kind: RefusalKind,
+    reply: &[u8],
+) -> Result<(), AllocError>
+    ensures { OnOk result (text.new.items ≡ text.old.items ++ with_reason kind reply.now) }
+{
+    push_pieces(
+        text,
+        &[
+            Piece::Text(&reply[..reply.len().saturating_sub(1)]),
+            Piece::Text(b": "),
+            Piece::Text(reason_of(kind)),
+            Piece::Text(b"\n"),
+        ],
+    )
+}
+
+/// Appends a reply, of which the last line has its reason behind it where that is a refusal.
+#[tactic(auto, unfolding(crate::specs::Reasons::reasoned))]
+pub fn push_reasoned<A: Allocator>(text: &mut Vec<u8, A>, reply: &[u8]) -> Result<(), AllocError>
+    ensures { OnOk result (text.new.items ≡ text.old.items ++ reasoned reply.now) }
+{
+    match refusal_in(last_line(reply)) {
+        Some(kind) => push_with_reason(text, kind, reply),
+        None => text.extend_from_slice(reply),
+    }
+}
+
+/// Appends what is told of a run behind which the machine stands so, with what is said behind it.
 #[tactic(auto, unfolding(crate::specs::Reasons::explained))]
 pub fn push_explained<A: Allocator>(
     text: &mut Vec<u8, A>,
-    reply: &[u8],
+    told: &[u8],
     status: Status,
     mode: Mode,
 ) -> Result<(), AllocError>
-    ensures { OnOk result (text.new.items
-        ≡ text.old.items ++ explained status mode reply.now) }
+    ensures { OnOk result (text.new.items ≡ text.old.items ++ explained status mode told.now) }
 {
-    let line = last_line(reply);
-    if let Some(kind) = refusal_in(line) {
-        return push_pieces(
-            text,
-            &[
-                Piece::Text(&reply[..reply.len().saturating_sub(1)]),
-                Piece::Text(b": "),
-                Piece::Text(reason_of(kind)),
-                Piece::Text(b"\n"),
-            ],
-        );
+    if tells_standstill(last_line(told)) {
+        text.extend_from_slice(told)?;
+        return push_stand(text, status, mode);
     }
-    text.extend_from_slice(reply)?;
-    if tells_standstill(line) {
-        push_stand(text, status, mode)?;
-    }
-    Ok(())
+    push_reasoned(text, told)
 }

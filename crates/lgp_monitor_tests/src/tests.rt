@@ -117,22 +117,22 @@ const ROWS: [Row; 22] = [
         b"ok\nok\nok\n0002 wwwwwwwq  -.0000000009  -1\n0003 00000302   .0000003586  385\n0004 j0000000  -.5000000000  -536870912\n0005 00000000   .0000000000  0\nput 0002 wwwwwwwq\nput 0003 00000302\nput 0004 j0000000\n",
         0,
     ),
-    // A run that finds the machine at rest, in each mode, and with no order asked for.
+    // A run that is told and finds the machine at rest, in each mode, and with no order asked for. `run` has the script's reply.
     (
-        b"run 9\npress oneop\nrun 0\npress manual\nrun 1\ntranscript\n",
-        b"ran 0 rest\n        the operator halted the machine, or has not started it: press start lets it go on\nlive\nran 0 rest\n        the operator halted the machine, or has not started it: press start lets it do one order\nlive\nran 0 rest\n        the operator halted the machine, or has not started it: press normal, then press start lets it go on\nrun 9\npress oneop\nrun 0\npress manual\nrun 1\n",
+        b"trace 9\npress oneop\ntrace 0\npress manual\ntrace 1\nrun 1\ntranscript\n",
+        b"  clock  at           order           find take seek  act   sum  accumulator\nran 0 rest\n        the operator halted the machine, or has not started it: press start lets it go on\nlive\n  clock  at           order           find take seek  act   sum  accumulator\nran 0 rest\n        the operator halted the machine, or has not started it: press start lets it do one order\nlive\n  clock  at           order           find take seek  act   sum  accumulator\nran 0 rest\n        the operator halted the machine, or has not started it: press normal, then press start lets it go on\nran 0 rest\nrun 9\npress oneop\nrun 0\npress manual\nrun 1\nrun 1\n",
         0,
     ),
-    // Behind an overflow, an input without a tape, and one operation. Nothing is said of a run that performed an order.
+    // The same behind an overflow, an input without a tape, and one operation.
     (
-        b"put 0000 d 0010\nput 0001 i\nput 0002 u *\npress start\nrun 9\nrun 9\npress start\nrun 9\nrun 9\npress oneop\npress compute\nrun 9\npress start\nrun 9\nrun 9\n",
-        b"ok\nok\nok\nlive\nran 1 rest\nran 0 rest\n        an overflow halted the machine: press start lets it go on\nlive\nran 1 rest\nran 0 rest\n        an input waits for codes: press read lets the tape pass, press compute ends the input\nlive\nlive\nran 0 rest\n        the machine halted behind one operation: press start lets it do one order\nlive\nran 1 rest\nran 0 rest\n        the machine halted behind one operation: press start lets it do one order\n",
+        b"put 0000 d 0010\nput 0001 i\nput 0002 u *\npress start\nrun 9\ntrace 9\npress start\nrun 9\ntrace 9\npress oneop\npress compute\ntrace 9\npress start\nrun 9\ntrace 9\n",
+        b"ok\nok\nok\nlive\nran 1 rest\n  clock  at           order           find take seek  act   sum  accumulator\nran 0 rest\n        an overflow halted the machine: press start lets it go on\nlive\nran 1 rest\n  clock  at           order           find take seek  act   sum  accumulator\nran 0 rest\n        an input waits for codes: press read lets the tape pass, press compute ends the input\nlive\nlive\n  clock  at           order           find take seek  act   sum  accumulator\nran 0 rest\n        the machine halted behind one operation: press start lets it do one order\nlive\nran 1 rest\n  clock  at           order           find take seek  act   sum  accumulator\nran 0 rest\n        the machine halted behind one operation: press start lets it do one order\n",
         0,
     ),
-    // Two rules: the order to which one leads is still to come, and behind that the other one has halted the machine with its order.
+    // A run that a rule stops has the script's reply.
     (
-        b"put 0000 u 0001\nput 0001 h 0004\nbreak 0001\nwatch 0004\npress manual\ntype 0000000q\npress normal\npress start\nrun 9\npress oneop\npress start\nrun 9\n",
-        b"ok\nok\nrule 0\nrule 1\nlive\nlive 8 dead 0\nlive\nlive\nran 1 rule 0\n        the machine is still going: run goes on, press manual halts it\nlive\nlive\nran 1 rule 1\n        the machine halted behind one operation: press start lets it do one order\n",
+        b"put 0000 u 0001\nbreak 0001\npress start\nrun 9\n",
+        b"ok\nrule 0\nlive\nran 1 rule 0\n",
         0,
     ),
     // The last line of a listing that reads like a run.
