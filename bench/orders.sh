@@ -11,45 +11,8 @@ trap 'rm -rf "$work"' EXIT
 short=20001
 long=120001
 
-# b 0050, a 0051, h 0050, u 0000: it counts up by one.
-small='0000 000100j8
-0001 000q00jj
-0002 000j00j8
-0003 000f0000
-0051 00000002'
-
-# 26 words: a count, an address that is stored into a later order, a return address, masks, a product, a test.
-large='0000 000100j8
-0001 000q00jj
-0002 000j00j8
-0003 0001002j
-0004 000q00k0
-0005 0002002j
-0006 000300w4
-0007 000900k4
-0008 000j00k8
-0009 000w00kj
-0010 000k00q0
-0011 00010100
-0012 000700q4
-0013 000j00q8
-0014 000q00jj
-0015 000900k4
-0016 000j00qj
-0017 000900k4
-0018 000w00jj
-0019 000g0054
-0020 000f0054
-0021 000100j8
-0022 000900k4
-0023 000j00w0
-0024 000100j8
-0025 000f0000
-0051 00000002
-0052 00000004
-0053 0000wwwj
-0055 00000004
-0057 00010000'
+# The words of the loops, `small` and `large`.
+. "$top/bench/loops.sh"
 
 # Instructions of a command whose standard input is a file.
 instructions() {

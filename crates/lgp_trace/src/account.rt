@@ -1,11 +1,12 @@
 //! Accounts, and what is known of them when their activities begin.
 
-ghost use Rattle.std.specs.Prelude.{◌≡◌, IsTrue, option_map};
+ghost use Rattle.std.specs.Prelude.{◌≡◌, ◌+◌, ◌-◌, ◌≤◌, IsTrue, None, option_map};
 ghost use Rattle.lgp_table.specs.Activity.{next};
 ghost use Rattle.lgp_table.specs.Interleaving.{at_boundary, is_boundary};
 ghost use Rattle.lgp_table.specs.State.{State};
 ghost use Rattle.lgp_machine.specs.Look.{look_of, shown};
 ghost use Rattle.lgp_trace.specs.Account.{account_of, begun_of, finished, found_of, operand_in, order_of, place_of};
+ghost use Rattle.lgp_trace.specs.Phases.{phases_of};
 
 use crate::phases::Phases;
 use crate::uses::seeks;
@@ -76,6 +77,7 @@ pub fn place_of<A: Allocator>(machine: &Machine<A>) -> Option<Address>
 }
 
 /// The word of that order.
+#[inline(always)]
 fn order_of<A: Allocator>(machine: &Machine<A>) -> Option<Word>
     ensures { IsTrue (is_boundary machine.now) → result ≡ order_of machine.now.state }
 {
@@ -88,6 +90,7 @@ fn order_of<A: Allocator>(machine: &Machine<A>) -> Option<Word>
 }
 
 /// The word that it waits for.
+#[inline(always)]
 fn found_of<A: Allocator>(machine: &Machine<A>) -> Option<Found>
     ensures { IsTrue (is_boundary machine.now) → result ≡ found_of machine.now.state }
 {
@@ -102,6 +105,7 @@ fn found_of<A: Allocator>(machine: &Machine<A>) -> Option<Found>
 }
 
 /// A word that was found, if one was, and what stands there now.
+#[inline(always)]
 fn operand_in<A: Allocator>(machine: &Machine<A>, found: Option<Found>) -> Option<Operand>
     ensures { result ≡ option_map (operand_in machine.now.state.core) found }
 {
@@ -115,24 +119,53 @@ fn operand_in<A: Allocator>(machine: &Machine<A>, found: Option<Found>) -> Optio
 
 impl Begun {
     /// What is known of the activity that begins here; `None` within an activity.
+    #[tactic(auto, using(crate::proofs::PhaseLaws::phases_cost, crate::proofs::PhaseLaws::phases_last))]
     pub fn of<A: Allocator>(machine: &Machine<A>) -> Option<Begun>
         ensures { result ≡ shown machine.now (begun_of machine.now.state) }
     {
+        let begun = Begun::before_acting(machine)?;
+        let ahead = machine.ahead()?;
+        Some(begun.until(ahead.cost, ahead.prints))
+    }
+
+    /// The same before the order acts, with no word time in which it does and nothing that it prints.
+    #[inline(always)]
+    pub(crate) fn before_acting<A: Allocator>(machine: &Machine<A>) -> Option<Begun>
+        ensures { result ≡ shown machine.now (record (begun_of machine.now.state) {
+            phases = record (phases_of machine.now.state) { act = 0 };
+            prints = None }) }
+    {
         let before = machine.look()?;
-        let prints = machine.ahead()?.prints;
         let passed = machine.tape_passed()?.len();
         Some(Begun {
             before,
             place: place_of(machine),
             order: order_of(machine),
-            phases: Phases::of(machine)?,
+            phases: Phases::before_acting(machine)?,
             found: found_of(machine),
-            prints,
+            prints: None,
             passed,
         })
     }
 
+    /// The same of an order that takes so many word times and prints this.
+    #[inline(always)]
+    pub(crate) fn until(self, times: u64, prints: Option<Code>) -> Begun
+        requires { self.phases.find + self.phases.take + self.phases.seek ≤ times }
+        ensures { result ≡ record self {
+            phases = record self.phases {
+                act = times - (self.phases.find + self.phases.take + self.phases.seek) };
+            prints = prints } }
+    {
+        Begun {
+            phases: self.phases.until(times),
+            prints,
+            ..self
+        }
+    }
+
     /// The account of the activity, with the machine as it stands after it.
+    #[inline(always)]
     pub fn finish<A: Allocator>(self, machine: &Machine<A>) -> Account
         requires { IsTrue (is_boundary machine.now) }
         ensures exact { result ≡ finished self machine.now.state }

@@ -15,6 +15,7 @@ use std::alloc::Allocator;
 
 /// The whole activity that begins here, performed by a debugger, which keeps its step; and its account. It refuses what
 /// `Debugger::step` refuses, and then nothing has changed.
+#[tactic(auto, using(crate::proofs::PhaseLaws::phases_cost, crate::proofs::PhaseLaws::phases_last))]
 pub fn step_account<H: History<A>, A: Allocator>(
     debugger: &mut Debugger<H, A>,
 ) -> Result<Account, StepFault>
@@ -27,11 +28,14 @@ pub fn step_account<H: History<A>, A: Allocator>(
         × (clock_end < debugger.old.state.clock + cost debugger.old.state)) }
     ensures unchanged { OnErr result (debugger.new ≡ debugger.old) }
 {
-    let Some(begun) = Begun::of(debugger.machine()) else {
+    let Some(begun) = Begun::before_acting(debugger.machine()) else {
         unreachable!()
     };
     match debugger.step() {
-        Ok(_) => Ok(begun.finish(debugger.machine())),
+        Ok(outcome) => {
+            let begun = begun.until(outcome.cost, outcome.printed);
+            Ok(begun.finish(debugger.machine()))
+        }
         Err(fault) => Err(fault),
     }
 }

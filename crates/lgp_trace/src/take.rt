@@ -12,6 +12,7 @@ use lgp_machine::{Machine, OrderFault};
 use std::alloc::Allocator;
 
 /// The whole activity that begins here, in one call, and its account. It refuses what `Machine::next_order` refuses.
+#[tactic(auto, using(crate::proofs::PhaseLaws::phases_cost, crate::proofs::PhaseLaws::phases_last))]
 pub fn take_account<A: Allocator>(machine: &mut Machine<A>) -> Result<Account, OrderFault>
     ensures account { IfOk result (λ account. account ≡ account_of machine.old.state) }
     ensures state { OnOk result (machine.new ≡ at_boundary (next machine.old.state)) }
@@ -27,11 +28,14 @@ pub fn take_account<A: Allocator>(machine: &mut Machine<A>) -> Result<Account, O
         → IsTrue (is_some (print_of machine.old.state.core)) }
     ensures unchanged { OnErr result (machine.new ≡ machine.old) }
 {
-    let Some(begun) = Begun::of(machine) else {
+    let Some(begun) = Begun::before_acting(machine) else {
         return Err(OrderFault::Moving);
     };
     match machine.next_order() {
-        Ok(_) => Ok(begun.finish(machine)),
+        Ok(outcome) => {
+            let begun = begun.until(outcome.cost, outcome.printed);
+            Ok(begun.finish(machine))
+        }
         Err(fault) => Err(fault),
     }
 }
