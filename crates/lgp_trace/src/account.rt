@@ -132,8 +132,9 @@ impl Begun {
     #[inline(always)]
     pub(crate) fn before_acting<A: Allocator>(machine: &Machine<A>) -> Option<Begun>
         ensures { result ≡ shown machine.now (record (begun_of machine.now.state) {
-            phases = record (phases_of machine.now.state) { act = 0 };
-            prints = None }) }
+          phases = record (phases_of machine.now.state) { act = 0 };
+          prints = None;
+        }) }
     {
         let before = machine.look()?;
         let passed = machine.tape_passed()?.len();
@@ -153,9 +154,11 @@ impl Begun {
     pub(crate) fn until(self, times: u64, prints: Option<Code>) -> Begun
         requires { self.phases.find + self.phases.take + self.phases.seek ≤ times }
         ensures { result ≡ record self {
-            phases = record self.phases {
-                act = times - (self.phases.find + self.phases.take + self.phases.seek) };
-            prints = prints } }
+          phases = record self.phases {
+            act = times - (self.phases.find + self.phases.take + self.phases.seek);
+          };
+          prints = prints;
+        } }
     {
         Begun {
             phases: self.phases.until(times),
