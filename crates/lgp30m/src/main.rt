@@ -21,6 +21,8 @@ impl Bell for LeavingBell<'_> {
     fn ring(&self) {
         self.has_left.set(true);
     }
+
+    fn heard(&self, _takes_commands: bool, _was_refused: bool) {}
 }
 
 /// Standard input, which ends where the desk was left. Nothing is known of it.

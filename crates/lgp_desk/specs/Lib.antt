@@ -1,2 +1,4 @@
+pub mod Roles
 pub mod Desk
+pub mod Handing
 pub mod Sitting

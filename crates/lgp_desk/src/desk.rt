@@ -1,11 +1,15 @@
 //! What answers lines that are typed at a desk.
 
-ghost use Rattle.std.specs.Prelude.{◌≡◌, ◌++◌, [], Bool, List, ℕ, OnOk, true};
+ghost use Rattle.std.specs.Prelude.{◌≡◌, ◌++◌, [], Bool, List, None, OnOk, Some, codes, option_map, true, ℕ};
 ghost use Rattle.lgp_stream.specs.KeptLine.{kept_of};
-ghost use Rattle.lgp_stream.specs.Language.{Language, is_question};
-ghost use Rattle.lgp_desk.specs.Desk.{Seat, desk_language, echo_of, is_quit, line_end, mark_of, taken_seat, written_for};
+ghost use Rattle.lgp_stream.specs.Language.{Language};
+ghost use Rattle.lgp_desk.specs.Desk.{BlockAnswers, Seat, answer_text, behind_block, block_reply, desk_language, echo_in, lost_text, open_role, prompt_in, role_at, taken_seat};
+ghost use Rattle.lgp_desk.specs.Roles.{given_by, note_of, opened_by, with_line};
 
-use lgp_stream::{Answers, LineBytes, has_no_word, split_word};
+use crate::role::{Role, behind_mark, block_role, command_role};
+use crate::texts::{Block, Source, copy_of};
+use crate::writing::{is_question, push_note_line, push_shown};
+use lgp_stream::{Answers, LineBytes};
 use std::alloc::{AllocError, Allocator};
 use std::marker::Model;
 
@@ -20,19 +24,27 @@ pub enum Manner {
     Echoing,
 }
 
-/// What is told that the desk was left.
+/// What is told how the lines at a desk go.
 pub trait Bell: Drop {
     /// The desk was left: no line is answered any more.
     fn ring(&self);
+
+    /// The reply to a line was made, or the desk was opened: whether the next line is a command, and whether the reply is a refusal,
+    /// which begins with a question mark.
+    fn heard(&self, takes_commands: bool, was_refused: bool);
 }
 
-/// What answers lines of which some are commands, and has a prompt in front of each.
+/// What answers lines of which some are commands, and has a prompt in front of each; and blocks of lines, each under the name of
+/// what it is for.
 pub trait Attended {
     /// Whether the next line is a command, so that `quit` leaves.
     ghost takes_commands: { Self → Bool };
 
     /// The prompt in front of the next line.
     ghost prompt: { Self → List ℕ };
+
+    /// How blocks are answered.
+    ghost blocks: { BlockAnswers Self };
 
     /// Whether the next line is a command.
     fn takes_commands(&self) -> bool
@@ -41,74 +53,43 @@ pub trait Attended {
     /// Appends the prompt.
     fn push_prompt<A: Allocator>(&self, text: &mut Vec<u8, A>) -> Result<(), AllocError>
         ensures { OnOk result (text.new.items ≡ text.old.items ++ prompt self.now) };
+
+    /// Answers a block, of which each line has a line feed behind it: the reply's bytes are put behind `reply`. Of a longer line than
+    /// is kept, the text has the front and a byte 0.
+    fn answer_block<A: Allocator>(
+        &mut self,
+        kind: &[u8],
+        text: &[u8],
+        reply: &mut Vec<u8, A>,
+    ) -> Result<(), AllocError>
+        ensures reply { OnOk result (reply.new.items ≡ reply.old.items
+            ++ blocks.reply self.old (record { kind = kind.now; text = text.now })) }
+        ensures after { OnOk result (self.new
+            ≡ blocks.after self.old (record { kind = kind.now; text = text.now })) };
 }
 
-/// Whether a line is the word `quit`.
-#[tactic(auto, unfolding(crate::specs::Desk::is_quit))]
-fn is_quit(line: &LineBytes) -> bool
-    ensures { result ≡ is_quit line.now }
+/// Appends what is written for a block that is open at the end.
+fn push_lost<A: Allocator, B: Allocator>(
+    block: &Option<Block<A>>,
+    text: &mut Vec<u8, B>,
+) -> Result<(), AllocError>
+    ensures { OnOk result (text.new.items ≡ text.old.items ++ lost_text block.now) }
 {
-    let command = split_word(line.front());
-    !line.is_longer() && (command.word == b"quit".as_slice() && has_no_word(command.behind))
-}
-
-/// Whether a reply begins with a question mark.
-fn is_question(reply: &[u8]) -> bool
-    ensures { result ≡ is_question reply.now }
-{
-    match reply {
-        [first, ..] => *first == b'?',
-        [] => false,
+    if block.is_some() {
+        return text.extend_from_slice(b"? 1 Form: no line #. ends the block\n");
     }
+    Ok(())
 }
 
-/// The mark in front of a line that is shown above its reply.
-fn mark_of(reply: &[u8]) -> &'static [u8]
-    ensures { result.now ≡ mark_of reply.now }
-{
-    if is_question(reply) { b"? " } else { b"> " }
-}
-
-/// The end of a line that is shown.
-fn line_end(longer: bool) -> &'static [u8]
-    ensures { result.now ≡ line_end longer }
-{
-    if longer { b" ..\n" } else { b"\n" }
-}
-
-/// Appends a line that is shown above its reply.
-#[tactic(auto, unfolding(crate::specs::Desk::echo_of))]
-fn push_echo<A: Allocator>(
-    text: &mut Vec<u8, A>,
-    line: &LineBytes,
-    reply: &[u8],
-) -> Result<(), AllocError>
-    ensures { OnOk result (text.new.items ≡ text.old.items ++ echo_of line.now reply.now) }
-{
-    text.extend_from_slice(mark_of(reply))?;
-    text.extend_from_slice(line.front())?;
-    text.extend_from_slice(line_end(line.is_longer()))
-}
-
-/// Appends a line and its reply.
-fn push_with_echo<A: Allocator>(
-    text: &mut Vec<u8, A>,
-    line: &LineBytes,
-    reply: &[u8],
-) -> Result<(), AllocError>
-    ensures { OnOk result (text.new.items
-        ≡ text.old.items ++ (echo_of line.now reply.now ++ reply.now)) }
-{
-    push_echo(text, line, reply)?;
-    text.extend_from_slice(reply)
-}
-
-/// What answers lines at a desk. Clauses see where it stands, how replies are written, and whether it was left.
+/// What answers lines at a desk. Clauses see where it stands, how replies are written, the note, the open block, and whether it was
+/// left.
 #[derive(Drop)]
 pub struct Desk<A: Allocator, L: Answers<A>, B: Bell> {
     alloc: A,
     answers: L,
     manner: Manner,
+    source: Option<Source<A>>,
+    block: Option<Block<A>>,
     has_left: bool,
     bell: B,
 }
@@ -121,6 +102,8 @@ impl<A: Allocator, L: Answers<A>, B: Bell> Model for Desk<A, L, B> {
     ghost view = { λ desk. record {
       standing = desk.answers;
       manner = desk.manner;
+      note = desk.source;
+      block = desk.block;
       has_left = desk.has_left;
     } };
 }
@@ -134,98 +117,194 @@ impl<A: Allocator + Copy, L: Answers<A> + Attended, B: Bell> Desk<A, L, B> {
             alloc,
             answers,
             manner,
+            source: None,
+            block: None,
             has_left: false,
             bell,
         }
     }
 
+    /// What a line is.
+    #[tactic(auto, unfolding(crate::specs::Desk::role_at))]
+    fn role(&self, line: &LineBytes) -> Role
+        ensures { result ≡ role_at L.takes_commands self.now line.now }
+    {
+        if self.has_left {
+            return Role::Unheard;
+        }
+        if self.block.is_some() {
+            return block_role(line);
+        }
+        if self.answers.takes_commands() {
+            return command_role(line);
+        }
+        Role::Plain
+    }
+
+    /// Tells that a line was answered.
+    fn tell(&self, was_refused: bool) {
+        let takes_commands = self.block.is_none() && self.answers.takes_commands();
+        self.bell.heard(takes_commands, was_refused);
+    }
+
+    /// Appends the prompt, where one is due.
+    fn push_prompt(&self, text: &mut Vec<u8, A>) -> Result<(), AllocError>
+        ensures { OnOk result (text.new.items ≡ text.old.items
+            ++ prompt_in self.now.manner self.now.note (L.prompt self.now.standing)) }
+    {
+        if self.source.is_some() {
+            return Ok(());
+        }
+        match self.manner {
+            Manner::Bare | Manner::Echoing => Ok(()),
+            Manner::Prompting => self.answers.push_prompt(text),
+        }
+    }
+
+    /// Appends a line feed where a prompt would be due.
+    fn push_in_place_of_prompt(&self, text: &mut Vec<u8, A>) -> Result<(), AllocError>
+        ensures { OnOk result (text.new.items ≡ text.old.items
+            ++ prompt_in self.now.manner self.now.note (codes "\n")) }
+    {
+        if self.source.is_some() {
+            return Ok(());
+        }
+        match self.manner {
+            Manner::Bare | Manner::Echoing => Ok(()),
+            Manner::Prompting => text.extend_from_slice(b"\n"),
+        }
+    }
+
+    /// Appends a reply with what stands behind it, and tells of it.
+    fn push_answer(&self, own: &[u8], text: &mut Vec<u8, A>) -> Result<(), AllocError>
+        ensures { OnOk result (text.new.items
+            ≡ text.old.items ++ answer_text L.prompt self.now own.now) }
+    {
+        self.tell(is_question(own));
+        text.extend_from_slice(own)?;
+        push_note_line(text, &self.source, own)?;
+        self.push_prompt(text)
+    }
+
     /// Leaves the desk by a line.
     fn leave(&mut self, line: &LineBytes, reply: &mut Vec<u8, A>) -> Result<(), AllocError>
         ensures reply { OnOk result (reply.new.items
-            ≡ reply.old.items ++ written_for self.old.manner line.now [] []) }
-        ensures after { self.new
-            ≡ record { standing = self.old.standing; manner = self.old.manner; has_left = true } }
+            ≡ reply.old.items ++ echo_in self.old.manner line.now []) }
+        ensures after { self.new ≡ record self.old { has_left = true } }
     {
         self.has_left = true;
         self.bell.ring();
-        match self.manner {
-            Manner::Bare | Manner::Prompting => Ok(()),
-            Manner::Echoing => push_with_echo(reply, line, b""),
+        push_shown(reply, self.manner, line, b"")
+    }
+
+    /// Takes a note.
+    fn take_note(&mut self, line: &LineBytes) -> Result<(), AllocError>
+        ensures { OnOk result (self.new ≡ record self.old { note = Some (note_of line.now) }) }
+    {
+        let source = Source::of(self.alloc, line)?;
+        self.source = Some(source);
+        self.tell(false);
+        Ok(())
+    }
+
+    /// Ends a note.
+    fn end_note(&mut self, reply: &mut Vec<u8, A>) -> Result<(), AllocError>
+        ensures reply { OnOk result (reply.new.items ≡ reply.old.items
+            ++ prompt_in self.old.manner None (L.prompt self.old.standing)) }
+        ensures after { self.new ≡ record self.old { note = None } }
+    {
+        self.source = None;
+        self.tell(false);
+        self.push_prompt(reply)
+    }
+
+    /// Gives the reply that a line has.
+    fn give(&self, line: &LineBytes, reply: &mut Vec<u8, A>) -> Result<(), AllocError>
+        ensures { OnOk result (reply.new.items ≡ reply.old.items
+            ++ answer_text L.prompt self.now (given_by line.now)) }
+    {
+        let mut own = copy_of(self.alloc, behind_mark(line, 3))?;
+        own.extend_from_slice(b"\n")?;
+        self.push_answer(&own, reply)
+    }
+
+    /// Opens a block.
+    fn open_block(&mut self, line: &LineBytes) -> Result<(), AllocError>
+        ensures { OnOk result (self.new ≡ record self.old { block = Some (opened_by line.now) }) }
+    {
+        let block = Block::of(self.alloc, line)?;
+        self.block = Some(block);
+        self.tell(false);
+        Ok(())
+    }
+
+    /// Puts a line into the open block.
+    fn keep_line(&mut self, line: &LineBytes) -> Result<(), AllocError>
+        ensures { OnOk result (self.new ≡ record self.old {
+            block = option_map (λ block. with_line block line.now) self.old.block }) }
+    {
+        let Some(mut block) = self.block.take() else {
+            return Ok(());
+        };
+        block.push(line)?;
+        self.block = Some(block);
+        self.tell(false);
+        Ok(())
+    }
+
+    /// Hands the open block over.
+    fn close_block(&mut self, reply: &mut Vec<u8, A>) -> Result<(), AllocError>
+        ensures reply { OnOk result (reply.new.items ≡ reply.old.items ++ answer_text L.prompt
+            (record self.old {
+              standing = behind_block L.language L.takes_commands L.prompt L.blocks
+                self.old.block self.old.standing; block = None })
+            (block_reply L.language L.takes_commands L.prompt L.blocks
+            self.old.block self.old.standing)) }
+        ensures after { OnOk result (self.new ≡ record self.old {
+            standing = behind_block L.language L.takes_commands L.prompt L.blocks
+            self.old.block self.old.standing; block = None }) }
+    {
+        let mut own = Vec::new(self.alloc);
+        if let Some(block) = self.block.take() {
+            self.answers.answer_block(block.kind(), block.text(), &mut own)?;
         }
+        self.push_answer(&own, reply)
     }
 
-    /// Answers a line below itself.
-    fn answer_below(
-        answers: &mut L,
-        line: &LineBytes,
-        own: &mut Vec<u8, A>,
-        reply: &mut Vec<u8, A>,
-    ) -> Result<(), AllocError>
-        requires { own.old.items ≡ [] }
+    /// Answers a line of the language.
+    fn answer_line(&mut self, line: &LineBytes, reply: &mut Vec<u8, A>) -> Result<(), AllocError>
         ensures reply { (text : List ℕ) → line.now ≡ kept_of text
             → OnOk result (reply.new.items ≡ reply.old.items
-            ++ (echo_of line.now (L.language.reply answers.old text) ++ L.language.reply answers.old text)) }
-        ensures after { (text : List ℕ) → line.now ≡ kept_of text
-            → OnOk result (answers.new ≡ L.language.after answers.old text) }
+            ++ (echo_in self.old.manner line.now (L.language.reply self.old.standing text)
+            ++ answer_text L.prompt
+            (record self.old { standing = L.language.after self.old.standing text })
+            (L.language.reply self.old.standing text))) }
+        ensures after { (text : List ℕ) → line.now ≡ kept_of text → OnOk result (self.new
+            ≡ record self.old { standing = L.language.after self.old.standing text }) }
     {
-        answers.answer(line, own)?;
-        push_with_echo(reply, line, own)
-    }
-
-    /// Answers a line, and appends the prompt for the next one.
-    fn answer_with_prompt(
-        answers: &mut L,
-        line: &LineBytes,
-        reply: &mut Vec<u8, A>,
-    ) -> Result<(), AllocError>
-        ensures reply { (text : List ℕ) → line.now ≡ kept_of text
-            → OnOk result (reply.new.items ≡ reply.old.items
-            ++ (L.language.reply answers.old text ++ L.prompt (L.language.after answers.old text))) }
-        ensures after { (text : List ℕ) → line.now ≡ kept_of text
-            → OnOk result (answers.new ≡ L.language.after answers.old text) }
-    {
-        answers.answer(line, reply)?;
-        answers.push_prompt(reply)
-    }
-
-    /// Answers a line that does not leave.
-    fn answer_line(
-        alloc: A,
-        answers: &mut L,
-        manner: Manner,
-        line: &LineBytes,
-        reply: &mut Vec<u8, A>,
-    ) -> Result<(), AllocError>
-        ensures reply { (text : List ℕ) → line.now ≡ kept_of text
-            → OnOk result (reply.new.items ≡ reply.old.items
-            ++ written_for manner line.now (L.language.reply answers.old text)
-            (L.prompt (L.language.after answers.old text))) }
-        ensures after { (text : List ℕ) → line.now ≡ kept_of text
-            → OnOk result (answers.new ≡ L.language.after answers.old text) }
-    {
-        match manner {
-            Manner::Bare => answers.answer(line, reply),
-            Manner::Prompting => Desk::<A, L, B>::answer_with_prompt(answers, line, reply),
-            Manner::Echoing => {
-                let mut own = Vec::new(alloc);
-                Desk::<A, L, B>::answer_below(answers, line, &mut own, reply)
-            }
-        }
+        let mut own = Vec::new(self.alloc);
+        self.answers.answer(line, &mut own)?;
+        push_shown(reply, self.manner, line, &own)?;
+        self.push_answer(&own, reply)
     }
 }
 
 impl<A: Allocator + Copy, L: Answers<A> + Attended, B: Bell> Answers<A> for Desk<A, L, B> {
-    ghost language = { desk_language L.language L.takes_commands L.prompt };
+    ghost language = { desk_language L.language L.takes_commands L.prompt L.blocks };
 
     #[tactic(auto, unfolding(crate::specs::Desk::reply_at, crate::specs::Desk::seat_after))]
     fn answer(&mut self, line: &LineBytes, reply: &mut Vec<u8, A>) -> Result<(), AllocError> {
-        if self.has_left {
-            return Ok(());
+        match self.role(line) {
+            Role::Unheard => Ok(()),
+            Role::Leaving => self.leave(line, reply),
+            Role::Note => self.take_note(line),
+            Role::NoteEnd => self.end_note(reply),
+            Role::Given => self.give(line, reply),
+            Role::Opening => self.open_block(line),
+            Role::Within => self.keep_line(line),
+            Role::Closing => self.close_block(reply),
+            Role::Plain => self.answer_line(line, reply),
         }
-        if self.answers.takes_commands() && is_quit(line) {
-            return self.leave(line, reply);
-        }
-        Desk::<A, L, B>::answer_line(self.alloc, &mut self.answers, self.manner, line, reply)
     }
 
     #[tactic(auto, unfolding(crate::specs::Desk::closing_at))]
@@ -233,10 +312,8 @@ impl<A: Allocator + Copy, L: Answers<A> + Attended, B: Bell> Answers<A> for Desk
         if self.has_left {
             return Ok(());
         }
+        push_lost(&self.block, reply)?;
         self.answers.close(reply)?;
-        match self.manner {
-            Manner::Bare | Manner::Echoing => Ok(()),
-            Manner::Prompting => reply.extend_from_slice(b"\n"),
-        }
+        self.push_in_place_of_prompt(reply)
     }
 }

@@ -40,20 +40,21 @@ pub fn sit<A: Allocator + Copy, L: Answers<A> + Attended, B: Bell, R: Feed, W: S
     ensures read { OnOk result (IsAtEnd (R.remaining reader.new)) }
     ensures text { OnOk result (IfSome (R.remaining reader.old) (λ typed.
         Appends (W.contents writer.old) (W.contents writer.new)
-        (desk_text L.language L.takes_commands L.prompt manner answers typed))) }
+        (desk_text L.language L.takes_commands L.prompt L.blocks manner answers typed))) }
     ensures faults { IfOk result (λ faults. IfSome (R.remaining reader.old) (λ typed.
-        faults ≡ desk_faults L.language L.takes_commands L.prompt manner answers typed)) }
+        faults ≡ desk_faults L.language L.takes_commands L.prompt L.blocks manner answers typed)) }
     ensures cause { IfErr result (λ fault.
         HasCause fault (R.failed reader.new) (W.failed writer.new)) }
     ensures stands { IfErr result (λ fault. IfSome (R.remaining reader.old) (λ typed.
         StandsWritten (opening_text manner (L.prompt answers) ∷ [])
-        (desk_language L.language L.takes_commands L.prompt) (taken_seat manner answers) fault typed
+        (desk_language L.language L.takes_commands L.prompt L.blocks) (taken_seat manner answers) fault typed
         (R.remaining reader.new) (W.contents writer.old) (W.contents writer.new))) }
 {
     let Ok(opening) = opening(alloc, &answers, manner) else {
         return Err(StreamFault::Memory);
     };
     write_whole(writer, &opening)?;
+    bell.heard(answers.takes_commands(), false);
     let desk = Desk::new(alloc, answers, manner, bell);
     match run_text(alloc, desk, reader, writer) {
         Ok(faults) => Ok(faults),

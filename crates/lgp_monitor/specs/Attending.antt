@@ -1,12 +1,13 @@
--- Part of the public promise: the monitor at a desk, where `quit` ends it, with its prompts.
+-- Part of the public promise: the monitor at a desk, where `quit` ends it, with its prompts and its answers to blocks.
 use Rattle.std.specs.Prelude.{ℕ, Bool, is_none, is_some, if◌then◌else◌, List, ◌++◌, codes}
 use Rattle.lgp_word.specs.Digits.{address_digits}
 use Rattle.lgp_stream.specs.Language.{Language}
 use Rattle.lgp_transcript.specs.Transcript.{Recorded, untouched}
-use Rattle.lgp_desk.specs.Desk.{Seat, desk_language}
+use Rattle.lgp_desk.specs.Desk.{BlockAnswers, Seat, desk_language}
 use Rattle.lgp_desk.specs.Sitting.{desk_faults, desk_text}
 use Rattle.lgp_desk.specs.declared.desk.Manner.{Manner}
 use Rattle.lgp_lab.specs.Standing.{Standing, opening_standing}
+use Rattle.lgp_monitor.specs.Blocks.{behind_block, block_reply}
 use Rattle.lgp_monitor.specs.Monitor.{counter_at, monitor_language}
 
 module _ {A : Type 0} where
@@ -19,12 +20,19 @@ module _ {A : Type 0} where
   prompt_at recorded =
       if is_some recorded.standing.opened then codes "source> " else address_digits (counter_at recorded) ++ codes "> "
 
+  -- the answers to blocks
+  abbrev pub monitor_blocks : BlockAnswers (Recorded (Standing A))
+  monitor_blocks = record {
+    reply = λ recorded block. block_reply recorded block.kind block.text;
+    after = λ recorded block. behind_block recorded block.kind block.text;
+  }
+
   abbrev pub attended_language : Language (Seat (Recorded (Standing A)))
-  attended_language = desk_language monitor_language takes_commands_at prompt_at
+  attended_language = desk_language monitor_language takes_commands_at prompt_at monitor_blocks
 
 -- what is written for a typed text, and how many replies begin with a question mark; the type is that of Standing
 abbrev pub attended_text : Type 0 → Manner → List ℕ → List ℕ
-attended_text A manner typed = desk_text (monitor_language {A = A}) takes_commands_at prompt_at manner (untouched opening_standing) typed
+attended_text A manner typed = desk_text (monitor_language {A = A}) takes_commands_at prompt_at monitor_blocks manner (untouched opening_standing) typed
 
 abbrev pub attended_faults : Type 0 → Manner → List ℕ → ℕ
-attended_faults A manner typed = desk_faults (monitor_language {A = A}) takes_commands_at prompt_at manner (untouched opening_standing) typed
+attended_faults A manner typed = desk_faults (monitor_language {A = A}) takes_commands_at prompt_at monitor_blocks manner (untouched opening_standing) typed

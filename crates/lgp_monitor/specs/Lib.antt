@@ -6,5 +6,6 @@ pub mod Questions
 pub mod Typed
 pub mod Monitor
 pub mod Running
-pub mod Sessions
+pub mod Blocks
 pub mod Attending
+pub mod Sessions

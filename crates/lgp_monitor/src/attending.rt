@@ -6,7 +6,7 @@ ghost use Rattle.lgp_stream.specs.Language.{HasCause, StandsWritten};
 ghost use Rattle.lgp_transcript.specs.Transcript.{untouched};
 ghost use Rattle.lgp_desk.specs.Desk.{opening_text, taken_seat};
 ghost use Rattle.lgp_lab.specs.Standing.{opening_standing};
-ghost use Rattle.lgp_monitor.specs.Attending.{attended_faults, attended_language, attended_text, prompt_at, takes_commands_at};
+ghost use Rattle.lgp_monitor.specs.Attending.{attended_faults, attended_language, attended_text, monitor_blocks, prompt_at, takes_commands_at};
 
 use crate::monitor::Monitor;
 use lgp_desk::{Attended, Bell, Manner, sit};
@@ -18,6 +18,8 @@ impl<B: Allocator + Copy> Attended for Monitor<Laboratory<B>, B> {
     ghost takes_commands = { takes_commands_at };
 
     ghost prompt = { prompt_at };
+
+    ghost blocks = { monitor_blocks };
 
     fn takes_commands(&self) -> bool {
         !self.laboratory().has_open_source()
@@ -31,6 +33,15 @@ impl<B: Allocator + Copy> Attended for Monitor<Laboratory<B>, B> {
         }
         text.extend_from_slice(&laboratory.debugger().look().counter.print())?;
         text.extend_from_slice(b"> ")
+    }
+
+    fn answer_block<A: Allocator>(
+        &mut self,
+        _kind: &[u8],
+        _text: &[u8],
+        reply: &mut Vec<u8, A>,
+    ) -> Result<(), AllocError> {
+        reply.extend_from_slice(b"? 1 Form: there is no such block\n")
     }
 }
 

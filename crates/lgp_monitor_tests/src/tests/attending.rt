@@ -11,7 +11,7 @@ use std::process::Abort;
 /// Typed lines, how they are written, and what is written.
 type Row = (Manner, &'static [u8], &'static [u8]);
 
-const ROWS: [Row; 4] = [
+const ROWS: [Row; 7] = [
     // The counter stands in front of each line but those of a source, in which quit is a line as others.
     (
         Manner::Prompting,
@@ -33,6 +33,25 @@ const ROWS: [Row; 4] = [
         Manner::Bare,
         b"quit now\ntranscript\n quit\ntranscript\n",
         b"? 1 Form: quit, which ends the program lgp_monitor\nquit now\n",
+    ),
+    // Lines that a program types: no prompt stands between them, a refusal has its place behind it, and the desk's own lines are in no
+    // transcript.
+    (
+        Manner::Prompting,
+        b"# line 1 of demo.txt\nput 0000 = 1\npanels\n#> ? 13 NoFile tape.txt\n#\ntranscript\n",
+        b"0000> ok\n? 1 Form: there is no such command, help lists them\n        line 1 of demo.txt\n? 13 NoFile tape.txt\n        line 1 of demo.txt\n0000> put 0000 00000002\npanels\n0000> \n",
+    ),
+    // No kind of block is answered yet.
+    (
+        Manner::Bare,
+        b"#< panel\npanel\n#.\ntranscript\n",
+        b"? 1 Form: there is no such block\n",
+    ),
+    // In a source these are the source's.
+    (
+        Manner::Bare,
+        b"source\n# a\n.\n",
+        b"? 9 Faults\nline 1 BadName\n",
     ),
 ];
 

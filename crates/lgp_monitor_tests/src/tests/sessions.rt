@@ -12,6 +12,8 @@ pub struct Mute;
 
 impl Bell for Mute {
     fn ring(&self) {}
+
+    fn heard(&self, _takes_commands: bool, _was_refused: bool) {}
 }
 
 /// Words as the runtime gives them.

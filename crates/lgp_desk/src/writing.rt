@@ -1,0 +1,89 @@
+//! What is written beside replies.
+
+ghost use Rattle.std.specs.Prelude.{◌≡◌, ◌++◌, OnOk, codes};
+ghost use Rattle.lgp_stream.specs.Language.{is_question};
+ghost use Rattle.lgp_desk.specs.Desk.{echo_in, echo_of, line_end, mark_of, note_line};
+
+use crate::desk::Manner;
+use crate::texts::Source;
+use lgp_stream::LineBytes;
+use std::alloc::{AllocError, Allocator};
+
+/// Whether a reply begins with a question mark.
+pub fn is_question(reply: &[u8]) -> bool
+    ensures { result ≡ is_question reply.now }
+{
+    match reply {
+        [first, ..] => *first == b'?',
+        [] => false,
+    }
+}
+
+/// The mark in front of a line that is shown above its reply.
+fn mark_of(reply: &[u8]) -> &'static [u8]
+    ensures { result.now ≡ mark_of reply.now }
+{
+    if is_question(reply) { b"? " } else { b"> " }
+}
+
+/// The end of a line that is shown.
+fn line_end(longer: bool) -> &'static [u8]
+    ensures { result.now ≡ line_end longer }
+{
+    if longer { b" ..\n" } else { b"\n" }
+}
+
+/// Appends a line that is shown above its reply.
+#[tactic(auto, unfolding(crate::specs::Desk::echo_of))]
+fn push_echo<A: Allocator>(
+    text: &mut Vec<u8, A>,
+    line: &LineBytes,
+    reply: &[u8],
+) -> Result<(), AllocError>
+    ensures { OnOk result (text.new.items ≡ text.old.items ++ echo_of line.now reply.now) }
+{
+    text.extend_from_slice(mark_of(reply))?;
+    text.extend_from_slice(line.front())?;
+    text.extend_from_slice(line_end(line.is_longer()))
+}
+
+/// Appends a line where lines are shown above their replies.
+pub fn push_shown<A: Allocator>(
+    text: &mut Vec<u8, A>,
+    manner: Manner,
+    line: &LineBytes,
+    reply: &[u8],
+) -> Result<(), AllocError>
+    ensures { OnOk result (text.new.items
+        ≡ text.old.items ++ echo_in manner line.now reply.now) }
+{
+    match manner {
+        Manner::Bare | Manner::Prompting => Ok(()),
+        Manner::Echoing => push_echo(text, line, reply),
+    }
+}
+
+/// Appends a note on a line of its own.
+fn push_note<A: Allocator>(text: &mut Vec<u8, A>, note: &[u8]) -> Result<(), AllocError>
+    ensures { OnOk result (text.new.items
+        ≡ text.old.items ++ (codes "        " ++ (note.now ++ codes "\n"))) }
+{
+    text.extend_from_slice(b"        ")?;
+    text.extend_from_slice(note)?;
+    text.extend_from_slice(b"\n")
+}
+
+/// Appends the note that stands behind a reply.
+pub fn push_note_line<A: Allocator, B: Allocator>(
+    text: &mut Vec<u8, A>,
+    source: &Option<Source<B>>,
+    reply: &[u8],
+) -> Result<(), AllocError>
+    ensures { OnOk result (text.new.items
+        ≡ text.old.items ++ note_line source.now reply.now) }
+{
+    match source {
+        Some(source) if is_question(reply) => push_note(text, source.note()),
+        _ => Ok(()),
+    }
+}
