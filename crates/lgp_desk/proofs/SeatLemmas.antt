@@ -1,5 +1,5 @@
 -- Where the language stands behind lines that are typed at a desk.
-use Rattle.std.proofs.Common.{◌≡◌, ℕ, Bool, true, false, List, [], ◌∷◌, Option, None, Some, refl}
+use Rattle.std.proofs.Common.{◌≡◌, ℕ, Bool, true, List, [], ◌∷◌, Option, None, Some, refl}
 use Rattle.lgp_stream.specs.KeptLine.{kept_of}
 use Rattle.lgp_stream.specs.Language.{Language, state_after}
 use Rattle.lgp_desk.specs.Desk.{BlockAnswers, Seat, behind_block, desk_language, role_at, seat_after, seat_behind}

@@ -1,11 +1,11 @@
 -- Part of the public promise: a desk, at which lines of a language are typed until `quit`: bare, behind prompts, or each shown
 -- above its reply. A line that begins with `#` may be the desk's own, for a program that types what stands in files.
-use Rattle.std.specs.Prelude.{ℕ, Bool, false, true, if◌then◌else◌, Option, None, Some, option_map, List, [], ◌∷◌, ◌++◌, codes}
+use Rattle.std.specs.Prelude.{ℕ, Bool, false, true, if◌then◌else◌, Option, None, Some, option_map, List, [], ◌++◌, codes}
 use Rattle.lgp_stream.specs.KeptLine.{Kept, kept_of}
 use Rattle.lgp_stream.specs.Language.{Language, is_question}
 use Rattle.lgp_desk.specs.Roles.{Block, block_role, command_role, given_by, note_of, opened_by, with_line}
 use Rattle.lgp_desk.specs.declared.desk.Manner.{Manner}
-use Rattle.lgp_desk.specs.declared.desk.Manner.TheVariants.{Bare, Prompting, Echoing}
+use Rattle.lgp_desk.specs.declared.desk.Manner.TheVariants.{Prompting, Echoing}
 use Rattle.lgp_desk.specs.declared.role.Role.{Role}
 use Rattle.lgp_desk.specs.declared.role.Role.TheVariants.{Unheard, Leaving, Note, NoteEnd, Given, Opening, Within, Closing, Plain}
 

@@ -2,8 +2,7 @@
 
 ghost use Rattle.std.specs.Prelude.{◌≡◌, ◌++◌, [], Bool, List, None, OnOk, Some, codes, option_map, true, ℕ};
 ghost use Rattle.lgp_stream.specs.KeptLine.{kept_of};
-ghost use Rattle.lgp_stream.specs.Language.{Language};
-ghost use Rattle.lgp_desk.specs.Desk.{BlockAnswers, Seat, answer_text, behind_block, block_reply, desk_language, echo_in, lost_text, open_role, prompt_in, role_at, taken_seat};
+ghost use Rattle.lgp_desk.specs.Desk.{BlockAnswers, Seat, answer_text, behind_block, block_reply, desk_language, echo_in, lost_text, prompt_in, role_at, taken_seat};
 ghost use Rattle.lgp_desk.specs.Roles.{given_by, note_of, opened_by, with_line};
 
 use crate::role::{Role, behind_mark, block_role, command_role};
@@ -241,7 +240,8 @@ impl<A: Allocator + Copy, L: Answers<A> + Attended, B: Bell> Desk<A, L, B> {
     /// Puts a line into the open block.
     fn keep_line(&mut self, line: &LineBytes) -> Result<(), AllocError>
         ensures { OnOk result (self.new ≡ record self.old {
-            block = option_map (λ block. with_line block line.now) self.old.block }) }
+          block = option_map (λ block. with_line block line.now) self.old.block;
+        }) }
     {
         let Some(mut block) = self.block.take() else {
             return Ok(());
@@ -257,16 +257,21 @@ impl<A: Allocator + Copy, L: Answers<A> + Attended, B: Bell> Desk<A, L, B> {
         ensures reply { OnOk result (reply.new.items ≡ reply.old.items ++ answer_text L.prompt
             (record self.old {
               standing = behind_block L.language L.takes_commands L.prompt L.blocks
-                self.old.block self.old.standing; block = None })
+                  self.old.block self.old.standing;
+              block = None;
+            })
             (block_reply L.language L.takes_commands L.prompt L.blocks
             self.old.block self.old.standing)) }
         ensures after { OnOk result (self.new ≡ record self.old {
-            standing = behind_block L.language L.takes_commands L.prompt L.blocks
-            self.old.block self.old.standing; block = None }) }
+          standing = behind_block L.language L.takes_commands L.prompt L.blocks
+              self.old.block self.old.standing;
+          block = None;
+        }) }
     {
         let mut own = Vec::new(self.alloc);
         if let Some(block) = self.block.take() {
-            self.answers.answer_block(block.kind(), block.text(), &mut own)?;
+            self.answers
+                .answer_block(block.kind(), block.text(), &mut own)?;
         }
         self.push_answer(&own, reply)
     }

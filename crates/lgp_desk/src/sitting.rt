@@ -1,6 +1,6 @@
 //! Answering a text that is typed at a desk.
 
-ghost use Rattle.std.specs.Prelude.{◌≡◌, ◌++◌, ◌∷◌, [], IfErr, IfOk, IfSome, OnOk};
+ghost use Rattle.std.specs.Prelude.{◌≡◌, ◌∷◌, [], IfErr, IfOk, IfSome, OnOk};
 ghost use Rattle.std.specs.Io.KnownBytes.{Appends, IsAtEnd};
 ghost use Rattle.lgp_stream.specs.Language.{HasCause, StandsWritten};
 ghost use Rattle.lgp_desk.specs.Desk.{desk_language, opening_text, taken_seat};

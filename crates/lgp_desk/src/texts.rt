@@ -1,7 +1,6 @@
 //! What a desk keeps of its own lines.
 
-ghost use Rattle.std.specs.Prelude.{◌≡◌, ◌++◌, [], IfOk, OnOk, codes};
-ghost use Rattle.lgp_desk.specs.Desk.{note_line};
+ghost use Rattle.std.specs.Prelude.{◌≡◌, IfOk, OnOk};
 ghost use Rattle.lgp_desk.specs.Roles.{cut_mark, note_of, opened_by, with_line};
 
 use crate::role::behind_mark;

@@ -299,13 +299,7 @@ const BLOCK_ROWS: [Row; 8] = [
         false,
     ),
     // A kind has exactly the bytes behind the space, and a block may have no lines.
-    (
-        Manner::Bare,
-        b"#<  a \n#.\n",
-        b" a : dark\n",
-        0,
-        false,
-    ),
+    (Manner::Bare, b"#<  a \n#.\n", b" a : dark\n", 0, false),
     // A block is not handed over at the end.
     (
         Manner::Bare,
