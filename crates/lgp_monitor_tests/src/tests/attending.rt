@@ -50,8 +50,8 @@ const ROWS: [Row; 7] = [
     // In a source these are the source's.
     (
         Manner::Bare,
-        b"source\n# a\n.\n",
-        b"? 9 Faults\nline 1 BadName\n",
+        b"source\n# a\n end\n.\n",
+        b"? 9 Faults\nline 1 BadLabel\n",
     ),
 ];
 
