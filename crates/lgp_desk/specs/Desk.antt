@@ -45,7 +45,8 @@ echo_in manner kept reply = []
 -- behind a reply that begins with a question mark, the note
 abbrev pub note_line : Option (List ℕ) → List ℕ → List ℕ
 note_line None reply = []
-note_line (Some note) reply = if is_question reply then codes "        " ++ (note ++ codes "\n") else []
+note_line (Some note) reply =
+    if is_question reply then codes "        " ++ (note ++ codes "\n") else []
 
 -- the prompt, for lines from the keyboard
 abbrev pub prompt_in : Manner → Option (List ℕ) → List ℕ → List ℕ
@@ -94,8 +95,10 @@ module _ {S : Type 0} (language : Language S) (takes_commands : S → Bool) (pro
   seat_behind NoteEnd seat line = record seat { note = None }
   seat_behind Given seat line = seat
   seat_behind Opening seat line = record seat { block = Some (opened_by (kept_of line)) }
-  seat_behind Within seat line = record seat { block = option_map (λ block. with_line block (kept_of line)) seat.block }
-  seat_behind Closing seat line = record seat { standing = behind_block seat.block seat.standing; block = None }
+  seat_behind Within seat line =
+      record seat { block = option_map (λ block. with_line block (kept_of line)) seat.block }
+  seat_behind Closing seat line =
+      record seat { standing = behind_block seat.block seat.standing; block = None }
   seat_behind Plain seat line = record seat { standing = language.after seat.standing line }
 
   unfoldable pub seat_after : Seat S → List ℕ → Seat S
@@ -110,7 +113,8 @@ module _ {S : Type 0} (language : Language S) (takes_commands : S → Bool) (pro
   line_text Given seat line = answer_text prompt seat (given_by (kept_of line))
   line_text Opening seat line = []
   line_text Within seat line = []
-  line_text Closing seat line = answer_text prompt (seat_behind Closing seat line) (block_reply seat.block seat.standing)
+  line_text Closing seat line =
+      answer_text prompt (seat_behind Closing seat line) (block_reply seat.block seat.standing)
   line_text Plain seat line =
       echo_in seat.manner (kept_of line) (language.reply seat.standing line)
       ++ answer_text prompt (seat_behind Plain seat line) (language.reply seat.standing line)

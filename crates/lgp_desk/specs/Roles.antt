@@ -9,7 +9,8 @@ use Rattle.lgp_desk.specs.declared.role.Role.TheVariants.{Leaving, Note, NoteEnd
 
 -- the line that leaves the desk: the word `quit` alone
 unfoldable pub is_quit : Kept → Bool
-is_quit kept = not kept.longer && (bytes_eq (first_word kept.front) (codes "quit") && has_no_word (behind_word kept.front))
+is_quit kept =
+    not kept.longer && (bytes_eq (first_word kept.front) (codes "quit") && has_no_word (behind_word kept.front))
 
 -- the line that ends a note: `#` alone
 unfoldable pub is_note_end : Kept → Bool
@@ -50,4 +51,5 @@ abbrev pub opened_by : Kept → Block
 opened_by kept = record { kind = drop 3 kept.front ++ cut_mark kept.longer; text = [] }
 
 abbrev pub with_line : Block → Kept → Block
-with_line block kept = record block { text = block.text ++ (kept.front ++ (cut_mark kept.longer ++ codes "\n")) }
+with_line block kept =
+    record block { text = block.text ++ (kept.front ++ (cut_mark kept.longer ++ codes "\n")) }
