@@ -29,7 +29,7 @@ pub trait Bell: Drop {
     fn ring(&self);
 
     /// The reply to a line was made, or the desk was opened: whether the next line is a command, and whether the reply is a refusal,
-    /// which begins with a question mark.
+    /// which begins with a question mark. Of the line that leaves `ring` alone tells.
     fn heard(&self, takes_commands: bool, was_refused: bool);
 }
 
