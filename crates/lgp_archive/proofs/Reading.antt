@@ -1,5 +1,5 @@
 -- Reading a text of an archive from a place on.
-use Rattle.std.proofs.Common.{◌≡◌, ℕ, ◌+◌, ◌-◌, ◌<◌, ◌≤◌, ◌==◌, Bool, true, false, cond, List, [], ◌∷◌, length, drop, take, Some, None, Result, Ok, Err, refl, ap, sym, ◌∙◌, arith, length-drop}
+use Rattle.std.proofs.Common.{◌≡◌, ℕ, ◌+◌, ◌-◌, ◌<◌, ◌≤◌, ◌==◌, Bool, true, false, cond, List, [], ◌∷◌, length, drop, take, Some, None, Ok, Err, refl, ap, sym, ◌∙◌, arith, length-drop}
 use Rattle.std.specs.Option.{option_map}
 use Rattle.std.specs.Str.{byte}
 use Rattle.std.proofs.Math.ListN.{drop_of_length-le}

@@ -140,7 +140,13 @@ fn each_byte_anywhere_in_a_text(rt: HostRuntime) {
 
 /// Whether the group of a number stands for its code, and from 64 on for none.
 fn is_group_right(global: Global, number: u8) -> bool {
-    let text = [b'a', b'!', b'0' + number / 10 % 10, b'0' + number % 10, b's'];
+    let text = [
+        b'a',
+        b'!',
+        b'0' + number / 10 % 10,
+        b'0' + number % 10,
+        b's',
+    ];
     let read = reading(global, &text, 1);
     if number < 64 {
         read == Ok((3, Some(number)))
@@ -168,7 +174,10 @@ fn the_first_bad_byte_is_told(rt: HostRuntime) {
         (b"12\n<34", 3),
         (b"[02]@", 4),
     ] {
-        assert!(rt; reading(rt.alloc(), text, 0) == Err(Some(place)), "at {place}");
+        assert!(rt;
+            reading(rt.alloc(), text, 0) == Err(Some(place)),
+            "at {place}"
+        );
     }
 }
 
@@ -197,7 +206,7 @@ fn a_line_of_a_tape(rt: HostRuntime) {
 /// How a text of so many carriage returns is read, with line feeds behind it.
 fn many(global: Global, count: usize, feeds: usize) -> Option<bool> {
     let mut text = vec![in global; b'\r'; count].ok()?;
-    text.resize(count + feeds, b'\n').ok()?;
+    text.resize(count.saturating_add(feeds), b'\n').ok()?;
     match read_archive_text(global, text.as_slice()) {
         Ok(codes) => Some(codes.len() == count),
         Err(TextFault::TooLong) => Some(false),
@@ -233,7 +242,9 @@ fn a_refused_growth_is_told_as_such(rt: HostRuntime) -> Result<(), Fail> {
 }
 
 /// How a bad text is read where the first growth is refused.
-fn bad_read_scarcely<B: Allocator>(scarce: &Scarce<B>) -> Result<(usize, Option<u8>), Option<usize>> {
+fn bad_read_scarcely<B: Allocator>(
+    scarce: &Scarce<B>,
+) -> Result<(usize, Option<u8>), Option<usize>> {
     scarce.refuse(1);
     reading(scarce, b"1<", 0)
 }
