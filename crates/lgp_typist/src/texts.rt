@@ -1,0 +1,69 @@
+//! Texts of files, looked over before anything of them is typed.
+
+use crate::filing::{FileTrouble, Unread};
+use lgp_archive::read_archive_text;
+use lgp_flexo::{Code, TextFault, read_tape_text, write_tape_text};
+use std::alloc::Allocator;
+
+/// How many bytes of tape text a line has room for, behind `mount` and its space.
+const MOUNT_LIMIT: usize = 4090;
+
+/// A source, if no line of it would end it where it is typed.
+pub(crate) fn checked_source<A: Allocator>(source: Vec<u8, A>) -> Result<Vec<u8, A>, Unread> {
+    for line in source.split(|byte| *byte == b'\n') {
+        if line == b".".as_slice() || line == b".\r".as_slice() {
+            return Err(Unread::Refused(FileTrouble::HasPoint));
+        }
+    }
+    Ok(source)
+}
+
+/// Why a text is refused as a tape.
+fn tape_trouble(fault: TextFault) -> Unread {
+    match fault {
+        TextFault::BadSign(place) => Unread::Refused(FileTrouble::BadSign(place as u64)),
+        TextFault::TooLong => Unread::Refused(FileTrouble::LongTape),
+        TextFault::Memory(_) => Unread::Memory,
+    }
+}
+
+/// A tape's text, if a line has room for it.
+fn written_tape<A: Allocator + Copy>(alloc: A, codes: &[Code]) -> Result<Vec<u8, A>, Unread> {
+    let text = write_tape_text(alloc, codes)?;
+    if text.len() > MOUNT_LIMIT {
+        return Err(Unread::Refused(FileTrouble::LongTape));
+    }
+    Ok(text)
+}
+
+/// A tape's text as one line has it, if it is one.
+pub(crate) fn checked_tape<A: Allocator + Copy>(
+    alloc: A,
+    text: &[u8],
+) -> Result<Vec<u8, A>, Unread> {
+    let codes = read_tape_text(alloc, text).map_err(tape_trouble)?;
+    written_tape(alloc, &codes)
+}
+
+/// The tape text of an archive's tape, if it is one.
+pub(crate) fn checked_archive<A: Allocator + Copy>(
+    alloc: A,
+    text: &[u8],
+) -> Result<Vec<u8, A>, Unread> {
+    let codes = read_archive_text(alloc, text).map_err(tape_trouble)?;
+    written_tape(alloc, &codes)
+}
+
+/// The dump in the reply to `dump`, behind the line that tells how many words it has; the reply may stand behind its line.
+pub(crate) fn dump_in(reply: &[u8]) -> Option<&[u8]> {
+    let mut rest = reply;
+    for _ in 0..2 {
+        let end = rest.iter().position(|byte| *byte == b'\n')?;
+        let is_header = rest.starts_with(b"dump ");
+        rest = rest.get(end.saturating_add(1)..)?;
+        if is_header {
+            return Some(rest);
+        }
+    }
+    None
+}
