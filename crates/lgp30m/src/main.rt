@@ -1,58 +1,43 @@
 //! The monitor's program: it hands the library the words of the command line, standard input, standard output and standard error.
 #![tactic(auto)]
 
-ghost use Rattle.std.specs.Prelude.{None};
-
-use lgp_desk::{Bell, Manner};
-use lgp_lab::{Failed, Feed, FeedOf, READS, SinkOf, WordFault};
+use lgp_desk::Manner;
+use lgp_lab::{FeedOf, READS, SinkOf, WordFault};
 use lgp_monitor::obey_session;
-use std::cell::Cell;
-use std::io::{IsTerminal, Read};
+use lgp_typist::{Board, DeskBell, Filing, Paper, Typist};
+use std::fs::File;
+use std::io::IsTerminal;
 use std::process::ExitCode;
-use std::{env, io};
+use std::{env, fs, io};
 
-/// Remembers that the desk was left.
-#[derive(Drop)]
-struct LeavingBell<'a> {
-    has_left: &'a Cell<bool>,
+/// The status for want of memory.
+const MEMORY: u8 = 3;
+
+/// The files of the system, by their paths.
+#[derive(Clone, Copy, Drop)]
+struct HostFiling<'a> {
+    rt: &'a HostRuntime,
 }
 
-impl Bell for LeavingBell<'_> {
-    fn ring(&self) {
-        self.has_left.set(true);
-    }
-
-    fn heard(&self, _takes_commands: bool, _was_refused: bool) {}
+/// Writes a text to a file beside the one of a name, and then puts that in its place.
+fn replace_file(rt: &HostRuntime, name: &str, text: &[u8]) -> io::Result<()> {
+    let beside = format!(in rt.alloc(); "{name}.new")?;
+    fs::write(rt, beside.as_str(), text)?;
+    fs::rename(rt, beside.as_str(), name)
 }
 
-/// Standard input, which ends where the desk was left. Nothing is known of it.
-#[derive(Drop)]
-struct DeskInput<'a, R> {
-    input: FeedOf<R>,
-    has_left: &'a Cell<bool>,
-}
+impl Filing for HostFiling<'_> {
+    type Reader = FeedOf<File>;
 
-impl<R: Read> Feed for DeskInput<'_, R> {
-    ghost remaining = { λ input. None };
-
-    ghost failed = { λ input. ⟦<FeedOf<R> as Feed>⟧.failed input.input };
-
-    ghost reads = { λ input. ⟦<FeedOf<R> as Feed>⟧.reads input.input };
-
-    fn read(&mut self, buffer: &mut [u8]) -> Result<usize, Failed> {
-        if self.has_left.get() {
-            // A read into no room takes nothing, which is how an input ends.
-            return self.input.read(&mut buffer[..0]);
+    fn open(&self, name: &str) -> Option<FeedOf<File>> {
+        match fs::open(self.rt, name) {
+            Ok(file) => Some(FeedOf::new(file, READS)),
+            Err(_) => None,
         }
-        self.input.read(buffer)
     }
 
-    fn has_failed(&self) -> bool {
-        self.input.has_failed()
-    }
-
-    fn reads_left(&self) -> u64 {
-        self.input.reads_left()
+    fn keep(&self, name: &str, text: &[u8]) -> bool {
+        replace_file(self.rt, name, text).is_ok()
     }
 }
 
@@ -84,26 +69,22 @@ fn manner(rt: &HostRuntime) -> Manner {
 
 /// Does what the words of the command line ask for; answers the status.
 fn run(rt: &HostRuntime, words: Result<&[String], WordFault>) -> u8 {
-    let has_left = Cell::new(false);
-    let manner = manner(rt);
-    let mut input = DeskInput {
-        input: FeedOf::new(rt.reader(), READS),
-        has_left: &has_left,
-    };
-    let mut output = SinkOf::new(io::writer(rt));
+    let board = Board::new(rt.alloc());
+    let keyboard = FeedOf::new(rt.reader(), READS);
+    let mut typist = Typist::new(rt.alloc(), &board, HostFiling { rt }, keyboard, READS);
+    let mut paper = Paper::new(&board, SinkOf::new(io::writer(rt)));
     let mut messages = SinkOf::new(rt.stderr());
-    obey_session(
+    let status = obey_session(
         rt.alloc(),
         rt.alloc(),
         words,
-        manner,
-        LeavingBell {
-            has_left: &has_left,
-        },
-        &mut input,
-        &mut output,
+        manner(rt),
+        DeskBell::new(&board),
+        &mut typist,
+        &mut paper,
         &mut messages,
-    )
+    );
+    if board.lacks_memory() { MEMORY } else { status }
 }
 
 fn main(rt: HostRuntime) -> ExitCode {

@@ -3,3 +3,4 @@ pub mod LineLemmas
 pub mod RunLine
 pub mod Pictures
 pub mod LastLine
+pub mod Unbegun

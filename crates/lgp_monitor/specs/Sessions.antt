@@ -1,9 +1,9 @@
 -- Part of the public promise: what the monitor's program does for the words of its command line: what it writes where, and its status.
-use Rattle.std.specs.Prelude.{◌≡◌, ◌⊎◌, ℕ, Option, List, [], ◌∷◌, IfSome, Result, Ok, Err}
+use Rattle.std.specs.Prelude.{◌≡◌, ◌⊎◌, ℕ, if◌then◌else◌, Option, List, [], ◌∷◌, IfSome, Result, Ok, Err}
 use Rattle.std.specs.Io.KnownBytes.{Appends}
 use Rattle.clap.specs.Words.{fault_of}
 use Rattle.lgp_task.specs.CommandLine.{monitor_line}
-use Rattle.lgp_task.specs.Task.{IsFaultOn}
+use Rattle.lgp_task.specs.Task.{IsFaultOn, SessionTask, session_for}
 use Rattle.lgp_task.specs.declared.task.TaskFault.{TaskFault}
 use Rattle.lgp_stream.specs.Language.{StandsWritten}
 use Rattle.lgp_stream.specs.declared.stream.StreamFault.{StreamFault}
@@ -12,6 +12,7 @@ use Rattle.lgp_lab.specs.Standing.{opening_standing}
 use Rattle.lgp_lab.specs.Tasks.{IsRefused, answered_status, broken_status}
 use Rattle.lgp_desk.specs.Desk.{opening_text, taken_seat}
 use Rattle.lgp_desk.specs.declared.desk.Manner.{Manner}
+use Rattle.lgp_desk.specs.declared.desk.Manner.TheVariants.{Echoing}
 use Rattle.lgp_monitor.specs.Attending.{attended_faults, attended_language, attended_text, prompt_at}
 
 -- what became of typed lines, of which nothing may be known: they were answered to their end, or a fault broke the work off
@@ -32,8 +33,19 @@ abbrev pub IsHeld : Type 0 → Manner → Option (List ℕ) → ℕ → Option (
 IsHeld A manner known status w₀ w =
     (outcome : Result ℕ StreamFault) × HasAnswered A manner known outcome w₀ w × (status ≡ session_status outcome)
 
+-- how replies are written: each line above its reply where the task says so
+abbrev pub session_manner : Manner → SessionTask → Manner
+session_manner manner task = if task.is_echoing then Echoing else manner
+
+-- what is typed, where it is known: the lines of the files first
+abbrev pub typed_with : (List (List ℕ) → Option (List ℕ)) → Option (List ℕ) → List (List ℕ) → Option (List ℕ)
+typed_with typed_behind input [] = input
+typed_with typed_behind input files = typed_behind files
+
 -- the words of the command line ask for a session, which is held without a message; or they are refused
-abbrev pub IsAsked : Type 0 → Manner → List (List ℕ) → Option (List ℕ) → ℕ → Option (List ℕ) → Option (List ℕ) → Option (List ℕ) → Option (List ℕ) → Type 0
-IsAsked A manner typed input status w₀ w m₀ m =
-    ((fault_of monitor_line typed ≡ []) × IsHeld A manner input status w₀ w × (m ≡ m₀))
+abbrev pub IsAsked : Type 0 → Manner → List (List ℕ) → (List (List ℕ) → Option (List ℕ)) → Option (List ℕ) → ℕ → Option (List ℕ) → Option (List ℕ) → Option (List ℕ) → Option (List ℕ) → Type 0
+IsAsked A manner typed typed_behind input status w₀ w m₀ m =
+    ((fault_of monitor_line typed ≡ [])
+    × IsHeld A (session_manner manner (session_for typed)) (typed_with typed_behind input (session_for typed).files) status w₀ w
+    × (m ≡ m₀))
     ⊎ ((fault : TaskFault A) × IsFaultOn monitor_line typed fault × IsRefused fault status w₀ w m₀ m)

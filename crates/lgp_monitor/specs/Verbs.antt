@@ -1,5 +1,5 @@
--- Part of the public promise: the commands of the monitor, each with its form. Those of the script language are among them, and the
--- desk's `quit`.
+-- Part of the public promise: the commands of the monitor, each with its form. Those of the script language are among them, the
+-- desk's `quit`, and those that name a file, which the monitor's program takes.
 use Rattle.std.specs.Prelude.{ℕ, List, [], ◌∷◌, codes}
 use Rattle.lgp_monitor.specs.declared.verb.Verb.{Verb}
 use Rattle.lgp_monitor.specs.declared.verb.Verb.TheVariants as verbs
@@ -28,6 +28,10 @@ verb_names =
     ∷ (codes "printed", verbs.Printed)
     ∷ (codes "dump", verbs.Dump)
     ∷ (codes "source", verbs.Source)
+    ∷ (codes "do", verbs.Do)
+    ∷ (codes "tape", verbs.Tape)
+    ∷ (codes "archive", verbs.Archive)
+    ∷ (codes "save", verbs.Save)
     ∷ (codes "list", verbs.List)
     ∷ (codes "load", verbs.Load)
     ∷ (codes "break", verbs.Break)
@@ -63,7 +67,12 @@ form_of verbs.Show = codes "show ttss NUMBER, at most 64"
 form_of verbs.Numbers = codes "numbers ttss NUMBER, at most 64"
 form_of verbs.Printed = codes "printed"
 form_of verbs.Dump = codes "dump"
-form_of verbs.Source = codes "source, then its lines, then a point alone"
+form_of verbs.Source =
+    codes "source, then its lines, then a point alone; in the program lgp_monitor also source FILE"
+form_of verbs.Do = codes "do FILE, in the program lgp_monitor"
+form_of verbs.Tape = codes "tape FILE, in the program lgp_monitor"
+form_of verbs.Archive = codes "archive FILE, in the program lgp_monitor"
+form_of verbs.Save = codes "save FILE, in the program lgp_monitor"
 form_of verbs.List = codes "list"
 form_of verbs.Load = codes "load"
 form_of verbs.Break = codes "break ttss"

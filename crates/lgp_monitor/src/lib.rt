@@ -5,7 +5,7 @@ pub use attending::attend;
 pub use monitor::Monitor;
 pub use question::Question;
 pub use running::run_monitor;
-pub use session::{hold_session, obey_session};
+pub use session::{FilesFirst, hold_session, obey_session};
 pub use telling::Telling;
 pub use typed::Typed;
 pub use verb::Verb;

@@ -30,6 +30,10 @@ pub enum Verb {
     Printed,
     Dump,
     Source,
+    Do,
+    Tape,
+    Archive,
+    Save,
     List,
     Load,
     Break,
@@ -44,7 +48,7 @@ pub enum Verb {
 }
 
 /// The commands by their first word.
-pub const VERBS: [Named<Verb>; 32] = [
+pub const VERBS: [Named<Verb>; 36] = [
     Named {
         name: b"put",
         value: Verb::Put,
@@ -130,6 +134,22 @@ pub const VERBS: [Named<Verb>; 32] = [
         value: Verb::Source,
     },
     Named {
+        name: b"do",
+        value: Verb::Do,
+    },
+    Named {
+        name: b"tape",
+        value: Verb::Tape,
+    },
+    Named {
+        name: b"archive",
+        value: Verb::Archive,
+    },
+    Named {
+        name: b"save",
+        value: Verb::Save,
+    },
+    Named {
         name: b"list",
         value: Verb::List,
     },
@@ -212,7 +232,13 @@ pub fn form_of(verb: Verb) -> &'static [u8]
         Verb::Numbers => b"numbers ttss NUMBER, at most 64",
         Verb::Printed => b"printed",
         Verb::Dump => b"dump",
-        Verb::Source => b"source, then its lines, then a point alone",
+        Verb::Source => {
+            b"source, then its lines, then a point alone; in the program lgp_monitor also source FILE"
+        }
+        Verb::Do => b"do FILE, in the program lgp_monitor",
+        Verb::Tape => b"tape FILE, in the program lgp_monitor",
+        Verb::Archive => b"archive FILE, in the program lgp_monitor",
+        Verb::Save => b"save FILE, in the program lgp_monitor",
         Verb::List => b"list",
         Verb::Load => b"load",
         Verb::Break => b"break ttss",

@@ -32,3 +32,7 @@ line-free = refl
 pub monitor-free : is_simple_and_free monitor_line ≡ true
 unfolding monitor_line clap_on_literals
 monitor-free = refl
+
+pub monitor-simple : is_simple monitor_line ≡ true
+unfolding monitor_line clap_on_literals
+monitor-simple = refl

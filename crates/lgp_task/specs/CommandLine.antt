@@ -2,18 +2,22 @@
 use Rattle.std.specs.Prelude.{pos, true, Some, [], codes}
 use Rattle.clap.specs.Lexer.{usize_max}
 use Rattle.clap.specs.Words.{App, Rule, new_app, new_rule, with_rule, with_subcommand}
+use Rattle.clap.specs.declared.builder.action.ArgAction.TheVariants.{SetTrue}
 use Rattle.clap.specs.declared.builder.value_parser.ValueParser.TheVariants.{Signed}
 
 -- FILE: one file
 abbrev pub file_rule : Rule
 file_rule = record (new_rule (codes "FILE")) { required = true }
 
--- FILE...: one file or more
-abbrev pub files_rule : Rule
-files_rule = record (new_rule (codes "FILE")) {
-  required = true;
+-- [FILE...]: files, or none
+abbrev pub any_files_rule : Rule
+any_files_rule = record (new_rule (codes "FILE")) {
   range = Some (record { start_inclusive = 1; end_inclusive = usize_max });
 }
+
+-- FILE...: one file or more
+abbrev pub files_rule : Rule
+files_rule = record any_files_rule { required = true }
 
 -- LIMIT: a number from 0 to 4294967295
 abbrev pub limit_rule : Rule
@@ -48,6 +52,16 @@ command_line =
     bare_line
     asm_command.top) tape_command.top) run_command.top) script_command.top) batch_command.top
 
--- the monitor's command line: `lgp_monitor`, which knows its version and takes no words
+-- --echo: there or not
+abbrev pub echo_rule : Rule
+echo_rule = record (new_rule (codes "echo")) { long = Some (codes "echo"); action = Some SetTrue }
+
+-- the monitor's command line: `lgp_monitor`, which knows its version, and takes files and `--echo`
+abbrev pub bare_monitor_line : App
+bare_monitor_line = record {
+  top = record (new_app (codes "lgp_monitor")).top { has_version = true };
+  subs = [];
+}
+
 unfoldable pub monitor_line : App
-monitor_line = record { top = record (new_app (codes "lgp_monitor")).top { has_version = true }; subs = [] }
+monitor_line = with_rule (with_rule bare_monitor_line any_files_rule) echo_rule

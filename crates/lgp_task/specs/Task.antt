@@ -4,10 +4,10 @@ use Rattle.std.specs.Option.{option_map_or}
 use Rattle.std.specs.Str.{bytes_eq}
 use Rattle.std.specs.Str.Parse.{digits_value, without_leading_plus}
 use Rattle.clap.specs.ValueTests.{is_unsigned_in}
-use Rattle.clap.specs.Words.{App, IsAmong, Kinds, Row, Text, all_of, fault_of, first_of, one_of, subcommand_of, takes}
+use Rattle.clap.specs.Words.{App, IsAmong, Kinds, Row, Text, all_of, fault_of, first_of, matches_of, one_of, subcommand_of, takes}
 use Rattle.clap.specs.declared.error.kind.ErrorKind.{ErrorKind}
 use Rattle.clap.specs.declared.error.kind.ErrorKind.TheVariants.{DisplayHelp, DisplayVersion}
-use Rattle.lgp_task.specs.CommandLine.{command_line}
+use Rattle.lgp_task.specs.CommandLine.{command_line, monitor_line}
 use Rattle.lgp_task.specs.declared.task.Task.{Task}
 use Rattle.lgp_task.specs.declared.task.Task.TheVariants.{Stdin, Asm, Tape, Run, Script, Batch}
 use Rattle.lgp_task.specs.declared.task.TaskFault.{TaskFault}
@@ -44,6 +44,11 @@ abbrev pub task_in : {A : Type 0} → Option (Text × List Row) → Task A
 task_in None = Stdin
 task_in (Some matched) = task_named matched.0 matched.1
 
+-- what the words of the monitor's command line ask for
+pub record SessionTask : Type 0 where
+  pub files : List Text
+  pub is_echoing : Bool
+
 -- a fault that asks for a text and is no mistake
 abbrev pub is_request : ErrorKind → Bool
 is_request DisplayHelp = true
@@ -66,3 +71,14 @@ IsFaultOn line typed fault = IsRefusalOf (fault_of line typed) fault × (takes l
 
 abbrev pub IsFaultOf : {A : Type 0} → List Text → TaskFault A → Type 0
 IsFaultOf typed fault = IsFaultOn command_line typed fault
+
+-- the files that a session's matches hold, and whether each line is shown above its reply
+abbrev pub echo_in : List Row → Bool
+echo_in rows = bytes_eq (unwrap_or (first_of (codes "echo") rows) []) (codes "true")
+
+abbrev pub session_in : List Row → SessionTask
+session_in rows = record { files = files_in rows; is_echoing = echo_in rows }
+
+-- the session that the words of the monitor's command line ask for, where it takes them
+abbrev pub session_for : List Text → SessionTask
+session_for typed = session_in (matches_of monitor_line typed)

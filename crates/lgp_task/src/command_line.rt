@@ -3,13 +3,16 @@
 ghost use Rattle.std.specs.Prelude.{◌≡◌, IfOk, false};
 ghost use Rattle.clap.specs.Words.{app_of, new_app, rule_of, with_rule, with_subcommand};
 ghost use Rattle.clap.specs.declared.builder.command.Command.TheViews.{out-Command as fields_of};
-ghost use Rattle.lgp_task.specs.CommandLine.{asm_command, bare_line, batch_command, command_line, file_rule, files_rule, limit_rule, monitor_line, run_command, script_command, tape_command};
+ghost use Rattle.lgp_task.specs.CommandLine.{any_files_rule, asm_command, bare_line, bare_monitor_line, batch_command, command_line, echo_rule, file_rule, files_rule, limit_rule, monitor_line, run_command, script_command, tape_command};
 
-use clap::{Arg, Command, value_parser};
+use clap::{Arg, ArgAction, Command, value_parser};
 use std::alloc::{AllocError, Global};
 
 /// How the argument is called that names a file.
 pub(crate) const FILE: &str = "FILE";
+
+/// How the argument is called that has each line shown above its reply.
+pub(crate) const ECHO: &str = "echo";
 
 /// The version of the program, and of all its crates.
 const VERSION: &str = "0.1.0";
@@ -25,15 +28,20 @@ fn file<'a>(global: Global, help: &'a str) -> Arg<'a>
     Arg::new(global, FILE).required(true).help(help)
 }
 
+/// Files, or none.
+fn any_files<'a>(global: Global, help: &'a str) -> Arg<'a>
+    ensures rule { rule_of result ≡ any_files_rule }
+    ensures own { result.global ≡ false }
+{
+    Arg::new(global, FILE).num_args(1..).help(help)
+}
+
 /// One file or more.
 fn files<'a>(global: Global, help: &'a str) -> Arg<'a>
     ensures rule { rule_of result ≡ files_rule }
     ensures own { result.global ≡ false }
 {
-    Arg::new(global, FILE)
-        .required(true)
-        .num_args(1..)
-        .help(help)
+    any_files(global, help).required(true)
 }
 
 /// How many orders a run may take.
@@ -195,18 +203,43 @@ pub(crate) fn command_line<'a>(global: Global) -> Result<Command<'a>, AllocError
     with_command(line, batch_command(global)?)
 }
 
-/// `lgp_monitor`, which knows its version.
-#[tactic(auto, unfolding(crate::specs::CommandLine::monitor_line))]
-pub(crate) fn monitor_line<'a>(global: Global) -> Result<Command<'a>, AllocError>
-    ensures { IfOk result (λ line. app_of line ≡ monitor_line) }
+/// `--echo`
+fn echo<'a>(global: Global) -> Arg<'a>
+    ensures rule { rule_of result ≡ echo_rule }
+    ensures own { result.global ≡ false }
+{
+    Arg::new(global, ECHO)
+        .long(ECHO)
+        .action(ArgAction::SetTrue)
+        .help("Show each line above its reply")
+}
+
+/// `lgp_monitor`, without its arguments, which knows its version.
+fn bare_monitor_line<'a>(global: Global) -> Result<Command<'a>, AllocError>
+    ensures app { IfOk result (λ line. app_of line ≡ bare_monitor_line) }
 {
     let line = command(
         global,
         "lgp_monitor",
         "A monitor for the LGP-30: work the machine line by line",
-        "A monitor for the LGP-30, a drum computer of 1956: it reads lines from standard input, does \
-         what each of them asks for, and writes its reply. The line help lists the commands.",
-        "Example: answer the lines in session.txt.\n  lgp_monitor < session.txt",
+        "A monitor for the LGP-30, a drum computer of 1956: it reads lines, first those of the \
+         files and then those of standard input, does what each of them asks for, and writes its \
+         reply. The line help lists the commands.",
+        "Example: answer the lines in lesson.txt, and then those that are typed.\n  \
+         lgp_monitor lesson.txt",
     );
     line.version(VERSION).bin_name("lgp_monitor")
+}
+
+/// `lgp_monitor`, which takes files and `--echo`.
+#[tactic(auto, unfolding(crate::specs::CommandLine::monitor_line))]
+pub(crate) fn monitor_line<'a>(global: Global) -> Result<Command<'a>, AllocError>
+    ensures { IfOk result (λ line. app_of line ≡ monitor_line) }
+{
+    let files = any_files(
+        global,
+        "Text files with lines that come before standard input's",
+    );
+    let line = with_argument(bare_monitor_line(global)?, files)?;
+    with_argument(line, echo(global))
 }

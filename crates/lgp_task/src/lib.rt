@@ -7,5 +7,5 @@ mod session;
 mod task;
 
 pub use files::{FileName, FileNames};
-pub use session::ask_for_session;
+pub use session::{SessionTask, ask_for_session};
 pub use task::{Task, TaskFault, task_of};

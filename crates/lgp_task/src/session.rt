@@ -1,22 +1,81 @@
 //! The words of the monitor's command line.
 
-ghost use Rattle.std.specs.Prelude.{◌≡◌, [], IfErr, OnOk, map, true};
+ghost use Rattle.std.specs.Prelude.{◌≡◌, [], IfErr, IfOk, OnOk, map, true};
 ghost use Rattle.std.specs.String.{string_bytes};
-ghost use Rattle.clap.specs.Words.{fault_of, takes};
+ghost use Rattle.clap.specs.Words.{fault_of, found_of, rows_of, takes};
 ghost use Rattle.lgp_task.specs.CommandLine.{monitor_line};
-ghost use Rattle.lgp_task.specs.Task.{IsRefusalOf};
+ghost use Rattle.lgp_task.specs.Task.{IsRefusalOf, echo_in, session_for, session_in};
 
-use crate::command_line::monitor_line;
-use crate::task::{TaskFault, refusal};
-use std::alloc::{Allocator, Global};
+use crate::command_line::{ECHO, monitor_line};
+use crate::files::FileNames;
+use crate::task::{TaskFault, files_of, refusal};
+use clap::ArgMatches;
+use std::alloc::{AllocError, Allocator, Global};
+use std::marker::Model;
 
-/// Reads the words of the monitor's command line, of which the first is the program's name: without further ones they ask for a
-/// session. `clap` reads them, and takes its own memory from the global allocator; the text of a fault is from `alloc`.
+/// What a session of the monitor begins with. Clauses see the names of its files, in the order in which they were typed, and
+/// whether each line is shown above its reply.
+#[derive(Debug, Drop)]
+pub struct SessionTask<A: Allocator = Global> {
+    files: FileNames<A>,
+    is_echoing: bool,
+}
+
+impl<A: Allocator> Model for SessionTask<A> {
+    ghost use Rattle.lgp_task.specs.Task.{SessionTask};
+
+    ghost Value = { SessionTask };
+
+    ghost view = { λ task. record {
+      files = task.files;
+      is_echoing = task.is_echoing;
+    } };
+}
+
+impl<A: Allocator> SessionTask<A> {
+    /// The files whose lines come first.
+    pub fn files(&self) -> &FileNames<A>
+        ensures { result.now ≡ self.now.files }
+    {
+        &self.files
+    }
+
+    /// Whether each line is shown above its reply.
+    pub fn is_echoing(&self) -> bool
+        ensures { result ≡ self.now.is_echoing }
+    {
+        self.is_echoing
+    }
+}
+
+/// Whether the matches have `--echo`.
+fn is_echoing(matches: &ArgMatches<'_>) -> bool
+    ensures { result ≡ echo_in (rows_of (found_of matches.now)) }
+{
+    matches.get_str(ECHO).unwrap_or("") == "true"
+}
+
+/// The session that matches ask for.
+fn session_of<A: Allocator + Copy>(
+    alloc: A,
+    matches: &ArgMatches<'_>,
+) -> Result<SessionTask<A>, AllocError>
+    ensures { IfOk result (λ task. task ≡ session_in (rows_of (found_of matches.now))) }
+{
+    Ok(SessionTask {
+        files: files_of(alloc, matches)?,
+        is_echoing: is_echoing(matches),
+    })
+}
+
+/// The session that the words of the monitor's command line ask for, of which the first is the program's name. `clap` reads them,
+/// and takes its own memory from the global allocator; the names of files and the text of a fault are from `alloc`.
 pub fn ask_for_session<A: Allocator + Copy>(
     global: Global,
     alloc: A,
     words: &[String],
-) -> Result<(), TaskFault<A>>
+) -> Result<SessionTask<A>, TaskFault<A>>
+    ensures task { IfOk result (λ task. task ≡ session_for (map string_bytes words.now)) }
     ensures asked { OnOk result (fault_of monitor_line (map string_bytes words.now) ≡ []) }
     ensures memory { takes monitor_line (map string_bytes words.now) ≡ true
         → IfErr result (λ fault. fault ≡ TaskFault.Memory) }
@@ -25,7 +84,7 @@ pub fn ask_for_session<A: Allocator + Copy>(
 {
     let line = monitor_line(global)?;
     match line.try_get_matches_from(words) {
-        Ok(_matches) => Ok(()),
+        Ok(matches) => Ok(session_of(alloc, &matches)?),
         Err(fault) => Err(refusal(alloc, &fault)),
     }
 }

@@ -63,7 +63,7 @@ fn file_of<A: Allocator>(alloc: A, matches: &ArgMatches<'_>) -> Result<FileName<
 }
 
 /// The files of a command.
-fn files_of<A: Allocator + Copy>(
+pub(crate) fn files_of<A: Allocator + Copy>(
     alloc: A,
     matches: &ArgMatches<'_>,
 ) -> Result<FileNames<A>, AllocError>

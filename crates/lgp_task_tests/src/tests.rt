@@ -1,6 +1,6 @@
 //! Tests of the command line.
 
-use lgp_task::{Task, TaskFault, task_of};
+use lgp_task::{SessionTask, Task, TaskFault, ask_for_session, task_of};
 use linked_list_allocator::LocalHeap;
 use std::alloc::{AllocError, Allocator, Global};
 use std::test::Fail;
@@ -267,4 +267,68 @@ fn each_growth_may_be_refused(rt: HostRuntime) -> Result<(), Fail> {
     let heap = LocalHeap::new(rt.alloc(), 4096)?;
     assert!(rt; room_of_batch(rt.alloc(), &heap).is_some_and(|room| room > 0));
     Ok(())
+}
+
+/// The session that words ask for.
+fn session<A: Allocator + Copy>(
+    global: Global,
+    alloc: A,
+    typed: &[&str],
+) -> Result<SessionTask<A>, TaskFault<A>> {
+    let all = words(global, typed)?;
+    ask_for_session(global, alloc, all.as_slice())
+}
+
+/// How many files a session has, the first one's name, and whether lines are shown above their replies.
+fn session_parts(global: Global, typed: &[&str], first: &str) -> Option<(usize, bool, bool)> {
+    match session(global, global, typed) {
+        Ok(task) => {
+            let names = task.files().names();
+            let is_first = match names {
+                [one, ..] => one.text() == first,
+                [] => first.is_empty(),
+            };
+            Some((names.len(), is_first, task.is_echoing()))
+        }
+        Err(_) => None,
+    }
+}
+
+#[test]
+fn a_session_takes_files_and_an_echo(rt: HostRuntime) {
+    let parts = [
+        session_parts(rt.alloc(), &[], ""),
+        session_parts(rt.alloc(), &["a b"], "a b"),
+        session_parts(rt.alloc(), &["--echo", "one", "two"], "one"),
+        session_parts(rt.alloc(), &["one", "--echo"], "one"),
+    ];
+    let wanted = [
+        Some((0, true, false)),
+        Some((1, true, false)),
+        Some((2, true, true)),
+        Some((1, true, true)),
+    ];
+    assert_eq!(rt; parts, wanted);
+}
+
+/// What is told of words that ask for no session.
+fn session_told<A: Allocator + Copy>(global: Global, alloc: A, typed: &[&str]) -> Option<Told> {
+    match session(global, alloc, typed) {
+        Err(TaskFault::Usage(_)) => Some(Told::Usage),
+        Err(TaskFault::Help(_)) => Some(Told::Help),
+        Err(TaskFault::Memory) => Some(Told::Memory),
+        Ok(_) => None,
+    }
+}
+
+#[test]
+fn words_that_ask_for_no_session_are_refused(rt: HostRuntime) {
+    let told = [
+        session_told(rt.alloc(), rt.alloc(), &["--loud"]),
+        session_told(rt.alloc(), rt.alloc(), &["--echo=no"]),
+        session_told(rt.alloc(), rt.alloc(), &["--help"]),
+        session_told(rt.alloc(), rt.alloc(), &["--version"]),
+    ];
+    let wanted = [Told::Usage, Told::Usage, Told::Help, Told::Help];
+    assert!(rt; told == wanted.map(Some));
 }

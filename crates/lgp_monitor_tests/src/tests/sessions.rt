@@ -3,6 +3,7 @@
 use lgp_desk::{Bell, Manner};
 use lgp_lab::{FeedOf, READS, SinkOf, WordFault};
 use lgp_monitor::obey_session;
+use lgp_typist::{Board, DeskBell, Filing, Typist};
 use std::alloc::{AllocError, Global};
 use std::process::Abort;
 
@@ -14,6 +15,25 @@ impl Bell for Mute {
     fn ring(&self) {}
 
     fn heard(&self, _takes_commands: bool, _was_refused: bool) {}
+}
+
+/// One file, and none that can be kept.
+#[derive(Clone, Copy, Drop)]
+struct OneFile;
+
+impl Filing for OneFile {
+    type Reader = FeedOf<&'static [u8]>;
+
+    fn open(&self, name: &str) -> Option<FeedOf<&'static [u8]>> {
+        if name != "lesson.txt" {
+            return None;
+        }
+        Some(FeedOf::new(b"put 0001 = 2\nfoo".as_slice(), READS))
+    }
+
+    fn keep(&self, _name: &str, _text: &[u8]) -> bool {
+        false
+    }
 }
 
 /// Words as the runtime gives them.
@@ -32,7 +52,9 @@ fn status_for(
     output: &mut Vec<u8>,
     messages: &mut Vec<u8>,
 ) -> u8 {
-    let mut input = FeedOf::new(b"put 0000 = 1\nbar".as_slice(), READS);
+    let board = Board::new(alloc);
+    let keyboard = FeedOf::new(b"put 0000 = 1\nbar".as_slice(), READS);
+    let mut input = Typist::new(alloc, &board, OneFile, keyboard, READS);
     let mut output = SinkOf::new(output);
     let mut messages = SinkOf::new(messages);
     obey_session(
@@ -40,7 +62,7 @@ fn status_for(
         alloc,
         words,
         Manner::Bare,
-        Mute,
+        DeskBell::new(&board),
         &mut input,
         &mut output,
         &mut messages,
@@ -75,8 +97,8 @@ fn help_is_no_message_and_a_mistake_is_one(rt: HostRuntime) {
         told_for(alloc, &["lgp_monitor"]),
         told_for(alloc, &["lgp_monitor", "--help"]),
         told_for(alloc, &["lgp_monitor", "--version"]),
-        told_for(alloc, &["lgp_monitor", "session.txt"]),
         told_for(alloc, &["lgp_monitor", "--bare"]),
+        told_for(alloc, &["lgp_monitor", "--echo=no"]),
     ];
     let held = (true, false, Some(1));
     let help = (true, false, Some(0));
@@ -95,9 +117,25 @@ fn expect_output(rt: &impl Abort, alloc: Global, typed: &[&str], wanted: (&[u8],
 /// What is written for the lines on standard input.
 const HELD: &[u8] = b"ok\n? 1 Form: there is no such command, help lists them\n";
 
+/// What is written where the lines of a file come first.
+const TAUGHT: &[u8] =
+    b"ok\n? 1 Form: there is no such command, help lists them\n        line 2 of lesson.txt\n\
+    ok\n? 1 Form: there is no such command, help lists them\n";
+
+/// What is written where a file is not there.
+const LACKING: &[u8] = b"? 13 File none.txt: it cannot be opened\n\
+    ok\n? 1 Form: there is no such command, help lists them\n";
+
+/// What is written where each line stands above its reply.
+const ECHOED: &[u8] =
+    b"> put 0000 = 1\nok\n? bar\n? 1 Form: there is no such command, help lists them\n";
+
 #[test]
 fn a_session_is_held(rt: HostRuntime) {
     expect_output(&rt, rt.alloc(), &["lgp_monitor"], (HELD, 1));
+    expect_output(&rt, rt.alloc(), &["lgp_monitor", "lesson.txt"], (TAUGHT, 1));
+    expect_output(&rt, rt.alloc(), &["lgp_monitor", "none.txt"], (LACKING, 1));
+    expect_output(&rt, rt.alloc(), &["lgp_monitor", "--echo"], (ECHOED, 1));
     let version = b"lgp_monitor 0.1.0\n";
     expect_output(&rt, rt.alloc(), &["lgp_monitor", "--version"], (version, 0));
 }

@@ -2,15 +2,21 @@
 use Rattle.std.proofs.Common.{◌≡◌, ◌∙◌, ap, subst, sym, inl, inr, []}
 use Rattle.std.specs.Prelude.{List, map}
 use Rattle.std.specs.String.{string_bytes}
-use Rattle.clap.specs.Words.{App, IsAmong, Text, fault_of, is_simple_and_free, kind_of}
+use Rattle.clap.specs.Words.{App, IsAmong, Text, fault_of, is_simple, is_simple_and_free, kind_of, matches_of}
 use Rattle.lgp_task.specs.CommandLine.{monitor_line}
-use Rattle.lgp_task.specs.Task.{IsRefusalOf}
+use Rattle.lgp_task.specs.Task.{IsRefusalOf, session_in}
 use Rattle.lgp_task.specs.declared.task.TaskFault.{TaskFault}
-use Rattle.lgp_task.proofs.RefusalLemmas.{monitor-free, refusal-among}
+use Rattle.lgp_task.proofs.RefusalLemmas.{monitor-free, monitor-simple, refusal-among}
 use Rattle.lgp_task.proofs.session.ask_for_session.Goals as goal
 
-pub returns-in-Ok-clause-asked : goal.returns-in-Ok-clause-asked
-returns-in-Ok-clause-asked g c =
+pub returns-in_ok-session_of-in-Ok-clause-task : goal.returns-in_ok-session_of-in-Ok-clause-task
+returns-in_ok-session_of-in-Ok-clause-task g c =
+    let words : List Text = map string_bytes c.args.words.now in
+    let held = c.in-Ok.ensures.matches (ap is_simple c.in_ok-line.ensures ∙ monitor-simple) in
+    c.in_ok-session_of-in-Ok.ensures ∙ ap session_in (held.0 ∙ ap (λ (a : App). matches_of a words) c.in_ok-line.ensures)
+
+pub returns-in_ok-session_of-in-Ok-clause-asked : goal.returns-in_ok-session_of-in-Ok-clause-asked
+returns-in_ok-session_of-in-Ok-clause-asked g c =
     let words : List Text = map string_bytes c.args.words.now in
     let Faultless : App → Type 0 = λ line. fault_of line words ≡ [] in
     subst Faultless c.in_ok-line.ensures (c.in-Ok.ensures.kinds (ap is_simple_and_free c.in_ok-line.ensures ∙ monitor-free))

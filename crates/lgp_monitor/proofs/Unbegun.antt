@@ -1,0 +1,20 @@
+-- A session that was refused memory before anything was typed.
+use Rattle.std.proofs.Common.{ℕ, Option, None, Some, List}
+use Rattle.std.specs.Prelude.{Err}
+use Rattle.lgp_stream.proofs.StreamLemmas.{StandsWritten-unnamed}
+use Rattle.lgp_stream.specs.declared.stream.StreamFault.TheVariants.{Memory}
+use Rattle.lgp_desk.specs.Desk.{opening_text, taken_seat}
+use Rattle.lgp_desk.specs.declared.desk.Manner.{Manner}
+use Rattle.lgp_transcript.specs.Transcript.{untouched}
+use Rattle.lgp_lab.specs.Standing.{opening_standing}
+use Rattle.lgp_monitor.specs.Attending.{attended_language, prompt_at}
+use Rattle.lgp_monitor.specs.Sessions.{HasAnswered}
+
+-- nothing is written
+pub nothing_answered : (A : Type 0) (manner : Manner) (known w : Option (List ℕ)) → HasAnswered A manner known (Err Memory) w w
+nothing_answered A manner None w = tt
+nothing_answered A manner (Some typed) w = (
+  Some typed,
+  StandsWritten-unnamed (attended_language {A = A}) (taken_seat manner (untouched opening_standing))
+      (opening_text manner (prompt_at (untouched (opening_standing {A = A})))) (Some typed) (Some typed) w,
+)
