@@ -1,0 +1,85 @@
+-- Part of the public promise: a faulty line of a source as it is shown, with a mark below the part that the fault speaks
+-- of.
+use Rattle.std.specs.Prelude.{ℕ, ◌-◌, ◌==◌, nat_lt, if◌then◌else◌, Bool, true, false, Option, Some, None, List, [], ◌∷◌, ◌++◌, codes, drop, length, map, option_map, slice_get, take}
+use Rattle.std.specs.Option.{option_or}
+use Rattle.std.specs.Str.{byte}
+use Rattle.lgp_source.specs.Source.{SourceLine, SourceToken, is_bad, lines_of}
+use Rattle.lgp_assembler.specs.declared.refusal.FaultKind.{FaultKind}
+use Rattle.lgp_assembler.specs.declared.refusal.FaultKind.TheVariants as kinds
+
+-- ---- the part of a line that a fault speaks of: the place where it begins and how many bytes it has
+
+abbrev pub token_part : Option SourceToken → Option (ℕ × ℕ)
+token_part token = option_map (λ it. (it.first, it.past - it.first)) token
+
+-- from the first operand to the second, if there is one
+abbrev pub operands_part : List (Option SourceToken) → Option (ℕ × ℕ)
+operands_part (Some one ∷ Some two ∷ more) = Some (one.first, two.past - one.first)
+operands_part (first ∷ more) = token_part first
+operands_part [] = None
+
+-- the label, or the operation where there is none
+abbrev pub head_part : SourceLine → Option (ℕ × ℕ)
+head_part line = token_part (option_or line.label line.operation)
+
+unfoldable pub part_of : FaultKind → SourceLine → Option (ℕ × ℕ)
+part_of kinds.BadByte line = option_map (λ place. (place, 1)) line.bad_byte
+part_of kinds.AfterEnd line = head_part line
+part_of kinds.BadLabel line = head_part line
+part_of kinds.LabelTwice line = head_part line
+part_of kinds.UnknownOrder line = token_part line.operation
+part_of kinds.MissingOperand line = token_part line.operation
+part_of kinds.PastEnd line = token_part line.operation
+part_of kinds.InLoader line = token_part line.operation
+part_of kinds.PlaceTaken line = token_part line.operation
+part_of kinds.Extra line = operands_part line.operands
+part_of kinds.BadOperand line = operands_part line.operands
+part_of kinds.UnknownName line = operands_part line.operands
+part_of kinds.OutOfRange line = operands_part line.operands
+part_of kinds.NoEnd line = None
+
+-- ---- what is shown: a line's first 200 bytes
+
+abbrev pub shown_limit : ℕ
+shown_limit = 200
+
+abbrev pub shown_of : List ℕ → List ℕ
+shown_of text = take shown_limit text
+
+-- a byte that no line may have is shown as a question mark
+abbrev pub shown_byte : ℕ → ℕ
+shown_byte b = if is_bad b then byte "?" else b
+
+-- what stands below a byte: the mark below one of the part; below any other a tab where it is one, else a space
+abbrev pub below : Bool → ℕ → ℕ
+below marked b = if marked then byte "^" else (if b == 9 then 9 else 32)
+
+abbrev pub margin : List ℕ
+margin = codes "        "
+
+-- the line, and ` ..` behind it where not all of it is shown
+abbrev pub line_shown : List ℕ → List ℕ
+line_shown text =
+    margin ++ (map shown_byte (shown_of text) ++ (if nat_lt shown_limit (length text) then codes " ..\n" else codes "\n"))
+
+-- the line of the mark, where a byte of the part is shown
+abbrev pub mark_line : List ℕ → List ℕ → List ℕ
+mark_line front [] = []
+mark_line front (first ∷ part) =
+    margin ++ (map (below false) front ++ (map (below true) (first ∷ part) ++ codes "\n"))
+
+abbrev pub mark_shown : Option (ℕ × ℕ) → List ℕ → List ℕ
+mark_shown None shown = []
+mark_shown (Some part) shown = mark_line (take part.0 shown) (take part.1 (drop part.0 shown))
+
+-- ---- a text's first line with its mark; the empty text has none
+
+abbrev pub marked_line : FaultKind → SourceLine → List ℕ
+marked_line kind line = line_shown line.text ++ mark_shown (part_of kind line) (shown_of line.text)
+
+abbrev pub marked_first : FaultKind → Option SourceLine → List ℕ
+marked_first kind None = []
+marked_first kind (Some line) = marked_line kind line
+
+unfoldable pub marked_text : FaultKind → List ℕ → List ℕ
+marked_text kind text = marked_first kind (slice_get (lines_of text) 0)

@@ -1,0 +1,146 @@
+//! A test is a table of lines with the kinds of their faults, and what is shown for each.
+
+use lgp_assembler::FaultKind;
+use lgp_marks::push_marked;
+use lgp_scarce::Scarce;
+use std::alloc::{AllocError, Allocator, Global};
+use std::process::Abort;
+
+/// A line, the kind of its fault, and what is shown.
+type Row = (&'static [u8], FaultKind, &'static [u8]);
+
+const ROWS: [Row; 11] = [
+    (
+        b" b none",
+        FaultKind::UnknownName,
+        b"         b none\n           ^^^^\n",
+    ),
+    (b"9a z", FaultKind::BadLabel, b"        9a z\n        ^^\n"),
+    (
+        b" q 0000",
+        FaultKind::UnknownOrder,
+        b"         q 0000\n         ^\n",
+    ),
+    // Below a tab stands a tab.
+    (
+        b"\tb\t0064",
+        FaultKind::BadOperand,
+        b"        \tb\t0064\n        \t \t^^^^\n",
+    ),
+    (
+        b" z 0000 0001",
+        FaultKind::Extra,
+        b"         z 0000 0001\n           ^^^^^^^^^\n",
+    ),
+    // Bytes that no line may have.
+    (
+        b" z ; caf\xc3\xa9",
+        FaultKind::BadByte,
+        b"         z ; caf??\n                ^\n",
+    ),
+    (b"", FaultKind::NoEnd, b""),
+    (b" z", FaultKind::NoEnd, b"         z\n"),
+    // Behind the end a label is at fault, or else the operation.
+    (
+        b"one z",
+        FaultKind::AfterEnd,
+        b"        one z\n        ^^^\n",
+    ),
+    (b" z", FaultKind::AfterEnd, b"         z\n         ^\n"),
+    (
+        b" z ; b",
+        FaultKind::PastEnd,
+        b"         z ; b\n         ^\n",
+    ),
+];
+
+/// Whether this is shown for a line.
+fn is_shown<A: Allocator + Copy>(alloc: A, line: &[u8], kind: FaultKind, wanted: &[u8]) -> bool {
+    let mut text = Vec::new(alloc);
+    match push_marked(&mut text, line, kind) {
+        Ok(()) => text.as_slice() == wanted,
+        Err(_) => false,
+    }
+}
+
+/// The place of the first row for which something else is shown.
+fn first_mismarked(alloc: Global, rows: &[Row]) -> usize {
+    for (place, row) in rows.iter().enumerate() {
+        if !is_shown(alloc, row.0, row.1, row.2) {
+            return place;
+        }
+    }
+    rows.len()
+}
+
+#[test]
+fn faulty_lines_are_marked(rt: HostRuntime) {
+    assert_eq!(rt; first_mismarked(rt.alloc(), &ROWS), ROWS.len());
+}
+
+/// A text, and behind it a byte so many times.
+fn followed(alloc: Global, text: &[u8], byte: u8, count: usize) -> Result<Vec<u8>, AllocError> {
+    let mut all = Vec::new(alloc);
+    all.extend_from_slice(text)?;
+    for _ in 0..count {
+        all.extend_from_slice(&[byte])?;
+    }
+    Ok(all)
+}
+
+/// Whether of a line with a name of 300 letters 200 bytes are shown and 197 letters marked.
+fn is_cut(alloc: Global) -> Result<bool, AllocError> {
+    let line = followed(alloc, b" b ", b'a', 300)?;
+    let mut wanted = followed(alloc, b"         b ", b'a', 197)?;
+    wanted.extend_from_slice(b" ..\n           ")?;
+    for _ in 0..197 {
+        wanted.extend_from_slice(b"^")?;
+    }
+    wanted.extend_from_slice(b"\n")?;
+    Ok(is_shown(alloc, &line, FaultKind::UnknownName, &wanted))
+}
+
+/// Whether nothing is marked of an operand behind the 200 bytes that are shown.
+fn is_unmarked(alloc: Global) -> Result<bool, AllocError> {
+    let mut line = followed(alloc, b" b", b' ', 250)?;
+    line.extend_from_slice(b"none")?;
+    let mut wanted = followed(alloc, b"         b", b' ', 198)?;
+    wanted.extend_from_slice(b" ..\n")?;
+    Ok(is_shown(alloc, &line, FaultKind::UnknownName, &wanted))
+}
+
+#[test]
+fn long_lines_are_cut(rt: HostRuntime) -> Result<(), AllocError> {
+    let cut = (is_cut(rt.alloc())?, is_unmarked(rt.alloc())?);
+    assert_eq!(rt; cut, (true, true));
+    Ok(())
+}
+
+/// Shows a line with the nth growth refused: whether it was, and whether the call said so or showed the line.
+fn ended(scarce: &Scarce<Global>, nth: u64) -> (bool, bool) {
+    let mut text = Vec::new(scarce);
+    scarce.refuse(nth);
+    let shown = push_marked(&mut text, b" b none", FaultKind::UnknownName);
+    let refused = scarce.was_refused();
+    let whole = text.as_slice() == b"         b none\n           ^^^^\n".as_slice();
+    (refused, shown.is_err() == refused && (refused || whole))
+}
+
+/// How many growths there are, where each that is refused in turn is told.
+fn refusals(scarce: &Scarce<Global>) -> Option<u64> {
+    for nth in 1..100 {
+        match ended(scarce, nth) {
+            (true, true) => {}
+            (false, true) => return Some(nth - 1),
+            _ => return None,
+        }
+    }
+    None
+}
+
+#[test]
+fn each_growth_may_be_refused(rt: HostRuntime) {
+    let scarce = Scarce::new(rt.alloc());
+    let count = refusals(&scarce);
+    assert!(rt; count.is_some_and(|count| count > 1), "{count:?}");
+}
