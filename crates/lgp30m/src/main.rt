@@ -67,11 +67,11 @@ fn manner(rt: &HostRuntime) -> Manner {
     }
 }
 
-/// Does what the words of the command line ask for; answers the status.
-fn run(rt: &HostRuntime, words: Result<&[String], WordFault>) -> u8 {
+/// Does what the words of the command line ask for, with files where they are kept; answers the status.
+fn obey<F: Filing + Drop>(rt: &HostRuntime, filing: F, words: Result<&[String], WordFault>) -> u8 {
     let board = Board::new(rt.alloc());
     let keyboard = FeedOf::new(rt.reader(), READS);
-    let mut typist = Typist::new(rt.alloc(), &board, HostFiling { rt }, keyboard, READS);
+    let mut typist = Typist::new(rt.alloc(), &board, filing, keyboard, READS);
     let mut paper = Paper::new(&board, SinkOf::new(io::writer(rt)));
     let mut messages = SinkOf::new(rt.stderr());
     let status = obey_session(
@@ -89,8 +89,8 @@ fn run(rt: &HostRuntime, words: Result<&[String], WordFault>) -> u8 {
 
 fn main(rt: HostRuntime) -> ExitCode {
     let status = match words(&rt) {
-        Ok(words) => run(&rt, Ok(&words)),
-        Err(error) => run(&rt, Err(word_fault(&error))),
+        Ok(words) => obey(&rt, HostFiling { rt: &rt }, Ok(&words)),
+        Err(error) => obey(&rt, HostFiling { rt: &rt }, Err(word_fault(&error))),
     };
     ExitCode::from(status)
 }

@@ -151,13 +151,30 @@ fn typed<A: Allocator + Copy, F: Feed>(
     Ok(text)
 }
 
+/// All that a typist types, where files are named before anything is typed.
+fn typed_for<A: Allocator + Copy, R: Feed + Drop, F: Filing + Drop>(
+    alloc: A,
+    global: Global,
+    board: &Board<A>,
+    filing: F,
+    keyboard: R,
+    names: &[&str],
+    most: usize,
+) -> Result<Vec<u8>, AllocError> {
+    let mut typist = Typist::new(alloc, board, filing, keyboard, READS);
+    for name in names {
+        typist.type_first(name)?;
+    }
+    typed(global, &mut typist, most)
+}
+
 /// Whether this is typed for keys.
 fn is_typed(global: Global, keys: &'static [u8], wanted: &[u8], most: usize) -> bool {
     let board = Board::new(global);
     let kept = Cell::new(0);
     let keyboard = FeedOf::new(keys, READS);
-    let mut typist = Typist::new(global, &board, Made { kept: &kept }, keyboard, READS);
-    match typed(global, &mut typist, most) {
+    let made = Made { kept: &kept };
+    match typed_for(global, global, &board, made, keyboard, &[], most) {
         Ok(text) => text.as_slice() == wanted,
         Err(_) => false,
     }
@@ -182,58 +199,88 @@ fn files_are_typed(rt: HostRuntime) {
     assert_eq!(rt; wrong, [ROWS.len(), ROWS.len()]);
 }
 
-/// What is typed for `save kept` where a dump is written for it, and how many bytes are kept; the file that is named can be kept or
-/// not.
-fn saved(global: Global, keys: &'static [u8]) -> Result<(Vec<u8>, usize), AllocError> {
-    let board = Board::new(global);
-    let kept = Cell::new(0);
-    let keyboard = FeedOf::new(keys, READS);
-    let mut typist = Typist::new(global, &board, Made { kept: &kept }, keyboard, READS);
-    let mut written = Vec::new(global);
-    let mut paper = Paper::new(&board, SinkOf::new(&mut written));
-    let mut buffer = [0; 64];
+/// What is typed where a dump is written behind each note.
+fn typed_and_written<R: Feed + Drop, F: Filing + Drop, W: Sink + Drop>(
+    global: Global,
+    board: &Board<Global>,
+    filing: F,
+    keyboard: R,
+    sink: W,
+) -> Result<Vec<u8>, AllocError> {
+    let mut typist = Typist::new(global, board, filing, keyboard, READS);
+    let mut paper = Paper::new(board, sink);
     let mut text = Vec::new(global);
     for _ in 0..4 {
-        let Ok(count) = typist.read(&mut buffer) else {
-            break;
-        };
-        text.extend_from_slice(&buffer[..count.min(64)])?;
-        if buffer.starts_with(b"# ") {
+        let piece = next_piece(global, &mut typist)?;
+        if piece.as_slice().starts_with(b"# ") {
             let _ = paper.write(b"dump 1\n0100 00000004\n");
         }
-        buffer[0] = 0;
+        text.extend_from_slice(&piece)?;
     }
-    Ok((text, kept.get()))
+    Ok(text)
+}
+
+/// What is typed next.
+fn next_piece<F: Feed>(global: Global, typist: &mut F) -> Result<Vec<u8>, AllocError> {
+    let mut piece = Vec::new(global);
+    let mut buffer = [0; 64];
+    if let Ok(count) = typist.read(&mut buffer) {
+        piece.extend_from_slice(&buffer[..count.min(64)])?;
+    }
+    Ok(piece)
+}
+
+/// What is typed for keys where a dump is written behind each note, how many bytes are kept, and how many are written on the paper.
+fn saved(global: Global, keys: &'static [u8]) -> Result<(Vec<u8>, usize, usize), AllocError> {
+    let board = Board::new(global);
+    let kept = Cell::new(0);
+    let made = Made { kept: &kept };
+    let keyboard = FeedOf::new(keys, READS);
+    let mut written = Vec::new(global);
+    let sink = SinkOf::new(&mut written);
+    let text = typed_and_written(global, &board, made, keyboard, sink)?;
+    Ok((text, kept.get(), written.len()))
+}
+
+/// Whether this is typed for keys, of a dump that is kept with so many bytes and not written on the paper.
+fn is_saved(global: Global, keys: &'static [u8], wanted: &[u8], count: usize) -> bool {
+    match saved(global, keys) {
+        Ok((text, kept, written)) => text.as_slice() == wanted && kept == count && written == 0,
+        Err(_) => false,
+    }
 }
 
 #[test]
-fn a_dump_is_kept_in_its_file(rt: HostRuntime) -> Result<(), AllocError> {
-    let (text, count) = saved(rt.alloc(), b"save kept\n")?;
-    let wanted = b"# kept\ndump\n#> saved kept\n#\n".as_slice();
-    assert_eq!(rt; (text.as_slice(), count), (wanted, 14));
-    let (text, _) = saved(rt.alloc(), b"save locked\n")?;
-    let wanted =
+fn a_dump_is_kept_in_its_file(rt: HostRuntime) {
+    let kept = b"# kept\ndump\n#> saved kept\n#\n";
+    let refused =
         b"# locked\ndump\n#> ? 13 File locked: it cannot be written, and is as it was\n#\n";
-    assert_eq!(rt; text.as_slice(), wanted.as_slice());
-    Ok(())
+    let saved = [
+        is_saved(rt.alloc(), b"save kept\n", kept, 14),
+        is_saved(rt.alloc(), b"save locked\n", refused, 14),
+    ];
+    assert_eq!(rt; saved, [true, true]);
 }
+
+/// What is typed for `do two lines`.
+const TWO_LINES: &[u8] =
+    b"# line 1 of two lines\nput 0000 b 0003\n# line 2 of two lines\nrun 1\n#\n";
 
 /// Types with the nth growth refused: whether it was, and whether that broke the work off, as the board tells, or all was typed.
 fn ended(scarce: &Scarce<Global>, global: Global, nth: u64) -> (bool, bool) {
     let board = Board::new(scarce);
     let kept = Cell::new(0);
+    let made = Made { kept: &kept };
     let keyboard = FeedOf::new(b"do two lines\n".as_slice(), READS);
     scarce.refuse(nth);
-    let mut typist = Typist::new(scarce, &board, Made { kept: &kept }, keyboard, READS);
-    let Ok(text) = typed(global, &mut typist, 64) else {
+    let Ok(text) = typed_for(scarce, global, &board, made, keyboard, &[], 64) else {
         return (false, false);
     };
     let refused = scarce.was_refused();
     let wanted = if refused {
         text.as_slice().ends_with(b"failed")
     } else {
-        text.as_slice()
-            == b"# line 1 of two lines\nput 0000 b 0003\n# line 2 of two lines\nrun 1\n#\n".as_slice()
+        text.as_slice() == TWO_LINES
     };
     (refused, wanted && board.lacks_memory() == refused)
 }
@@ -257,48 +304,57 @@ fn each_growth_may_be_refused(rt: HostRuntime) {
     assert!(rt; count.is_some_and(|count| count > 3), "{count:?}");
 }
 
-/// What is typed where files are named before anything is typed.
-fn typed_behind(global: Global, names: &[&str]) -> Result<Vec<u8>, AllocError> {
+/// Whether this is typed where two files are named before anything is typed.
+fn is_typed_behind(global: Global, wanted: &[u8]) -> bool {
     let board = Board::new(global);
     let kept = Cell::new(0);
+    let made = Made { kept: &kept };
     let keyboard = FeedOf::new(b"panel\n".as_slice(), READS);
-    let mut typist = Typist::new(global, &board, Made { kept: &kept }, keyboard, READS);
-    for name in names {
-        typist.type_first(name)?;
+    let names = ["none", "two lines"];
+    match typed_for(global, global, &board, made, keyboard, &names, 64) {
+        Ok(text) => text.as_slice() == wanted,
+        Err(_) => false,
     }
-    typed(global, &mut typist, 64)
 }
 
 #[test]
-fn files_come_first(rt: HostRuntime) -> Result<(), AllocError> {
-    let text = typed_behind(rt.alloc(), &["none", "two lines"])?;
+fn files_come_first(rt: HostRuntime) {
     let wanted = b"#> ? 13 File none: it cannot be opened\n# line 1 of two lines\nput 0000 b 0003\n\
         # line 2 of two lines\nrun 1\n#\npanel\n";
-    assert_eq!(rt; text.as_slice(), wanted.as_slice());
-    Ok(())
+    assert!(rt; is_typed_behind(rt.alloc(), wanted));
 }
 
-/// What is typed where the desk tells that no line is a command, that it was left, or nothing.
-fn typed_told(global: Global, told: u8) -> Result<Vec<u8>, AllocError> {
+/// What a desk tells.
+#[derive(Clone, Copy, PartialEq, Eq)]
+enum Told {
+    /// The next line is no command.
+    NoCommand,
+    /// The desk was left.
+    Left,
+}
+
+/// Whether this is typed for `do two lines` behind what a desk tells.
+fn is_typed_told(global: Global, told: Told, wanted: &[u8]) -> bool {
     let board = Board::new(global);
     let kept = Cell::new(0);
+    let made = Made { kept: &kept };
     let bell = DeskBell::new(&board);
-    if told == 1 {
-        bell.heard(false, false);
-    }
-    if told == 2 {
-        bell.ring();
+    match told {
+        Told::NoCommand => bell.heard(false, false),
+        Told::Left => bell.ring(),
     }
     let keyboard = FeedOf::new(b"do two lines\n".as_slice(), READS);
-    let mut typist = Typist::new(global, &board, Made { kept: &kept }, keyboard, READS);
-    typed(global, &mut typist, 64)
+    match typed_for(global, global, &board, made, keyboard, &[], 64) {
+        Ok(text) => text.as_slice() == wanted,
+        Err(_) => false,
+    }
 }
 
 #[test]
-fn the_desk_is_heard(rt: HostRuntime) -> Result<(), AllocError> {
-    let source = typed_told(rt.alloc(), 1)?;
-    let left = typed_told(rt.alloc(), 2)?;
-    let wanted = (b"do two lines\n".as_slice(), b"".as_slice());
-    assert_eq!(rt; (source.as_slice(), left.as_slice()), wanted);
-    Ok(())
+fn the_desk_is_heard(rt: HostRuntime) {
+    let heard = [
+        is_typed_told(rt.alloc(), Told::NoCommand, b"do two lines\n"),
+        is_typed_told(rt.alloc(), Told::Left, b""),
+    ];
+    assert_eq!(rt; heard, [true, true]);
 }

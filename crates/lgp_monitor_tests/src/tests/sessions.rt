@@ -1,7 +1,9 @@
 //! What the monitor's program does with the words of its command line.
 
+ghost use Rattle.std.specs.Prelude.{◌≡◌, false};
+
 use lgp_desk::{Bell, Manner};
-use lgp_lab::{FeedOf, READS, SinkOf, WordFault};
+use lgp_lab::{Feed, FeedOf, READS, Sink, SinkOf, WordFault};
 use lgp_monitor::obey_session;
 use lgp_typist::{Board, DeskBell, Filing, Typist};
 use std::alloc::{AllocError, Global};
@@ -45,6 +47,31 @@ fn words_of(alloc: Global, typed: &[&str]) -> Result<Vec<String>, AllocError> {
     Ok(words)
 }
 
+/// The status for words, with this keyboard.
+fn obeyed<R: Feed + Drop, W: Sink, M: Sink>(
+    alloc: Global,
+    words: Result<&[String], WordFault>,
+    keyboard: R,
+    output: &mut W,
+    messages: &mut M,
+) -> u8
+    requires output { W.failed output.old ≡ false }
+    requires messages { M.failed messages.old ≡ false }
+{
+    let board = Board::new(alloc);
+    let mut typist = Typist::new(alloc, &board, OneFile, keyboard, READS);
+    obey_session(
+        alloc,
+        alloc,
+        words,
+        Manner::Bare,
+        DeskBell::new(&board),
+        &mut typist,
+        output,
+        messages,
+    )
+}
+
 /// The status for words, where standard input is a line that puts a word and one that is no command.
 fn status_for(
     alloc: Global,
@@ -52,21 +79,10 @@ fn status_for(
     output: &mut Vec<u8>,
     messages: &mut Vec<u8>,
 ) -> u8 {
-    let board = Board::new(alloc);
     let keyboard = FeedOf::new(b"put 0000 = 1\nbar".as_slice(), READS);
-    let mut input = Typist::new(alloc, &board, OneFile, keyboard, READS);
-    let mut output = SinkOf::new(output);
-    let mut messages = SinkOf::new(messages);
-    obey_session(
-        alloc,
-        alloc,
-        words,
-        Manner::Bare,
-        DeskBell::new(&board),
-        &mut input,
-        &mut output,
-        &mut messages,
-    )
+    let mut output = SinkOf::new(&mut *output);
+    let mut messages = SinkOf::new(&mut *messages);
+    obeyed(alloc, words, keyboard, &mut output, &mut messages)
 }
 
 /// The status for words that are typed.
