@@ -47,10 +47,11 @@ fn words_of(alloc: Global, typed: &[&str]) -> Result<Vec<String>, AllocError> {
     Ok(words)
 }
 
-/// The status for words, with this keyboard.
-fn obeyed<R: Feed + Drop, W: Sink, M: Sink>(
+/// The status for words, with these files and this keyboard.
+fn obeyed<F: Filing + Drop, R: Feed + Drop, W: Sink, M: Sink>(
     alloc: Global,
     words: Result<&[String], WordFault>,
+    filing: F,
     keyboard: R,
     output: &mut W,
     messages: &mut M,
@@ -59,7 +60,7 @@ fn obeyed<R: Feed + Drop, W: Sink, M: Sink>(
     requires messages { M.failed messages.old ≡ false }
 {
     let board = Board::new(alloc);
-    let mut typist = Typist::new(alloc, &board, OneFile, keyboard, READS);
+    let mut typist = Typist::new(alloc, &board, filing, keyboard, READS);
     obey_session(
         alloc,
         alloc,
@@ -82,7 +83,7 @@ fn status_for(
     let keyboard = FeedOf::new(b"put 0000 = 1\nbar".as_slice(), READS);
     let mut output = SinkOf::new(&mut *output);
     let mut messages = SinkOf::new(&mut *messages);
-    obeyed(alloc, words, keyboard, &mut output, &mut messages)
+    obeyed(alloc, words, OneFile, keyboard, &mut output, &mut messages)
 }
 
 /// The status for words that are typed.
