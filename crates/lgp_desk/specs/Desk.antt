@@ -5,7 +5,7 @@ use Rattle.lgp_stream.specs.KeptLine.{Kept, kept_of}
 use Rattle.lgp_stream.specs.Language.{Language, is_question}
 use Rattle.lgp_desk.specs.Roles.{Block, block_role, command_role, given_by, note_of, opened_by, with_line}
 use Rattle.lgp_desk.specs.declared.desk.Manner.{Manner}
-use Rattle.lgp_desk.specs.declared.desk.Manner.TheVariants.{Prompting, Echoing}
+use Rattle.lgp_desk.specs.declared.desk.Manner.TheVariants.{Prompting, PromptingBehindFirst, Echoing}
 use Rattle.lgp_desk.specs.declared.role.Role.{Role}
 use Rattle.lgp_desk.specs.declared.role.Role.TheVariants.{Unheard, Leaving, Note, NoteEnd, Given, Opening, Within, Closing, Plain}
 
@@ -51,11 +51,13 @@ note_line (Some note) reply =
 -- the prompt, for lines from the keyboard
 abbrev pub prompt_in : Manner → Option (List ℕ) → List ℕ → List ℕ
 prompt_in Prompting None prompt = prompt
+prompt_in PromptingBehindFirst None prompt = prompt
 prompt_in manner source prompt = []
 
 -- what is written in front of the first line
 abbrev pub opening_text : Manner → List ℕ → List ℕ
-opening_text manner prompt = prompt_in manner None prompt
+opening_text Prompting prompt = prompt
+opening_text manner prompt = []
 
 -- what is written for a block that is open at the end, of which nothing is handed over
 abbrev pub lost_text : Option Block → List ℕ

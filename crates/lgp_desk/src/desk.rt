@@ -19,6 +19,8 @@ pub enum Manner {
     Bare,
     /// A prompt in front of each line.
     Prompting,
+    /// A prompt in front of each line but the first.
+    PromptingBehindFirst,
     /// Each line above its reply.
     Echoing,
 }
@@ -156,7 +158,7 @@ impl<A: Allocator + Copy, L: Answers<A> + Attended, B: Bell> Desk<A, L, B> {
         }
         match self.manner {
             Manner::Bare | Manner::Echoing => Ok(()),
-            Manner::Prompting => self.answers.push_prompt(text),
+            Manner::Prompting | Manner::PromptingBehindFirst => self.answers.push_prompt(text),
         }
     }
 
@@ -170,7 +172,7 @@ impl<A: Allocator + Copy, L: Answers<A> + Attended, B: Bell> Desk<A, L, B> {
         }
         match self.manner {
             Manner::Bare | Manner::Echoing => Ok(()),
-            Manner::Prompting => text.extend_from_slice(b"\n"),
+            Manner::Prompting | Manner::PromptingBehindFirst => text.extend_from_slice(b"\n"),
         }
     }
 

@@ -20,7 +20,7 @@ fn opening<A: Allocator, L: Attended>(
 {
     let mut text = Vec::new(alloc);
     match manner {
-        Manner::Bare | Manner::Echoing => {}
+        Manner::Bare | Manner::PromptingBehindFirst | Manner::Echoing => {}
         Manner::Prompting => answers.push_prompt(&mut text)?,
     }
     Ok(text)
@@ -47,7 +47,8 @@ pub fn sit<A: Allocator + Copy, L: Answers<A> + Attended, B: Bell, R: Feed, W: S
         HasCause fault (R.failed reader.new) (W.failed writer.new)) }
     ensures stands { IfErr result (λ fault. IfSome (R.remaining reader.old) (λ typed.
         StandsWritten (opening_text manner (L.prompt answers) ∷ [])
-        (desk_language L.language L.takes_commands L.prompt L.blocks) (taken_seat manner answers) fault typed
+        (desk_language L.language L.takes_commands L.prompt L.blocks)
+        (taken_seat manner answers) fault typed
         (R.remaining reader.new) (W.contents writer.old) (W.contents writer.new))) }
 {
     let Ok(opening) = opening(alloc, &answers, manner) else {

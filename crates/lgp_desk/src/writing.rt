@@ -58,7 +58,7 @@ pub fn push_shown<A: Allocator>(
         ≡ text.old.items ++ echo_in manner line.now reply.now) }
 {
     match manner {
-        Manner::Bare | Manner::Prompting => Ok(()),
+        Manner::Bare | Manner::Prompting | Manner::PromptingBehindFirst => Ok(()),
         Manner::Echoing => push_echo(text, line, reply),
     }
 }

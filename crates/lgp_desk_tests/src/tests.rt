@@ -121,7 +121,7 @@ impl Bell for Remembering<'_> {
 /// Typed lines, what is written for them, how many replies begin with a question mark, and whether the bell rang.
 type Row = (Manner, &'static [u8], &'static [u8], u64, bool);
 
-const ROWS: [Row; 8] = [
+const ROWS: [Row; 11] = [
     (
         Manner::Bare,
         b"push\npull\n",
@@ -155,6 +155,15 @@ const ROWS: [Row; 8] = [
     (Manner::Prompting, b"quit", b"out> ", 0, true),
     (Manner::Prompting, b"", b"out> dark\n\n", 0, false),
     (
+        Manner::PromptingBehindFirst,
+        b"push\npull\n",
+        b"shut\nin> ? open\nout> dark\n\n",
+        1,
+        false,
+    ),
+    (Manner::PromptingBehindFirst, b"quit", b"", 0, true),
+    (Manner::PromptingBehindFirst, b"", b"dark\n\n", 0, false),
+    (
         Manner::Echoing,
         b"push\n pull \r\n\nend",
         b"> push\nshut\n?  pull \n? open\n> \nshut\n? end\n? open\ndark\n",
@@ -167,7 +176,7 @@ const ROWS: [Row; 8] = [
 /// Lines that come from a file, and behind them one that was typed.
 const NOTED: &[u8] = b"# line 58 of demo.txt\npush\npull\n#\npush\n";
 
-const NOTE_ROWS: [Row; 9] = [
+const NOTE_ROWS: [Row; 11] = [
     (
         Manner::Bare,
         NOTED,
@@ -187,6 +196,21 @@ const NOTE_ROWS: [Row; 9] = [
         NOTED,
         b"> push\nshut\n? pull\n? open\n        line 58 of demo.txt\n> push\nshut\ndark\n",
         1,
+        false,
+    ),
+    // In front of the first reply no prompt stands, and one where the note ends.
+    (
+        Manner::PromptingBehindFirst,
+        NOTED,
+        b"shut\n? open\n        line 58 of demo.txt\nout> shut\nin> dark\n\n",
+        1,
+        false,
+    ),
+    (
+        Manner::PromptingBehindFirst,
+        b"#\n",
+        b"out> dark\n\n",
+        0,
         false,
     ),
     // At the end no line feed stands where no prompt does.
