@@ -21,6 +21,11 @@ unfoldable pub labels_of : Option (List ℕ) → List (List ℕ × ℕ)
 labels_of None = []
 labels_of (Some source) = (image_of source).symbols
 
+-- the bytes of the source whose lines are being taken
+unfoldable pub opened_text : Option SourceText → List ℕ
+opened_text None = []
+opened_text (Some source) = source.text
+
 -- a reply, empty where there is none, and where the laboratory stands after it
 pub record Answer (A : Type 0) : Type 0 where
   pub reply : List ℕ

@@ -1,6 +1,6 @@
 -- Part of the public promise: the script language, what is answered to the commands of the tape and the paper.
-use Rattle.std.specs.Prelude.{ℕ, ◌++◌, if◌then◌else◌, Result, Ok, Err, List, [], ◌∷◌, length, codes, decimal}
-use Rattle.lgp_flexo.specs.TapeText.{codes_of_text, written_tape}
+use Rattle.std.specs.Prelude.{ℕ, ◌++◌, Bool, false, nat_lt, if◌then◌else◌, Result, Ok, Err, List, [], ◌∷◌, length, codes, decimal}
+use Rattle.lgp_flexo.specs.TapeText.{codes_of_text, tape_limit, written_tape}
 use Rattle.lgp_table.specs.Console.{is_at_rest}
 use Rattle.lgp_history.specs.declared.step.Step.TheVariants.{Mount}
 use Rattle.lgp_debugger.specs.Debugging.{after_step}
@@ -12,6 +12,11 @@ use Rattle.lgp_lab.specs.declared.refusal.Refusal.TheVariants as refusals
 abbrev pub count_text : ℕ → List ℕ
 count_text count = codes "ok " ++ (decimal count ++ codes "\n")
 
+-- whether a text has more codes than a tape can have
+abbrev pub has_too_many : Result (List ℕ) ℕ → Bool
+has_too_many (Ok tape) = nat_lt tape_limit (length tape)
+has_too_many (Err place) = false
+
 module _ {A : Type 0} where
   abbrev pub answer_to_tape : Standing A → Result (List ℕ) ℕ → Answer A
   answer_to_tape standing (Err place) = refused (refusals.BadSign place) standing
@@ -22,6 +27,12 @@ module _ {A : Type 0} where
 
   abbrev pub answer_to_mount : Standing A → List ℕ → Answer A
   answer_to_mount standing text = answer_to_tape standing (codes_of_text text)
+
+  -- the same with a text of any length
+  abbrev pub answer_to_tape_text : Standing A → List ℕ → Answer A
+  answer_to_tape_text standing text =
+      if has_too_many (codes_of_text text) then refused refusals.TooLong standing
+      else answer_to_mount standing text
 
 -- ---- printed
 

@@ -5,7 +5,7 @@ ghost use Rattle.std.specs.Str.{byte};
 ghost use Rattle.lgp_stream.specs.KeptLine.{line_limit};
 ghost use Rattle.lgp_stream.specs.KeptLine.{kept_of};
 ghost use Rattle.lgp_lab.specs.Script.{answer_to, answer_to_command, is_passed_over, script_language};
-ghost use Rattle.lgp_lab.specs.Standing.{labels_of, opening_standing};
+ghost use Rattle.lgp_lab.specs.Standing.{labels_of, opened_text, opening_standing};
 
 use crate::command::{Asked, Command, asked_in};
 use crate::limits::KEPT_LIMIT;
@@ -74,6 +74,17 @@ impl<A: Allocator + Copy> Laboratory<A> {
         ensures { result ≡ is_some self.now.opened }
     {
         self.opened.is_some()
+    }
+
+    /// The bytes of the open source so far; none where no source is open, and where it is too long.
+    #[tactic(auto, unfolding(crate::specs::Standing::opened_text))]
+    pub fn source_so_far(&self) -> &[u8]
+        ensures { result.now ≡ opened_text self.now.opened }
+    {
+        match &self.opened {
+            Some(source) => source.text(),
+            None => &[],
+        }
     }
 
     /// The machine with its kept steps and its rules.

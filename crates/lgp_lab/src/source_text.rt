@@ -49,6 +49,13 @@ impl<A: Allocator> SourceText<A> {
     }
 
     /// The bytes.
+    pub fn text(&self) -> &[u8]
+        ensures { result.now ≡ self.now.text }
+    {
+        &self.text
+    }
+
+    /// The same, handed over.
     pub fn into_text(self) -> Vec<u8, A>
         ensures { result.items ≡ self.text }
     {

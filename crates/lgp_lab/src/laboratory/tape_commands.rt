@@ -3,7 +3,7 @@
 ghost use Rattle.std.specs.Prelude.{◌≡◌, ◌++◌, ◌≤◌, IfErr, IfOk, OnOk, codes, decimal, length, vec_len};
 ghost use Rattle.lgp_flexo.specs.TapeText.{codes_of_text};
 ghost use Rattle.lgp_stream.specs.KeptLine.{line_limit};
-ghost use Rattle.lgp_lab.specs.TapeCommands.{answer_to_mount, answer_to_printed, answer_to_tape, count_text, printed_text};
+ghost use Rattle.lgp_lab.specs.TapeCommands.{answer_to_mount, answer_to_printed, answer_to_tape, answer_to_tape_text, count_text, printed_text};
 
 use super::Laboratory;
 use crate::refusal::{Refusal, push_refusal};
@@ -23,6 +23,24 @@ impl<A: Allocator + Copy> Laboratory<A> {
         match read_codes(self.alloc, text)? {
             Ok(codes) => self.mount_codes(codes, reply),
             Err(place) => push_refusal(reply, Refusal::BadSign(place)),
+        }
+    }
+
+    /// Mounts a tape given by its text, of any length, and answers as the command `mount` does; a tape of more than 1,048,576 codes is
+    /// refused as too long. A refused growth leaves open what was done.
+    pub fn mount_text(&mut self, text: &[u8], reply: &mut Vec<u8, A>) -> Result<(), AllocError>
+        ensures reply { OnOk result (reply.new.items
+            ≡ reply.old.items ++ (answer_to_tape_text self.old text.now).reply) }
+        ensures after { OnOk result (self.new
+            ≡ (answer_to_tape_text self.old text.now).after) }
+    {
+        match read_tape_text(self.alloc, text) {
+            Ok(codes) => self.mount_codes(codes, reply),
+            Err(TextFault::BadSign(place)) => {
+                push_refusal(reply, Refusal::BadSign(place as u64))
+            }
+            Err(TextFault::TooLong) => push_refusal(reply, Refusal::TooLong),
+            Err(TextFault::Memory(refused)) => Err(refused),
         }
     }
 
