@@ -1,3 +1,4 @@
+pub mod OrderLaws
 pub mod PhaseLaws
 pub mod Sums
 pub mod WordLaws
