@@ -1,5 +1,7 @@
 -- Part of the public promise: what is typed at a desk for what stands in files.
-use Rattle.std.specs.Prelude.{ℕ, ◌-◌, ◌==◌, if◌then◌else◌, List, ◌++◌, codes, decimal, length, slice_index}
+use Rattle.std.specs.Prelude.{ℕ, zero, suc, ◌-◌, ◌*◌, ◌==◌, ◌||◌, nat_le, if◌then◌else◌, List, [], ◌++◌, codes, decimal, drop, length, slice_index, take}
+use Rattle.std.specs.Int.{div_ceil}
+use Rattle.lgp_flexo.specs.TapeText.{written_tape}
 use Rattle.lgp_typist.specs.declared.filing.FileTrouble.{FileTrouble}
 use Rattle.lgp_typist.specs.declared.filing.FileTrouble.TheVariants as troubles
 
@@ -10,19 +12,58 @@ file_note name = codes "# " ++ (name ++ codes "\n")
 unfoldable pub line_note : ℕ → List ℕ → List ℕ
 line_note number name = codes "# line " ++ (decimal number ++ (codes " of " ++ (name ++ codes "\n")))
 
--- a text whose last line ends in a line feed
+-- a text whose last line, if it has one, ends in a line feed
 abbrev pub last_byte : List ℕ → ℕ
 last_byte text = slice_index text (length text - 1)
 
 unfoldable pub ended_text : List ℕ → List ℕ
-ended_text text = if last_byte text == 10 then text else text ++ codes "\n"
+ended_text text =
+    if (length text == 0) || (last_byte text == 10) then text else text ++ codes "\n"
 
--- a source as it is typed, and a tape
+-- a source as it is typed
 unfoldable pub typed_source : List ℕ → List ℕ
 typed_source source = codes "source\n" ++ (ended_text source ++ codes ".\n")
 
+-- lines as a block of this kind, for the file of this name
+unfoldable pub block_head : List ℕ → List ℕ → List ℕ
+block_head kind name = codes "#< " ++ (kind ++ (codes " " ++ (name ++ codes "\n")))
+
+unfoldable pub typed_block : List ℕ → List ℕ → List ℕ → List ℕ
+typed_block kind name lines = block_head kind name ++ (lines ++ codes "#.\n")
+
+-- a dump that is to be restored
+unfoldable pub typed_restore : List ℕ → List ℕ → List ℕ
+typed_restore name dump = typed_block (codes "restore") name (ended_text dump)
+
+-- a tape's text in lines of 1000 codes each, the last one of what is left. A code is written as a sign or as a group [nn], and no
+-- code has the sign `#`: so none of these lines ends a block
+abbrev pub line_codes : ℕ
+line_codes = 1000
+
+unfoldable pub codes_of_line : List ℕ → ℕ → List ℕ
+codes_of_line tape number = take line_codes (drop (number * line_codes) tape)
+
+unfoldable pub tape_line : List ℕ → ℕ → List ℕ
+tape_line tape number = written_tape (codes_of_line tape number) ++ codes "\n"
+
+abbrev pub first_tape_lines : List ℕ → ℕ → List ℕ
+first_tape_lines tape zero = []
+first_tape_lines tape (suc number) = first_tape_lines tape number ++ tape_line tape number
+
+unfoldable pub tape_lines : List ℕ → List ℕ
+tape_lines tape = first_tape_lines tape (div_ceil (length tape) line_codes)
+
+-- a tape: the line that mounts it where it has room for the tape's text, else a block
+abbrev pub mount_limit : ℕ
+mount_limit = 4090
+
 unfoldable pub typed_mount : List ℕ → List ℕ
-typed_mount tape = codes "mount " ++ (tape ++ codes "\n")
+typed_mount text = codes "mount " ++ (text ++ codes "\n")
+
+unfoldable pub typed_tape : List ℕ → List ℕ → List ℕ
+typed_tape name tape =
+    if nat_le (length (written_tape tape)) mount_limit then typed_mount (written_tape tape)
+    else typed_block (codes "tape") name (tape_lines tape)
 
 -- why a file is refused
 abbrev pub bad_sign_text : ℕ → List ℕ
@@ -36,8 +77,9 @@ trouble_text troubles.TooLong = codes "it has more than 16777216 bytes"
 trouble_text troubles.NotNamed = codes "this is no name of a file"
 trouble_text troubles.TooDeep = codes "16 files are open within one another"
 trouble_text troubles.HasPoint = codes "a line that is a point alone would end the source"
+trouble_text troubles.HasBlockEnd = codes "a line that is #. would end the block"
 trouble_text (troubles.BadSign place) = bad_sign_text place
-trouble_text troubles.LongTape = codes "its tape text has more than 4090 bytes, too many for a line"
+trouble_text troubles.LongTape = codes "it has more than 1048576 codes"
 trouble_text troubles.NotWritten = codes "it cannot be written, and is as it was"
 
 -- the refusal of a file, which is given as a reply

@@ -4,15 +4,31 @@ ghost use Rattle.std.specs.Prelude.{◌≡◌, ◌≤◌, length};
 
 use crate::board::Board;
 use crate::expansion::{
-    push_file_note, push_kept, push_line_note, push_mount, push_refusal, push_source,
+    push_file_note, push_kept, push_line_note, push_refusal, push_restore, push_source, push_tape,
 };
 use crate::filing::{FileTrouble, Filing, Unread, keep_file, read_file};
 use crate::keyboard::{Broken, Keyboard};
 use crate::open_files::OpenFiles;
 use crate::request::{Work, request_in};
-use crate::texts::{checked_archive, checked_source, checked_tape, dump_in};
+use crate::texts::{checked_archive, checked_dump, checked_source, checked_tape, dump_in};
+use lgp_flexo::Code;
 use lgp_stream::Feed;
 use std::alloc::{AllocError, Allocator};
+
+/// What is typed for a file, where it is in order.
+#[derive(Drop)]
+enum Found<A: Allocator> {
+    /// Lines, one after another.
+    Lines(Vec<u8, A>),
+    /// A source.
+    Source(Vec<u8, A>),
+    /// A tape.
+    Tape(Vec<Code, A>),
+    /// A dump that is to be restored.
+    Dump(Vec<u8, A>),
+    /// What takes the dump that is to be kept in it.
+    DumpTaken,
+}
 
 /// What is typed next.
 #[derive(Drop)]
@@ -88,16 +104,26 @@ impl<'b, A: Allocator + Copy, R: Feed + Drop, F: Filing + Drop> Copying<'b, A, R
         if self.type_file_line()? {
             return Ok(true);
         }
+        if let Some(name) = take_first(&mut self.first) {
+            self.type_named_first(name)?;
+            return Ok(true);
+        }
         if self.has_note && self.board.takes_commands() {
             self.has_note = false;
             self.ready.extend_from_slice(b"#\n")?;
             return Ok(true);
         }
-        if let Some(name) = take_first(&mut self.first) {
-            self.work_on(Work::Lines, name, false)?;
-            return Ok(true);
-        }
         self.type_struck()
+    }
+
+    /// Types the lines of a file that come before what a person types, or why it is refused. The note in front stands until all such
+    /// files are done.
+    fn type_named_first(&mut self, name: Vec<u8, A>) -> Result<(), Broken> {
+        if self.board.takes_commands() {
+            push_file_note(&mut self.ready, b"named on the command line")?;
+            self.has_note = true;
+        }
+        self.work_on(Work::Lines, name, true)
     }
 
     /// Types the next line of a file; answers whether there is one.
@@ -141,13 +167,13 @@ impl<'b, A: Allocator + Copy, R: Feed + Drop, F: Filing + Drop> Copying<'b, A, R
 
     /// Types what a file holds, or why it is refused.
     fn work_on(&mut self, work: Work, name: Vec<u8, A>, has_line_note: bool) -> Result<(), Broken> {
-        match self.text_for(work, &name) {
-            Ok(text) => {
+        match self.found_for(work, &name) {
+            Ok(found) => {
                 if !has_line_note && work != Work::Lines {
                     push_file_note(&mut self.ready, &name)?;
                 }
                 self.has_note = true;
-                self.type_text(work, name, text)?;
+                self.type_found(name, found)?;
                 Ok(())
             }
             Err(Unread::Refused(trouble)) => {
@@ -158,35 +184,32 @@ impl<'b, A: Allocator + Copy, R: Feed + Drop, F: Filing + Drop> Copying<'b, A, R
         }
     }
 
-    /// The text that is typed for a file, where it is in order.
-    fn text_for(&self, work: Work, name: &[u8]) -> Result<Vec<u8, A>, Unread> {
+    /// What is typed for a file, where it is in order.
+    fn found_for(&self, work: Work, name: &[u8]) -> Result<Found<A>, Unread> {
         if work == Work::Save {
-            return Ok(Vec::new(self.alloc));
+            return Ok(Found::DumpTaken);
         }
         if work == Work::Lines && self.files.is_full() {
             return Err(Unread::Refused(FileTrouble::TooDeep));
         }
         let text = read_file(self.alloc, &self.filing, name)?;
         match work {
-            Work::Lines | Work::Save => Ok(text),
-            Work::Source => checked_source(text),
-            Work::Tape => checked_tape(self.alloc, &text),
-            Work::Archive => checked_archive(self.alloc, &text),
+            Work::Lines | Work::Save => Ok(Found::Lines(text)),
+            Work::Source => Ok(Found::Source(checked_source(text)?)),
+            Work::Tape => Ok(Found::Tape(checked_tape(self.alloc, &text)?)),
+            Work::Archive => Ok(Found::Tape(checked_archive(self.alloc, &text)?)),
+            Work::Restore => Ok(Found::Dump(checked_dump(text)?)),
         }
     }
 
-    /// Types a text.
-    fn type_text(
-        &mut self,
-        work: Work,
-        name: Vec<u8, A>,
-        text: Vec<u8, A>,
-    ) -> Result<(), AllocError> {
-        match work {
-            Work::Lines => self.files.open(name, text),
-            Work::Source => push_source(&mut self.ready, &text),
-            Work::Tape | Work::Archive => push_mount(&mut self.ready, &text),
-            Work::Save => {
+    /// Types what was found.
+    fn type_found(&mut self, name: Vec<u8, A>, found: Found<A>) -> Result<(), AllocError> {
+        match found {
+            Found::Lines(text) => self.files.open(name, text),
+            Found::Source(text) => push_source(&mut self.ready, &text),
+            Found::Tape(tape) => push_tape(self.alloc, &mut self.ready, &name, &tape),
+            Found::Dump(text) => push_restore(self.alloc, &mut self.ready, &name, &text),
+            Found::DumpTaken => {
                 self.saving = Some(name);
                 self.board.set_saving(true);
                 self.ready.extend_from_slice(b"dump\n")

@@ -1,11 +1,18 @@
 //! What is typed at a desk for what stands in files.
 
-ghost use Rattle.std.specs.Prelude.{◌≡◌, ◌++◌, OnOk};
-ghost use Rattle.lgp_typist.specs.Expansions.{bad_sign_text, ended_text, file_note, line_note, refusal_front, trouble_text, typed_kept, typed_mount, typed_refusal, typed_source};
+ghost use Rattle.std.specs.Prelude.{◌≡◌, ◌*◌, ◌<◌, ◌++◌, OnOk, length, take};
+ghost use Rattle.lgp_typist.specs.Expansions.{bad_sign_text, block_head, codes_of_line, ended_text, file_note, line_codes, line_note, refusal_front, tape_line, tape_lines, trouble_text, typed_block, typed_kept, typed_mount, typed_refusal, typed_restore, typed_source, typed_tape};
 
 use crate::filing::FileTrouble;
+use lgp_flexo::{Code, write_tape_text};
 use lgp_text::{Piece, push_pieces};
 use std::alloc::{AllocError, Allocator};
+
+/// How many codes of a tape stand in a line of a block.
+const LINE_CODES: usize = 1000;
+
+/// How many bytes of tape text a line has room for, behind `mount` and its space.
+const MOUNT_LIMIT: usize = 4090;
 
 /// Appends that the lines behind come from a file.
 #[tactic(auto, unfolding(crate::specs::Expansions::file_note))]
@@ -42,13 +49,14 @@ pub(crate) fn push_line_note<A: Allocator>(
     )
 }
 
-/// Appends a text, with a line feed behind it where it does not end in one.
+/// Appends a text, with a line feed behind its last line where it has none.
 #[tactic(auto, unfolding(crate::specs::Expansions::ended_text))]
 fn push_ended<A: Allocator>(text: &mut Vec<u8, A>, more: &[u8]) -> Result<(), AllocError>
     ensures { OnOk result (text.new.items ≡ text.old.items ++ ended_text more.now) }
 {
     text.extend_from_slice(more)?;
-    text.extend_from_slice(if more.ends_with(b"\n") { b"" } else { b"\n" })
+    let is_ended = more.is_empty() || more.ends_with(b"\n");
+    text.extend_from_slice(if is_ended { b"" } else { b"\n" })
 }
 
 /// Appends a source as it is typed.
@@ -64,9 +72,113 @@ pub(crate) fn push_source<A: Allocator>(
     text.extend_from_slice(b".\n")
 }
 
+/// Appends the line that opens a block of a kind, for the file of a name.
+#[tactic(auto, unfolding(crate::specs::Expansions::block_head))]
+fn push_block_head<A: Allocator>(
+    text: &mut Vec<u8, A>,
+    kind: &'static [u8],
+    name: &[u8],
+) -> Result<(), AllocError>
+    ensures { OnOk result (text.new.items ≡ text.old.items ++ block_head kind.now name.now) }
+{
+    push_pieces(
+        text,
+        &[
+            Piece::Text(b"#< "),
+            Piece::Text(kind),
+            Piece::Text(b" "),
+            Piece::Text(name),
+            Piece::Text(b"\n"),
+        ],
+    )
+}
+
+/// Appends lines as a block of a kind, for the file of a name.
+#[tactic(auto, unfolding(crate::specs::Expansions::typed_block))]
+fn push_block<A: Allocator>(
+    text: &mut Vec<u8, A>,
+    kind: &'static [u8],
+    name: &[u8],
+    lines: &[u8],
+) -> Result<(), AllocError>
+    ensures { OnOk result (text.new.items
+        ≡ text.old.items ++ typed_block kind.now name.now lines.now) }
+{
+    push_block_head(text, kind, name)?;
+    text.extend_from_slice(lines)?;
+    text.extend_from_slice(b"#.\n")
+}
+
+/// Appends a dump that is to be restored.
+#[tactic(auto, unfolding(crate::specs::Expansions::typed_restore))]
+pub(crate) fn push_restore<A: Allocator + Copy>(
+    alloc: A,
+    text: &mut Vec<u8, A>,
+    name: &[u8],
+    dump: &[u8],
+) -> Result<(), AllocError>
+    ensures { OnOk result (text.new.items
+        ≡ text.old.items ++ typed_restore name.now dump.now) }
+{
+    let mut lines = Vec::new(alloc);
+    push_ended(&mut lines, dump)?;
+    push_block(text, b"restore", name, &lines)
+}
+
+/// The first codes, so many or all.
+fn front_of(tape: &[Code], count: usize) -> &[Code]
+    ensures { result.now ≡ take count tape.now }
+{
+    if count < tape.len() {
+        &tape[..count]
+    } else {
+        tape
+    }
+}
+
+/// The codes of a line of a tape's block.
+#[tactic(auto, unfolding(crate::specs::Expansions::codes_of_line))]
+fn codes_of_line(tape: &[Code], number: usize) -> &[Code]
+    requires { number * line_codes < length tape.now }
+    ensures { result.now ≡ codes_of_line tape.now number }
+{
+    front_of(&tape[number * LINE_CODES..], LINE_CODES)
+}
+
+/// Appends a line of a tape's block.
+#[tactic(auto, unfolding(crate::specs::Expansions::tape_line))]
+fn push_tape_line<A: Allocator + Copy>(
+    alloc: A,
+    text: &mut Vec<u8, A>,
+    tape: &[Code],
+    number: usize,
+) -> Result<(), AllocError>
+    requires { number * line_codes < length tape.now }
+    ensures { OnOk result (text.new.items ≡ text.old.items ++ tape_line tape.now number) }
+{
+    let line = write_tape_text(alloc, codes_of_line(tape, number))?;
+    text.extend_from_slice(&line)?;
+    text.extend_from_slice(b"\n")
+}
+
+/// Appends the lines of a tape's block.
+#[tactic(auto, unfolding(crate::specs::Expansions::tape_lines))]
+fn push_tape_lines<A: Allocator + Copy>(
+    alloc: A,
+    text: &mut Vec<u8, A>,
+    tape: &[Code],
+) -> Result<(), AllocError>
+    ensures { OnOk result (text.new.items ≡ text.old.items ++ tape_lines tape.now) }
+{
+    for number in 0..tape.len().div_ceil(LINE_CODES) {
+        push_tape_line(alloc, text, tape, number)?;
+    }
+    Ok(())
+}
+
 /// Appends the line that mounts a tape.
 #[tactic(auto, unfolding(crate::specs::Expansions::typed_mount))]
-pub(crate) fn push_mount<A: Allocator>(text: &mut Vec<u8, A>, tape: &[u8]) -> Result<(), AllocError>
+fn push_mount<A: Allocator>(text: &mut Vec<u8, A>, tape: &[u8]) -> Result<(), AllocError>
     ensures { OnOk result (text.new.items ≡ text.old.items ++ typed_mount tape.now) }
 {
     push_pieces(
@@ -77,6 +189,25 @@ pub(crate) fn push_mount<A: Allocator>(text: &mut Vec<u8, A>, tape: &[u8]) -> Re
             Piece::Text(b"\n"),
         ],
     )
+}
+
+/// Appends a tape: the line that mounts it where it has room for the tape's text, else a block.
+#[tactic(auto, unfolding(crate::specs::Expansions::typed_tape))]
+pub(crate) fn push_tape<A: Allocator + Copy>(
+    alloc: A,
+    text: &mut Vec<u8, A>,
+    name: &[u8],
+    tape: &[Code],
+) -> Result<(), AllocError>
+    ensures { OnOk result (text.new.items ≡ text.old.items ++ typed_tape name.now tape.now) }
+{
+    let written = write_tape_text(alloc, tape)?;
+    if written.len() <= MOUNT_LIMIT {
+        return push_mount(text, &written);
+    }
+    let mut lines = Vec::new(alloc);
+    push_tape_lines(alloc, &mut lines, tape)?;
+    push_block(text, b"tape", name, &lines)
 }
 
 /// Appends which place of a file is no sign of a tape.
@@ -107,10 +238,11 @@ fn push_trouble<A: Allocator>(text: &mut Vec<u8, A>, trouble: FileTrouble) -> Re
         FileTrouble::HasPoint => {
             text.extend_from_slice(b"a line that is a point alone would end the source")
         }
-        FileTrouble::BadSign(place) => push_bad_sign(text, place),
-        FileTrouble::LongTape => {
-            text.extend_from_slice(b"its tape text has more than 4090 bytes, too many for a line")
+        FileTrouble::HasBlockEnd => {
+            text.extend_from_slice(b"a line that is #. would end the block")
         }
+        FileTrouble::BadSign(place) => push_bad_sign(text, place),
+        FileTrouble::LongTape => text.extend_from_slice(b"it has more than 1048576 codes"),
         FileTrouble::NotWritten => {
             text.extend_from_slice(b"it cannot be written, and is as it was")
         }

@@ -36,9 +36,11 @@ pub enum FileTrouble {
     TooDeep,
     /// It is a source with a line that would end it.
     HasPoint,
+    /// It is to be typed as a block, with a line that would end it.
+    HasBlockEnd,
     /// It is no tape text: the byte at this place, counted from 0, begins no sign.
     BadSign(u64),
-    /// Its tape takes more text than a line has room for.
+    /// Its tape has more codes than a tape may have.
     LongTape,
     /// It could not be written.
     NotWritten,

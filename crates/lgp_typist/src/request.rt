@@ -15,6 +15,8 @@ pub(crate) enum Work {
     Archive,
     /// The drum's dump is kept in it.
     Save,
+    /// The drum is put back as the dump in it tells.
+    Restore,
 }
 
 /// What a word says about a file.
@@ -29,6 +31,8 @@ fn work_named(word: &[u8]) -> Option<Work> {
         Some(Work::Archive)
     } else if word == b"save".as_slice() {
         Some(Work::Save)
+    } else if word == b"restore".as_slice() {
+        Some(Work::Restore)
     } else {
         None
     }

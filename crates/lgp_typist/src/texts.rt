@@ -2,11 +2,8 @@
 
 use crate::filing::{FileTrouble, Unread};
 use lgp_archive::read_archive_text;
-use lgp_flexo::{Code, TextFault, read_tape_text, write_tape_text};
+use lgp_flexo::{Code, TextFault, read_tape_text};
 use std::alloc::Allocator;
-
-/// How many bytes of tape text a line has room for, behind `mount` and its space.
-const MOUNT_LIMIT: usize = 4090;
 
 /// A source, if no line of it would end it where it is typed.
 pub(crate) fn checked_source<A: Allocator>(source: Vec<u8, A>) -> Result<Vec<u8, A>, Unread> {
@@ -18,6 +15,16 @@ pub(crate) fn checked_source<A: Allocator>(source: Vec<u8, A>) -> Result<Vec<u8,
     Ok(source)
 }
 
+/// A dump, if no line of it would end the block in which it is typed.
+pub(crate) fn checked_dump<A: Allocator>(dump: Vec<u8, A>) -> Result<Vec<u8, A>, Unread> {
+    for line in dump.split(|byte| *byte == b'\n') {
+        if line == b"#.".as_slice() || line == b"#.\r".as_slice() {
+            return Err(Unread::Refused(FileTrouble::HasBlockEnd));
+        }
+    }
+    Ok(dump)
+}
+
 /// Why a text is refused as a tape.
 fn tape_trouble(fault: TextFault) -> Unread {
     match fault {
@@ -27,31 +34,20 @@ fn tape_trouble(fault: TextFault) -> Unread {
     }
 }
 
-/// A tape's text, if a line has room for it.
-fn written_tape<A: Allocator + Copy>(alloc: A, codes: &[Code]) -> Result<Vec<u8, A>, Unread> {
-    let text = write_tape_text(alloc, codes)?;
-    if text.len() > MOUNT_LIMIT {
-        return Err(Unread::Refused(FileTrouble::LongTape));
-    }
-    Ok(text)
-}
-
-/// A tape's text as one line has it, if it is one.
+/// The codes of a tape's text, if it is one.
 pub(crate) fn checked_tape<A: Allocator + Copy>(
     alloc: A,
     text: &[u8],
-) -> Result<Vec<u8, A>, Unread> {
-    let codes = read_tape_text(alloc, text).map_err(tape_trouble)?;
-    written_tape(alloc, &codes)
+) -> Result<Vec<Code, A>, Unread> {
+    read_tape_text(alloc, text).map_err(tape_trouble)
 }
 
-/// The tape text of an archive's tape, if it is one.
+/// The codes of an archive's tape, if it is one.
 pub(crate) fn checked_archive<A: Allocator + Copy>(
     alloc: A,
     text: &[u8],
-) -> Result<Vec<u8, A>, Unread> {
-    let codes = read_archive_text(alloc, text).map_err(tape_trouble)?;
-    written_tape(alloc, &codes)
+) -> Result<Vec<Code, A>, Unread> {
+    read_archive_text(alloc, text).map_err(tape_trouble)
 }
 
 /// The dump in the reply to `dump`, behind the line that tells how many words it has; the reply may stand behind its line.

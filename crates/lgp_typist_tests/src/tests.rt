@@ -49,8 +49,35 @@ fn text_of(name: &str) -> Option<&'static [u8]> {
     if name == "old" {
         return Some(b"12\r\n3\tB");
     }
+    if name == "drum" {
+        return Some(b"0100 00000004\r\n0101 00000008");
+    }
+    if name == "cut short" {
+        return Some(b"0100 00000004\r\n#.\r\nquit");
+    }
+    long_text_of(name)
+}
+
+/// The bytes of a long file.
+fn long_text_of(name: &str) -> Option<&'static [u8]> {
+    if name == "fitting" {
+        return Some(&FITTING);
+    }
+    if name == "longer" {
+        return Some(&LONGER);
+    }
+    if name == "returns" {
+        return Some(&RETURNS);
+    }
     None
 }
+
+/// A tape as long as a line has room for, one that is longer by a code, and one of carriage returns.
+const FITTING: [u8; 4090] = [b'f'; 4090];
+
+const LONGER: [u8; 4091] = [b'f'; 4091];
+
+const RETURNS: [u8; 1023] = [b'\r'; 1023];
 
 impl Filing for Made<'_> {
     type Reader = FeedOf<&'static [u8]>;
@@ -69,7 +96,7 @@ impl Filing for Made<'_> {
 /// Keys, and what is typed for them.
 type Row = (&'static [u8], &'static [u8]);
 
-const ROWS: [Row; 17] = [
+const ROWS: [Row; 23] = [
     // Lines that name no file are typed as they are, the last one too.
     (b"panel\n\n; do\ndo\nrun 1", b"panel\n\n; do\ndo\nrun 1"),
     (
@@ -122,7 +149,27 @@ const ROWS: [Row; 17] = [
         b"#> ? 13 File strange: the byte at place 2, counted from 0, begins no sign of a tape\n",
     ),
     (b"archive old", b"# old\nmount 12[16]3[24]b\n#\n"),
-    (b"restore drum\n", b"restore drum\n"),
+    (
+        b"restore drum\n",
+        b"# drum\n#< restore drum\n0100 00000004\r\n0101 00000008\n#.\n#\n",
+    ),
+    (
+        b"restore two lines \r\npanel\n",
+        b"# two lines\n#< restore two lines\nput 0000 b 0003\nrun 1\n#.\n#\npanel\n",
+    ),
+    // A blank drum's dump has no line, and a source without a line is typed so.
+    (b"restore empty\n", b"# empty\n#< restore empty\n#.\n#\n"),
+    (b"source empty\n", b"# empty\nsource\n.\n#\n"),
+    // A line that would end the block.
+    (
+        b"restore cut short\n",
+        b"#> ? 13 File cut short: a line that is #. would end the block\n",
+    ),
+    (
+        b"restore none\n",
+        b"#> ? 13 File none: it cannot be opened\n",
+    ),
+    (b"restore\n", b"restore\n"),
     // Nothing was written for the dump.
     (
         b"save kept\n",
@@ -199,6 +246,66 @@ fn files_are_typed(rt: HostRuntime) {
     assert_eq!(rt; wrong, [ROWS.len(), ROWS.len()]);
 }
 
+/// A piece so many times, and what stands in front of it and behind.
+fn repeated(
+    global: Global,
+    front: &[u8],
+    piece: &[u8],
+    counts: &[usize],
+    behind: &[u8],
+) -> Result<Vec<u8>, AllocError> {
+    let mut text = Vec::from_slice(global, front)?;
+    for count in counts {
+        for _ in 0..*count {
+            text.extend_from_slice(piece)?;
+        }
+        text.extend_from_slice(b"\n")?;
+    }
+    text.extend_from_slice(behind)?;
+    Ok(text)
+}
+
+/// Whether this is typed for keys: a piece so many times in each line, and what stands in front of them and behind.
+fn is_long_typed(
+    global: Global,
+    keys: &'static [u8],
+    front: &[u8],
+    piece: &[u8],
+    counts: &[usize],
+    behind: &[u8],
+) -> bool {
+    match repeated(global, front, piece, counts, behind) {
+        Ok(wanted) => { is_typed(global, keys, &wanted, 64) && is_typed(global, keys, &wanted, 7) }
+        Err(_) => false,
+    }
+}
+
+/// Whether tapes are typed as they should be, by how long they are.
+fn are_long_tapes_typed(global: Global) -> [bool; 3] {
+    let front = b"# fitting\nmount ";
+    let fits = is_long_typed(global, b"tape fitting", front, b"f", &[4090], b"#\n");
+    let front = b"# longer\n#< tape longer\n";
+    let lines = [1000, 1000, 1000, 1000, 91];
+    let longer = is_long_typed(global, b"tape longer", front, b"f", &lines, b"#.\n#\n");
+    // No group is cut.
+    let front = b"# returns\n#< tape returns\n";
+    let lines = [1000, 23];
+    let returns = is_long_typed(
+        global,
+        b"archive returns",
+        front,
+        b"[16]",
+        &lines,
+        b"#.\n#\n",
+    );
+    [fits, longer, returns]
+}
+
+#[test]
+fn a_long_tape_is_typed_as_a_block(rt: HostRuntime) {
+    assert_eq!(rt; are_long_tapes_typed(rt.alloc()), [true, true, true]);
+}
+
 /// What is typed where a dump is written behind each note.
 fn typed_and_written<R: Feed + Drop, F: Filing + Drop, W: Sink + Drop>(
     global: Global,
@@ -262,33 +369,40 @@ fn a_dump_is_kept_in_its_file(rt: HostRuntime) {
     assert_eq!(rt; saved, [true, true]);
 }
 
-/// What is typed for `do two lines`.
-const TWO_LINES: &[u8] =
-    b"# line 1 of two lines\nput 0000 b 0003\n# line 2 of two lines\nrun 1\n#\n";
-
 /// Types with the nth growth refused: whether it was, and whether that broke the work off, as the board tells, or all was typed.
-fn ended(scarce: &Scarce<Global>, global: Global, nth: u64) -> (bool, bool) {
+fn ended(
+    scarce: &Scarce<Global>,
+    global: Global,
+    keys: &'static [u8],
+    wanted: &[u8],
+    nth: u64,
+) -> (bool, bool) {
     let board = Board::new(scarce);
     let kept = Cell::new(0);
     let made = Made { kept: &kept };
-    let keyboard = FeedOf::new(b"do two lines\n".as_slice(), READS);
+    let keyboard = FeedOf::new(keys, READS);
     scarce.refuse(nth);
     let Ok(text) = typed_for(scarce, global, &board, made, keyboard, &[], 64) else {
         return (false, false);
     };
     let refused = scarce.was_refused();
-    let wanted = if refused {
+    let is_wanted = if refused {
         text.as_slice().ends_with(b"failed")
     } else {
-        text.as_slice() == TWO_LINES
+        text.as_slice() == wanted
     };
-    (refused, wanted && board.lacks_memory() == refused)
+    (refused, is_wanted && board.lacks_memory() == refused)
 }
 
 /// How many growths there are, where each that is refused in turn breaks the work off.
-fn refusals(scarce: &Scarce<Global>, global: Global) -> Option<u64> {
+fn refusals(
+    scarce: &Scarce<Global>,
+    global: Global,
+    keys: &'static [u8],
+    wanted: &[u8],
+) -> Option<u64> {
     for nth in 1..100 {
-        match ended(scarce, global, nth) {
+        match ended(scarce, global, keys, wanted, nth) {
             (true, true) => {}
             (false, true) => return Some(nth - 1),
             _ => return None,
@@ -297,20 +411,44 @@ fn refusals(scarce: &Scarce<Global>, global: Global) -> Option<u64> {
     None
 }
 
-#[test]
-fn each_growth_may_be_refused(rt: HostRuntime) {
-    let scarce = Scarce::new(rt.alloc());
-    let count = refusals(&scarce, rt.alloc());
-    assert!(rt; count.is_some_and(|count| count > 3), "{count:?}");
+/// Whether there are more than three growths, each of which may be refused.
+fn may_be_refused(
+    scarce: &Scarce<Global>,
+    global: Global,
+    keys: &'static [u8],
+    wanted: &[u8],
+) -> bool {
+    refusals(scarce, global, keys, wanted).is_some_and(|count| count > 3)
 }
 
-/// Whether this is typed where two files are named before anything is typed.
+/// Whether each growth may be refused: of lines, of a dump, and of a long tape.
+fn each_may_be_refused(global: Global) -> [bool; 3] {
+    let scarce = Scarce::new(global);
+    let two_lines = b"# line 1 of two lines\nput 0000 b 0003\n# line 2 of two lines\nrun 1\n#\n";
+    let drum = b"# drum\n#< restore drum\n0100 00000004\r\n0101 00000008\n#.\n#\n";
+    let front = b"# returns\n#< tape returns\n";
+    let Ok(returns) = repeated(global, front, b"[16]", &[1000, 23], b"#.\n#\n") else {
+        return [false, false, false];
+    };
+    [
+        may_be_refused(&scarce, global, b"do two lines\n", two_lines),
+        may_be_refused(&scarce, global, b"restore drum\n", drum),
+        may_be_refused(&scarce, global, b"archive returns\n", &returns),
+    ]
+}
+
+#[test]
+fn each_growth_may_be_refused(rt: HostRuntime) {
+    assert_eq!(rt; each_may_be_refused(rt.alloc()), [true, true, true]);
+}
+
+/// Whether this is typed where three files are named before anything is typed.
 fn is_typed_behind(global: Global, wanted: &[u8]) -> bool {
     let board = Board::new(global);
     let kept = Cell::new(0);
     let made = Made { kept: &kept };
     let keyboard = FeedOf::new(b"panel\n".as_slice(), READS);
-    let names = ["none", "two lines"];
+    let names = ["none", "two lines", "two lines"];
     match typed_for(global, global, &board, made, keyboard, &names, 64) {
         Ok(text) => text.as_slice() == wanted,
         Err(_) => false,
@@ -319,7 +457,10 @@ fn is_typed_behind(global: Global, wanted: &[u8]) -> bool {
 
 #[test]
 fn files_come_first(rt: HostRuntime) {
-    let wanted = b"#> ? 13 File none: it cannot be opened\n# line 1 of two lines\nput 0000 b 0003\n\
+    let wanted = b"# named on the command line\n#> ? 13 File none: it cannot be opened\n\
+        # named on the command line\n# line 1 of two lines\nput 0000 b 0003\n\
+        # line 2 of two lines\nrun 1\n\
+        # named on the command line\n# line 1 of two lines\nput 0000 b 0003\n\
         # line 2 of two lines\nrun 1\n#\npanel\n";
     assert!(rt; is_typed_behind(rt.alloc(), wanted));
 }
