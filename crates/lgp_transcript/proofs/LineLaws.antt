@@ -49,10 +49,13 @@ IsCut-ended bytes complete line cut free = by_return (ends_with_return line) ref
 -- ---- where lines of the other language lead
 
 -- the transcript is complete lines, which lead where it stands
-record IsTold {S : Type 0} (language : Language S) (opening standing : S) (transcript : List ℕ) : Type 0 where
-  said : List (List ℕ)
-  cut : IsCut transcript said []
-  stands : standing ≡ state_after language opening said
+pub record IsTold {S : Type 0} (language : Language S) (opening standing : S) (transcript : List ℕ) : Type 0 where
+  pub said : List (List ℕ)
+  pub cut : IsCut transcript said []
+  pub stands : standing ≡ state_after language opening said
+
+pub IsTold-none : {S : Type 0} (language : Language S) (opening : S) → IsTold language opening opening []
+IsTold-none language opening = record { said = []; cut = IsCut-none; stands = refl }
 
 state_after-last : {S : Type 0} (language : Language S) (s : S) (said : List (List ℕ)) (line : List ℕ) → state_after language s (said ++ line ∷ []) ≡ language.after (state_after language s said) line
 state_after-last language s [] line = refl
@@ -66,7 +69,7 @@ IsTold-line {S} language opening standing transcript line told free = record {
   stands = ap (λ (s : S). language.after s line) told.stands ∙ sym (state_after-last language opening told.said line);
 }
 
-IsTold-lines : {S : Type 0} (language : Language S) (opening standing : S) (transcript : List ℕ) (lines : List (List ℕ)) → IsTold language opening standing transcript → AllByRecursion IsLine lines
+pub IsTold-lines : {S : Type 0} (language : Language S) (opening standing : S) (transcript : List ℕ) (lines : List (List ℕ)) → IsTold language opening standing transcript → AllByRecursion IsLine lines
     → IsTold language opening (state_after language standing lines) (transcript ++ text_of lines)
 unfolding text_of
 IsTold-lines language opening standing transcript [] told free = rw (append-nil transcript) told
@@ -74,11 +77,11 @@ IsTold-lines language opening standing transcript (line ∷ lines) told free =
     rw (append_assoc transcript (ended line) (concat (map ended lines))) at
     (IsTold-lines language opening (language.after standing line) (transcript ++ ended line) lines (IsTold-line language opening standing transcript line told free.0) free.1)
 
-IsTold-meaning : {S : Type 0} (language : Language S) (opening : S) (r : Recorded S) (meaning : Meaning) → IsTold language opening r.standing r.transcript → AreLines meaning
+pub IsTold-meaning : {S : Type 0} (language : Language S) (opening : S) (r : Recorded S) (meaning : Meaning) → IsTold language opening r.standing r.transcript → AreLines meaning
     → IsTold language opening (after_meaning language opening r meaning).standing (after_meaning language opening r meaning).transcript
 unfolding after_lines
 IsTold-meaning language opening r (Lines lines) told free = IsTold-lines language opening r.standing r.transcript lines told free
-IsTold-meaning language opening r Anew told free = record { said = []; cut = IsCut-none; stands = refl }
+IsTold-meaning language opening r Anew told free = IsTold-none language opening
 
 IsTold-text : {S : Type 0} (language : Language S) (opening : S) (meaning : Recorded S → List ℕ → Meaning) (typed : Language (Recorded S)) → HasMeanings language opening meaning typed → StandForLines meaning
     → (r : Recorded S) (lines : List (List ℕ)) → IsTold language opening r.standing r.transcript → AllByRecursion IsLine lines
@@ -125,7 +128,7 @@ lines_are_lines text = free-lines (slice_split (λ byte. eqb byte 10) text) (fre
 
 -- ---- together
 
-IsTold-all : {S : Type 0} (language : Language S) (opening : S) (r : Recorded S) → IsTold language opening r.standing r.transcript → IsToldByTranscript language opening r
+pub IsTold-all : {S : Type 0} (language : Language S) (opening : S) (r : Recorded S) → IsTold language opening r.standing r.transcript → IsToldByTranscript language opening r
 IsTold-all {S} language opening r told =
     told.stands ∙ ap (λ (said : List (List ℕ)). state_after language opening said) (sym (IsCut-lines r.transcript told.said [] told.cut ∙ append-nil told.said))
 
@@ -133,4 +136,4 @@ pub told_by_transcript : {S : Type 0} (language : Language S) (opening : S) (mea
     → StandForLines meaning → (text : List ℕ) → IsToldByTranscript language opening (state_after typed (untouched opening) (lines text))
 told_by_transcript language opening meaning typed has stand text =
     IsTold-all language opening (state_after typed (untouched opening) (lines text))
-    (IsTold-text language opening meaning typed has stand (untouched opening) (lines text) (record { said = []; cut = IsCut-none; stands = refl }) (lines_are_lines text))
+    (IsTold-text language opening meaning typed has stand (untouched opening) (lines text) (IsTold-none language opening) (lines_are_lines text))
