@@ -3,7 +3,7 @@
 
 use lgp_desk::Manner;
 use lgp_lab::{FeedOf, READS, SinkOf, WordFault};
-use lgp_monitor::obey_session;
+use lgp_monitor::{Progress, obey_session};
 use lgp_typist::{Board, DeskBell, Filing, Paper, Typist};
 use std::fs::File;
 use std::io::IsTerminal;
@@ -41,6 +41,31 @@ impl Filing for HostFiling<'_> {
     }
 }
 
+/// So many orders take about a second.
+const PORTION: u64 = 20_000_000;
+
+/// Shows on standard error how far long runs are, where a person sees it.
+#[derive(Clone, Copy, Drop)]
+struct ShownProgress<'a> {
+    rt: &'a HostRuntime,
+    is_shown: bool,
+}
+
+impl Progress for ShownProgress<'_> {
+    fn portion(&self) -> u64 {
+        if self.is_shown { PORTION } else { u64::MAX }
+    }
+
+    fn performed(&self, orders: u64) {
+        // A run goes on where this cannot be written.
+        let _ = eprint!(self.rt; "\r{orders} orders");
+    }
+
+    fn ended(&self) {
+        let _ = eprint!(self.rt; "\r                 \r");
+    }
+}
+
 /// The words of the command line, the program's name first.
 fn words(rt: &HostRuntime) -> io::Result<Vec<String>> {
     let mut words = Vec::new(rt.alloc());
@@ -67,6 +92,14 @@ fn manner(rt: &HostRuntime) -> Manner {
     }
 }
 
+/// Shows how far long runs are where a person types and standard error is a terminal, too.
+fn progress(rt: &HostRuntime) -> ShownProgress<'_> {
+    ShownProgress {
+        rt,
+        is_shown: matches!(manner(rt), Manner::Prompting) && rt.stderr().is_terminal(),
+    }
+}
+
 /// Does what the words of the command line ask for, with files where they are kept; answers the status.
 fn obey<F: Filing + Drop>(rt: &HostRuntime, filing: F, words: Result<&[String], WordFault>) -> u8 {
     let board = Board::new(rt.alloc());
@@ -80,6 +113,7 @@ fn obey<F: Filing + Drop>(rt: &HostRuntime, filing: F, words: Result<&[String], 
         words,
         manner(rt),
         DeskBell::new(&board),
+        progress(rt),
         &mut typist,
         &mut paper,
         &mut messages,

@@ -15,7 +15,11 @@ const ROWS: [Row; 11] = [
     (b"put 0050 = 3", 0, b"ok\n"),
     (b"words 0050 1", 0, b"0050 00000006\n"),
     (b"", 0, b""),
-    (b"back 2", 1, b"? 7 TooFar 0\n"),
+    (
+        b"back 2",
+        1,
+        b"? 7 TooFar 0: no more orders than this are kept\n",
+    ),
     (
         b"jump",
         1,

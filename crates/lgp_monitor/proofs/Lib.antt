@@ -1,6 +1,9 @@
 pub mod GoLemmas
 pub mod LineLemmas
 pub mod RunLine
+pub mod RunPortions
+pub mod ScriptRun
 pub mod Pictures
 pub mod LastLine
 pub mod Unbegun
+pub mod BlockLemmas

@@ -56,7 +56,7 @@ free-decimal value = grind (arith, nat_tests)
 free-address : (address : ℕ) → IsLine (address_digits address)
 free-address address = (free-decimal (address / 64 / 10), (free-decimal (address / 64 % 10), (free-decimal (address % 64 / 10), (free-decimal (address % 64 % 10), tt))))
 
-free-put : (address word : ℕ) → IsLine (put_line address word)
+pub free-put : (address word : ℕ) → IsLine (put_line address word)
 unfolding put_line
 free-put address word = (refl, (refl, (refl, (refl, free-append (address_digits address) (codes " " ++ digits_of word) (free-address address) (refl, free-digits word)))))
 
@@ -136,7 +136,7 @@ free-meaning typed.New line free = tt
 free-meaning typed.Help line free = tt
 free-meaning (typed.HelpOf verb) line free = tt
 
-free-at : {A : Type 0} (recorded : Recorded (Standing A)) (line : List ℕ) → IsLine line → AreLines (meaning_at recorded line)
+pub free-at : {A : Type 0} (recorded : Recorded (Standing A)) (line : List ℕ) → IsLine line → AreLines (meaning_at recorded line)
 unfolding meaning_at
 free-at recorded line free = free-meaning (typed_at recorded line) line free
 

@@ -261,6 +261,7 @@ told_only names counter (Some verbs.Do) operands telling limit e = absurd (misfo
 told_only names counter (Some verbs.Tape) operands telling limit e = absurd (misformed telling limit e)
 told_only names counter (Some verbs.Archive) operands telling limit e = absurd (misformed telling limit e)
 told_only names counter (Some verbs.Save) operands telling limit e = absurd (misformed telling limit e)
+told_only names counter (Some verbs.Restore) operands telling limit e = absurd (misformed telling limit e)
 told_only names counter (Some verbs.List) operands telling limit e = absurd (misformed telling limit e)
 told_only names counter (Some verbs.Load) operands telling limit e = absurd (misformed telling limit e)
 told_only names counter (Some verbs.Break) operands telling limit e = absurd (places names counter operands telling limit e)

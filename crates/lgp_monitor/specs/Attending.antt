@@ -1,13 +1,15 @@
 -- Part of the public promise: the monitor at a desk, where `quit` ends it, with its prompts and its answers to blocks.
-use Rattle.std.specs.Prelude.{ℕ, Bool, is_none, is_some, if◌then◌else◌, List, ◌++◌, codes}
+use Rattle.std.specs.Prelude.{◌≡◌, ℕ, Bool, false, is_none, is_some, if◌then◌else◌, List, ◌++◌, codes}
+use Rattle.std.specs.Str.Lines.{lines}
 use Rattle.lgp_word.specs.Digits.{address_digits}
 use Rattle.lgp_stream.specs.Language.{Language}
 use Rattle.lgp_transcript.specs.Transcript.{Recorded, untouched}
-use Rattle.lgp_desk.specs.Desk.{BlockAnswers, Seat, desk_language}
+use Rattle.lgp_desk.specs.Desk.{BlockAnswers, Seat, desk_language, taken_seat}
+use Rattle.lgp_desk.specs.Handing.{Handed, Line, Whole, handed}
 use Rattle.lgp_desk.specs.Sitting.{desk_faults, desk_text}
 use Rattle.lgp_desk.specs.declared.desk.Manner.{Manner}
 use Rattle.lgp_lab.specs.Standing.{Standing, opening_standing}
-use Rattle.lgp_monitor.specs.Blocks.{behind_block, block_reply}
+use Rattle.lgp_monitor.specs.Blocks.{behind_block, block_reply, is_tape}
 use Rattle.lgp_monitor.specs.Monitor.{counter_at, monitor_language}
 
 module _ {A : Type 0} where
@@ -30,7 +32,18 @@ module _ {A : Type 0} where
   abbrev pub attended_language : Language (Seat (Recorded (Standing A)))
   attended_language = desk_language monitor_language takes_commands_at prompt_at monitor_blocks
 
--- what is written for a typed text, and how many replies begin with a question mark; the type is that of Standing
+-- what a typed text hands to the monitor before `quit`: lines, and blocks; the type is that of Standing
+abbrev pub handed_over : Type 0 → Manner → List ℕ → List Handed
+handed_over A manner typed =
+    handed (monitor_language {A = A}) takes_commands_at prompt_at monitor_blocks
+    (taken_seat manner (untouched opening_standing)) (lines typed)
+
+-- what a script can say: each line, and each block but a tape
+abbrev pub IsSayable : Handed → Type 0
+IsSayable (Line line) = Unit {0}
+IsSayable (Whole block) = is_tape block.kind ≡ false
+
+-- what is written for a typed text, and how many replies begin with a question mark
 abbrev pub attended_text : Type 0 → Manner → List ℕ → List ℕ
 attended_text A manner typed = desk_text (monitor_language {A = A}) takes_commands_at prompt_at monitor_blocks manner (untouched opening_standing) typed
 

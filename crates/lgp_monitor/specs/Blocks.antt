@@ -1,13 +1,103 @@
--- Part of the public promise: how the monitor answers a block of lines under the name of what it is for, and where that leaves it.
-use Rattle.std.specs.Prelude.{ℕ, List, codes}
-use Rattle.lgp_transcript.specs.Transcript.{Recorded}
+-- Part of the public promise: how the monitor answers a block of lines under the name of what it is
+-- for, and where that leaves it. `restore` puts the words of a dump on the drum, by lines of a
+-- script; `tape` mounts a tape for whose text no line of a script has room.
+use Rattle.std.specs.Prelude.{ℕ, ◌+◌, ◌==◌, Bool, if◌then◌else◌, Option, Some, None, List, [], ◌∷◌, ◌++◌, codes, decimal, fold, length, map, slice_set}
+use Rattle.std.specs.Str.{bytes_eq}
+use Rattle.bstr.specs.Text.{lines_of}
+use Rattle.lgp_word.specs.Drum.{blank_words}
+use Rattle.lgp_stream.specs.LineWords.{first_word}
+use Rattle.lgp_table.specs.Console.{is_at_rest}
+use Rattle.lgp_transcript.specs.Transcript.{Recorded, after_lines, ended}
+use Rattle.lgp_listing.specs.Dump.{cell_in, first_fault}
+use Rattle.lgp_listing.specs.declared.reading.DumpFault.{DumpFault}
+use Rattle.lgp_listing.specs.declared.reading.DumpFault.TheVariants as faults
+use Rattle.lgp_lab.specs.Script.{script_language}
 use Rattle.lgp_lab.specs.Standing.{Standing}
+use Rattle.lgp_lab.specs.TapeCommands.{answer_to_tape_text}
+use Rattle.lgp_monitor.specs.Monitor.{panel_at, put_line}
+use Rattle.lgp_monitor.specs.Reasons.{reasoned}
+
+-- ---- what a block is for: the first word of its name
+
+unfoldable pub is_restore : List ℕ → Bool
+is_restore kind = bytes_eq (first_word kind) (codes "restore")
+
+unfoldable pub is_tape : List ℕ → Bool
+is_tape kind = bytes_eq (first_word kind) (codes "tape")
+
+-- ---- restore
+
+-- the words of a dump's drum: those of its lines at their addresses, and zeros
+abbrev pub with_cell : List ℕ → Option (ℕ × ℕ) → List ℕ
+with_cell words (Some cell) = slice_set words cell.0 cell.1
+with_cell words None = words
+
+unfoldable pub dumped_words : List ℕ → List ℕ
+dumped_words dump = fold (λ words line. with_cell words (cell_in line)) blank_words (lines_of dump)
+
+-- the addresses, from one on, at which other words stand than before, each with its new word
+unfoldable pub changed_cells : ℕ → List ℕ → List ℕ → List (ℕ × ℕ)
+changed_cells address (old ∷ before) (new ∷ after) =
+    (if old == new then [] else (address, new) ∷ []) ++ changed_cells (address + 1) before after
+changed_cells address before after = []
+
+abbrev pub put_cell : ℕ × ℕ → List ℕ
+put_cell cell = put_line cell.0 cell.1
+
+-- why a text is no dump
+unfoldable pub dump_fault_text : DumpFault → List ℕ
+dump_fault_text (faults.Form line) =
+    codes "? 1 Form: line " ++ (decimal line ++ codes " is no line of a dump\n")
+dump_fault_text (faults.Order line) =
+    codes "? 1 Form: the address of line "
+    ++ (decimal line ++ codes " is not above that of the line before it\n")
+dump_fault_text faults.Memory = []
+
+abbrev pub restored_text : Option DumpFault → Bool → List (ℕ × ℕ) → List ℕ
+restored_text (Some fault) rests cells = dump_fault_text fault
+restored_text None rests cells =
+    if rests then codes "restored " ++ (decimal (length cells) ++ codes "\n")
+    else reasoned (codes "? 2 Moving\n")
+
+abbrev pub restoring_lines : Option DumpFault → Bool → List (ℕ × ℕ) → List (List ℕ)
+restoring_lines (Some fault) rests cells = []
+restoring_lines None rests cells = if rests then map put_cell cells else []
 
 module _ {A : Type 0} where
-  -- the reply to a block of this kind and text
-  abbrev pub block_reply : Recorded (Standing A) → List ℕ → List ℕ → List ℕ
-  block_reply recorded kind text = codes "? 1 Form: there is no such block\n"
+  -- the words that a dump changes
+  abbrev pub cells_changed : Recorded (Standing A) → List ℕ → List (ℕ × ℕ)
+  cells_changed recorded dump =
+      changed_cells 0 recorded.standing.debugger.state.core.words (dumped_words dump)
 
-  -- where the monitor stands behind it
-  abbrev pub behind_block : Recorded (Standing A) → List ℕ → List ℕ → Recorded (Standing A)
-  behind_block recorded kind text = recorded
+  abbrev pub rests_at : Recorded (Standing A) → Bool
+  rests_at recorded = is_at_rest (panel_at recorded.standing).status
+
+  unfoldable pub restore_reply : Recorded (Standing A) → List ℕ → List ℕ
+  restore_reply recorded dump =
+      restored_text (first_fault dump) (rests_at recorded) (cells_changed recorded dump)
+
+  -- the lines of a script that it stands for
+  unfoldable pub restore_lines : Recorded (Standing A) → List ℕ → List (List ℕ)
+  restore_lines recorded dump =
+      restoring_lines (first_fault dump) (rests_at recorded) (cells_changed recorded dump)
+
+  -- ---- tape: no line of a script says which it is, so its name stands in the transcript
+
+  unfoldable pub behind_tape : Recorded (Standing A) → List ℕ → List ℕ → Recorded (Standing A)
+  behind_tape recorded kind text = record {
+    standing = (answer_to_tape_text recorded.standing text).after;
+    transcript = recorded.transcript ++ ended kind;
+  }
+
+  -- ---- the reply to a block, and where the monitor stands behind it
+
+  unfoldable pub block_reply : Recorded (Standing A) → List ℕ → List ℕ → List ℕ
+  block_reply recorded kind text =
+      if is_restore kind then restore_reply recorded text
+      else (if is_tape kind then reasoned (answer_to_tape_text recorded.standing text).reply
+      else codes "? 1 Form: there is no such block\n")
+
+  unfoldable pub behind_block : Recorded (Standing A) → List ℕ → List ℕ → Recorded (Standing A)
+  behind_block recorded kind text =
+      if is_restore kind then after_lines script_language recorded (restore_lines recorded text)
+      else (if is_tape kind then behind_tape recorded kind text else recorded)

@@ -4,6 +4,8 @@ pub mod Reasons
 pub mod Telling
 pub mod Questions
 pub mod Typed
+pub mod Closing
+pub mod ClosingInside
 pub mod Monitor
 pub mod Running
 pub mod Blocks

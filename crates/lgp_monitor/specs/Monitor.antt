@@ -16,6 +16,7 @@ use Rattle.lgp_debugger.specs.Debugging.{order_origins}
 use Rattle.lgp_lab.specs.Script.{script_language}
 use Rattle.lgp_lab.specs.HistoryCommands.{orders_run}
 use Rattle.lgp_lab.specs.Standing.{Standing, labels_of, opening_standing}
+use Rattle.lgp_monitor.specs.Closing.{closing_reply}
 use Rattle.lgp_monitor.specs.Questions.{answer_to}
 use Rattle.lgp_monitor.specs.Reasons.{explained, reasoned}
 use Rattle.lgp_monitor.specs.Telling.{told_text}
@@ -117,6 +118,11 @@ unfoldable pub misformed_text : List (List ℕ × ℕ) → ℕ → List ℕ → 
 misformed_text names counter line =
     codes "? 1 Form: " ++ (reason_by names counter (named verb_names (first_word line)) (behind_word line) ++ codes "\n")
 
+-- the reply to the line that closes a source with faults, if it does, else another one
+abbrev pub marked_or : Option (List ℕ) → List ℕ → List ℕ
+marked_or (Some marked) other = marked
+marked_or None other = other
+
 module _ {A : Type 0} where
   -- what is written about the orders of a run
   abbrev pub told_of : Standing A → Telling → ℕ → List ℕ
@@ -138,6 +144,11 @@ module _ {A : Type 0} where
   abbrev pub explained_reply : Recorded (Standing A) → List ℕ → List ℕ
   explained_reply recorded line = reasoned (replies_text script_language recorded (line ∷ []))
 
+  -- the reply to a script's line of which this is kept
+  abbrev pub itself_reply : Recorded (Standing A) → Kept → List ℕ
+  itself_reply recorded kept =
+      marked_or (closing_reply recorded.standing.opened kept) (explained_reply recorded (stand_in kept))
+
   -- what is written about the orders of a run, and the reply to its script's line
   abbrev pub told_reply : Recorded (Standing A) → Telling → ℕ → List ℕ → List ℕ
   told_reply recorded telling limit line =
@@ -150,7 +161,7 @@ module _ {A : Type 0} where
       explained panel.status panel.mode (told_reply recorded telling limit line)
 
   abbrev pub reply_of : Recorded (Standing A) → Typed → Kept → List ℕ
-  reply_of recorded typed.Itself kept = explained_reply recorded (stand_in kept)
+  reply_of recorded typed.Itself kept = itself_reply recorded kept
   reply_of recorded typed.Misformed kept = misformed_text (names_at recorded) (counter_at recorded) kept.front
   reply_of recorded (typed.Placed address) kept = explained_reply recorded (placed_line address kept.front)
   reply_of recorded (typed.Go address) kept = replies_text script_language recorded (go_lines address)

@@ -18,6 +18,8 @@ refusal_numbers =
     ∷ (codes "4", kinds.ClockEnd)
     ∷ (codes "5", kinds.Full)
     ∷ (codes "6", kinds.NoRule)
+    ∷ (codes "7", kinds.TooFar)
+    ∷ (codes "8", kinds.NoHit)
     ∷ (codes "10", kinds.NoImage)
     ∷ (codes "11", kinds.TooLong)
     ∷ (codes "12", kinds.BadSign)
@@ -29,6 +31,8 @@ reason_of kinds.AtWork = codes "the machine is at work, and turn is for one at r
 reason_of kinds.ClockEnd = codes "the clock would pass its end, 4611686018427387904"
 reason_of kinds.Full = codes "there are 64 rules, drop takes one away"
 reason_of kinds.NoRule = codes "no rule has this number, rules lists them"
+reason_of kinds.TooFar = codes "no more orders than this are kept"
+reason_of kinds.NoHit = codes "no rule hits one of the kept orders, which are so many"
 reason_of kinds.NoImage = codes "no source has assembled yet"
 reason_of kinds.TooLong = codes "a line has at most 4096 bytes, a source 1048576"
 reason_of kinds.BadSign = codes "the byte at this place of the text, counted from 0, begins no sign of a tape"

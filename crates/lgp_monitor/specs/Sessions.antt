@@ -12,7 +12,7 @@ use Rattle.lgp_lab.specs.Standing.{opening_standing}
 use Rattle.lgp_lab.specs.Tasks.{IsRefused, answered_status, broken_status}
 use Rattle.lgp_desk.specs.Desk.{opening_text, taken_seat}
 use Rattle.lgp_desk.specs.declared.desk.Manner.{Manner}
-use Rattle.lgp_desk.specs.declared.desk.Manner.TheVariants.{Echoing}
+use Rattle.lgp_desk.specs.declared.desk.Manner.TheVariants.{Prompting, PromptingBehindFirst, Echoing}
 use Rattle.lgp_monitor.specs.Attending.{attended_faults, attended_language, attended_text, prompt_at}
 
 -- what became of typed lines, of which nothing may be known: they were answered to their end, or a fault broke the work off
@@ -33,9 +33,14 @@ abbrev pub IsHeld : Type 0 → Manner → Option (List ℕ) → ℕ → Option (
 IsHeld A manner known status w₀ w =
     (outcome : Result ℕ StreamFault) × HasAnswered A manner known outcome w₀ w × (status ≡ session_status outcome)
 
+-- where the lines of files come first, a prompt stands behind them only
+abbrev pub manner_behind : List (List ℕ) → Manner → Manner
+manner_behind (file ∷ more) Prompting = PromptingBehindFirst
+manner_behind files manner = manner
+
 -- how replies are written: each line above its reply where the task says so
 abbrev pub session_manner : Manner → SessionTask → Manner
-session_manner manner task = if task.is_echoing then Echoing else manner
+session_manner manner task = if task.is_echoing then Echoing else manner_behind task.files manner
 
 -- what is typed, where it is known: the lines of the files first
 abbrev pub typed_with : (List (List ℕ) → Option (List ℕ)) → Option (List ℕ) → List (List ℕ) → Option (List ℕ)

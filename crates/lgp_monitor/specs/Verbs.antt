@@ -32,6 +32,7 @@ verb_names =
     ∷ (codes "tape", verbs.Tape)
     ∷ (codes "archive", verbs.Archive)
     ∷ (codes "save", verbs.Save)
+    ∷ (codes "restore", verbs.Restore)
     ∷ (codes "list", verbs.List)
     ∷ (codes "load", verbs.Load)
     ∷ (codes "break", verbs.Break)
@@ -73,6 +74,7 @@ form_of verbs.Do = codes "do FILE, in the program lgp_monitor"
 form_of verbs.Tape = codes "tape FILE, in the program lgp_monitor"
 form_of verbs.Archive = codes "archive FILE, in the program lgp_monitor"
 form_of verbs.Save = codes "save FILE, in the program lgp_monitor"
+form_of verbs.Restore = codes "restore FILE, in the program lgp_monitor"
 form_of verbs.List = codes "list"
 form_of verbs.Load = codes "load"
 form_of verbs.Break = codes "break ttss"

@@ -9,12 +9,13 @@ ghost use Rattle.lgp_lab.specs.Standing.{opening_standing};
 ghost use Rattle.lgp_monitor.specs.Attending.{attended_faults, attended_language, attended_text, monitor_blocks, prompt_at, takes_commands_at};
 
 use crate::monitor::Monitor;
+use crate::progress::Progress;
 use lgp_desk::{Attended, Bell, Manner, sit};
 use lgp_lab::Laboratory;
 use lgp_stream::{Feed, Sink, StreamFault};
 use std::alloc::{AllocError, Allocator};
 
-impl<B: Allocator + Copy> Attended for Monitor<Laboratory<B>, B> {
+impl<B: Allocator + Copy, P: Progress> Attended for Monitor<Laboratory<B>, B, P> {
     ghost takes_commands = { takes_commands_at };
 
     ghost prompt = { prompt_at };
@@ -37,20 +38,21 @@ impl<B: Allocator + Copy> Attended for Monitor<Laboratory<B>, B> {
 
     fn answer_block<A: Allocator>(
         &mut self,
-        _kind: &[u8],
-        _text: &[u8],
+        kind: &[u8],
+        text: &[u8],
         reply: &mut Vec<u8, A>,
     ) -> Result<(), AllocError> {
-        reply.extend_from_slice(b"? 1 Form: there is no such block\n")
+        self.take_block(kind, text, reply)
     }
 }
 
 /// Reads typed lines to the reader's end or to `quit` and writes the reply to each, in this manner; answers how many replies begin
-/// with a question mark. The bell rings at `quit`.
-pub fn attend<A: Allocator + Copy, B: Bell, R: Feed, W: Sink>(
+/// with a question mark. The bell rings at `quit`, and how far long runs are is told while they go on.
+pub fn attend<A: Allocator + Copy, B: Bell, P: Progress, R: Feed, W: Sink>(
     alloc: A,
     manner: Manner,
     bell: B,
+    progress: P,
     reader: &mut R,
     writer: &mut W,
 ) -> Result<u64, StreamFault>
@@ -66,7 +68,7 @@ pub fn attend<A: Allocator + Copy, B: Bell, R: Feed, W: Sink>(
         (attended_language {A = A}) (taken_seat manner (untouched opening_standing)) fault typed
         (R.remaining reader.new) (W.contents writer.old) (W.contents writer.new))) }
 {
-    let Ok(monitor) = Monitor::new(alloc) else {
+    let Ok(monitor) = Monitor::telling(alloc, progress) else {
         return Err(StreamFault::Memory);
     };
     sit(alloc, monitor, manner, bell, reader, writer)

@@ -3,6 +3,7 @@
 
 pub use attending::attend;
 pub use monitor::Monitor;
+pub use progress::{Progress, Silence};
 pub use question::Question;
 pub use running::run_monitor;
 pub use session::{FilesFirst, hold_session, obey_session};
@@ -11,13 +12,18 @@ pub use typed::Typed;
 pub use verb::Verb;
 
 mod attending;
+mod blocks;
+mod closing;
 mod labels;
 pub mod laws;
 mod monitor;
+mod portions;
+mod progress;
 mod question;
 mod reason;
 mod run_end;
 mod running;
+mod script_line;
 mod session;
 mod telling;
 mod typed;

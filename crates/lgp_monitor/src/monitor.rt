@@ -6,12 +6,17 @@ ghost use Rattle.lgp_text.specs.NamedValues.{pairs_of};
 ghost use Rattle.lgp_transcript.specs.Transcript.{after_lines, after_meaning, replies_text, stand_in, untouched};
 ghost use Rattle.lgp_lab.specs.Script.{script_language};
 ghost use Rattle.lgp_lab.specs.Standing.{labels_of, opening_standing};
+ghost use Rattle.lgp_monitor.specs.Blocks.{behind_block, block_reply};
 ghost use Rattle.lgp_monitor.specs.Typed.{typed_of};
-ghost use Rattle.lgp_monitor.specs.Monitor.{address_reason, counter_at, explained_reply, explained_run, fault_reason, form_line, form_lines, go_lines, help_text, jump_line, meaning_of, misformed_text, monitor_language, names_at, operand_reason, panel_at, placed_line, put_line, reason_by, reply_of, run_line, takes_address, told_reply, typed_at};
+ghost use Rattle.lgp_monitor.specs.Monitor.{address_reason, counter_at, explained_reply, explained_run, fault_reason, form_line, form_lines, go_lines, help_text, itself_reply, jump_line, meaning_of, misformed_text, monitor_language, names_at, operand_reason, panel_at, placed_line, put_line, reason_by, reply_of, run_line, takes_address, told_reply, typed_at};
 ghost use Rattle.lgp_monitor.specs.Reasons.{explained};
 
+use crate::blocks::answer_block;
+use crate::closing::closing_reply;
+use crate::progress::{Progress, Silence};
 use crate::question::push_answer;
 use crate::reason::{push_explained, push_reasoned};
+use crate::script_line::answer_kept;
 use crate::telling::{Telling, run_told};
 use crate::typed::{Typed, typed_of};
 use crate::verb::{VERBS, Verb, form_of, verb_named};
@@ -24,15 +29,16 @@ use lgp_word::{Address, Op, Order, Word, encode};
 use std::alloc::{AllocError, Allocator};
 use std::marker::Model;
 
-/// What answers typed lines: a laboratory that keeps the script lines which they stood for. Clauses see where it stands, and that
-/// script.
+/// What answers typed lines: a laboratory that keeps the script lines which they stood for, and is told how far long runs are. Clauses
+/// see where it stands, and that script.
 #[derive(Drop)]
-pub struct Monitor<L, A: Allocator> {
+pub struct Monitor<L, A: Allocator, P: Progress = Silence> {
     alloc: A,
     recorder: Recorder<L, A>,
+    progress: P,
 }
 
-impl<L, A: Allocator> Model for Monitor<L, A> {
+impl<L, A: Allocator, P: Progress> Model for Monitor<L, A, P> {
     ghost use Rattle.lgp_transcript.specs.Transcript.{Recorded};
 
     ghost Value = { Recorded L };
@@ -52,7 +58,11 @@ const BEHIND_JUMP: [&[u8]; 6] = [
 
 /// The script line that puts a word.
 #[tactic(auto, unfolding(crate::specs::Monitor::put_line))]
-fn put_line<A: Allocator>(alloc: A, address: Address, word: Word) -> Result<Vec<u8, A>, AllocError>
+pub(crate) fn put_line<A: Allocator>(
+    alloc: A,
+    address: Address,
+    word: Word,
+) -> Result<Vec<u8, A>, AllocError>
     ensures { IfOk result (λ line. line.items ≡ put_line address word) }
 {
     let mut line = Vec::new(alloc);
@@ -117,10 +127,11 @@ fn explain<A: Allocator + Copy>(
 }
 
 /// Answers a script's line of which this was kept, a refusal with its reason.
-fn explain_kept<A: Allocator + Copy>(
+fn explain_kept<A: Allocator + Copy, P: Progress>(
     alloc: A,
     recorder: &mut Recorder<Laboratory<A>, A>,
     line: &LineBytes,
+    progress: &P,
     reply: &mut Vec<u8, A>,
 ) -> Result<(), AllocError>
     ensures reply { (text : List ℕ) → line.now ≡ kept_of text
@@ -131,8 +142,47 @@ fn explain_kept<A: Allocator + Copy>(
         ≡ after_lines script_language recorder.old (stand_in line.now ∷ [])) }
 {
     let mut said = Vec::new(alloc);
-    recorder.answer_kept(line, &mut said)?;
+    answer_kept(recorder, line, progress, &mut said)?;
     push_reasoned(reply, &said)
+}
+
+/// Hands a line that closes a source with faults to the laboratory, whose reply is replaced by the one that has marks.
+fn tell_faults<A: Allocator + Copy>(
+    alloc: A,
+    recorder: &mut Recorder<Laboratory<A>, A>,
+    line: &LineBytes,
+    marked: &[u8],
+    reply: &mut Vec<u8, A>,
+) -> Result<(), AllocError>
+    ensures reply { OnOk result (reply.new.items ≡ reply.old.items ++ marked.now) }
+    ensures after { (text : List ℕ) → line.now ≡ kept_of text
+        → OnOk result (recorder.new
+        ≡ after_lines script_language recorder.old (stand_in line.now ∷ [])) }
+{
+    reply.extend_from_slice(marked)?;
+    let mut said = Vec::new(alloc);
+    recorder.answer_kept(line, &mut said)
+}
+
+/// Answers a line that is one of a script.
+fn answer_itself<A: Allocator + Copy, P: Progress>(
+    alloc: A,
+    recorder: &mut Recorder<Laboratory<A>, A>,
+    line: &LineBytes,
+    progress: &P,
+    reply: &mut Vec<u8, A>,
+) -> Result<(), AllocError>
+    ensures reply { (text : List ℕ) → line.now ≡ kept_of text
+        → OnOk result (reply.new.items
+        ≡ reply.old.items ++ itself_reply recorder.old line.now) }
+    ensures after { (text : List ℕ) → line.now ≡ kept_of text
+        → OnOk result (recorder.new
+        ≡ after_lines script_language recorder.old (stand_in line.now ∷ [])) }
+{
+    match closing_reply(alloc, recorder.answers(), line)? {
+        Some(marked) => tell_faults(alloc, recorder, line, &marked, reply),
+        None => explain_kept(alloc, recorder, line, progress, reply),
+    }
 }
 
 /// Puts a word by a script's line.
@@ -459,11 +509,12 @@ fn typed_at<A: Allocator + Copy>(laboratory: &Laboratory<A>, line: &LineBytes) -
 }
 
 /// Does what a line asks for of which this was kept.
-fn perform<A: Allocator + Copy>(
+fn perform<A: Allocator + Copy, P: Progress>(
     alloc: A,
     recorder: &mut Recorder<Laboratory<A>, A>,
     typed: Typed,
     line: &LineBytes,
+    progress: &P,
     reply: &mut Vec<u8, A>,
 ) -> Result<(), AllocError>
     ensures reply { (text : List ℕ) → line.now ≡ kept_of text
@@ -476,7 +527,7 @@ fn perform<A: Allocator + Copy>(
         recorder.old (meaning_of typed line.now)) }
 {
     match typed {
-        Typed::Itself => explain_kept(alloc, recorder, line, reply),
+        Typed::Itself => answer_itself(alloc, recorder, line, progress, reply),
         Typed::Misformed => misform(alloc, recorder, line, reply),
         Typed::Placed(address) => place(alloc, recorder, address, line.front(), reply),
         Typed::Go(address) => go(alloc, recorder, address, reply),
@@ -495,11 +546,35 @@ impl<A: Allocator + Copy> Monitor<Laboratory<A>, A> {
     pub fn new(alloc: A) -> Result<Monitor<Laboratory<A>, A>, AllocError>
         ensures { IfOk result (λ monitor. monitor ≡ untouched opening_standing) }
     {
+        Monitor::telling(alloc, Silence)
+    }
+}
+
+impl<A: Allocator + Copy, P: Progress> Monitor<Laboratory<A>, A, P> {
+    /// A monitor with a new laboratory, which tells how far long runs are.
+    pub fn telling(alloc: A, progress: P) -> Result<Monitor<Laboratory<A>, A, P>, AllocError>
+        ensures { IfOk result (λ monitor. monitor ≡ untouched opening_standing) }
+    {
         let laboratory = Laboratory::new(alloc)?;
         Ok(Monitor {
             alloc,
             recorder: Recorder::new(alloc, laboratory),
+            progress,
         })
+    }
+
+    /// Answers a block of lines: the reply's bytes are put behind `reply`. A refused growth leaves open what was done.
+    pub(crate) fn take_block<B: Allocator>(
+        &mut self,
+        kind: &[u8],
+        text: &[u8],
+        reply: &mut Vec<u8, B>,
+    ) -> Result<(), AllocError>
+        ensures reply { OnOk result (reply.new.items
+            ≡ reply.old.items ++ block_reply self.old kind.now text.now) }
+        ensures after { OnOk result (self.new ≡ behind_block self.old kind.now text.now) }
+    {
+        answer_block(self.alloc, &mut self.recorder, kind, text, reply)
     }
 
     /// The laboratory in which its lines are answered.
@@ -510,12 +585,19 @@ impl<A: Allocator + Copy> Monitor<Laboratory<A>, A> {
     }
 }
 
-impl<A: Allocator + Copy> Answers<A> for Monitor<Laboratory<A>, A> {
+impl<A: Allocator + Copy, P: Progress> Answers<A> for Monitor<Laboratory<A>, A, P> {
     ghost language = { monitor_language };
 
     fn answer(&mut self, line: &LineBytes, reply: &mut Vec<u8, A>) -> Result<(), AllocError> {
         let typed = typed_at(self.recorder.answers(), line);
-        perform(self.alloc, &mut self.recorder, typed, line, reply)
+        perform(
+            self.alloc,
+            &mut self.recorder,
+            typed,
+            line,
+            &self.progress,
+            reply,
+        )
     }
 
     fn close(&mut self, reply: &mut Vec<u8, A>) -> Result<(), AllocError> {

@@ -18,13 +18,15 @@ pub enum RefusalKind {
     ClockEnd,
     Full,
     NoRule,
+    TooFar,
+    NoHit,
     NoImage,
     TooLong,
     BadSign,
 }
 
 /// The refusals that do not say all by themselves, by their numbers.
-const NUMBERS: [Named<RefusalKind>; 8] = [
+const NUMBERS: [Named<RefusalKind>; 10] = [
     Named {
         name: b"2",
         value: RefusalKind::Moving,
@@ -44,6 +46,14 @@ const NUMBERS: [Named<RefusalKind>; 8] = [
     Named {
         name: b"6",
         value: RefusalKind::NoRule,
+    },
+    Named {
+        name: b"7",
+        value: RefusalKind::TooFar,
+    },
+    Named {
+        name: b"8",
+        value: RefusalKind::NoHit,
     },
     Named {
         name: b"10",
@@ -77,6 +87,8 @@ fn reason_of(kind: RefusalKind) -> &'static [u8]
         RefusalKind::ClockEnd => b"the clock would pass its end, 4611686018427387904",
         RefusalKind::Full => b"there are 64 rules, drop takes one away",
         RefusalKind::NoRule => b"no rule has this number, rules lists them",
+        RefusalKind::TooFar => b"no more orders than this are kept",
+        RefusalKind::NoHit => b"no rule hits one of the kept orders, which are so many",
         RefusalKind::NoImage => b"no source has assembled yet",
         RefusalKind::TooLong => b"a line has at most 4096 bytes, a source 1048576",
         RefusalKind::BadSign => {

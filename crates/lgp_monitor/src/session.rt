@@ -3,9 +3,10 @@
 ghost use Rattle.std.specs.Prelude.{◌≡◌, List, None, Option, ℕ, IfErr, IfOk, OnOk, false, map};
 ghost use Rattle.std.specs.String.{string_bytes};
 ghost use Rattle.lgp_lab.specs.Tasks.{IsUnread, read_limit};
-ghost use Rattle.lgp_monitor.specs.Sessions.{HasAnswered, IsAsked, IsHeld, session_manner, session_status, typed_with};
+ghost use Rattle.lgp_monitor.specs.Sessions.{HasAnswered, IsAsked, IsHeld, manner_behind, session_manner, session_status, typed_with};
 
 use crate::attending::attend;
+use crate::progress::Progress;
 use lgp_desk::{Bell, Manner};
 use lgp_lab::{FileFault, WordFault, refuse, refuse_words, status_of};
 use lgp_stream::{Feed, Sink, StreamFault};
@@ -24,28 +25,30 @@ fn session_status(outcome: Result<u64, StreamFault>) -> u8
 }
 
 /// Answers the lines on standard input.
-fn answer<A: Allocator + Copy, B: Bell, R: Feed, W: Sink>(
+fn answer<A: Allocator + Copy, B: Bell, P: Progress, R: Feed, W: Sink>(
     alloc: A,
     manner: Manner,
     bell: B,
+    progress: P,
     input: &mut R,
     output: &mut W,
 ) -> Result<u64, StreamFault>
     ensures { HasAnswered A manner (R.remaining input.old) result
         (W.contents output.old) (W.contents output.new) }
 {
-    match attend(alloc, manner, bell, input, output) {
+    match attend(alloc, manner, bell, progress, input, output) {
         Ok(count) => Ok(count),
         Err(fault) => Err(fault),
     }
 }
 
 /// Holds a session: answers the lines on standard input to their end or to `quit`, in this manner; answers the status. The bell rings
-/// at `quit`.
-pub fn hold_session<A: Allocator + Copy, B: Bell, R: Feed, W: Sink>(
+/// at `quit`, and how far long runs are is told while they go on.
+pub fn hold_session<A: Allocator + Copy, B: Bell, P: Progress, R: Feed, W: Sink>(
     alloc: A,
     manner: Manner,
     bell: B,
+    progress: P,
     input: &mut R,
     output: &mut W,
 ) -> u8
@@ -55,7 +58,7 @@ pub fn hold_session<A: Allocator + Copy, B: Bell, R: Feed, W: Sink>(
     ensures { IsHeld A manner (R.remaining input.old) result
         (W.contents output.old) (W.contents output.new) }
 {
-    session_status(answer(alloc, manner, bell, input, output))
+    session_status(answer(alloc, manner, bell, progress, input, output))
 }
 
 /// What is typed, in front of which the lines of files can come.
@@ -81,6 +84,16 @@ impl<B: Allocator + Copy, K: Feed + Drop, F: Filing + Drop> FilesFirst for Typis
     }
 }
 
+/// How replies are written where the lines of these files come first.
+fn manner_behind<A: Allocator>(files: &FileNames<A>, manner: Manner) -> Manner
+    ensures { result ≡ manner_behind files.now manner }
+{
+    match manner {
+        Manner::Prompting if !files.names().is_empty() => Manner::PromptingBehindFirst,
+        _ => manner,
+    }
+}
+
 /// How replies are written in a session.
 fn session_manner<A: Allocator>(manner: Manner, task: &SessionTask<A>) -> Manner
     ensures { result ≡ session_manner manner task.now }
@@ -88,7 +101,7 @@ fn session_manner<A: Allocator>(manner: Manner, task: &SessionTask<A>) -> Manner
     if task.is_echoing() {
         Manner::Echoing
     } else {
-        manner
+        manner_behind(task.files(), manner)
     }
 }
 
@@ -109,11 +122,12 @@ fn begin_with<A: Allocator, R: FilesFirst>(
 }
 
 /// Holds the session of a task; answers the status.
-fn hold_task<A: Allocator + Copy, B: Bell, R: FilesFirst, W: Sink>(
+fn hold_task<A: Allocator + Copy, B: Bell, P: Progress, R: FilesFirst, W: Sink>(
     alloc: A,
     task: &SessionTask<A>,
     manner: Manner,
     bell: B,
+    progress: P,
     input: &mut R,
     output: &mut W,
 ) -> u8
@@ -127,19 +141,27 @@ fn hold_task<A: Allocator + Copy, B: Bell, R: FilesFirst, W: Sink>(
     if begin_with(task.files(), input).is_err() {
         return session_status(Err(StreamFault::Memory));
     }
-    hold_session(alloc, session_manner(manner, task), bell, input, output)
+    hold_session(
+        alloc,
+        session_manner(manner, task),
+        bell,
+        progress,
+        input,
+        output,
+    )
 }
 
 /// What the monitor's program does with the words of its command line, of which the first is its name: it holds a session, or tells
 /// why they ask for none, or why they are not there; answers its status. In a session the lines of the files come first that the
 /// words name, and with `--echo` each line stands above its reply. `clap` reads the words, and takes its own memory from the global
 /// allocator.
-pub fn obey_session<A: Allocator + Copy, B: Bell, R: FilesFirst, W: Sink, M: Sink>(
+pub fn obey_session<A: Allocator + Copy, B: Bell, P: Progress, R: FilesFirst, W: Sink, M: Sink>(
     global: Global,
     alloc: A,
     words: Result<&[String], WordFault>,
     manner: Manner,
     bell: B,
+    progress: P,
     input: &mut R,
     output: &mut W,
     messages: &mut M,
@@ -162,7 +184,7 @@ pub fn obey_session<A: Allocator + Copy, B: Bell, R: FilesFirst, W: Sink, M: Sin
         Err(fault) => return refuse_words(fault, messages),
     };
     match ask_for_session(global, alloc, words) {
-        Ok(task) => hold_task(alloc, &task, manner, bell, input, output),
+        Ok(task) => hold_task(alloc, &task, manner, bell, progress, input, output),
         Err(fault) => refuse(&fault, output, messages),
     }
 }

@@ -338,7 +338,7 @@ fn typed_line(names: &[(Name, u16)], counter: Address, line: &[u8]) -> Typed
 }
 
 /// Whether a line begins with a semicolon.
-fn is_comment(line: &[u8]) -> bool
+pub fn is_comment(line: &[u8]) -> bool
     ensures { result ≡ (slice_index line.now 0 == byte ";") }
 {
     match line {

@@ -34,6 +34,7 @@ pub enum Verb {
     Tape,
     Archive,
     Save,
+    Restore,
     List,
     Load,
     Break,
@@ -48,7 +49,7 @@ pub enum Verb {
 }
 
 /// The commands by their first word.
-pub const VERBS: [Named<Verb>; 36] = [
+pub const VERBS: [Named<Verb>; 37] = [
     Named {
         name: b"put",
         value: Verb::Put,
@@ -150,6 +151,10 @@ pub const VERBS: [Named<Verb>; 36] = [
         value: Verb::Save,
     },
     Named {
+        name: b"restore",
+        value: Verb::Restore,
+    },
+    Named {
         name: b"list",
         value: Verb::List,
     },
@@ -239,6 +244,7 @@ pub fn form_of(verb: Verb) -> &'static [u8]
         Verb::Tape => b"tape FILE, in the program lgp_monitor",
         Verb::Archive => b"archive FILE, in the program lgp_monitor",
         Verb::Save => b"save FILE, in the program lgp_monitor",
+        Verb::Restore => b"restore FILE, in the program lgp_monitor",
         Verb::List => b"list",
         Verb::Load => b"load",
         Verb::Break => b"break ttss",

@@ -2,6 +2,8 @@
 //! is written for each.
 
 mod attending;
+mod blocks;
+mod progress;
 mod sessions;
 
 use lgp_lab::{FeedOf, READS, SinkOf};
@@ -14,7 +16,7 @@ use std::process::Abort;
 /// Typed lines, what is written for them, and how many replies begin with a question mark.
 type Row = (&'static [u8], &'static [u8], u64);
 
-const ROWS: [Row; 22] = [
+const ROWS: [Row; 26] = [
     // Words by order, number and fraction: the machine's word of n at 30 is 2n, and -.5 is -2^30 of 2^31 steps.
     (
         b"put 0050 = 385\nput 0051 = -1\nput 0052 -.5\nput 0053 h 6363\nwords 0050 4\n",
@@ -41,7 +43,7 @@ const ROWS: [Row; 22] = [
     // The refusals of the script language, with their reasons: at work a word, an order and a tape, then word times; in manual the rest.
     (
         b"press start\nput 0000 00000002\nput *+1 z\nmount 12\nturn 1\npress manual\ndrop 0\nback 1\nlast\nlist\nmount 12A\ntranscript\n",
-        b"live\n? 2 Moving: the machine is at work, press manual halts it\n? 2 Moving: the machine is at work, press manual halts it\n? 2 Moving: the machine is at work, press manual halts it\n? 3 AtWork: the machine is at work, and turn is for one at rest\nlive\n? 6 NoRule: no rule has this number, rules lists them\n? 7 TooFar 0\n? 8 NoHit 0\n? 10 NoImage: no source has assembled yet\n? 12 BadSign 2: the byte at this place of the text, counted from 0, begins no sign of a tape\npress start\nput 0000 00000002\nput 0001 00000000\nmount 12\nturn 1\npress manual\ndrop 0\nback 1\nlast\nlist\nmount 12A\n",
+        b"live\n? 2 Moving: the machine is at work, press manual halts it\n? 2 Moving: the machine is at work, press manual halts it\n? 2 Moving: the machine is at work, press manual halts it\n? 3 AtWork: the machine is at work, and turn is for one at rest\nlive\n? 6 NoRule: no rule has this number, rules lists them\n? 7 TooFar 0: no more orders than this are kept\n? 8 NoHit 0: no rule hits one of the kept orders, which are so many\n? 10 NoImage: no source has assembled yet\n? 12 BadSign 2: the byte at this place of the text, counted from 0, begins no sign of a tape\npress start\nput 0000 00000002\nput 0001 00000000\nmount 12\nturn 1\npress manual\ndrop 0\nback 1\nlast\nlist\nmount 12A\n",
         9,
     ),
     // A new laboratory, with an empty transcript.
@@ -53,7 +55,26 @@ const ROWS: [Row; 22] = [
     // In an open source each line is the source's: a label with no order of that name, and a label alone.
     (
         b"source\ngo 0000\nnew\n.\ntranscript\n",
-        b"? 9 Faults\nline 1 UnknownOrder\nline 3 NoEnd\nsource\ngo 0000\nnew\n.\n",
+        b"? 9 Faults\nline 1 UnknownOrder\n        go 0000\n           ^^^^\nline 3 NoEnd\nsource\ngo 0000\nnew\n.\n",
+        1,
+    ),
+    // Faults of three kinds, each with its line and a mark; the line without one is not shown, nor is any where the source has no end. The
+    // source from before stays.
+    (
+        b"source\nold z\n end\n.\nsource\nstart b none\n\n q 0100 ; no such order\r\nstart\tz\n end\n.\nlabels\ntranscript\n",
+        b"cells 1 start none\n? 9 Faults\nline 1 UnknownName\n        start b none\n                ^^^^\nline 3 UnknownOrder\n         q 0100 ; no such order\n         ^\nline 4 LabelTwice\n        start\tz\n        ^^^^^\nold 0000\nsource\nold z\n end\n.\nsource\nstart b none\n\n q 0100 ; no such order\nstart\tz\n end\n.\n",
+        1,
+    ),
+    (
+        b"source\n q\n.\n",
+        b"? 9 Faults\nline 1 UnknownOrder\n         q\n         ^\nline 2 NoEnd\n",
+        1,
+    ),
+    // An empty source has no line to show. At the end of all lines a source is closed as that of a script is.
+    (b"source\n.\n", b"? 9 Faults\nline 1 NoEnd\n", 1),
+    (
+        b"source\n q\n end\n",
+        b"? 9 Faults\nline 1 UnknownOrder\n",
         1,
     ),
     // Two orders told one by one; the transcript has the run.
@@ -225,18 +246,54 @@ fn a_program_that_changes_itself_is_told(rt: HostRuntime) {
     assert_eq!(rt; told, [true, true]);
 }
 
+/// A source of these lines between a short one and its point.
+fn is_answered(global: Global, lines: &[u8], text: &[u8]) -> bool {
+    let mut typed = Vec::new(global);
+    let mut written = Vec::new(global);
+    typed.extend_from_slice(b"source\n q\n").is_ok()
+        && typed.extend_from_slice(lines).is_ok()
+        && typed.extend_from_slice(b"\n.\n").is_ok()
+        && run(global, &typed, &mut written) == Ok(1)
+        && written.as_slice() == text
+}
+
+/// A line of a source as long as a line may be, and one that is longer.
+const LONGEST: [u8; 4096] = [b' '; 4096];
+
+const TOO_LONG: [u8; 4097] = [b' '; 4097];
+
+#[test]
+fn a_source_that_is_too_long_has_no_marks(rt: HostRuntime) {
+    let marked = b"? 9 Faults\nline 1 UnknownOrder\n         q\n         ^\nline 3 NoEnd\n";
+    let refused = b"? 11 TooLong: a line has at most 4096 bytes, a source 1048576\n";
+    let answered = [
+        is_answered(rt.alloc(), &LONGEST, marked),
+        is_answered(rt.alloc(), &TOO_LONG, refused),
+    ];
+    assert_eq!(rt; answered, [true, true]);
+}
+
 /// Runs that are told in each way, with labels.
 const EACH: &[u8] =
     b"source\nfirst z\n end\n.\nput 0000 b 0003\npress start\ntrace 1\nprofile 1\npress start\ndrum 2\n";
 
+/// Two sources with faults.
+const FAULTY: &[u8] = b"source\n q\n b none\n end\n.\nsource\n z\n.\n";
+
 /// More growths than those lines take.
 const MOST: u64 = 1000;
 
-/// Answers those lines with the nth growth refused: whether it was, and whether the end was that of a refused or of a whole run.
-fn ended(scarce: &Scarce<Global>, global: Global, nth: u64) -> (bool, bool) {
+/// Answers lines with the nth growth refused: whether it was, and whether the end was that of a refused or of a whole run.
+fn ended(
+    scarce: &Scarce<Global>,
+    global: Global,
+    lines: &[u8],
+    faults: u64,
+    nth: u64,
+) -> (bool, bool) {
     let mut written = Vec::new(global);
     scarce.refuse(nth);
-    let outcome = run(scarce, EACH, &mut written);
+    let outcome = run(scarce, lines, &mut written);
     let refused = scarce.was_refused();
     (
         refused,
@@ -244,15 +301,15 @@ fn ended(scarce: &Scarce<Global>, global: Global, nth: u64) -> (bool, bool) {
             == if refused {
                 Err(StreamFault::Memory)
             } else {
-                Ok(0)
+                Ok(faults)
             },
     )
 }
 
 /// Whether each growth that is refused in turn, until none is left, ends the lines for want of memory; how many there are.
-fn refusals(scarce: &Scarce<Global>, global: Global) -> Option<u64> {
+fn refusals(scarce: &Scarce<Global>, global: Global, lines: &[u8], faults: u64) -> Option<u64> {
     for nth in 1..MOST {
-        match ended(scarce, global, nth) {
+        match ended(scarce, global, lines, faults, nth) {
             (true, true) => {}
             (false, true) => return Some(nth - 1),
             _ => return None,
@@ -264,6 +321,13 @@ fn refusals(scarce: &Scarce<Global>, global: Global) -> Option<u64> {
 #[test]
 fn each_growth_of_a_told_run_is_refused(rt: HostRuntime) {
     let scarce = Scarce::new(rt.alloc());
-    let refused = refusals(&scarce, rt.alloc());
+    let refused = refusals(&scarce, rt.alloc(), EACH, 0);
+    assert!(rt; refused.is_some_and(|count| count > 20), "{refused:?}");
+}
+
+#[test]
+fn each_growth_of_marked_faults_is_refused(rt: HostRuntime) {
+    let scarce = Scarce::new(rt.alloc());
+    let refused = refusals(&scarce, rt.alloc(), FAULTY, 2);
     assert!(rt; refused.is_some_and(|count| count > 20), "{refused:?}");
 }

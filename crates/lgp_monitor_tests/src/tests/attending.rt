@@ -3,7 +3,7 @@
 use crate::tests::sessions::Mute;
 use lgp_desk::Manner;
 use lgp_lab::{FeedOf, READS, SinkOf};
-use lgp_monitor::attend;
+use lgp_monitor::{Silence, attend};
 use lgp_stream::StreamFault;
 use std::alloc::{Allocator, Global};
 use std::process::Abort;
@@ -11,7 +11,7 @@ use std::process::Abort;
 /// Typed lines, how they are written, and what is written.
 type Row = (Manner, &'static [u8], &'static [u8]);
 
-const ROWS: [Row; 7] = [
+const ROWS: [Row; 8] = [
     // The counter stands in front of each line but those of a source, in which quit is a line as others.
     (
         Manner::Prompting,
@@ -41,7 +41,12 @@ const ROWS: [Row; 7] = [
         b"# line 1 of demo.txt\nput 0000 = 1\npanels\n#> ? 13 NoFile tape.txt\n#\ntranscript\n",
         b"0000> ok\n? 1 Form: there is no such command, help lists them\n        line 1 of demo.txt\n? 13 NoFile tape.txt\n        line 1 of demo.txt\n0000> put 0000 00000002\npanels\n0000> \n",
     ),
-    // No kind of block is answered yet.
+    (
+        Manner::PromptingBehindFirst,
+        b"# line 1 of demo.txt\nput 0000 = 1\n#\nquit\n",
+        b"ok\n0000> ",
+    ),
+    // A kind of block that is none.
     (
         Manner::Bare,
         b"#< panel\npanel\n#.\ntranscript\n",
@@ -51,7 +56,7 @@ const ROWS: [Row; 7] = [
     (
         Manner::Bare,
         b"source\n# a\n end\n.\n",
-        b"? 9 Faults\nline 1 BadLabel\n",
+        b"? 9 Faults\nline 1 BadLabel\n        # a\n        ^\n",
     ),
 ];
 
@@ -64,7 +69,7 @@ fn run<A: Allocator + Copy>(
 ) -> Result<u64, StreamFault> {
     let mut feed = FeedOf::new(typed, READS);
     let mut sink = SinkOf::new(written);
-    attend(alloc, manner, Mute, &mut feed, &mut sink)
+    attend(alloc, manner, Mute, Silence, &mut feed, &mut sink)
 }
 
 /// Expects what is written for typed lines.

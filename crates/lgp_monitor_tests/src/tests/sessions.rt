@@ -4,7 +4,7 @@ ghost use Rattle.std.specs.Prelude.{◌≡◌, false};
 
 use lgp_desk::{Bell, Manner};
 use lgp_lab::{Feed, FeedOf, READS, Sink, SinkOf, WordFault};
-use lgp_monitor::obey_session;
+use lgp_monitor::{Silence, obey_session};
 use lgp_typist::{Board, DeskBell, Filing, Typist};
 use std::alloc::{AllocError, Global};
 use std::process::Abort;
@@ -51,6 +51,7 @@ fn words_of(alloc: Global, typed: &[&str]) -> Result<Vec<String>, AllocError> {
 fn obeyed<F: Filing + Drop, R: Feed + Drop, W: Sink, M: Sink>(
     alloc: Global,
     words: Result<&[String], WordFault>,
+    manner: Manner,
     filing: F,
     keyboard: R,
     output: &mut W,
@@ -65,8 +66,9 @@ fn obeyed<F: Filing + Drop, R: Feed + Drop, W: Sink, M: Sink>(
         alloc,
         alloc,
         words,
-        Manner::Bare,
+        manner,
         DeskBell::new(&board),
+        Silence,
         &mut typist,
         output,
         messages,
@@ -77,24 +79,34 @@ fn obeyed<F: Filing + Drop, R: Feed + Drop, W: Sink, M: Sink>(
 fn status_for(
     alloc: Global,
     words: Result<&[String], WordFault>,
+    manner: Manner,
     output: &mut Vec<u8>,
     messages: &mut Vec<u8>,
 ) -> u8 {
     let keyboard = FeedOf::new(b"put 0000 = 1\nbar".as_slice(), READS);
     let mut output = SinkOf::new(&mut *output);
     let mut messages = SinkOf::new(&mut *messages);
-    obeyed(alloc, words, OneFile, keyboard, &mut output, &mut messages)
+    obeyed(
+        alloc,
+        words,
+        manner,
+        OneFile,
+        keyboard,
+        &mut output,
+        &mut messages,
+    )
 }
 
 /// The status for words that are typed.
 fn status_typed(
     alloc: Global,
     typed: &[&str],
+    manner: Manner,
     output: &mut Vec<u8>,
     messages: &mut Vec<u8>,
 ) -> Option<u8> {
     match words_of(alloc, typed) {
-        Ok(words) => Some(status_for(alloc, Ok(&words), output, messages)),
+        Ok(words) => Some(status_for(alloc, Ok(&words), manner, output, messages)),
         Err(_) => None,
     }
 }
@@ -103,7 +115,7 @@ fn status_typed(
 fn told_for(alloc: Global, typed: &[&str]) -> (bool, bool, Option<u8>) {
     let mut output = Vec::new(alloc);
     let mut messages = Vec::new(alloc);
-    let status = status_typed(alloc, typed, &mut output, &mut messages);
+    let status = status_typed(alloc, typed, Manner::Bare, &mut output, &mut messages);
     (!output.is_empty(), !messages.is_empty(), status)
 }
 
@@ -123,12 +135,17 @@ fn help_is_no_message_and_a_mistake_is_one(rt: HostRuntime) {
     assert_eq!(rt; told, [held, help, help, mistake, mistake]);
 }
 
-/// Expects what is written for a session and for the version.
-fn expect_output(rt: &impl Abort, alloc: Global, typed: &[&str], wanted: (&[u8], u8)) {
+/// Expects what is written in this manner for a session and for the version.
+fn expect_in(rt: &impl Abort, alloc: Global, typed: &[&str], manner: Manner, wanted: (&[u8], u8)) {
     let mut output = Vec::new(alloc);
     let mut messages = Vec::new(alloc);
-    let status = status_typed(alloc, typed, &mut output, &mut messages);
+    let status = status_typed(alloc, typed, manner, &mut output, &mut messages);
     assert_eq!(rt; (output.as_slice(), status), (wanted.0, Some(wanted.1)));
+}
+
+/// Expects what is written for a session and for the version where no prompt is asked for.
+fn expect_output(rt: &impl Abort, alloc: Global, typed: &[&str], wanted: (&[u8], u8)) {
+    expect_in(rt, alloc, typed, Manner::Bare, wanted);
 }
 
 /// What is written for the lines on standard input.
@@ -140,7 +157,8 @@ const TAUGHT: &[u8] =
     ok\n? 1 Form: there is no such command, help lists them\n";
 
 /// What is written where a file is not there.
-const LACKING: &[u8] = b"? 13 File none.txt: it cannot be opened\n\
+const LACKING: &[u8] =
+    b"? 13 File none.txt: it cannot be opened\n        named on the command line\n\
     ok\n? 1 Form: there is no such command, help lists them\n";
 
 /// What is written where each line stands above its reply.
@@ -157,11 +175,51 @@ fn a_session_is_held(rt: HostRuntime) {
     expect_output(&rt, rt.alloc(), &["lgp_monitor", "--version"], (version, 0));
 }
 
+/// What is written with prompts: for the lines on standard input alone, behind those of a file, behind a file that is not there, and
+/// behind three files.
+const PROMPTED: [(&[&str], &[u8]); 5] = [
+    (
+        &["lgp_monitor"],
+        b"0000> ok\n0000> ? 1 Form: there is no such command, help lists them\n0000> \n",
+    ),
+    (
+        &["lgp_monitor", "lesson.txt"],
+        b"ok\n? 1 Form: there is no such command, help lists them\n        line 2 of lesson.txt\n\
+        0000> ok\n0000> ? 1 Form: there is no such command, help lists them\n0000> \n",
+    ),
+    (
+        &["lgp_monitor", "none.txt"],
+        b"? 13 File none.txt: it cannot be opened\n        named on the command line\n\
+        0000> ok\n0000> ? 1 Form: there is no such command, help lists them\n0000> \n",
+    ),
+    (
+        &["lgp_monitor", "lesson.txt", "none.txt", "lesson.txt"],
+        b"ok\n? 1 Form: there is no such command, help lists them\n        line 2 of lesson.txt\n\
+        ? 13 File none.txt: it cannot be opened\n        named on the command line\n\
+        ok\n? 1 Form: there is no such command, help lists them\n        line 2 of lesson.txt\n\
+        0000> ok\n0000> ? 1 Form: there is no such command, help lists them\n0000> \n",
+    ),
+    (&["lgp_monitor", "--echo", "lesson.txt"], TAUGHT_ECHOED),
+];
+
+/// What is written where the lines of a file come first and each line stands above its reply.
+const TAUGHT_ECHOED: &[u8] =
+    b"> put 0001 = 2\nok\n? foo\n? 1 Form: there is no such command, help lists them\n\
+    \x20       line 2 of lesson.txt\n\
+    > put 0000 = 1\nok\n? bar\n? 1 Form: there is no such command, help lists them\n";
+
+#[test]
+fn a_prompt_stands_behind_the_lines_of_files(rt: HostRuntime) {
+    for (typed, written) in PROMPTED {
+        expect_in(&rt, rt.alloc(), typed, Manner::Prompting, (written, 1));
+    }
+}
+
 /// What is told of words that are not there, whether there is no output, and the status.
 fn expect_unread(rt: &impl Abort, alloc: Global, fault: WordFault, wanted: (&[u8], u8)) {
     let mut output = Vec::new(alloc);
     let mut messages = Vec::new(alloc);
-    let status = status_for(alloc, Err(fault), &mut output, &mut messages);
+    let status = status_for(alloc, Err(fault), Manner::Bare, &mut output, &mut messages);
     let silent = output.is_empty();
     assert_eq!(rt;
         (messages.as_slice(), silent, status),

@@ -1,0 +1,13 @@
+use Rattle.std.proofs.Common.{◌-◌, ◌<◌, ◌≤◌}
+use Rattle.lgp_debugger.proofs.RunLemmas.{HasRun}
+use Rattle.lgp_monitor.proofs.portions.run_in_portions.Given as goal
+
+abbrev pub invariant-loop-done : goal.invariant-loop-done
+invariant-loop-done g l = record {
+  within : l.done ≤ l.limit;
+  positive : 0 < l.portion;
+  runs : HasRun {A = g.row.A.Denot} l.initial.debugger l.debugger l.done;
+}
+
+abbrev pub decreases-loop-done : goal.decreases-loop-done
+decreases-loop-done g l = l.limit - l.done

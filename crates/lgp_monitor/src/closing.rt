@@ -1,0 +1,253 @@
+//! What is answered where a point closes a source with faults.
+
+ghost use Rattle.std.specs.Prelude.{◌≡◌, ◌+◌, ◌^◌, ◌<◌, ◌≤◌, ◌++◌, IfOk, OnOk, codes, drop, option_map};
+ghost use Rattle.std.specs.Option.{option_copied};
+ghost use Rattle.lgp_source.specs.Source.{lines_of};
+ghost use Rattle.lgp_monitor.specs.Closing.{closing_reply, fault_line, faulty_reply, is_source_end, marked_at, marked_fault, marked_faults, shown_faults, text_at};
+
+use lgp_assembler::{AssembleError, Fault, FaultKind, assemble};
+use lgp_lab::Laboratory;
+use lgp_marks::push_marked;
+use lgp_source::Lines;
+use lgp_stream::LineBytes;
+use lgp_text::{Piece, push_pieces};
+use std::alloc::{AllocError, Allocator};
+use std::marker::Model;
+
+/// Appends the number of a fault's line and its kind.
+#[tactic(auto, unfolding(crate::specs::Closing::fault_line))]
+fn push_fault_line<A: Allocator>(text: &mut Vec<u8, A>, fault: &Fault) -> Result<(), AllocError>
+    ensures { OnOk result (text.new.items ≡ text.old.items ++ fault_line fault.now) }
+{
+    push_pieces(
+        text,
+        &[
+            Piece::Text(b"line "),
+            Piece::Number(fault.line),
+            Piece::Text(b" "),
+            Piece::Text(fault.kind.name().as_bytes()),
+            Piece::Text(b"\n"),
+        ],
+    )
+}
+
+/// Appends a line with its mark, if there is one.
+fn push_marked_at<A: Allocator>(
+    text: &mut Vec<u8, A>,
+    line: Option<&[u8]>,
+    kind: FaultKind,
+) -> Result<(), AllocError>
+    ensures { OnOk result (text.new.items
+        ≡ text.old.items ++ marked_at kind (option_copied line.entry)) }
+{
+    match line {
+        Some(line) => push_marked(text, line, kind),
+        None => Ok(()),
+    }
+}
+
+/// Passes over so many lines, or all.
+fn pass_lines(lines: &mut Lines, count: u64)
+    ensures { lines.new ≡ drop count lines.old }
+{
+    for _passed in 0..count {
+        let Some(_) = lines.next() else {
+            return;
+        };
+    }
+}
+
+/// The text of the next line.
+fn next_text<'s>(lines: &mut Lines<'s>) -> Option<&'s [u8]>
+    ensures text { option_copied result ≡ text_at lines.old 0 }
+    ensures rest { lines.new ≡ drop 1 lines.old }
+{
+    let line = lines.next()?;
+    Some(line.text)
+}
+
+/// The lines of a source, some of them passed. Faults come in the order of lines, so that their lines
+/// are found in one pass; where one lies behind, the pass begins anew.
+#[derive(Drop)]
+struct Passed<'s> {
+    source: &'s [u8],
+    lines: Lines<'s>,
+    count: u64,
+}
+
+impl<'s> Model for Passed<'s> {
+    ghost use Rattle.std.specs.Prelude.{◌≡◌, drop};
+    ghost use Rattle.lgp_source.specs.Source.{lines_of};
+    ghost use Rattle.lgp_monitor.specs.ClosingInside.{PassedLines};
+
+    ghost Value = { PassedLines };
+
+    ghost view = { λ passed. record {
+      all = lines_of passed.source.now;
+      count = passed.count;
+    } };
+
+    ghost invariant = { λ passed. passed.lines ≡ drop passed.count (lines_of passed.source.now) };
+}
+
+impl<'s> Passed<'s> {
+    /// No line was passed.
+    fn new(source: &'s [u8]) -> Passed<'s>
+        ensures { result ≡ record { all = lines_of source.now; count = 0 } }
+    {
+        Passed {
+            source,
+            lines: Lines::new(source),
+            count: 0,
+        }
+    }
+
+    /// Goes back in front of the first line, if the line at this place was passed.
+    fn go_back(&mut self, place: u64)
+        ensures all { self.new.all ≡ self.old.all }
+        ensures count { self.new.count ≤ place }
+    {
+        if place < self.count {
+            self.lines = Lines::new(self.source);
+            self.count = 0;
+        }
+    }
+
+    /// Goes on to the line at a place.
+    fn go_on(&mut self, place: u64)
+        requires { self.old.count ≤ place }
+        ensures { self.new ≡ record { all = self.old.all; count = place } }
+    {
+        pass_lines(&mut self.lines, place - self.count);
+        self.count = place;
+    }
+
+    /// The text of the next line, which is passed.
+    fn next_text(&mut self) -> Option<&'s [u8]>
+        requires { self.old.count + 1 < 2 ^ 64 }
+        ensures text { option_copied result ≡ text_at self.old.all self.old.count }
+        ensures all { self.new.all ≡ self.old.all }
+    {
+        let text = next_text(&mut self.lines);
+        self.count += 1;
+        text
+    }
+
+    /// The text of the line at a place, counted from 0.
+    fn find(&mut self, place: u64) -> Option<&'s [u8]>
+        requires { place + 1 < 2 ^ 64 }
+        ensures text { option_copied result ≡ text_at self.old.all place }
+        ensures all { self.new.all ≡ self.old.all }
+    {
+        self.go_back(place);
+        self.go_on(place);
+        self.next_text()
+    }
+}
+
+/// Appends a fault with its marked line of the source.
+#[tactic(auto, unfolding(crate::specs::Closing::marked_fault))]
+fn push_marked_fault<A: Allocator>(
+    text: &mut Vec<u8, A>,
+    source: &[u8],
+    lines: &mut Passed,
+    fault: &Fault,
+) -> Result<(), AllocError>
+    requires { lines.old.all ≡ lines_of source.now }
+    ensures text { OnOk result (text.new.items
+        ≡ text.old.items ++ marked_fault (lines_of source.now) fault.now) }
+    ensures lines { lines.new.all ≡ lines_of source.now }
+{
+    let line = lines.find(fault.line.saturating_sub(1));
+    push_fault_line(text, fault)?;
+    push_marked_at(text, line, fault.kind)
+}
+
+/// Appends faults, each with its marked line of the source.
+#[tactic(auto, unfolding(crate::specs::Closing::marked_faults))]
+fn push_marked_faults<A: Allocator>(
+    text: &mut Vec<u8, A>,
+    source: &[u8],
+    faults: &[Fault],
+) -> Result<(), AllocError>
+    ensures { OnOk result (text.new.items
+        ≡ text.old.items ++ marked_faults (lines_of source.now) faults.now) }
+{
+    let mut lines = Passed::new(source);
+    for fault in faults {
+        push_marked_fault(text, source, &mut lines, fault)?;
+    }
+    Ok(())
+}
+
+/// The reply to the end of a source with these faults.
+fn faults_reply<A: Allocator>(
+    alloc: A,
+    source: &[u8],
+    faults: &[Fault],
+) -> Result<Vec<u8, A>, AllocError>
+    ensures { IfOk result (λ reply. reply.items
+        ≡ codes "? 9 Faults\n" ++ marked_faults (lines_of source.now) faults.now) }
+{
+    let mut reply = Vec::new(alloc);
+    reply.extend_from_slice(b"? 9 Faults\n")?;
+    push_marked_faults(&mut reply, source, faults)?;
+    Ok(reply)
+}
+
+/// The reply to the end of a source, if it has faults.
+#[tactic(auto, unfolding(crate::specs::Closing::faulty_reply))]
+fn faulty_reply<A: Allocator + Copy>(
+    alloc: A,
+    source: &[u8],
+) -> Result<Option<Vec<u8, A>>, AllocError>
+    ensures { IfOk result (λ reply. option_map (λ it. it.items) reply
+        ≡ faulty_reply source.now) }
+{
+    match assemble(alloc, source) {
+        Ok(_) => Ok(None),
+        Err(AssembleError::Faults(list)) => {
+            let reply = faults_reply(alloc, source, list.faults())?;
+            Ok(Some(reply))
+        }
+        Err(AssembleError::Memory) => Err(AllocError),
+    }
+}
+
+/// Whether a line ends a source.
+#[tactic(auto, unfolding(crate::specs::Closing::is_source_end))]
+fn is_source_end(line: &LineBytes) -> bool
+    ensures { result ≡ is_source_end line.now }
+{
+    !line.is_longer() && line.front() == b".".as_slice()
+}
+
+/// The reply to the end of a source that has a byte, if it has faults.
+fn shown_faults<A: Allocator + Copy>(
+    alloc: A,
+    source: &[u8],
+) -> Result<Option<Vec<u8, A>>, AllocError>
+    ensures { IfOk result (λ reply. option_map (λ it. it.items) reply
+        ≡ shown_faults source.now) }
+{
+    if source.is_empty() {
+        return Ok(None);
+    }
+    faulty_reply(alloc, source)
+}
+
+/// The reply to a line that closes a source with faults; None to any other.
+#[tactic(auto, unfolding(crate::specs::Closing::closing_reply))]
+pub fn closing_reply<A: Allocator + Copy>(
+    alloc: A,
+    laboratory: &Laboratory<A>,
+    line: &LineBytes,
+) -> Result<Option<Vec<u8, A>>, AllocError>
+    ensures { IfOk result (λ reply. option_map (λ it. it.items) reply
+        ≡ closing_reply laboratory.now.opened line.now) }
+{
+    if !is_source_end(line) {
+        return Ok(None);
+    }
+    shown_faults(alloc, laboratory.source_so_far())
+}
