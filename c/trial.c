@@ -123,8 +123,8 @@ void try_lines(const struct calls *calls)
     expect(is_reply(ask(calls, &session, "words 0050 1", 32), LGP_WELL, "0050 00000006\n"),
            "a session stays between lines");
     expect(is_reply(ask(calls, &session, "", 32), LGP_WELL, ""), "an empty line has no reply");
-    expect(is_reply(ask(calls, &session, "back 1", 32), LGP_QUESTIONS, "? 7 TooFar 0\n"), "a refusal is told");
-    expect(is_reply(again(calls, &session, 32), LGP_QUESTIONS, "? 7 TooFar 0\n"), "and told again");
+    expect(is_reply(ask(calls, &session, "go", 32), LGP_QUESTIONS, "? 1 Form: go ttss\n"), "a refusal is told");
+    expect(is_reply(again(calls, &session, 32), LGP_QUESTIONS, "? 1 Form: go ttss\n"), "and told again");
     try_rooms(calls, &session);
     expect(is_reply(ask(calls, &session, "source", 32), LGP_WELL, ""), "a source is begun");
     struct told told = end(calls, &session, 32);

@@ -213,7 +213,8 @@ export function toldOf(reply) {
     return { told: lines.slice(0, Math.max(last, 0)), end: lines[last] ?? "" };
 }
 
-/** What a source was answered: its words and start, or its faults by their lines. */
+/** What a source was answered: its words and start, or its faults by their lines. The source's line below a fault, and the mark below
+ * that, begin with blanks. */
 export function sourceOf(reply) {
     const lines = linesOf(reply);
     const cells = /^cells (\d+) start (\d{4}|none)$/.exec(lines[0] ?? "");
@@ -223,7 +224,7 @@ export function sourceOf(reply) {
     if (refusalOf(reply).kind !== "Faults") throw misread("reply of a source", reply);
     return {
         cells: 0, start: null,
-        faults: lines.slice(1).map((line) => {
+        faults: lines.slice(1).filter((line) => !line.startsWith(" ")).map((line) => {
             const [, number, kind] = matched(/^line (\d+) (\w+)$/, line, "fault");
             return { line: Number(number), kind };
         }),

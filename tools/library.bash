@@ -35,3 +35,8 @@ make_module() {
     "$kit/bin/rattle-link" --target "$target" --toolchain "$kit/toolchain" -o "$2" "$top/crates/$1/out/$target/lib$1.a" ||
         give_up "the module of $1 was not linked"
 }
+
+# Replies as a script has them: what a refusal has in a session alone is its reason, behind a colon.
+without_reasons() {
+    sed 's/^\(? [0-9]* [A-Za-z]*\( [0-9]*\)\{0,1\}\): .*/\1/'
+}

@@ -13,7 +13,7 @@ const answers = {
     run: (count) => `ran ${count} limit\n`,
     press: () => "live\n", type: () => "live 1 dead 0\n", orders: (count) => `orders ${count} going\n`,
     profile: () => "orders 3, word times 213, turns of the drum 3.3\n  waiting for orders       154   72 %\n  into the register          3    1 %\n  waiting for words         53   24 %\n  acting                     3    1 %\n  at no address              0    0 %\nthe ten places with most word times\n  0000                      92   43 %\n  0001                      73   34 %\nran 3 rest\n",
-    ".": () => "? 9 Faults\nline 2 UnknownName\n",
+    ".": () => "? 9 Faults\nline 2 UnknownName\n         b none\n           ^^^^\n",
 };
 
 function replyTo(line) {

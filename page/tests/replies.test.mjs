@@ -74,7 +74,7 @@ test("a profile", () => {
 });
 
 test("faults of a source", () => {
-    assert.deepEqual(replies.sourceOf("? 9 Faults\nline 1 UnknownName\nline 2 NoEnd\n").faults,
+    assert.deepEqual(replies.sourceOf("? 9 Faults\nline 1 UnknownName\n         b none\n           ^^^^\nline 2 NoEnd\n").faults,
         [{ line: 1, kind: "UnknownName" }, { line: 2, kind: "NoEnd" }]);
     assert.deepEqual(replies.sourceOf("cells 5 start 0000\n"), { cells: 5, start: "0000", faults: [] });
 });
