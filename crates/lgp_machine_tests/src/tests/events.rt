@@ -76,12 +76,17 @@ fn events_of<A: Allocator>(
     Ok(events)
 }
 
+/// Whether a play of these events comes to the same.
+fn is_played<A: Allocator + Copy>(alloc: A, events: &[Event]) -> Result<bool, Fail> {
+    let mut machine = with_words(alloc, &[(0, TRANSFER)])?;
+    Ok(play(&mut machine, events) == Ok(()) && look(&machine) == shown_after_sixteen())
+}
+
 #[test]
 fn a_play_is_the_same_turns_and_presses(rt: HostRuntime) -> Result<(), Fail> {
-    let mut machine = with_words(rt.alloc(), &[(0, TRANSFER)])?;
     let events = events_of(rt.alloc(), &seventeen_actions(), 66)?;
-    let played = play(&mut machine, events.as_slice());
-    assert_eq!(rt; (played, look(&machine)), (Ok(()), shown_after_sixteen()));
+    let played = is_played(rt.alloc(), events.as_slice())?;
+    assert!(rt; played);
     Ok(())
 }
 
@@ -100,13 +105,22 @@ fn play_refused<B: Allocator>(
     (play(machine, events), scarce.was_refused())
 }
 
+/// Plays two word times before the clock's end, with the first growth refused.
+fn play_at_the_end<B: Allocator>(
+    scarce: &Scarce<B>,
+    events: &[Event],
+) -> Result<(Result<(), PlayFault>, bool), Fail> {
+    let mut machine = printing(scarce)?;
+    if rest(&mut machine, CLOCK_END - 2).is_err() {
+        return Err(Fail::from("no rest"));
+    }
+    Ok(play_refused(scarce, &mut machine, events))
+}
+
 #[test]
 fn a_play_stops_at_the_clocks_end(rt: HostRuntime) -> Result<(), Fail> {
     let events = events_of(rt.alloc(), &[], 2)?;
-    let scarce = Scarce::new(rt.alloc());
-    let mut machine = printing(&scarce)?;
-    rest(&mut machine, CLOCK_END - 2)?;
-    let played = play_refused(&scarce, &mut machine, events.as_slice());
+    let played = play_at_the_end(&Scarce::new(rt.alloc()), events.as_slice())?;
     let stopped = PlayFault {
         done: 3,
         fault: TurnFault::ClockEnd,
@@ -136,17 +150,25 @@ fn play_without_room<B: Allocator>(
     (first, before, second, printed(machine))
 }
 
+/// The same of a print.
+fn print_without_room<B: Allocator>(
+    scarce: &Scarce<B>,
+    events: &[Event],
+) -> Result<Unprinted, Fail> {
+    let mut machine = printing(scarce)?;
+    Ok(play_without_room(scarce, &mut machine, events))
+}
+
 #[test]
 fn a_play_stops_where_there_is_no_room(rt: HostRuntime) -> Result<(), Fail> {
     let events = events_of(rt.alloc(), &[], 450)?;
-    let scarce = Scarce::new(rt.alloc());
-    let mut machine = printing(&scarce)?;
+    let unprinted = print_without_room(&Scarce::new(rt.alloc()), events.as_slice())?;
     let stopped = PlayFault {
         done: 451,
         fault: TurnFault::Memory,
     };
     assert_eq!(rt;
-        play_without_room(&scarce, &mut machine, events.as_slice()),
+        unprinted,
         (
             (Err(stopped), true),
             ((0, None), None),
