@@ -62,15 +62,17 @@ fn begun<A: Allocator + Copy>(
 #[inline(never)]
 fn next_account<H: History<A>, A: Allocator>(
     debugger: &mut Debugger<H, A>,
-) -> Result<Account, StepFault> {
-    step_account(debugger)
+    account: &mut Account,
+) -> Result<(), StepFault> {
+    step_account(debugger, account)
 }
 
 /// How many orders were performed and accounted for.
 fn accounts<H: History<A>, A: Allocator>(debugger: &mut Debugger<H, A>, orders: u64) -> u64 {
+    let mut account = Account::nothing(&debugger.look());
     for order in 0..orders {
-        match next_account(debugger) {
-            Ok(account) if account.before.clock < account.after.clock => {}
+        match next_account(debugger, &mut account) {
+            Ok(()) if account.before.clock < account.after.clock => {}
             _ => return order,
         }
     }

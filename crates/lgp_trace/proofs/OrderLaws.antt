@@ -1,18 +1,24 @@
--- What an order at the counter leaves: itself in the instruction register, the mode and the switches as they stood, each word of
--- the drum that it does not store, and as many codes passed as its last phase took time for.
-use Rattle.std.proofs.Common.{◌≡◌, ◌≢◌, ℕ, ◌+◌, ◌*◌, ◌-◌, ◌/◌, Bool, false, length, ap, refl, arith}
+-- What an order at the counter leaves: itself in the instruction register, the mode and the switches as they stood, and as many codes
+-- passed as its last phase took time for. Its phases and what it prints, as its order and its word times tell them.
+use Rattle.std.proofs.Common.{◌≡◌, ◌≢◌, ℕ, ◌+◌, ◌*◌, ◌-◌, ◌/◌, ◌≤◌, Bool, None, cond, length, ap, ap₂, refl, sym, arith}
 use Rattle.std.proofs.lemmas.List.{length-append}
 use Rattle.lgp_word.specs.declared.order.Op.{Op}
 use Rattle.lgp_word.specs.declared.order.Op.TheVariants.{Z, B, Y, R, I, D, N, M, P, E, U, T, H, C, A, S}
+use Rattle.lgp_word.specs.Address.{sector_of}
 use Rattle.lgp_word.specs.Order.{address_at, op_at, sign_of}
 use Rattle.lgp_flexo.specs.Tape.{Tape, passing}
 use Rattle.lgp_table.specs.State.{Core, State, word_at}
 use Rattle.lgp_table.specs.Rows.{row}
-use Rattle.lgp_table.specs.Activity.{act_time, after_fetch, core_after, core_by, next}
+use Rattle.lgp_table.specs.Activity.{act_time, after_fetch, core_after, core_by, cost, cost_at, next, print_by, print_of, seek_time, time_by}
+use Rattle.lgp_table.specs.Wait.{wait}
+use Rattle.lgp_table.proofs.Costs.{seek_time_more}
 use Rattle.lgp_table.specs.declared.panel.Status.{Status}
 use Rattle.lgp_table.specs.declared.panel.Status.TheVariants.{Halted, Going, Executing, Waiting, Reading}
-use Rattle.lgp_phases.specs.Decoded.{stores}
+use Rattle.lgp_phases.proofs.Bounds.{act_time_more}
+use Rattle.lgp_trace.specs.OrderInside.{passed_in, phases_in, seek_in}
 use Rattle.lgp_trace.specs.Phases.{phases_by, phases_of}
+use Rattle.lgp_trace.specs.Uses.{seeks}
+use Rattle.lgp_trace.specs.declared.phases.Phases.{Phases}
 
 row-register : (op : Op) (minus : Bool) (m : ℕ) (core : Core) → (row op minus m core).core.panel.register ≡ core.panel.register
 row-register op minus m core = elim op as (λ op. (row op minus m core).core.panel.register ≡ core.panel.register) [ Z ↦ refl | B ↦ refl | Y ↦ refl | R ↦ refl | I ↦ refl | D ↦ refl | N ↦ refl | M ↦ refl | P ↦ refl | E ↦ refl | U ↦ refl | T ↦ refl | H ↦ refl | C ↦ refl | A ↦ refl | S ↦ refl ]
@@ -22,9 +28,6 @@ row-mode op minus m core = elim op as (λ op. (row op minus m core).core.panel.m
 
 row-switches : (op : Op) (minus : Bool) (m : ℕ) (core : Core) → (row op minus m core).core.panel.switches ≡ core.panel.switches
 row-switches op minus m core = elim op as (λ op. (row op minus m core).core.panel.switches ≡ core.panel.switches) [ Z ↦ refl | B ↦ refl | Y ↦ refl | R ↦ refl | I ↦ refl | D ↦ refl | N ↦ refl | M ↦ refl | P ↦ refl | E ↦ refl | U ↦ refl | T ↦ refl | H ↦ refl | C ↦ refl | A ↦ refl | S ↦ refl ]
-
-row-words : (op : Op) (minus : Bool) (m : ℕ) (core : Core) → stores op ≡ false → (row op minus m core).core.words ≡ core.words
-row-words op minus m core = elim op as (λ op. stores op ≡ false → (row op minus m core).core.words ≡ core.words) [ Z ↦ λ none. refl | B ↦ λ none. refl | Y ↦ λ none. cc | R ↦ λ none. cc | I ↦ λ none. refl | D ↦ λ none. refl | N ↦ λ none. refl | M ↦ λ none. refl | P ↦ λ none. refl | E ↦ λ none. refl | U ↦ λ none. refl | T ↦ λ none. refl | H ↦ λ none. cc | C ↦ λ none. cc | A ↦ λ none. refl | S ↦ λ none. refl ]
 
 core_by-register : (status : Status) (core : Core) → status ≡ Going → (core_by status core).panel.register ≡ word_at core core.panel.counter
 core_by-register (Halted cause) core e = cc
@@ -59,17 +62,6 @@ pub going_switches : (s : State) → s.core.panel.status ≡ Going → (next s).
 unfolding core_after
 going_switches s going = core_by-switches s.core.panel.status s.core going
 
-core_by-words : (status : Status) (core : Core) → status ≡ Going → stores (op_at (word_at core core.panel.counter)) ≡ false → (core_by status core).words ≡ core.words
-core_by-words (Halted cause) core e none = cc
-core_by-words Going core e none = let word = word_at core core.panel.counter in row-words (op_at word) (sign_of word) (address_at word) (after_fetch core) none
-core_by-words Executing core e none = cc
-core_by-words Waiting core e none = cc
-core_by-words Reading core e none = cc
-
-pub going_words : (s : State) → s.core.panel.status ≡ Going → stores (op_at (word_at s.core s.core.panel.counter)) ≡ false → (next s).core.words ≡ s.core.words
-unfolding core_after
-going_words s going none = core_by-words s.core.panel.status s.core going none
-
 row-passed : (op : Op) (minus : Bool) (m : ℕ) (core : Core) → op ≢ I → (row op minus m core).core.tape.passed ≡ core.tape.passed
 row-passed op minus m core = elim op as (λ op. op ≢ I → (row op minus m core).core.tape.passed ≡ core.tape.passed) [ Z ↦ λ other. refl | B ↦ λ other. refl | Y ↦ λ other. refl | R ↦ λ other. refl | I ↦ λ other. absurd (other refl) | D ↦ λ other. refl | N ↦ λ other. refl | M ↦ λ other. refl | P ↦ λ other. refl | E ↦ λ other. refl | U ↦ λ other. refl | T ↦ λ other. refl | H ↦ λ other. refl | C ↦ λ other. refl | A ↦ λ other. refl | S ↦ λ other. refl ]
 
@@ -80,7 +72,7 @@ core_by-passed Executing core e other = cc
 core_by-passed Waiting core e other = cc
 core_by-passed Reading core e other = cc
 
-pub going_passed : (s : State) → s.core.panel.status ≡ Going → op_at (word_at s.core s.core.panel.counter) ≢ I → length (next s).core.tape.passed - length s.core.tape.passed ≡ 0
+going_passed : (s : State) → s.core.panel.status ≡ Going → op_at (word_at s.core s.core.panel.counter) ≢ I → length (next s).core.tape.passed - length s.core.tape.passed ≡ 0
 unfolding core_after
 going_passed s going other = omega (arith, ap (λ codes. length codes) (core_by-passed s.core.panel.status s.core going other))
 
@@ -105,6 +97,72 @@ phases_by-input Executing core clock e reads = cc
 phases_by-input Waiting core clock e reads = cc
 phases_by-input Reading core clock e reads = cc
 
-pub going_input : (s : State) → s.core.panel.status ≡ Going → op_at (word_at s.core s.core.panel.counter) ≡ I → length (next s).core.tape.passed - length s.core.tape.passed ≡ (phases_of s).act / 384
+going_input : (s : State) → s.core.panel.status ≡ Going → op_at (word_at s.core s.core.panel.counter) ≡ I → length (next s).core.tape.passed - length s.core.tape.passed ≡ (phases_of s).act / 384
 unfolding core_after phases_of
 going_input s going reads = omega (arith, core_by-input s.core.panel.status s.core going reads, phases_by-input s.core.panel.status s.core s.clock going reads)
+
+pub going_codes : (s : State) → s.core.panel.status ≡ Going → length (next s).core.tape.passed - length s.core.tape.passed ≡ passed_in (op_at (word_at s.core s.core.panel.counter)) (phases_of s).act
+going_codes s going =
+    let op : Op = op_at (word_at s.core s.core.panel.counter) in
+    elim op as (λ o. op ≡ o → length (next s).core.tape.passed - length s.core.tape.passed ≡ passed_in o (phases_of s).act) [ Z ↦ λ e. going_passed s going (λ i. cc) | B ↦ λ e. going_passed s going (λ i. cc) | Y ↦ λ e. going_passed s going (λ i. cc) | R ↦ λ e. going_passed s going (λ i. cc) | I ↦ λ e. going_input s going e | D ↦ λ e. going_passed s going (λ i. cc) | N ↦ λ e. going_passed s going (λ i. cc) | M ↦ λ e. going_passed s going (λ i. cc) | P ↦ λ e. going_passed s going (λ i. cc) | E ↦ λ e. going_passed s going (λ i. cc) | U ↦ λ e. going_passed s going (λ i. cc) | T ↦ λ e. going_passed s going (λ i. cc) | H ↦ λ e. going_passed s going (λ i. cc) | C ↦ λ e. going_passed s going (λ i. cc) | A ↦ λ e. going_passed s going (λ i. cc) | S ↦ λ e. going_passed s going (λ i. cc) ] refl
+
+row-prints : (op : Op) (minus : Bool) (m : ℕ) (core : Core) → cond (seeks op) None (row op minus m core).prints ≡ (row op minus m core).prints
+row-prints op minus m core = elim op as (λ op. cond (seeks op) None (row op minus m core).prints ≡ (row op minus m core).prints) [ Z ↦ refl | B ↦ refl | Y ↦ refl | R ↦ refl | I ↦ refl | D ↦ refl | N ↦ refl | M ↦ refl | P ↦ refl | E ↦ refl | U ↦ refl | T ↦ refl | H ↦ refl | C ↦ refl | A ↦ refl | S ↦ refl ]
+
+print_by-going : (status : Status) (core : Core) → status ≡ Going → cond (seeks (op_at (word_at core core.panel.counter))) None (print_by status core) ≡ print_by status core
+print_by-going (Halted cause) core e = cc
+print_by-going Going core e = let word = word_at core core.panel.counter in row-prints (op_at word) (sign_of word) (address_at word) (after_fetch core)
+print_by-going Executing core e = cc
+print_by-going Waiting core e = cc
+print_by-going Reading core e = cc
+
+-- an order that waits for a word prints nothing
+pub going_print : (s : State) → s.core.panel.status ≡ Going → cond (seeks (op_at (word_at s.core s.core.panel.counter))) None (print_of s.core) ≡ print_of s.core
+unfolding print_of
+going_print s going = print_by-going s.core.panel.status s.core going
+
+seek_time-in : (op : Op) (m clock : ℕ) (tape : Tape) → seek_time op m clock ≡ seek_in op (seek_time op m clock + act_time op m tape)
+unfolding seek_time act_time
+seek_time-in op m clock tape = elim op as (λ op. seek_time op m clock ≡ seek_in op (seek_time op m clock + act_time op m tape)) [ Z ↦ refl | B ↦ omega arith | Y ↦ omega arith | R ↦ omega arith | I ↦ refl | D ↦ omega arith | N ↦ omega arith | M ↦ omega arith | P ↦ refl | E ↦ omega arith | U ↦ refl | T ↦ refl | H ↦ omega arith | C ↦ omega arith | A ↦ omega arith | S ↦ omega arith ]
+
+-- what follows the first two phases, and what it is in two
+phases-told : (op : Op) (m find from : ℕ) (tape : Tape) (rest : ℕ) → rest ≡ seek_time op m from + act_time op m tape
+    → record { find = find; take = 1; seek = seek_time op m from; act = act_time op m tape } ≡ phases_in op find rest
+phases-told op m find from tape rest e =
+    let seek : seek_time op m from ≡ seek_in op rest = rw e (seek_time-in op m from tape) in
+    let act : act_time op m tape ≡ rest - seek_time op m from = omega (arith, e) in
+    let with : ℕ → ℕ → Phases = λ seek act. record { find = find; take = 1; seek = seek; act = act } in
+    ap₂ with seek (rw (sym seek) act)
+
+phases_by-going : (status : Status) (core : Core) (clock : ℕ) → status ≡ Going
+    → phases_by status core clock ≡ phases_in (op_at (word_at core core.panel.counter)) (wait (sector_of core.panel.counter) clock)
+    (time_by status core clock - wait (sector_of core.panel.counter) clock - 1)
+phases_by-going (Halted cause) core clock e = cc
+phases_by-going Going core clock e =
+    let word = word_at core core.panel.counter in
+    let find = wait (sector_of core.panel.counter) clock in
+    phases-told (op_at word) (address_at word) find (clock + find + 1) core.tape (time_by Going core clock - find - 1) (omega arith)
+phases_by-going Executing core clock e = cc
+phases_by-going Waiting core clock e = cc
+phases_by-going Reading core clock e = cc
+
+pub going_phases : (s : State) → s.core.panel.status ≡ Going
+    → phases_of s ≡ phases_in (op_at (word_at s.core s.core.panel.counter)) (wait (sector_of s.core.panel.counter) s.clock)
+    (cost s - wait (sector_of s.core.panel.counter) s.clock - 1)
+unfolding phases_of cost_at
+going_phases s going = phases_by-going s.core.panel.status s.core s.clock going
+
+time_by-going : (status : Status) (core : Core) (clock : ℕ) → status ≡ Going → wait (sector_of core.panel.counter) clock + 3 ≤ time_by status core clock
+time_by-going (Halted cause) core clock e = cc
+time_by-going Going core clock e =
+    let word = word_at core core.panel.counter in
+    let find = wait (sector_of core.panel.counter) clock in
+    omega (arith, seek_time_more (op_at word) (address_at word) (clock + find + 1), act_time_more (op_at word) (address_at word) core.tape)
+time_by-going Executing core clock e = cc
+time_by-going Waiting core clock e = cc
+time_by-going Reading core clock e = cc
+
+-- both of its last phases take time
+pub going_rest : (s : State) → s.core.panel.status ≡ Going → wait (sector_of s.core.panel.counter) s.clock + 3 ≤ cost s
+unfolding cost_at
+going_rest s going = time_by-going s.core.panel.status s.core s.clock going

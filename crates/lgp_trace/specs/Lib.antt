@@ -1,6 +1,7 @@
 pub mod Uses
 pub mod Phases
 pub mod Account
+pub mod OrderInside
 pub mod Profile
 pub mod Columns
 pub mod AccountLines

@@ -6,9 +6,9 @@ ghost use Rattle.lgp_table.specs.Interleaving.{at_boundary, is_boundary};
 ghost use Rattle.lgp_table.specs.State.{State};
 ghost use Rattle.lgp_machine.specs.Look.{look_of, shown};
 ghost use Rattle.lgp_trace.specs.Account.{account_of, begun_of, finished, found_of, operand_in, order_of, place_of};
-ghost use Rattle.lgp_trace.specs.Phases.{phases_of};
+ghost use Rattle.lgp_trace.specs.Phases.{only_act, phases_of};
 
-use crate::phases::Phases;
+use crate::phases::{Phases, only_act};
 use crate::uses::seeks;
 use lgp_flexo::Code;
 use lgp_machine::{Look, Machine};
@@ -62,6 +62,33 @@ pub struct Account {
     pub printed: Option<Code>,
     /// How many codes passed the reader.
     pub passed: usize,
+}
+
+impl Account {
+    /// The account of nothing, where this shows: no word time passed. For `step_account` to write over.
+    pub fn nothing(look: &Look) -> Account
+        ensures { result ≡ record {
+          before = look.now;
+          after = look.now;
+          place = None;
+          order = None;
+          phases = only_act 0;
+          operand = None;
+          printed = None;
+          passed = 0;
+        } }
+    {
+        Account {
+            before: *look,
+            after: *look,
+            place: None,
+            order: None,
+            phases: only_act(0),
+            operand: None,
+            printed: None,
+            passed: 0,
+        }
+    }
 }
 
 /// Where the order stands of the activity that begins here.

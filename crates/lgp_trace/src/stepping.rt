@@ -1,32 +1,32 @@
 //! A debugger's order performed and accounted for.
 
-ghost use Rattle.std.specs.Prelude.{◌≡◌, ◌≢◌, ◌+◌, ◌/◌, ◌<◌, ◌↔◌, false, Err, IfOk, IsTrue, None, OnErr, OnOk, Some, if◌then◌else◌};
-ghost use Rattle.lgp_table.specs.State.{word_at};
+ghost use Rattle.std.specs.Prelude.{◌≡◌, ◌+◌, ◌<◌, ◌≤◌, ◌↔◌, false, Err, IsTrue, OnErr, OnOk};
 ghost use Rattle.lgp_table.specs.Activity.{cost};
 ghost use Rattle.lgp_table.specs.Console.{is_at_rest};
 ghost use Rattle.lgp_history.specs.declared.step.Step.{Step};
 ghost use Rattle.lgp_debugger.specs.Debugging.{after_step};
 ghost use Rattle.lgp_machine.specs.Answers.{clock_end};
-ghost use Rattle.lgp_phases.specs.Decoded.{stores};
 ghost use Rattle.lgp_trace.specs.Account.{account_of};
-ghost use Rattle.lgp_trace.specs.Uses.{seeks};
+ghost use Rattle.lgp_trace.specs.OrderInside.{passed_in, with_deeds, with_looks};
 
 use crate::account::{Account, Begun, Operand};
-use crate::phases::Phases;
-use crate::uses::{seeks, stores};
+use crate::uses::seeks;
 use lgp_debugger::{Debugger, StepFault};
+use lgp_flexo::Code;
 use lgp_history::History;
-use lgp_machine::{Look, Machine};
+use lgp_machine::Look;
+use lgp_phases::wait;
 use lgp_table::Status;
-use lgp_word::{Address, Op, Word, parts};
+use lgp_word::{Op, parts};
 use std::alloc::Allocator;
 
-/// The whole activity that begins here, performed by a debugger, which keeps its step; and its account. It refuses what
-/// `Debugger::step` refuses, and then nothing has changed.
+/// The whole activity that begins here, performed by a debugger, which keeps its step; its account is written over the one that is
+/// given. It refuses what `Debugger::step` refuses, and then nothing has changed.
 pub fn step_account<H: History<A>, A: Allocator>(
     debugger: &mut Debugger<H, A>,
-) -> Result<Account, StepFault>
-    ensures account { IfOk result (λ account. account ≡ account_of debugger.old.state) }
+    account: &mut Account,
+) -> Result<(), StepFault>
+    ensures account { OnOk result (account.new ≡ account_of debugger.old.state) }
     ensures performed { OnOk result (debugger.new ≡ after_step debugger.old Step.Perform) }
     ensures at_rest { (result ≡ Err StepFault.AtRest)
         ↔ IsTrue (is_at_rest debugger.old.state.core.panel.status) }
@@ -34,22 +34,24 @@ pub fn step_account<H: History<A>, A: Allocator>(
         ↔ ((is_at_rest debugger.old.state.core.panel.status ≡ false)
         × (clock_end < debugger.old.state.clock + cost debugger.old.state)) }
     ensures unchanged { OnErr result (debugger.new ≡ debugger.old) }
+    ensures account_stays { OnErr result (account.new ≡ account.old) }
 {
     if matches!(debugger.look().status, Status::Going) {
-        going_account(debugger)
+        going_account(debugger, account)
     } else {
-        other_account(debugger)
+        other_account(debugger, account)
     }
 }
 
 /// The same of the order at the counter, by far the most common. What can be told of it afterwards is told then.
 #[inline(always)]
-#[tactic(auto, using(crate::proofs::PhaseLaws::phases_cost, crate::proofs::PhaseLaws::phases_last, crate::proofs::OrderLaws::going_register, crate::proofs::OrderLaws::going_mode, crate::proofs::OrderLaws::going_switches, crate::proofs::OrderLaws::going_words, crate::proofs::OrderLaws::going_passed, crate::proofs::OrderLaws::going_input))]
+#[tactic(auto, using(crate::proofs::OrderLaws::going_register, crate::proofs::OrderLaws::going_mode, crate::proofs::OrderLaws::going_switches, crate::proofs::OrderLaws::going_rest, crate::proofs::OrderLaws::going_phases, crate::proofs::OrderLaws::going_print, crate::proofs::OrderLaws::going_codes))]
 fn going_account<H: History<A>, A: Allocator>(
     debugger: &mut Debugger<H, A>,
-) -> Result<Account, StepFault>
+    account: &mut Account,
+) -> Result<(), StepFault>
     requires { debugger.old.state.core.panel.status ≡ Status.Going }
-    ensures account { IfOk result (λ account. account ≡ account_of debugger.old.state) }
+    ensures account { OnOk result (account.new ≡ account_of debugger.old.state) }
     ensures performed { OnOk result (debugger.new ≡ after_step debugger.old Step.Perform) }
     ensures at_rest { (result ≡ Err StepFault.AtRest)
         ↔ IsTrue (is_at_rest debugger.old.state.core.panel.status) }
@@ -57,71 +59,90 @@ fn going_account<H: History<A>, A: Allocator>(
         ↔ ((is_at_rest debugger.old.state.core.panel.status ≡ false)
         × (clock_end < debugger.old.state.clock + cost debugger.old.state)) }
     ensures unchanged { OnErr result (debugger.new ≡ debugger.old) }
+    ensures account_stays { OnErr result (account.new ≡ account.old) }
 {
     let before = debugger.look();
     let (_, _, address) = debugger.machine().parts(before.counter);
     let found = debugger.machine().word(address);
-    let Some(waits) = Phases::before_acting(debugger.machine()) else {
-        unreachable!()
-    };
+    let find = wait(before.counter.sector(), before.clock, 0);
     let outcome = match debugger.step() {
         Ok(outcome) => outcome,
         Err(fault) => return Err(fault),
     };
     let after = debugger.look();
     let (_, op, address) = parts(after.register);
-    let phases = waits.until(outcome.cost);
-    Ok(Account {
-        before: Look {
-            status: Status::Going,
-            mode: after.mode,
-            switches: after.switches,
-            ..before
-        },
-        after,
-        place: Some(before.counter),
-        order: Some(after.register),
-        phases,
-        operand: operand_left(debugger.machine(), op, address, found),
-        printed: outcome.printed,
-        passed: codes_passed(op, phases.act),
-    })
-}
-
-/// The word that an order waited for, as it was found and as it stands now.
-#[inline(always)]
-fn operand_left<A: Allocator>(
-    machine: &Machine<A>,
-    op: Op,
-    address: Address,
-    found: Word,
-) -> Option<Operand>
-    ensures { result ≡ (if seeks op then Some (record {
-      address = address;
-      found = found;
-      left = if stores op then word_at machine.now.state.core address else found;
-    }) else None) }
-{
-    if !seeks(op) {
-        return None;
-    }
-    let left = if stores(op) {
-        machine.word(address)
-    } else {
-        found
-    };
-    Some(Operand {
+    let operand = Operand {
         address,
         found,
-        left,
-    })
+        left: debugger.machine().word(address),
+    };
+    put_looks(account, &before, &after);
+    account.place = Some(before.counter);
+    account.order = Some(after.register);
+    let rest = outcome.cost - find - 1;
+    put_deeds(account, op, find, rest, operand, outcome.printed);
+    Ok(())
+}
+
+/// Writes what showed before and after an order at the counter, place by place: a whole look would be copied twice. The switches come
+/// first, while they still stand where the debugger keeps them.
+#[inline(always)]
+fn put_looks(account: &mut Account, before: &Look, after: &Look)
+    ensures { account.new ≡ with_looks before.now after.now account.old }
+{
+    account.after.switches = after.switches;
+    account.before.switches = account.after.switches;
+    account.before.counter = before.counter;
+    account.before.accumulator = before.accumulator;
+    account.before.register = before.register;
+    account.before.status = Status::Going;
+    account.before.mode = after.mode;
+    account.before.reader_on = before.reader_on;
+    account.before.clock = before.clock;
+    account.after.counter = after.counter;
+    account.after.accumulator = after.accumulator;
+    account.after.register = after.register;
+    account.after.status = after.status;
+    account.after.mode = after.mode;
+    account.after.reader_on = after.reader_on;
+    account.after.clock = after.clock;
+}
+
+/// Writes what an order at the counter did that was found in so many word times, and took so many for both of its last phases.
+#[inline(always)]
+fn put_deeds(
+    account: &mut Account,
+    op: Op,
+    find: u64,
+    rest: u64,
+    operand: Operand,
+    printed: Option<Code>,
+)
+    requires { 2 ≤ rest }
+    ensures { account.new ≡ with_deeds op find rest operand printed account.old }
+{
+    account.phases.find = find;
+    account.phases.take = 1;
+    if seeks(op) {
+        let seek = 1 + (rest - 2) % 64;
+        account.phases.seek = seek;
+        account.phases.act = rest - seek;
+        account.operand = Some(operand);
+        account.printed = None;
+        account.passed = 0;
+    } else {
+        account.phases.seek = 1;
+        account.phases.act = rest - 1;
+        account.operand = None;
+        account.printed = printed;
+        account.passed = codes_passed(op, rest - 1);
+    }
 }
 
 /// How many codes passed the reader in an order whose last phase took so many word times.
 #[inline(always)]
 fn codes_passed(op: Op, act: u64) -> usize
-    ensures input { op ≡ Op.I → result ≡ act / 384 }
-    ensures other { op ≢ Op.I → result ≡ 0 }
+    ensures { result ≡ passed_in op act }
 {
     if matches!(op, Op::I) {
         (act / 384) as usize
@@ -136,8 +157,9 @@ fn codes_passed(op: Op, act: u64) -> usize
 #[tactic(auto, using(crate::proofs::PhaseLaws::phases_cost, crate::proofs::PhaseLaws::phases_last))]
 fn other_account<H: History<A>, A: Allocator>(
     debugger: &mut Debugger<H, A>,
-) -> Result<Account, StepFault>
-    ensures account { IfOk result (λ account. account ≡ account_of debugger.old.state) }
+    account: &mut Account,
+) -> Result<(), StepFault>
+    ensures account { OnOk result (account.new ≡ account_of debugger.old.state) }
     ensures performed { OnOk result (debugger.new ≡ after_step debugger.old Step.Perform) }
     ensures at_rest { (result ≡ Err StepFault.AtRest)
         ↔ IsTrue (is_at_rest debugger.old.state.core.panel.status) }
@@ -145,6 +167,7 @@ fn other_account<H: History<A>, A: Allocator>(
         ↔ ((is_at_rest debugger.old.state.core.panel.status ≡ false)
         × (clock_end < debugger.old.state.clock + cost debugger.old.state)) }
     ensures unchanged { OnErr result (debugger.new ≡ debugger.old) }
+    ensures account_stays { OnErr result (account.new ≡ account.old) }
 {
     let Some(begun) = Begun::before_acting(debugger.machine()) else {
         unreachable!()
@@ -152,7 +175,8 @@ fn other_account<H: History<A>, A: Allocator>(
     match debugger.step() {
         Ok(outcome) => {
             let begun = begun.until(outcome.cost, outcome.printed);
-            Ok(begun.finish(debugger.machine()))
+            *account = begun.finish(debugger.machine());
+            Ok(())
         }
         Err(fault) => Err(fault),
     }
