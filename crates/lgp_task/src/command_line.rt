@@ -1,7 +1,7 @@
 //! The command line as `clap` is given it, with its help.
 
 ghost use Rattle.std.specs.Prelude.{◌≡◌, IfOk, false};
-ghost use Rattle.clap.specs.Words.{app_of, new_app, rule_of, with_rule, with_subcommand};
+ghost use Rattle.clap.specs.Words.{App, app_of, new_app, rule_of, with_rule, with_subcommand};
 ghost use Rattle.clap.specs.declared.builder.command.Command.TheViews.{out-Command as fields_of};
 ghost use Rattle.lgp_task.specs.CommandLine.{any_files_rule, asm_command, bare_line, bare_monitor_line, batch_command, command_line, echo_rule, file_rule, files_rule, limit_rule, monitor_line, run_command, script_command, tape_command};
 
@@ -83,13 +83,17 @@ fn with_argument<'a>(command: Command<'a>, argument: Arg<'a>) -> Result<Command<
     command.arg(argument)
 }
 
-/// A command line with one command more.
-fn with_command<'a>(line: Command<'a>, command: Command<'a>) -> Result<Command<'a>, AllocError>
-    requires own { (fields_of command).has_globals ≡ false }
-    ensures app { IfOk result (λ new.
-        app_of new ≡ with_subcommand (app_of line.entry) (app_of command.entry).top) }
+/// A command line with one command more, if that could be made.
+fn with_command<'a>(
+    line: Command<'a>,
+    command: Result<Command<'a>, AllocError>,
+) -> Result<Command<'a>, AllocError>
+    requires own { IfOk command (λ command. (fields_of command).has_globals ≡ false) }
+    ensures app { IfOk result (λ new. (app : App)
+        → IfOk command.entry (λ command. app_of command ≡ app)
+        → app_of new ≡ with_subcommand (app_of line.entry) app.top) }
 {
-    line.subcommand(command)
+    line.subcommand(command?)
 }
 
 /// `asm FILE`
@@ -196,11 +200,11 @@ fn bare_line<'a>(global: Global) -> Result<Command<'a>, AllocError>
 pub(crate) fn command_line<'a>(global: Global) -> Result<Command<'a>, AllocError>
     ensures { IfOk result (λ line. app_of line ≡ command_line) }
 {
-    let line = with_command(bare_line(global)?, asm_command(global)?)?;
-    let line = with_command(line, tape_command(global)?)?;
-    let line = with_command(line, run_command(global)?)?;
-    let line = with_command(line, script_command(global)?)?;
-    with_command(line, batch_command(global)?)
+    let line = with_command(bare_line(global)?, asm_command(global))?;
+    let line = with_command(line, tape_command(global))?;
+    let line = with_command(line, run_command(global))?;
+    let line = with_command(line, script_command(global))?;
+    with_command(line, batch_command(global))
 }
 
 /// `--echo`
@@ -236,10 +240,8 @@ fn bare_monitor_line<'a>(global: Global) -> Result<Command<'a>, AllocError>
 pub(crate) fn monitor_line<'a>(global: Global) -> Result<Command<'a>, AllocError>
     ensures { IfOk result (λ line. app_of line ≡ monitor_line) }
 {
-    let files = any_files(
-        global,
-        "Text files with lines that come before standard input's",
-    );
-    let line = with_argument(bare_monitor_line(global)?, files)?;
+    let line = bare_monitor_line(global)?;
+    let help = "Text files with lines that come before standard input's";
+    let line = with_argument(line, any_files(global, help))?;
     with_argument(line, echo(global))
 }

@@ -10,7 +10,7 @@ use crate::command_line::{ECHO, monitor_line};
 use crate::files::FileNames;
 use crate::task::{TaskFault, files_of, refusal};
 use clap::ArgMatches;
-use std::alloc::{AllocError, Allocator, Global};
+use std::alloc::{Allocator, Global};
 use std::marker::Model;
 
 /// What a session of the monitor begins with. Clauses see the names of its files, in the order in which they were typed, and
@@ -59,8 +59,10 @@ fn is_echoing(matches: &ArgMatches<'_>) -> bool
 fn session_of<A: Allocator + Copy>(
     alloc: A,
     matches: &ArgMatches<'_>,
-) -> Result<SessionTask<A>, AllocError>
-    ensures { IfOk result (λ task. task ≡ session_in (rows_of (found_of matches.now))) }
+) -> Result<SessionTask<A>, TaskFault<A>>
+    ensures task { IfOk result (λ task.
+        task ≡ session_in (rows_of (found_of matches.now))) }
+    ensures memory { IfErr result (λ fault. fault ≡ TaskFault.Memory) }
 {
     Ok(SessionTask {
         files: files_of(alloc, matches)?,
@@ -84,7 +86,7 @@ pub fn ask_for_session<A: Allocator + Copy>(
 {
     let line = monitor_line(global)?;
     match line.try_get_matches_from(words) {
-        Ok(matches) => Ok(session_of(alloc, &matches)?),
-        Err(fault) => Err(refusal(alloc, &fault)),
+        Ok(matches) => session_of(alloc, &matches),
+        Err(fault) => Err(refusal(alloc, fault)),
     }
 }

@@ -88,9 +88,10 @@ fn named_task<A: Allocator + Copy>(
     alloc: A,
     name: &str,
     matches: &ArgMatches<'_>,
-) -> Result<Task<A>, AllocError>
-    ensures { IfOk result (λ task.
+) -> Result<Task<A>, TaskFault<A>>
+    ensures task { IfOk result (λ task.
         task ≡ task_named name.now (rows_of (found_of matches.now))) }
+    ensures memory { IfErr result (λ fault. fault ≡ TaskFault.Memory) }
 {
     if name == "asm" {
         return Ok(Task::Asm(file_of(alloc, matches)?));
@@ -111,8 +112,9 @@ fn named_task<A: Allocator + Copy>(
 fn matched_task<A: Allocator + Copy>(
     alloc: A,
     matches: &ArgMatches<'_>,
-) -> Result<Task<A>, AllocError>
-    ensures { IfOk result (λ task. task ≡ task_in (subcommand_rows_of matches.now)) }
+) -> Result<Task<A>, TaskFault<A>>
+    ensures task { IfOk result (λ task. task ≡ task_in (subcommand_rows_of matches.now)) }
+    ensures memory { IfErr result (λ fault. fault ≡ TaskFault.Memory) }
 {
     match matches.subcommand() {
         None => Ok(Task::Stdin),
@@ -121,9 +123,9 @@ fn matched_task<A: Allocator + Copy>(
 }
 
 /// The refusal of words for a fault that `clap` found in them.
-pub(crate) fn refusal<A: Allocator>(alloc: A, fault: &Error) -> TaskFault<A>
-    ensures memory { kind_of fault.now ≡ OutOfMemory → result ≡ TaskFault.Memory }
-    ensures cause { IsRefusalOf (kind_of fault.now ∷ []) result }
+pub(crate) fn refusal<A: Allocator>(alloc: A, fault: Error) -> TaskFault<A>
+    ensures memory { kind_of fault ≡ OutOfMemory → result ≡ TaskFault.Memory }
+    ensures cause { IsRefusalOf (kind_of fault ∷ []) result }
 {
     if matches!(fault.kind(), ErrorKind::OutOfMemory) {
         return TaskFault::Memory;
@@ -154,7 +156,7 @@ pub fn task_of<A: Allocator + Copy>(
 {
     let line = command_line(global)?;
     match line.try_get_matches_from(words) {
-        Ok(matches) => Ok(matched_task(alloc, &matches)?),
-        Err(fault) => Err(refusal(alloc, &fault)),
+        Ok(matches) => matched_task(alloc, &matches),
+        Err(fault) => Err(refusal(alloc, fault)),
     }
 }

@@ -1,6 +1,13 @@
 -- A command without global arguments is the last of the line.
-use Rattle.std.proofs.lemmas.Result.{IfOk-weaker}
+use Rattle.std.proofs.Common.{◌∙◌, ap}
+use Rattle.std.proofs.lemmas.Result.{IfOk-at_ok, IfOk-weaker}
+use Rattle.clap.specs.Words.{App, app_of, with_subcommand}
 use Rattle.lgp_task.proofs.command_line.with_command.Goals as goal
 
 pub returns : goal.returns
-returns c = record { app = IfOk-weaker c.subcommand.result _ _ (λ line adds. adds.shape c.requires.own) c.subcommand.ensures }
+returns c =
+    let own = IfOk-at_ok _ c.in_ok-command.was c.requires.own in
+    record {
+      app = IfOk-weaker c.subcommand.result _ _ (λ line adds app is_app.
+          adds.shape own ∙ ap (λ (a : App). with_subcommand (app_of c.args.line) a.top) (IfOk-at_ok _ c.in_ok-command.was is_app)) c.subcommand.ensures;
+    }

@@ -1,25 +1,39 @@
 -- Words without a fault ask for a session; a refusal is one for memory or has its fault among those of the words.
-use Rattle.std.proofs.Common.{◌≡◌, ◌∙◌, ap, subst, sym, inl, inr, []}
+use Rattle.std.proofs.Common.{◌≡◌, ◌∙◌, ap, subst, sym, inl, inr, true, []}
+use Rattle.std.proofs.lemmas.Result.{IfErr-weaker, IfOk-weaker}
 use Rattle.std.specs.Prelude.{List, map}
 use Rattle.std.specs.String.{string_bytes}
-use Rattle.clap.specs.Words.{App, IsAmong, Text, fault_of, is_simple, is_simple_and_free, kind_of, matches_of}
+use Rattle.clap.specs.Words.{App, IsAmong, Text, fault_of, is_simple, is_simple_and_free, kind_of, matches_of, takes}
 use Rattle.lgp_task.specs.CommandLine.{monitor_line}
 use Rattle.lgp_task.specs.Task.{IsRefusalOf, session_in}
 use Rattle.lgp_task.specs.declared.task.TaskFault.{TaskFault}
 use Rattle.lgp_task.proofs.RefusalLemmas.{monitor-free, monitor-simple, refusal-among}
 use Rattle.lgp_task.proofs.session.ask_for_session.Goals as goal
 
-pub returns-in_ok-session_of-in-Ok-clause-task : goal.returns-in_ok-session_of-in-Ok-clause-task
-returns-in_ok-session_of-in-Ok-clause-task g c =
+pub returns-in-Ok-clause-task : goal.returns-in-Ok-clause-task
+returns-in-Ok-clause-task g c =
     let words : List Text = map string_bytes c.args.words.now in
     let held = c.in-Ok.ensures.matches (ap is_simple c.in_ok-line.ensures ∙ monitor-simple) in
-    c.in_ok-session_of-in-Ok.ensures ∙ ap session_in (held.0 ∙ ap (λ (a : App). matches_of a words) c.in_ok-line.ensures)
+    IfOk-weaker c.session_of.result _ _ (λ task e. e ∙ ap session_in (held.0 ∙ ap (λ (a : App). matches_of a words) c.in_ok-line.ensures)) c.session_of.ensures.task
 
-pub returns-in_ok-session_of-in-Ok-clause-asked : goal.returns-in_ok-session_of-in-Ok-clause-asked
-returns-in_ok-session_of-in-Ok-clause-asked g c =
+pub returns-in-Ok-clause-asked : goal.returns-in-Ok-clause-asked
+returns-in-Ok-clause-asked g c =
     let words : List Text = map string_bytes c.args.words.now in
     let Faultless : App → Type 0 = λ line. fault_of line words ≡ [] in
-    subst Faultless c.in_ok-line.ensures (c.in-Ok.ensures.kinds (ap is_simple_and_free c.in_ok-line.ensures ∙ monitor-free))
+    IfOk-weaker c.session_of.result _ _ (λ _ _. subst Faultless c.in_ok-line.ensures (c.in-Ok.ensures.kinds (ap is_simple_and_free c.in_ok-line.ensures ∙ monitor-free))) c.session_of.ensures.task
+
+pub returns-in-Ok-clause-memory : goal.returns-in-Ok-clause-memory
+returns-in-Ok-clause-memory g c = λ _. c.session_of.ensures.memory
+
+pub returns-in-Ok-clause-cause : goal.returns-in-Ok-clause-cause
+returns-in-Ok-clause-cause g c =
+    let Refuses : TaskFault g.row.A.Denot → Type 0 = λ fault. IsRefusalOf (fault_of monitor_line (map string_bytes c.args.words.now)) fault in
+    IfErr-weaker c.session_of.result _ Refuses (λ fault e. subst Refuses (sym e) tt) c.session_of.ensures.memory
+
+pub returns-in-Err-clause-memory : goal.returns-in-Err-clause-memory
+returns-in-Err-clause-memory g c taken =
+    let Takes : App → Type 0 = λ line. takes line (map string_bytes c.args.words.now) ≡ true in
+    c.refusal.ensures.memory (c.in-Err.ensures.passes (subst Takes (sym c.in_ok-line.ensures) taken))
 
 pub returns-in-Err-clause-cause : goal.returns-in-Err-clause-cause
 returns-in-Err-clause-cause g c =
