@@ -10,7 +10,7 @@ use crate::filing::{FileTrouble, Filing, Unread, keep_file, read_file};
 use crate::keyboard::{Broken, Keyboard};
 use crate::open_files::OpenFiles;
 use crate::request::{Work, request_in};
-use crate::texts::{checked_archive, checked_dump, checked_source, checked_tape, dump_in};
+use crate::texts::{checked_archive, checked_tape, dump_in, has_block_end, has_point};
 use lgp_flexo::Code;
 use lgp_stream::Feed;
 use std::alloc::{AllocError, Allocator};
@@ -91,6 +91,11 @@ impl<'b, A: Allocator + Copy, R: Feed + Drop, F: Filing + Drop> Copying<'b, A, R
         self.ready.clear();
         self.handed = 0;
         self.end_saving()?;
+        self.type_on()
+    }
+
+    /// Types on until something is ready.
+    fn type_on(&mut self) -> Result<(), Broken> {
         for _ in 0..u64::MAX {
             if self.board.has_left() || !self.ready.is_empty() || !self.type_next()? {
                 break;
@@ -101,49 +106,54 @@ impl<'b, A: Allocator + Copy, R: Feed + Drop, F: Filing + Drop> Copying<'b, A, R
 
     /// Types on; answers whether there is more.
     fn type_next(&mut self) -> Result<bool, Broken> {
-        if self.type_file_line()? {
-            return Ok(true);
-        }
-        if let Some(name) = take_first(&mut self.first) {
-            self.type_named_first(name)?;
-            return Ok(true);
-        }
-        if self.has_note && self.board.takes_commands() {
-            self.has_note = false;
-            self.ready.extend_from_slice(b"#\n")?;
+        if self.type_file_line()? || self.type_named_first()? || self.type_note_of_end()? {
             return Ok(true);
         }
         self.type_struck()
     }
 
-    /// Types the lines of a file that come before what a person types, or why it is refused. The note in front stands until all such
-    /// files are done.
-    fn type_named_first(&mut self, name: Vec<u8, A>) -> Result<(), Broken> {
-        if self.board.takes_commands() {
-            push_file_note(&mut self.ready, b"named on the command line")?;
-            self.has_note = true;
+    /// Types the lines of a file that come before what a person types, or why it is refused; answers whether there is one. The note
+    /// in front stands until all such files are done.
+    fn type_named_first(&mut self) -> Result<bool, AllocError> {
+        let Some(name) = take_first(&mut self.first) else {
+            return Ok(false);
+        };
+        self.note_command_line()?;
+        self.work_on(Work::Lines, name, true)?;
+        Ok(true)
+    }
+
+    /// Notes that the next file was named on the command line, where a command is taken.
+    fn note_command_line(&mut self) -> Result<(), AllocError> {
+        if !self.board.takes_commands() {
+            return Ok(());
         }
-        self.work_on(Work::Lines, name, true)
+        self.has_note = true;
+        push_file_note(&mut self.ready, b"named on the command line")
+    }
+
+    /// Ends what a note says, where one stands and a command is taken; answers whether it did.
+    fn type_note_of_end(&mut self) -> Result<bool, AllocError> {
+        if !self.has_note || !self.board.takes_commands() {
+            return Ok(false);
+        }
+        self.has_note = false;
+        self.ready.extend_from_slice(b"#\n")?;
+        Ok(true)
     }
 
     /// Types the next line of a file; answers whether there is one.
-    fn type_file_line(&mut self) -> Result<bool, Broken> {
+    fn type_file_line(&mut self) -> Result<bool, AllocError> {
         let Some(line) = self.files.next_line() else {
             return Ok(false);
         };
-        let takes_commands = self.board.takes_commands();
-        if takes_commands {
-            push_line_note(&mut self.ready, line.number, line.name)?;
+        let is_command = self.board.takes_commands();
+        if is_command {
             self.has_note = true;
-            if let Some((work, name)) = request_in(line.line) {
-                let name = Vec::from_slice(self.alloc, name)?;
-                self.work_on(work, name, true)?;
-                return Ok(true);
-            }
+            push_line_note(&mut self.ready, line.number, line.name)?;
         }
-        self.ready.extend_from_slice(line.line)?;
-        self.ready.extend_from_slice(b"\n")?;
-        Ok(true)
+        let asked = asked_or_typed(self.alloc, &mut self.ready, line.line, true, is_command)?;
+        self.work_on_asked(asked, true)
     }
 
     /// Types what a person typed; answers whether there is more.
@@ -151,37 +161,53 @@ impl<'b, A: Allocator + Copy, R: Feed + Drop, F: Filing + Drop> Copying<'b, A, R
         let Some(struck) = self.keyboard.next()? else {
             return Ok(false);
         };
-        if struck.is_whole && self.board.takes_commands() {
-            if let Some((work, name)) = request_in(struck.text) {
-                let name = Vec::from_slice(self.alloc, name)?;
-                self.work_on(work, name, false)?;
-                return Ok(true);
-            }
-        }
-        self.ready.extend_from_slice(struck.text)?;
-        if struck.has_end {
-            self.ready.extend_from_slice(b"\n")?;
+        let is_command = struck.is_whole && self.board.takes_commands();
+        let asked = asked_or_typed(
+            self.alloc,
+            &mut self.ready,
+            struck.text,
+            struck.has_end,
+            is_command,
+        )?;
+        Ok(self.work_on_asked(asked, false)?)
+    }
+
+    /// Types what a file holds that a line asks for, if it asks for one; there is more.
+    fn work_on_asked(
+        &mut self,
+        asked: Option<(Work, Vec<u8, A>)>,
+        has_line_note: bool,
+    ) -> Result<bool, AllocError> {
+        if let Some((work, name)) = asked {
+            self.work_on(work, name, has_line_note)?;
         }
         Ok(true)
     }
 
     /// Types what a file holds, or why it is refused.
-    fn work_on(&mut self, work: Work, name: Vec<u8, A>, has_line_note: bool) -> Result<(), Broken> {
+    fn work_on(
+        &mut self,
+        work: Work,
+        name: Vec<u8, A>,
+        has_line_note: bool,
+    ) -> Result<(), AllocError> {
         match self.found_for(work, &name) {
             Ok(found) => {
-                if !has_line_note && work != Work::Lines {
-                    push_file_note(&mut self.ready, &name)?;
-                }
-                self.has_note = true;
-                self.type_found(name, found)?;
-                Ok(())
+                self.note_file(&name, !has_line_note && work != Work::Lines)?;
+                self.type_found(name, found)
             }
-            Err(Unread::Refused(trouble)) => {
-                push_refusal(&mut self.ready, &name, trouble)?;
-                Ok(())
-            }
-            Err(Unread::Memory) => Err(Broken::Memory),
+            Err(Unread::Refused(trouble)) => push_refusal(&mut self.ready, &name, trouble),
+            Err(Unread::Memory) => Err(AllocError),
         }
+    }
+
+    /// Notes which file the lines behind come from, where no note in front does.
+    fn note_file(&mut self, name: &[u8], is_needed: bool) -> Result<(), AllocError> {
+        self.has_note = true;
+        if is_needed {
+            push_file_note(&mut self.ready, name)?;
+        }
+        Ok(())
     }
 
     /// What is typed for a file, where it is in order.
@@ -192,14 +218,7 @@ impl<'b, A: Allocator + Copy, R: Feed + Drop, F: Filing + Drop> Copying<'b, A, R
         if work == Work::Lines && self.files.is_full() {
             return Err(Unread::Refused(FileTrouble::TooDeep));
         }
-        let text = read_file(self.alloc, &self.filing, name)?;
-        match work {
-            Work::Lines | Work::Save => Ok(Found::Lines(text)),
-            Work::Source => Ok(Found::Source(checked_source(text)?)),
-            Work::Tape => Ok(Found::Tape(checked_tape(self.alloc, &text)?)),
-            Work::Archive => Ok(Found::Tape(checked_archive(self.alloc, &text)?)),
-            Work::Restore => Ok(Found::Dump(checked_dump(text)?)),
-        }
+        found_in(self.alloc, work, read_file(self.alloc, &self.filing, name)?)
     }
 
     /// Types what was found.
@@ -234,6 +253,48 @@ impl<'b, A: Allocator + Copy, R: Feed + Drop, F: Filing + Drop> Copying<'b, A, R
             push_refusal(&mut self.ready, &name, FileTrouble::NotWritten)
         }
     }
+}
+
+/// What a line asks for where it is a command, and the name of the file, if it names one. Any other line is appended.
+fn asked_or_typed<A: Allocator>(
+    alloc: A,
+    ready: &mut Vec<u8, A>,
+    line: &[u8],
+    has_end: bool,
+    is_command: bool,
+) -> Result<Option<(Work, Vec<u8, A>)>, AllocError> {
+    if is_command {
+        if let Some((work, name)) = request_in(line) {
+            return Ok(Some((work, Vec::from_slice(alloc, name)?)));
+        }
+    }
+    ready.extend_from_slice(line)?;
+    if has_end {
+        ready.extend_from_slice(b"\n")?;
+    }
+    Ok(None)
+}
+
+/// What is typed for a file of this text, where it is in order.
+fn found_in<A: Allocator + Copy>(
+    alloc: A,
+    work: Work,
+    text: Vec<u8, A>,
+) -> Result<Found<A>, Unread> {
+    match work {
+        Work::Tape => tape_found(checked_tape(alloc, &text)),
+        Work::Archive => tape_found(checked_archive(alloc, &text)),
+        Work::Source if has_point(&text) => Err(Unread::Refused(FileTrouble::HasPoint)),
+        Work::Source => Ok(Found::Source(text)),
+        Work::Restore if has_block_end(&text) => Err(Unread::Refused(FileTrouble::HasBlockEnd)),
+        Work::Restore => Ok(Found::Dump(text)),
+        Work::Lines | Work::Save => Ok(Found::Lines(text)),
+    }
+}
+
+/// The tape whose codes were read, if they were.
+fn tape_found<A: Allocator>(codes: Result<Vec<Code, A>, Unread>) -> Result<Found<A>, Unread> {
+    Ok(Found::Tape(codes?))
 }
 
 /// Copies the front of a text, as much as there is room for; answers how much.

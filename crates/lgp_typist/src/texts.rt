@@ -5,24 +5,20 @@ use lgp_archive::read_archive_text;
 use lgp_flexo::{Code, TextFault, read_tape_text};
 use std::alloc::Allocator;
 
-/// A source, if no line of it would end it where it is typed.
-pub(crate) fn checked_source<A: Allocator>(source: Vec<u8, A>) -> Result<Vec<u8, A>, Unread> {
-    for line in source.split(|byte| *byte == b'\n') {
-        if line == b".".as_slice() || line == b".\r".as_slice() {
-            return Err(Unread::Refused(FileTrouble::HasPoint));
-        }
-    }
-    Ok(source)
+/// Whether a line of a text is this one, a carriage return at its end aside.
+fn has_line(text: &[u8], wanted: &[u8]) -> bool {
+    text.split(|byte| *byte == b'\n')
+        .any(|line| line.strip_suffix(b"\r").unwrap_or(line) == wanted)
 }
 
-/// A dump, if no line of it would end the block in which it is typed.
-pub(crate) fn checked_dump<A: Allocator>(dump: Vec<u8, A>) -> Result<Vec<u8, A>, Unread> {
-    for line in dump.split(|byte| *byte == b'\n') {
-        if line == b"#.".as_slice() || line == b"#.\r".as_slice() {
-            return Err(Unread::Refused(FileTrouble::HasBlockEnd));
-        }
-    }
-    Ok(dump)
+/// Whether a line of a source would end it where it is typed.
+pub(crate) fn has_point(source: &[u8]) -> bool {
+    has_line(source, b".")
+}
+
+/// Whether a line of a dump would end the block in which it is typed.
+pub(crate) fn has_block_end(dump: &[u8]) -> bool {
+    has_line(dump, b"#.")
 }
 
 /// Why a text is refused as a tape.
