@@ -1,5 +1,5 @@
 -- Address texts read back, and what is read from eight digits is a word.
-use Rattle.std.proofs.Common.{◌≡◌, ◌<◌, ◌≤◌, ◌+◌, ◌-◌, ◌*◌, ◌/◌, ◌%◌, ◌^◌, ◌&&◌, ◌==◌, ℕ, true, List, [], ◌∷◌, length, Some, None, refl, ap, ◌∙◌, arith, cond, eqb, nat_lt, nat_le, option_and_then}
+use Rattle.std.proofs.Common.{◌≡◌, ◌<◌, ◌≤◌, ◌+◌, ◌-◌, ◌*◌, ◌/◌, ◌%◌, ◌^◌, ◌&&◌, ◌==◌, ℕ, true, List, [], ◌∷◌, length, Some, None, Option, IfSome, refl, sym, ap, ◌∙◌, arith, cond, eqb, nat_lt, nat_le, option_and_then}
 use Rattle.std.specs.Char.{is_ascii_digit}
 use Rattle.std.specs.List.{list_all}
 use Rattle.std.proofs.lemmas.Bool.{and_parts, and_from, eqb-true, ltb-true, leb-true, lt-ltb, le-leb, cond-true}
@@ -66,6 +66,11 @@ address_digits-address_text (a ∷ b ∷ c ∷ d ∷ e ∷ rest) number read =
     let first = (and_parts (length text == 4 && list_all is_ascii_digit text) (nat_lt (two_at text 0) 64) second).0 in
     let long : length text ≡ 4 = eqb-true _ _ (and_parts (length text == 4) (list_all is_ascii_digit text) first).0 in
     absurd (omega (arith, long))
+
+-- the same of the answer of a reader
+pub IfSome-address_text : (answer : Option ℕ) (text : List ℕ) → answer ≡ address_text text → IfSome answer (λ number. address_digits number ≡ text)
+IfSome-address_text None text e = tt
+IfSome-address_text (Some number) text e = (address_digits-address_text text number (sym e)).1
 
 -- what is read from eight digits is a word
 pub IsWord-word_of_digits : (text : List ℕ) (word : ℕ) → word_of_digits text ≡ Some word → IsWord word

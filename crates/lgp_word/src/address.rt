@@ -6,6 +6,7 @@ ghost use Rattle.lgp_word.specs.Decimal.{decimal_value};
 ghost use Rattle.lgp_word.specs.Digits.{address_digits, address_text};
 ghost use Rattle.lgp_word.specs.Address.{IsAddress, address_after, sector_of, track_of};
 
+use crate::decimal::are_digits;
 use std::marker::Model;
 
 /// The address of a word on the drum, written `ttss`. Clauses see its number, 64 * track + sector.
@@ -57,18 +58,7 @@ impl Address {
             → IsAddress number → text.now ≡ address_digits number → result ≡ Some number }
         ensures printed_so { IfSome result (λ number. address_digits number ≡ text.now) }
     {
-        if text.len() != 4 || !text.iter().all(|byte| byte.is_ascii_digit()) {
-            return None;
-        }
-        let track = pair_value(text[0], text[1]);
-        let sector = pair_value(text[2], text[3]);
-        if track < 64 && sector < 64 {
-            Some(Address {
-                number: 64 * track + sector,
-            })
-        } else {
-            None
-        }
+        address_of(text)
     }
 
     /// The address as `ttss`.
@@ -124,6 +114,24 @@ impl Default for Address {
 
     fn default() -> Self {
         Address { number: 0 }
+    }
+}
+
+/// The address that a text is, if it is one.
+fn address_of(text: &[u8]) -> Option<Address>
+    ensures { result ≡ address_text text.now }
+{
+    if text.len() != 4 || !are_digits(text) {
+        return None;
+    }
+    let track = pair_value(text[0], text[1]);
+    let sector = pair_value(text[2], text[3]);
+    if track < 64 && sector < 64 {
+        Some(Address {
+            number: 64 * track + sector,
+        })
+    } else {
+        None
     }
 }
 

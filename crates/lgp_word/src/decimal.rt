@@ -16,7 +16,7 @@ fn is_decimal(most: usize, text: &[u8]) -> bool
 }
 
 /// All bytes are decimal digits.
-fn are_digits(text: &[u8]) -> bool
+pub(crate) fn are_digits(text: &[u8]) -> bool
     ensures { result ≡ list_all is_ascii_digit text.now }
 {
     text.iter().all(|byte| byte.is_ascii_digit())
