@@ -108,7 +108,8 @@ fn put_looks(account: &mut Account, before: &Look, after: &Look)
     account.after.clock = after.clock;
 }
 
-/// Writes what an order at the counter did that was found in so many word times, and took so many for both of its last phases.
+/// Writes what an order at the counter did that was found in so many word times, and took so many for both of its last phases. A wait
+/// takes 1 to 64 word times, and an order that waits for a word acts for 1 or 65.
 #[inline(always)]
 fn put_deeds(
     account: &mut Account,

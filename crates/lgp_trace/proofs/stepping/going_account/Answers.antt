@@ -1,3 +1,4 @@
+-- An order takes longer than to be found and taken: both of its last phases take time.
 use Rattle.std.proofs.Common.{rules, ◌≡◌, arith}
 use Rattle.lgp_word.specs.Address.{sector_of}
 use Rattle.lgp_table.specs.Wait.{wait}
