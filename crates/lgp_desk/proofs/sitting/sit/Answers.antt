@@ -1,7 +1,8 @@
 use Rattle.std.proofs.Common.{◌≡◌, Err, length, rules}
 use Rattle.lgp_desk.specs.Desk.{desk_language, opening_text, taken_seat}
-use Rattle.lgp_stream.specs.Language.{fault_behind}
-use Rattle.lgp_stream.proofs.StreamLemmas.{StandsWritten-heading, StandsWritten-part, StandsWritten-unnamed}
+use Rattle.std.specs.List.{concat}
+use Rattle.lgp_stream.specs.Language.{fault_behind, text_replies}
+use Rattle.lgp_stream.proofs.StreamLemmas.{Appends-part, StandsWritten-heading, StandsWritten-part, StandsWritten-unnamed}
 use Rattle.lgp_desk.proofs.sitting.sit.Goals as goal
 
 pub returns-in_default-clause-stands : goal.returns-in_default-clause-stands
@@ -32,3 +33,18 @@ returns-clause-stands g c =
     rw same (StandsWritten-part (desk_language g.L.Answers.language g.L.Attended.takes_commands g.L.Attended.prompt g.L.Attended.blocks) (taken_seat c.args.manner c.args.answers)
     c.in-Err.fault front read (g.R.Feed.remaining c.run_text.new.reader)
     (g.W.Sink.contents c.args.writer.now) (g.W.Sink.contents c.write_whole.new.writer) (g.W.Sink.contents c.run_text.new.writer) written stands)
+
+pub returns-in-Ok-run_text-clause-text : goal.returns-in-Ok-run_text-clause-text
+returns-in-Ok-run_text-clause-text g c =
+    let language = desk_language g.L.Answers.language g.L.Attended.takes_commands g.L.Attended.prompt g.L.Attended.blocks in
+    let front = opening_text c.args.manner (g.L.Attended.prompt c.args.answers) in
+    let text : c.deref.result.now ≡ front = search rules in
+    let desk : c.new-desk.result ≡ taken_seat c.args.manner c.args.answers = c.new-desk.ensures in
+    Appends-part front (λ typed. concat (text_replies language (taken_seat c.args.manner c.args.answers) typed)) (g.R.Feed.remaining c.args.reader.now)
+    (g.W.Sink.contents c.args.writer.now) (g.W.Sink.contents c.write_whole.new.writer) (g.W.Sink.contents c.run_text.new.writer)
+    (rw text at c.in_ok-write_whole.ensures.all) (rw desk at c.in-Ok-run_text.ensures.text)
+
+pub returns-in-Ok-run_text-clause-faults : goal.returns-in-Ok-run_text-clause-faults
+returns-in-Ok-run_text-clause-faults g c =
+    let desk : c.new-desk.result ≡ taken_seat c.args.manner c.args.answers = c.new-desk.ensures in
+    rw desk at c.in-Ok-run_text.ensures.faults
