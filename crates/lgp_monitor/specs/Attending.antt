@@ -3,6 +3,8 @@ use Rattle.std.specs.Prelude.{◌≡◌, ℕ, Bool, false, is_none, is_some, if�
 use Rattle.std.specs.Str.Lines.{lines}
 use Rattle.lgp_word.specs.Digits.{address_digits}
 use Rattle.lgp_stream.specs.Language.{Language}
+use Rattle.lgp_table.specs.declared.panel.Panel.{Panel}
+use Rattle.lgp_text.specs.PanelWords.{status_text}
 use Rattle.lgp_transcript.specs.Transcript.{Recorded, untouched}
 use Rattle.lgp_desk.specs.Desk.{BlockAnswers, Seat, desk_language, taken_seat}
 use Rattle.lgp_desk.specs.Handing.{Handed, Line, Whole, handed}
@@ -10,17 +12,23 @@ use Rattle.lgp_desk.specs.Sitting.{desk_faults, desk_text}
 use Rattle.lgp_desk.specs.declared.desk.Manner.{Manner}
 use Rattle.lgp_lab.specs.Standing.{Standing, opening_standing}
 use Rattle.lgp_monitor.specs.Blocks.{behind_block, block_reply, is_tape}
-use Rattle.lgp_monitor.specs.Monitor.{counter_at, monitor_language}
+use Rattle.lgp_monitor.specs.Monitor.{monitor_language, panel_at}
+
+-- the prompt where a line is a command: the counter, and how the machine stands
+abbrev pub stand_prompt : Panel → List ℕ
+stand_prompt panel =
+    address_digits panel.counter ++ (codes " " ++ (status_text panel.status ++ codes "> "))
 
 module _ {A : Type 0} where
   -- a line is a command where no source is open
   abbrev pub takes_commands_at : Recorded (Standing A) → Bool
   takes_commands_at recorded = is_none recorded.standing.opened
 
-  -- the prompt: the counter, or that the line is a source's
+  -- the prompt, or that the line is a source's
   unfoldable pub prompt_at : Recorded (Standing A) → List ℕ
   prompt_at recorded =
-      if is_some recorded.standing.opened then codes "source> " else address_digits (counter_at recorded) ++ codes "> "
+      if is_some recorded.standing.opened then codes "source> "
+      else stand_prompt (panel_at recorded.standing)
 
   -- the answers to blocks
   abbrev pub monitor_blocks : BlockAnswers (Recorded (Standing A))

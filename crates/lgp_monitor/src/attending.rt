@@ -13,6 +13,7 @@ use crate::progress::Progress;
 use lgp_desk::{Attended, Bell, Manner, sit};
 use lgp_lab::Laboratory;
 use lgp_stream::{Feed, Sink, StreamFault};
+use lgp_text::{Piece, push_pieces, status_text};
 use std::alloc::{AllocError, Allocator};
 
 impl<B: Allocator + Copy, P: Progress> Attended for Monitor<Laboratory<B>, B, P> {
@@ -32,8 +33,16 @@ impl<B: Allocator + Copy, P: Progress> Attended for Monitor<Laboratory<B>, B, P>
         if laboratory.has_open_source() {
             return text.extend_from_slice(b"source> ");
         }
-        text.extend_from_slice(&laboratory.debugger().look().counter.print())?;
-        text.extend_from_slice(b"> ")
+        let look = laboratory.debugger().look();
+        push_pieces(
+            text,
+            &[
+                Piece::Place(look.counter),
+                Piece::Text(b" "),
+                Piece::Text(status_text(look.status)),
+                Piece::Text(b"> "),
+            ],
+        )
     }
 
     fn answer_block<A: Allocator>(

@@ -180,24 +180,24 @@ fn a_session_is_held(rt: HostRuntime) {
 const PROMPTED: [(&[&str], &[u8]); 5] = [
     (
         &["lgp_monitor"],
-        b"0000> ok\n0000> ? 1 Form: there is no such command, help lists them\n0000> \n",
+        b"0000 halted operator> ok\n0000 halted operator> ? 1 Form: there is no such command, help lists them\n0000 halted operator> \n",
     ),
     (
         &["lgp_monitor", "lesson.txt"],
         b"ok\n? 1 Form: there is no such command, help lists them\n        line 2 of lesson.txt\n\
-        0000> ok\n0000> ? 1 Form: there is no such command, help lists them\n0000> \n",
+        0000 halted operator> ok\n0000 halted operator> ? 1 Form: there is no such command, help lists them\n0000 halted operator> \n",
     ),
     (
         &["lgp_monitor", "none.txt"],
         b"? 13 File none.txt: it cannot be opened\n        named on the command line\n\
-        0000> ok\n0000> ? 1 Form: there is no such command, help lists them\n0000> \n",
+        0000 halted operator> ok\n0000 halted operator> ? 1 Form: there is no such command, help lists them\n0000 halted operator> \n",
     ),
     (
         &["lgp_monitor", "lesson.txt", "none.txt", "lesson.txt"],
         b"ok\n? 1 Form: there is no such command, help lists them\n        line 2 of lesson.txt\n\
         ? 13 File none.txt: it cannot be opened\n        named on the command line\n\
         ok\n? 1 Form: there is no such command, help lists them\n        line 2 of lesson.txt\n\
-        0000> ok\n0000> ? 1 Form: there is no such command, help lists them\n0000> \n",
+        0000 halted operator> ok\n0000 halted operator> ? 1 Form: there is no such command, help lists them\n0000 halted operator> \n",
     ),
     (&["lgp_monitor", "--echo", "lesson.txt"], TAUGHT_ECHOED),
 ];
