@@ -42,6 +42,18 @@ abbrev pub echo_in : Manner → Kept → List ℕ → List ℕ
 echo_in Echoing kept reply = echo_of kept reply
 echo_in manner kept reply = []
 
+-- what a block is for, as the line above its reply
+unfoldable pub kind_echo_of : List ℕ → List ℕ → List ℕ
+kind_echo_of kind reply = mark_of reply ++ (kind ++ codes "\n")
+
+abbrev pub kind_echo_in : Manner → List ℕ → List ℕ → List ℕ
+kind_echo_in Echoing kind reply = kind_echo_of kind reply
+kind_echo_in manner kind reply = []
+
+abbrev pub block_echo_in : Manner → Option Block → List ℕ → List ℕ
+block_echo_in manner None reply = []
+block_echo_in manner (Some block) reply = kind_echo_in manner block.kind reply
+
 -- behind a reply that begins with a question mark, the note
 abbrev pub note_line : Option (List ℕ) → List ℕ → List ℕ
 note_line None reply = []
@@ -116,7 +128,8 @@ module _ {S : Type 0} (language : Language S) (takes_commands : S → Bool) (pro
   line_text Opening seat line = []
   line_text Within seat line = []
   line_text Closing seat line =
-      answer_text prompt (seat_behind Closing seat line) (block_reply seat.block seat.standing)
+      block_echo_in seat.manner seat.block (block_reply seat.block seat.standing)
+      ++ answer_text prompt (seat_behind Closing seat line) (block_reply seat.block seat.standing)
   line_text Plain seat line =
       echo_in seat.manner (kept_of line) (language.reply seat.standing line)
       ++ answer_text prompt (seat_behind Plain seat line) (language.reply seat.standing line)

@@ -2,12 +2,12 @@
 
 ghost use Rattle.std.specs.Prelude.{◌≡◌, ◌++◌, [], Bool, List, None, OnOk, Some, codes, option_map, true, ℕ};
 ghost use Rattle.lgp_stream.specs.KeptLine.{kept_of};
-ghost use Rattle.lgp_desk.specs.Desk.{BlockAnswers, Seat, answer_text, behind_block, block_reply, desk_language, echo_in, lost_text, prompt_in, role_at, taken_seat};
+ghost use Rattle.lgp_desk.specs.Desk.{BlockAnswers, Seat, answer_text, behind_block, block_echo_in, block_reply, desk_language, echo_in, lost_text, prompt_in, role_at, taken_seat};
 ghost use Rattle.lgp_desk.specs.Roles.{given_by, note_of, opened_by, with_line};
 
 use crate::role::{Role, behind_mark, block_role, command_role};
 use crate::texts::{Block, Source, copy_of};
-use crate::writing::{is_question, push_note_line, push_shown};
+use crate::writing::{is_question, push_note_line, push_shown, push_shown_kind};
 use lgp_stream::{Answers, LineBytes};
 use std::alloc::{AllocError, Allocator};
 use std::marker::Model;
@@ -21,7 +21,7 @@ pub enum Manner {
     Prompting,
     /// A prompt in front of each line but the first.
     PromptingBehindFirst,
-    /// Each line above its reply.
+    /// Each line above its reply, and of a block what it is for.
     Echoing,
 }
 
@@ -256,14 +256,18 @@ impl<A: Allocator + Copy, L: Answers<A> + Attended, B: Bell> Desk<A, L, B> {
 
     /// Hands the open block over.
     fn close_block(&mut self, reply: &mut Vec<u8, A>) -> Result<(), AllocError>
-        ensures reply { OnOk result (reply.new.items ≡ reply.old.items ++ answer_text L.prompt
+        ensures reply { OnOk result (reply.new.items ≡ reply.old.items
+            ++ (block_echo_in self.old.manner self.old.block
+            (block_reply L.language L.takes_commands L.prompt L.blocks
+            self.old.block self.old.standing)
+            ++ answer_text L.prompt
             (record self.old {
               standing = behind_block L.language L.takes_commands L.prompt L.blocks
                   self.old.block self.old.standing;
               block = None;
             })
             (block_reply L.language L.takes_commands L.prompt L.blocks
-            self.old.block self.old.standing)) }
+            self.old.block self.old.standing))) }
         ensures after { OnOk result (self.new ≡ record self.old {
           standing = behind_block L.language L.takes_commands L.prompt L.blocks
               self.old.block self.old.standing;
@@ -274,6 +278,7 @@ impl<A: Allocator + Copy, L: Answers<A> + Attended, B: Bell> Desk<A, L, B> {
         if let Some(block) = self.block.take() {
             self.answers
                 .answer_block(block.kind(), block.text(), &mut own)?;
+            push_shown_kind(reply, self.manner, block.kind(), &own)?;
         }
         self.push_answer(&own, reply)
     }

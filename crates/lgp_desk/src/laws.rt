@@ -3,7 +3,7 @@
 ghost use Rattle.std.specs.Prelude.{◌≡◌, ◌++◌, Bool, List, ℕ};
 ghost use Rattle.lgp_stream.specs.KeptLine.{Kept};
 ghost use Rattle.lgp_stream.specs.Language.{Language, is_question, state_after};
-ghost use Rattle.lgp_desk.specs.Desk.{BlockAnswers, desk_language, echo_of, taken_seat};
+ghost use Rattle.lgp_desk.specs.Desk.{BlockAnswers, desk_language, echo_of, kind_echo_of, taken_seat};
 ghost use Rattle.lgp_desk.specs.Handing.{behind_handed, handed};
 ghost use Rattle.lgp_desk.specs.declared.desk.Manner.{Manner};
 
@@ -17,9 +17,11 @@ pub fn desk_takes_lines_before_quit<S>()
         (handed language takes_commands prompt blocks (taken_seat manner standing) lines) }
 {}
 
-/// What is written for a line that is shown above its reply is counted as the reply alone would be.
-#[tactic(auto, unfolding(crate::specs::Desk::echo_of))]
+/// What is written for a line that is shown above its reply is counted as the reply alone would be, and so of a block.
+#[tactic(auto, unfolding(crate::specs::Desk::echo_of, crate::specs::Desk::kind_echo_of))]
 pub fn echo_asks_as_its_reply()
-    ensures { (kept : Kept) (reply behind : List ℕ)
+    ensures line { (kept : Kept) (reply behind : List ℕ)
         → is_question (echo_of kept reply ++ behind) ≡ is_question reply }
+    ensures block { (kind reply behind : List ℕ)
+        → is_question (kind_echo_of kind reply ++ behind) ≡ is_question reply }
 {}

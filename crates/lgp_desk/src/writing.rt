@@ -2,7 +2,7 @@
 
 ghost use Rattle.std.specs.Prelude.{◌≡◌, ◌++◌, OnOk, codes};
 ghost use Rattle.lgp_stream.specs.Language.{is_question};
-ghost use Rattle.lgp_desk.specs.Desk.{echo_in, echo_of, line_end, mark_of, note_line};
+ghost use Rattle.lgp_desk.specs.Desk.{echo_in, echo_of, kind_echo_in, kind_echo_of, line_end, mark_of, note_line};
 
 use crate::desk::Manner;
 use crate::texts::Source;
@@ -60,6 +60,37 @@ pub fn push_shown<A: Allocator>(
     match manner {
         Manner::Bare | Manner::Prompting | Manner::PromptingBehindFirst => Ok(()),
         Manner::Echoing => push_echo(text, line, reply),
+    }
+}
+
+/// Appends what a block is for, as the line above its reply.
+#[tactic(auto, unfolding(crate::specs::Desk::kind_echo_of))]
+fn push_kind_echo<A: Allocator>(
+    text: &mut Vec<u8, A>,
+    kind: &[u8],
+    reply: &[u8],
+) -> Result<(), AllocError>
+    ensures { OnOk result (text.new.items
+        ≡ text.old.items ++ kind_echo_of kind.now reply.now) }
+{
+    text.extend_from_slice(mark_of(reply))?;
+    text.extend_from_slice(kind)?;
+    text.extend_from_slice(b"\n")
+}
+
+/// Appends what a block is for, where lines are shown above their replies.
+pub fn push_shown_kind<A: Allocator>(
+    text: &mut Vec<u8, A>,
+    manner: Manner,
+    kind: &[u8],
+    reply: &[u8],
+) -> Result<(), AllocError>
+    ensures { OnOk result (text.new.items
+        ≡ text.old.items ++ kind_echo_in manner kind.now reply.now) }
+{
+    match manner {
+        Manner::Bare | Manner::Prompting | Manner::PromptingBehindFirst => Ok(()),
+        Manner::Echoing => push_kind_echo(text, kind, reply),
     }
 }
 

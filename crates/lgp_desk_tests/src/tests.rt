@@ -292,7 +292,7 @@ const GIVEN_ROWS: [Row; 3] = [
 /// A block that has lines of every kind, and a line behind it.
 const BLOCK: &[u8] = b"#< paint\nred\nquit\n# a\n#> b\n#< c\n\n#. \n#.\npull\n";
 
-const BLOCK_ROWS: [Row; 8] = [
+const BLOCK_ROWS: [Row; 9] = [
     (
         Manner::Bare,
         BLOCK,
@@ -310,7 +310,7 @@ const BLOCK_ROWS: [Row; 8] = [
     (
         Manner::Echoing,
         BLOCK,
-        b"paint: red\nquit\n# a\n#> b\n#< c\n\n#. \n? pull\n? open\ndark\n",
+        b"> paint\npaint: red\nquit\n# a\n#> b\n#< c\n\n#. \n? pull\n? open\ndark\n",
         1,
         false,
     ),
@@ -320,6 +320,14 @@ const BLOCK_ROWS: [Row; 8] = [
         b"# a\n#< ?\nx\n#.\npull\n#\n",
         b"out> ?: x\n        a\n? open\n        a\nout> dark\n\n",
         2,
+        false,
+    ),
+    // What a block is for stands above its reply where lines do, behind the mark that the reply asks for.
+    (
+        Manner::Echoing,
+        b"# a\n#< ? b\nx\n#.\n",
+        b"? ? b\n? b: x\n        a\ndark\n",
+        1,
         false,
     ),
     // A kind has exactly the bytes behind the space, and a block may have no lines.
