@@ -9,8 +9,15 @@ use Rattle.lgp_typist.specs.declared.filing.FileTrouble.TheVariants as troubles
 unfoldable pub file_note : List ℕ → List ℕ
 file_note name = codes "# " ++ (name ++ codes "\n")
 
+unfoldable pub line_of : ℕ → List ℕ → List ℕ
+line_of number name = codes "line " ++ (decimal number ++ (codes " of " ++ (name ++ codes "\n")))
+
 unfoldable pub line_note : ℕ → List ℕ → List ℕ
-line_note number name = codes "# line " ++ (decimal number ++ (codes " of " ++ (name ++ codes "\n")))
+line_note number name = codes "# " ++ line_of number name
+
+-- a file that a line of another one names
+unfoldable pub named_note : List ℕ → ℕ → List ℕ → List ℕ
+named_note file number name = codes "# " ++ (file ++ (codes ", " ++ line_of number name))
 
 -- a text whose last line, if it has one, ends in a line feed
 abbrev pub last_byte : List ℕ → ℕ
@@ -66,9 +73,10 @@ typed_tape name tape =
     else typed_block (codes "tape") name (tape_lines tape)
 
 -- why a file is refused
-abbrev pub bad_sign_text : ℕ → List ℕ
-bad_sign_text place =
-    codes "the byte at place " ++ (decimal place ++ codes ", counted from 0, begins no sign of a tape")
+abbrev pub bad_sign_text : ℕ → ℕ → List ℕ
+bad_sign_text place line =
+    codes "the byte at place " ++ (decimal place ++ (codes ", counted from 0, in line "
+    ++ (decimal line ++ codes ", begins no sign of a tape")))
 
 unfoldable pub trouble_text : FileTrouble → List ℕ
 trouble_text troubles.NotOpened = codes "it cannot be opened"
@@ -78,7 +86,7 @@ trouble_text troubles.NotNamed = codes "this is no name of a file"
 trouble_text troubles.TooDeep = codes "16 files are open within one another"
 trouble_text troubles.HasPoint = codes "a line that is a point alone would end the source"
 trouble_text troubles.HasBlockEnd = codes "a line that is #. would end the block"
-trouble_text (troubles.BadSign place) = bad_sign_text place
+trouble_text (troubles.BadSign place line) = bad_sign_text place line
 trouble_text troubles.LongTape = codes "it has more than 1048576 codes"
 trouble_text troubles.NotWritten = codes "it cannot be written, and is as it was"
 

@@ -4,7 +4,8 @@ ghost use Rattle.std.specs.Prelude.{◌≡◌, ◌≤◌, length};
 
 use crate::board::Board;
 use crate::expansion::{
-    push_file_note, push_kept, push_line_note, push_refusal, push_restore, push_source, push_tape,
+    push_file_note, push_kept, push_line_note, push_named_note, push_refusal, push_restore,
+    push_source, push_tape,
 };
 use crate::filing::{FileTrouble, Filing, Unread, keep_file, read_file};
 use crate::keyboard::{Broken, Keyboard};
@@ -148,11 +149,12 @@ impl<'b, A: Allocator + Copy, R: Feed + Drop, F: Filing + Drop> Copying<'b, A, R
             return Ok(false);
         };
         let is_command = self.board.takes_commands();
+        let request = request_where(is_command, line.line);
         if is_command {
             self.has_note = true;
-            push_line_note(&mut self.ready, line.number, line.name)?;
+            push_line_origin(&mut self.ready, request, line.number, line.name)?;
         }
-        let asked = asked_or_typed(self.alloc, &mut self.ready, line.line, true, is_command)?;
+        let asked = asked_or_typed(self.alloc, &mut self.ready, line.line, true, request)?;
         self.work_on_asked(asked, true)
     }
 
@@ -167,7 +169,7 @@ impl<'b, A: Allocator + Copy, R: Feed + Drop, F: Filing + Drop> Copying<'b, A, R
             &mut self.ready,
             struck.text,
             struck.has_end,
-            is_command,
+            request_where(is_command, struck.text),
         )?;
         Ok(self.work_on_asked(asked, false)?)
     }
@@ -255,18 +257,21 @@ impl<'b, A: Allocator + Copy, R: Feed + Drop, F: Filing + Drop> Copying<'b, A, R
     }
 }
 
-/// What a line asks for where it is a command, and the name of the file, if it names one. Any other line is appended.
+/// What a line asks for where it is a command, and the name of the file, if it names one.
+fn request_where(is_command: bool, line: &[u8]) -> Option<(Work, &[u8])> {
+    if is_command { request_in(line) } else { None }
+}
+
+/// What a line asks for, with the name of the file, if it asks for something. Any other line is appended.
 fn asked_or_typed<A: Allocator>(
     alloc: A,
     ready: &mut Vec<u8, A>,
     line: &[u8],
     has_end: bool,
-    is_command: bool,
+    request: Option<(Work, &[u8])>,
 ) -> Result<Option<(Work, Vec<u8, A>)>, AllocError> {
-    if is_command {
-        if let Some((work, name)) = request_in(line) {
-            return Ok(Some((work, Vec::from_slice(alloc, name)?)));
-        }
+    if let Some((work, name)) = request {
+        return Ok(Some((work, Vec::from_slice(alloc, name)?)));
     }
     ready.extend_from_slice(line)?;
     if has_end {
@@ -295,6 +300,22 @@ fn found_in<A: Allocator + Copy>(
 /// The tape whose codes were read, if they were.
 fn tape_found<A: Allocator>(codes: Result<Vec<Code, A>, Unread>) -> Result<Found<A>, Unread> {
     Ok(Found::Tape(codes?))
+}
+
+/// Appends where a line of a file comes from, or where the lines of the file come from that it names. Those of `do` have notes of their
+/// own.
+fn push_line_origin<A: Allocator>(
+    text: &mut Vec<u8, A>,
+    request: Option<(Work, &[u8])>,
+    number: u64,
+    name: &[u8],
+) -> Result<(), AllocError> {
+    match request {
+        None | Some((Work::Lines | Work::Save, _)) => push_line_note(text, number, name),
+        Some((Work::Source | Work::Tape | Work::Archive | Work::Restore, file)) => {
+            push_named_note(text, file, number, name)
+        }
+    }
 }
 
 /// Copies the front of a text, as much as there is room for; answers how much.

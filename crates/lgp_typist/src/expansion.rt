@@ -1,7 +1,7 @@
 //! What is typed at a desk for what stands in files.
 
 ghost use Rattle.std.specs.Prelude.{◌≡◌, ◌*◌, ◌<◌, ◌++◌, OnOk, length, take};
-ghost use Rattle.lgp_typist.specs.Expansions.{bad_sign_text, block_head, codes_of_line, ended_text, file_note, line_codes, line_note, refusal_front, tape_line, tape_lines, trouble_text, typed_block, typed_kept, typed_mount, typed_refusal, typed_restore, typed_source, typed_tape};
+ghost use Rattle.lgp_typist.specs.Expansions.{bad_sign_text, block_head, codes_of_line, ended_text, file_note, line_codes, line_note, line_of, named_note, refusal_front, tape_line, tape_lines, trouble_text, typed_block, typed_kept, typed_mount, typed_refusal, typed_restore, typed_source, typed_tape};
 
 use crate::filing::FileTrouble;
 use lgp_flexo::{Code, write_tape_text};
@@ -37,16 +37,46 @@ pub(crate) fn push_line_note<A: Allocator>(
 ) -> Result<(), AllocError>
     ensures { OnOk result (text.new.items ≡ text.old.items ++ line_note number name.now) }
 {
+    text.extend_from_slice(b"# ")?;
+    push_line_of(text, number, name)
+}
+
+/// Appends which line of a file it is.
+#[tactic(auto, unfolding(crate::specs::Expansions::line_of))]
+fn push_line_of<A: Allocator>(
+    text: &mut Vec<u8, A>,
+    number: u64,
+    name: &[u8],
+) -> Result<(), AllocError>
+    ensures { OnOk result (text.new.items ≡ text.old.items ++ line_of number name.now) }
+{
     push_pieces(
         text,
         &[
-            Piece::Text(b"# line "),
+            Piece::Text(b"line "),
             Piece::Number(number),
             Piece::Text(b" of "),
             Piece::Text(name),
             Piece::Text(b"\n"),
         ],
     )
+}
+
+/// Appends that the lines behind come from a file that this line of another one names.
+#[tactic(auto, unfolding(crate::specs::Expansions::named_note))]
+pub(crate) fn push_named_note<A: Allocator>(
+    text: &mut Vec<u8, A>,
+    file: &[u8],
+    number: u64,
+    name: &[u8],
+) -> Result<(), AllocError>
+    ensures { OnOk result (text.new.items
+        ≡ text.old.items ++ named_note file.now number name.now) }
+{
+    text.extend_from_slice(b"# ")?;
+    text.extend_from_slice(file)?;
+    text.extend_from_slice(b", ")?;
+    push_line_of(text, number, name)
 }
 
 /// Appends a text, with a line feed behind its last line where it has none.
@@ -210,16 +240,22 @@ pub(crate) fn push_tape<A: Allocator + Copy>(
     push_block(text, b"tape", name, &lines)
 }
 
-/// Appends which place of a file is no sign of a tape.
-fn push_bad_sign<A: Allocator>(text: &mut Vec<u8, A>, place: u64) -> Result<(), AllocError>
-    ensures { OnOk result (text.new.items ≡ text.old.items ++ bad_sign_text place) }
+/// Appends which place of a file, in which line, is no sign of a tape.
+fn push_bad_sign<A: Allocator>(
+    text: &mut Vec<u8, A>,
+    place: u64,
+    line: u64,
+) -> Result<(), AllocError>
+    ensures { OnOk result (text.new.items ≡ text.old.items ++ bad_sign_text place line) }
 {
     push_pieces(
         text,
         &[
             Piece::Text(b"the byte at place "),
             Piece::Number(place),
-            Piece::Text(b", counted from 0, begins no sign of a tape"),
+            Piece::Text(b", counted from 0, in line "),
+            Piece::Number(line),
+            Piece::Text(b", begins no sign of a tape"),
         ],
     )
 }
@@ -241,7 +277,7 @@ fn push_trouble<A: Allocator>(text: &mut Vec<u8, A>, trouble: FileTrouble) -> Re
         FileTrouble::HasBlockEnd => {
             text.extend_from_slice(b"a line that is #. would end the block")
         }
-        FileTrouble::BadSign(place) => push_bad_sign(text, place),
+        FileTrouble::BadSign(place, line) => push_bad_sign(text, place, line),
         FileTrouble::LongTape => text.extend_from_slice(b"it has more than 1048576 codes"),
         FileTrouble::NotWritten => {
             text.extend_from_slice(b"it cannot be written, and is as it was")

@@ -38,8 +38,8 @@ pub enum FileTrouble {
     HasPoint,
     /// It is to be typed as a block, with a line that would end it.
     HasBlockEnd,
-    /// It is no tape text: the byte at this place, counted from 0, begins no sign.
-    BadSign(u64),
+    /// It is no tape text: the byte at this place, counted from 0, in this line, counted from 1, begins no sign.
+    BadSign(u64, u64),
     /// Its tape has more codes than a tape may have.
     LongTape,
     /// It could not be written.

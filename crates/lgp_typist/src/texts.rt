@@ -21,10 +21,24 @@ pub(crate) fn has_block_end(dump: &[u8]) -> bool {
     has_line(dump, b"#.")
 }
 
+/// The number of the line in which a place of a text lies, counted from 1.
+fn line_at(text: &[u8], place: usize) -> u64 {
+    let front = text.get(..place).unwrap_or(text);
+    let mut line = 1u64;
+    for byte in front {
+        if *byte == b'\n' {
+            line = line.saturating_add(1);
+        }
+    }
+    line
+}
+
 /// Why a text is refused as a tape.
-fn tape_trouble(fault: TextFault) -> Unread {
+fn tape_trouble(text: &[u8], fault: TextFault) -> Unread {
     match fault {
-        TextFault::BadSign(place) => Unread::Refused(FileTrouble::BadSign(place as u64)),
+        TextFault::BadSign(place) => {
+            Unread::Refused(FileTrouble::BadSign(place as u64, line_at(text, place)))
+        }
         TextFault::TooLong => Unread::Refused(FileTrouble::LongTape),
         TextFault::Memory(_) => Unread::Memory,
     }
@@ -35,7 +49,10 @@ pub(crate) fn checked_tape<A: Allocator + Copy>(
     alloc: A,
     text: &[u8],
 ) -> Result<Vec<Code, A>, Unread> {
-    read_tape_text(alloc, text).map_err(tape_trouble)
+    match read_tape_text(alloc, text) {
+        Ok(tape) => Ok(tape),
+        Err(fault) => Err(tape_trouble(text, fault)),
+    }
 }
 
 /// The codes of an archive's tape, if it is one.
@@ -43,7 +60,10 @@ pub(crate) fn checked_archive<A: Allocator + Copy>(
     alloc: A,
     text: &[u8],
 ) -> Result<Vec<Code, A>, Unread> {
-    read_archive_text(alloc, text).map_err(tape_trouble)
+    match read_archive_text(alloc, text) {
+        Ok(tape) => Ok(tape),
+        Err(fault) => Err(tape_trouble(text, fault)),
+    }
 }
 
 /// The dump in the reply to `dump`, behind the line that tells how many words it has; the reply may stand behind its line.

@@ -43,6 +43,12 @@ fn text_of(name: &str) -> Option<&'static [u8]> {
     if name == "torn" {
         return Some(b"12A");
     }
+    if name == "later" {
+        return Some(b"12\n[16]\n3A");
+    }
+    if name == "naming" {
+        return Some(b"panel\nsource program\nrestore drum\ntape torn\narchive torn\nlabels\n");
+    }
     if name == "strange" {
         return Some(b"12@");
     }
@@ -96,7 +102,7 @@ impl Filing for Made<'_> {
 /// Keys, and what is typed for them.
 type Row = (&'static [u8], &'static [u8]);
 
-const ROWS: [Row; 23] = [
+const ROWS: [Row; 25] = [
     // Lines that name no file are typed as they are, the last one too.
     (b"panel\n\n; do\ndo\nrun 1", b"panel\n\n; do\ndo\nrun 1"),
     (
@@ -140,13 +146,26 @@ const ROWS: [Row; 23] = [
     (b"tape tape\n", b"# tape\nmount 12[16]3'\n#\n"),
     (
         b"tape torn\n",
-        b"#> ? 13 File torn: the byte at place 2, counted from 0, begins no sign of a tape\n",
+        b"#> ? 13 File torn: the byte at place 2, counted from 0, in line 1, begins no sign of a tape\n",
+    ),
+    (
+        b"tape later\n",
+        b"#> ? 13 File later: the byte at place 9, counted from 0, in line 3, begins no sign of a tape\n",
+    ),
+    // A file that a line of another one names: with both names.
+    (
+        b"do naming\n",
+        b"# line 1 of naming\npanel\n# program, line 2 of naming\nsource\nstart z\n end start\n.\n\
+          # drum, line 3 of naming\n#< restore drum\n0100 00000004\r\n0101 00000008\n#.\n\
+          # torn, line 4 of naming\n\
+          #> ? 13 File torn: the byte at place 2, counted from 0, in line 1, begins no sign of a tape\n\
+          # torn, line 5 of naming\nmount 12a\n# line 6 of naming\nlabels\n#\n",
     ),
     // A capital letter is no sign of tape text; in an archive it is that of its key.
     (b"archive torn\n", b"# torn\nmount 12a\n#\n"),
     (
         b"archive strange\n",
-        b"#> ? 13 File strange: the byte at place 2, counted from 0, begins no sign of a tape\n",
+        b"#> ? 13 File strange: the byte at place 2, counted from 0, in line 1, begins no sign of a tape\n",
     ),
     (b"archive old", b"# old\nmount 12[16]3[24]b\n#\n"),
     (
