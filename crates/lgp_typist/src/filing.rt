@@ -69,7 +69,7 @@ fn read_whole<A: Allocator, R: Feed>(alloc: A, reader: &mut R) -> Result<Vec<u8,
         if count == 0 {
             break;
         }
-        if text.len() > FILE_LIMIT - PORTION {
+        if text.len().saturating_add(count) > FILE_LIMIT {
             return Err(Unread::Refused(FileTrouble::TooLong));
         }
         text.extend_from_slice(&portion[..count])?;
