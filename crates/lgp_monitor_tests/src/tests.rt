@@ -46,10 +46,10 @@ const ROWS: [Row; 26] = [
         b"live\n? 2 Moving: the machine is at work, press manual halts it\n? 2 Moving: the machine is at work, press manual halts it\n? 2 Moving: the machine is at work, press manual halts it\n? 3 AtWork: the machine is at work, and turn is for one at rest\nlive\n? 6 NoRule: no rule has this number, rules lists them\n? 7 TooFar 0: no more orders than this are kept\n? 8 NoHit 0: no rule hits one of the kept orders, which are so many\n? 10 NoImage: no source has assembled yet\n? 12 BadSign 2: the byte at this place of the text, counted from 0, begins no sign of a tape\npress start\nput 0000 00000002\nput 0001 00000000\nmount 12\nturn 1\npress manual\ndrop 0\nback 1\nlast\nlist\nmount 12A\n",
         9,
     ),
-    // A new laboratory, with an empty transcript.
+    // A new laboratory, with an empty transcript, and without the rules and names from before.
     (
-        b"put 0000 = 1\nnew\nwords 0000 1\ntranscript\nhelp new\n",
-        b"ok\nnew\n0000 00000000\nwords 0000 1\nnew\n",
+        b"source\nold z\n end\n.\nput 0000 = 1\nbreak 0100\nnew\nrules\nlabels\nwords 0000 1\nbreak 0101\ntranscript\nhelp new\n",
+        b"cells 1 start none\nok\nrule 0\nnew\n0000 00000000\nrule 0\nwords 0000 1\nbreak 0101\nnew\n",
         0,
     ),
     // In an open source each line is the source's: a label with no order of that name, and a label alone.
@@ -194,8 +194,8 @@ fn expect(rt: &impl Abort, alloc: Global, typed: &[u8], replies: &[u8], faults: 
 
 #[test]
 fn typed_lines_are_answered(rt: HostRuntime) {
-    for (typed, replies, faults) in ROWS {
-        expect(&rt, rt.alloc(), typed, replies, faults);
+    for row in &ROWS {
+        expect(&rt, rt.alloc(), row.0, row.1, row.2);
     }
 }
 
