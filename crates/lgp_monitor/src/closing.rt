@@ -87,7 +87,8 @@ impl<'s> Model for Passed<'s> {
       count = passed.count;
     } };
 
-    ghost invariant = { λ passed. passed.lines ≡ drop passed.count (lines_of passed.source.now) };
+    ghost invariant = { λ passed.
+        passed.lines ≡ drop passed.count (lines_of passed.source.now) };
 }
 
 impl<'s> Passed<'s> {
