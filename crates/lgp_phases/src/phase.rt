@@ -12,8 +12,8 @@ ghost use Rattle.lgp_table.specs.Activity.{act_time, cost_at, rest_time, seek_ti
 use crate::times::act_time;
 use lgp_drum::Drum;
 use lgp_reader::Reader;
-use lgp_table::{Panel, Status};
-use lgp_word::{Address, Op, Word, parts};
+use lgp_table::{Panel, Status, seeks};
+use lgp_word::{Word, parts};
 use std::alloc::Allocator;
 
 /// The phase that an activity is in.
@@ -41,15 +41,6 @@ fn is_under_head(sector: u16, clock: u64) -> bool
     u64::from(sector) * 9 % 64 == clock.wrapping_add(1) % 64
 }
 
-/// Whether an order waits for the sector of its address.
-#[tactic(auto, unfolding(lgp_table::specs::Activity::seek_time))]
-fn seeks(op: Op) -> bool
-    ensures { (address clock : ℕ)
-        → seek_time op address clock ≡ (if result then wait (sector_of address) clock else 1) }
-{
-    !matches!(op, Op::Z | Op::I | Op::P | Op::U | Op::T)
-}
-
 /// The phase in which the activity begins that the panel asks for.
 #[tactic(auto, using(crate::proofs::Bounds::time_bounds), unfolding(lgp_table::specs::Activity::cost_at))]
 pub fn first_phase<A: Allocator>(
@@ -73,8 +64,8 @@ pub fn first_phase<A: Allocator>(
     }
 }
 
-#[tactic(auto, using(crate::proofs::Bounds::time_bounds))]
 /// The phase after the word time that begins at this clock; `None` where the activity ends with it.
+#[tactic(auto, using(crate::proofs::Bounds::time_bounds), unfolding(lgp_table::specs::Activity::seek_time))]
 pub fn next_phase<A: Allocator>(
     phase: &Phase,
     panel: &Panel,

@@ -12,7 +12,7 @@ use crate::outcome::Ahead;
 use lgp_drum::Drum;
 use lgp_flexo::Code;
 use lgp_reader::Reader;
-use lgp_table::{Panel, Status};
+use lgp_table::{Panel, Status, seeks};
 use lgp_word::{Address, Op, Word, parts};
 use std::alloc::Allocator;
 
@@ -47,9 +47,10 @@ pub fn seek_time(op: Op, address: Address, clock: u64, after: u64) -> u64
     ensures time { result ≡ seek_time op address (clock + after) }
     ensures range { result ≤ 64 }
 {
-    match op {
-        Op::Z | Op::I | Op::P | Op::U | Op::T => 1,
-        _ => wait(address.sector(), clock, after),
+    if seeks(op) {
+        wait(address.sector(), clock, after)
+    } else {
+        1
     }
 }
 
@@ -68,8 +69,8 @@ pub fn act_time<A: Allocator>(op: Op, address: Address, reader: &Reader<A>) -> u
     }
 }
 
-#[tactic(auto, using(crate::proofs::Bounds::time_bounds))]
 /// The word times of phases three and four of an order word, from so many word times after this clock.
+#[tactic(auto, using(crate::proofs::Bounds::time_bounds))]
 fn rest_time<A: Allocator>(word: Word, reader: &Reader<A>, clock: u64, after: u64) -> u64
     requires { after < 2 ^ 32 }
     ensures time { result ≡ rest_time word reader.now (clock + after) }

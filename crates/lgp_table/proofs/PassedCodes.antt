@@ -5,8 +5,8 @@ use Rattle.lgp_word.specs.declared.order.Op.TheVariants.{Z, B, Y, R, I, D, N, M,
 use Rattle.lgp_word.specs.Order.{address_at, op_at, sign_of}
 use Rattle.lgp_table.specs.State.{Core, State, word_at}
 use Rattle.lgp_table.specs.Rows.{Effect, row}
-use Rattle.lgp_table.specs.Activity.{after_fetch, core_after, core_by, cost, cost_at, next, print_by, print_of}
-use Rattle.lgp_table.specs.Activity.{act_time, ended, resume, time_by}
+use Rattle.lgp_table.specs.Activity.{act_time, after_fetch, after_order, begun_in, core_after, core_behind, cost, cost_at}
+use Rattle.lgp_table.specs.Activity.{next, print_of, printed_by, resume, time_of}
 use Rattle.lgp_table.specs.declared.panel.Cause.TheVariants.{Step}
 use Rattle.lgp_table.specs.PassedCodes.{core_without_passed, without_passed}
 use Rattle.lgp_table.specs.declared.panel.Status.{Status}
@@ -39,49 +39,55 @@ act_time-without : (op : Op) (m : ℕ) (core : Core) → act_time op m (core_wit
 unfolding act_time
 act_time-without op m core = elim op as (λ op. act_time op m (core_without_passed core).tape ≡ act_time op m core.tape) [ Z ↦ refl | B ↦ refl | Y ↦ refl | R ↦ refl | I ↦ refl | D ↦ refl | N ↦ refl | M ↦ refl | P ↦ refl | E ↦ refl | U ↦ refl | T ↦ refl | H ↦ refl | C ↦ refl | A ↦ refl | S ↦ refl ]
 
-time_by-without : (status : Status) (core : Core) (clock : ℕ) → time_by status (core_without_passed core) clock ≡ time_by status core clock
-time_by-without (Halted cause) core clock = refl
-time_by-without Going core clock =
+-- the activity of a status, with its order
+time_of-without : (status : Status) (core : Core) (clock : ℕ)
+    → time_of (begun_in status (core_without_passed core)) status (core_without_passed core).tape clock
+    ≡ time_of (begun_in status core) status core.tape clock
+time_of-without (Halted cause) core clock = refl
+time_of-without Going core clock =
     let word = word_at core core.panel.counter in
     rw (act_time-without (op_at word) (address_at word) core)
-time_by-without Executing core clock = rw (act_time-without (op_at core.panel.register) (address_at core.panel.register) core)
-time_by-without Waiting core clock = refl
-time_by-without Reading core clock = refl
+time_of-without Executing core clock = rw (act_time-without (op_at core.panel.register) (address_at core.panel.register) core)
+time_of-without Waiting core clock = refl
+time_of-without Reading core clock = refl
 
 pub cost-without : (s : State) → cost (without_passed s) ≡ cost s
 unfolding cost_at
-cost-without s = time_by-without s.core.panel.status s.core s.clock
+cost-without s = time_of-without s.core.panel.status s.core s.clock
 
-core_by-without : (status : Status) (core : Core) → core_without_passed (core_by status (core_without_passed core)) ≡ core_without_passed (core_by status core)
+core_behind-without : (status : Status) (core : Core)
+    → core_without_passed (core_behind (begun_in status (core_without_passed core)) status (core_without_passed core))
+    ≡ core_without_passed (core_behind (begun_in status core) status core)
 unfolding effect_without_passed
-core_by-without (Halted cause) core = refl
-core_by-without Going core =
+core_behind-without (Halted cause) core = refl
+core_behind-without Going core =
     let word = word_at core core.panel.counter in
     let on = resume core.panel.mode in
-    ap (λ (effect : Effect). ended effect on) (row-without (op_at word) (sign_of word) (address_at word) (after_fetch core))
-core_by-without Executing core =
+    ap (λ (effect : Effect). after_order effect on) (row-without (op_at word) (sign_of word) (address_at word) (after_fetch core))
+core_behind-without Executing core =
     let word = core.panel.register in
-    ap (λ (effect : Effect). ended effect (Halted Step)) (row-without (op_at word) (sign_of word) (address_at word) core)
-core_by-without Waiting core = refl
-core_by-without Reading core = refl
+    ap (λ (effect : Effect). after_order effect (Halted Step)) (row-without (op_at word) (sign_of word) (address_at word) core)
+core_behind-without Waiting core = refl
+core_behind-without Reading core = refl
 
-print_by-without : (status : Status) (core : Core) → print_by status (core_without_passed core) ≡ print_by status core
+printed_by-without : (status : Status) (core : Core)
+    → printed_by (begun_in status (core_without_passed core)) ≡ printed_by (begun_in status core)
 unfolding effect_without_passed
-print_by-without (Halted cause) core = refl
-print_by-without Going core =
+printed_by-without (Halted cause) core = refl
+printed_by-without Going core =
     let word = word_at core core.panel.counter in
     ap (λ (effect : Effect). effect.prints) (row-without (op_at word) (sign_of word) (address_at word) (after_fetch core))
-print_by-without Executing core =
+printed_by-without Executing core =
     let word = core.panel.register in
     ap (λ (effect : Effect). effect.prints) (row-without (op_at word) (sign_of word) (address_at word) core)
-print_by-without Waiting core = refl
-print_by-without Reading core = refl
+printed_by-without Waiting core = refl
+printed_by-without Reading core = refl
 
 pub next-without : (s : State) → without_passed (next (without_passed s)) ≡ without_passed (next s)
 unfolding core_after print_of
 next-without s =
-    let core = core_by-without s.core.panel.status s.core in
-    let prints = print_by-without s.core.panel.status s.core in
+    let core = core_behind-without s.core.panel.status s.core in
+    let prints = printed_by-without s.core.panel.status s.core in
     let time = cost-without s in
     cc
 

@@ -7,8 +7,9 @@ use Rattle.lgp_word.specs.Address.{track_of}
 use Rattle.lgp_word.specs.Order.{address_at, op_at, sign_of}
 use Rattle.lgp_table.specs.State.{Core, State, word_at}
 use Rattle.lgp_table.specs.Rows.{Effect, passes_stop, row}
-use Rattle.lgp_table.specs.Activity.{after_fetch, core_after, core_by, cost, cost_at, next, print_by, print_of, ended, resume, time_by}
-use Rattle.lgp_table.specs.SwitchPresses.{core_with_switches, looks_at_switches, looks_by, order_looks, with_switches}
+use Rattle.lgp_table.specs.Activity.{after_fetch, after_order, begun_in, core_after, core_behind, cost, cost_at}
+use Rattle.lgp_table.specs.Activity.{next, print_of, printed_by, resume, time_of}
+use Rattle.lgp_table.specs.SwitchPresses.{core_with_switches, looks, looks_at_switches, order_looks, with_switches}
 use Rattle.lgp_table.specs.declared.panel.Cause.TheVariants.{Step}
 use Rattle.lgp_table.specs.declared.panel.Status.{Status}
 use Rattle.lgp_table.specs.declared.panel.Status.TheVariants.{Halted, Going, Executing, Waiting, Reading}
@@ -51,7 +52,10 @@ row_same C minus m core switches blind = refl
 row_same A minus m core switches blind = refl
 row_same S minus m core switches blind = refl
 
-time_same : (status : Status) (core : Core) (switches : Switches) (clock : ℕ) → time_by status (core_with_switches core switches) clock ≡ time_by status core clock
+-- the activity of a status, with its order
+time_same : (status : Status) (core : Core) (switches : Switches) (clock : ℕ)
+    → time_of (begun_in status (core_with_switches core switches)) status core.tape clock
+    ≡ time_of (begun_in status core) status core.tape clock
 time_same (Halted cause) core switches clock = refl
 time_same Going core switches clock = refl
 time_same Executing core switches clock = refl
@@ -62,22 +66,23 @@ pub cost_same : (s : State) (switches : Switches) → cost (with_switches s swit
 unfolding cost_at
 cost_same s switches = time_same s.core.panel.status s.core switches s.clock
 
-core_same : (status : Status) (core : Core) (switches : Switches) → looks_by status core ≡ false
-    → core_by status (core_with_switches core switches) ≡ core_with_switches (core_by status core) switches
+core_same : (status : Status) (core : Core) (switches : Switches) → looks (begun_in status core) ≡ false
+    → core_behind (begun_in status (core_with_switches core switches)) status (core_with_switches core switches)
+    ≡ core_with_switches (core_behind (begun_in status core) status core) switches
 unfolding effect_with_switches
 core_same (Halted cause) core switches blind = refl
 core_same Going core switches blind =
     let word = word_at core core.panel.counter in
     let on = resume core.panel.mode in
-    ap (λ (effect : Effect). ended effect on) (row_same (op_at word) (sign_of word) (address_at word) (after_fetch core) switches blind)
+    ap (λ (effect : Effect). after_order effect on) (row_same (op_at word) (sign_of word) (address_at word) (after_fetch core) switches blind)
 core_same Executing core switches blind =
     let word = core.panel.register in
-    ap (λ (effect : Effect). ended effect (Halted Step)) (row_same (op_at word) (sign_of word) (address_at word) core switches blind)
+    ap (λ (effect : Effect). after_order effect (Halted Step)) (row_same (op_at word) (sign_of word) (address_at word) core switches blind)
 core_same Waiting core switches blind = refl
 core_same Reading core switches blind = refl
 
-print_same : (status : Status) (core : Core) (switches : Switches) → looks_by status core ≡ false
-    → print_by status (core_with_switches core switches) ≡ print_by status core
+print_same : (status : Status) (core : Core) (switches : Switches) → looks (begun_in status core) ≡ false
+    → printed_by (begun_in status (core_with_switches core switches)) ≡ printed_by (begun_in status core)
 unfolding effect_with_switches
 print_same (Halted cause) core switches blind = refl
 print_same Going core switches blind =

@@ -1,17 +1,16 @@
 -- Part of the public promise. The switches BREAK POINT and TRANSFER CONTROL (Operations Manual, "The control panel"): which orders
 -- look at them, and what it is to press nothing else.
-use Rattle.std.specs.Prelude.{ℕ, Bool, true, false, nat_le}
+use Rattle.std.specs.Prelude.{ℕ, Bool, true, false, nat_le, Option, Some, None}
 use Rattle.lgp_word.specs.Address.{track_of}
 use Rattle.lgp_word.specs.Order.{address_at, op_at, sign_of}
 use Rattle.lgp_word.specs.declared.order.Op.{Op}
 use Rattle.lgp_word.specs.declared.order.Op.TheVariants.{Z, T}
-use Rattle.lgp_table.specs.State.{Core, State, word_at}
+use Rattle.lgp_table.specs.State.{Core, State}
+use Rattle.lgp_table.specs.Activity.{BegunOrder, begun_order}
 use Rattle.lgp_table.specs.declared.action.Action.{Action}
 use Rattle.lgp_table.specs.declared.action.Action.TheVariants as actions
 use Rattle.lgp_table.specs.declared.action.Event.{Event}
 use Rattle.lgp_table.specs.declared.action.Event.TheVariants.{WordTime, Press}
-use Rattle.lgp_table.specs.declared.panel.Status.{Status}
-use Rattle.lgp_table.specs.declared.panel.Status.TheVariants.{Going, Executing}
 use Rattle.lgp_table.specs.declared.panel.Switches.{Switches}
 
 -- whether an order looks at them: a z whose track number has one of the bits 32, 16, 8, 4, and a t with a minus
@@ -23,14 +22,14 @@ order_looks _ minus m = false
 abbrev pub word_looks : ℕ → Bool
 word_looks word = order_looks (op_at word) (sign_of word) (address_at word)
 
--- whether the activity that begins here looks at them
-abbrev pub looks_by : Status → Core → Bool
-looks_by Going core = word_looks (word_at core core.panel.counter)
-looks_by Executing core = word_looks core.panel.register
-looks_by _ core = false
+-- whether the order of an activity does, if there is one
+abbrev pub looks : Option BegunOrder → Bool
+looks None = false
+looks (Some order) = word_looks order.word
 
+-- whether the activity that begins here looks at them
 abbrev pub looks_at_switches : State → Bool
-looks_at_switches s = looks_by s.core.panel.status s.core
+looks_at_switches s = looks (begun_order s.core)
 
 -- the same state with BREAK POINT and TRANSFER CONTROL set as given; 6 BIT INPUT stays
 abbrev pub core_with_switches : Core → Switches → Core

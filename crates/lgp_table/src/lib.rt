@@ -5,7 +5,9 @@
 mod action;
 pub mod laws;
 mod panel;
+mod uses;
 pub mod worked;
 
 pub use action::{Action, Event};
 pub use panel::{Cause, Ending, Mode, Panel, Status, Switches, Which};
+pub use uses::{seeks, stores};
