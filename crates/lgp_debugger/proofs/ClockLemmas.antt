@@ -5,7 +5,7 @@ use Rattle.lgp_flexo.specs.Tape.{Tape, all_codes}
 use Rattle.lgp_table.specs.State.{State}
 use Rattle.lgp_table.specs.Interleaving.{Configuration, at_boundary}
 use Rattle.lgp_machine.specs.Answers.{clock_end}
-use Rattle.lgp_machine.specs.Look.{shown}
+use Rattle.lgp_machine.specs.Look.{seen_at_boundary}
 use Rattle.lgp_machine.specs.Marks.{mark_of}
 use Rattle.lgp_machine.specs.declared.mark.Mark.{Mark}
 
@@ -13,8 +13,8 @@ pub left_few : (tape : Tape) (limit : ℕ) → length (all_codes tape) ≤ limit
 left_few tape limit few = omega (arith, few, length-append tape.passed tape.left)
 
 -- the clock of a machine whose mark can be taken
-pub mark_within : (s : State) (now : Configuration) (found : Option Mark) → now ≡ at_boundary s → found ≡ shown now (mark_of now.state) → IfSome found (λ mark. mark.clock ≤ clock_end) → s.clock ≤ clock_end
+pub mark_within : (s : State) (now : Configuration) (found : Option Mark) → now ≡ at_boundary s → found ≡ seen_at_boundary now (mark_of now.state) → IfSome found (λ mark. mark.clock ≤ clock_end) → s.clock ≤ clock_end
 mark_within s now found here is within =
-    let some : found ≡ Some (mark_of s) = is ∙ ap (λ (n : Configuration). shown n (mark_of n.state)) here in
+    let some : found ≡ Some (mark_of s) = is ∙ ap (λ (n : Configuration). seen_at_boundary n (mark_of n.state)) here in
     let P : Option Mark → Type 0 = λ o. IfSome o (λ mark. mark.clock ≤ clock_end) in
     subst P some within

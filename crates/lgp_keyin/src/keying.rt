@@ -40,7 +40,7 @@ fn store<M: Operate>(machine: &mut M, address: Address, word: Word) -> bool
         ≡ at_boundary (next (about_to_store (M.configuration machine.old).state address word))) }
     ensures up { OnTrue result
         ((M.configuration machine.new).state.core.panel.switches.six_bit ≡ false) }
-    ensures clock { OnTrue result ((M.configuration machine.new).state.clock ≤ clock_end) }
+    ensures clock { (M.configuration machine.new).state.clock ≤ clock_end }
     ensures stands { OnFalse result (M.configuration machine.new
         ≡ at_boundary (about_to_store (M.configuration machine.old).state address word)) }
     ensures clock_end { OnFalse result (clock_end < (M.configuration machine.new).state.clock
@@ -72,6 +72,8 @@ pub fn key_in<M: Operate>(machine: &mut M, base: Address, words: &[Word]) -> Res
     ensures stands { result ≡ Err KeyFault.ClockEnd
         → EndsBeforeStore (M.configuration machine.new)
         (M.configuration machine.old).state base words.now }
+    ensures within { result ≡ Err KeyFault.ClockEnd
+        → (M.configuration machine.new).state.clock ≤ clock_end }
     ensures executing { result ≡ Err KeyFault.ClockEnd
         → (M.configuration machine.new).state.core.panel.status ≡ Executing }
     ensures register { result ≡ Err KeyFault.ClockEnd → (done : ℕ) × (done < length words.now)

@@ -6,8 +6,8 @@ ghost use Rattle.lgp_flexo.specs.TapeText.{tape_limit};
 ghost use Rattle.lgp_table.specs.Activity.{cost, next, print_of};
 ghost use Rattle.lgp_table.specs.Console.{is_at_rest};
 ghost use Rattle.lgp_table.specs.Interleaving.{Configuration, after_actions, after_mount, after_press, at_boundary, is_boundary, latch_limit};
-ghost use Rattle.lgp_machine.specs.Answers.{answer_to_press, clock_end};
-ghost use Rattle.lgp_machine.specs.Look.{look_of, shown};
+ghost use Rattle.lgp_machine.specs.Answers.{press_outcome, clock_end};
+ghost use Rattle.lgp_machine.specs.Look.{look_of, seen_at_boundary};
 
 use lgp_flexo::Code;
 use lgp_machine::{Look, Machine, MountFault, OrderFault, PressFault, Pressed};
@@ -30,13 +30,13 @@ pub trait Operate {
     /// What shows; nothing within an activity.
     fn look(&self) -> Option<Look>
         ensures look { result
-            ≡ shown (configuration self.now) (look_of (configuration self.now).state) }
+            ≡ seen_at_boundary (configuration self.now) (look_of (configuration self.now).state) }
         ensures drum { length (configuration self.now).state.core.words ≡ 4096 };
 
     /// Presses: at a boundary the action acts at once, else it is kept until the activity ends.
     fn press(&mut self, action: Action) -> Result<Pressed, PressFault>
         ensures state { configuration self.new ≡ after_press (configuration self.old) action }
-        ensures answer { result ≡ answer_to_press (configuration self.old) action };
+        ensures answer { result ≡ press_outcome (configuration self.old) action };
 
     /// Mounts a tape, at rest; the reader is off afterwards. A refused tape is handed back.
     fn mount(&mut self, tape: Self::Tape) -> Result<(), (MountFault, Self::Tape)>
@@ -72,6 +72,7 @@ pub trait Operate {
             + cost (configuration self.old).state)) }
         ensures memory { result ≡ Err OrderFault.Memory
             → IsTrue (is_some (print_of (configuration self.old).state.core)) }
+        ensures within { (configuration self.new).state.clock ≤ clock_end }
         ensures unchanged { OnErr result (configuration self.new ≡ configuration self.old) };
 }
 

@@ -11,7 +11,7 @@ use Rattle.lgp_word.specs.declared.order.Op.TheVariants.{A, B, C}
 use Rattle.lgp_fraction.specs.Arithmetic.{added}
 use Rattle.lgp_fraction.specs.declared.arithmetic.Arith.{Arith}
 use Rattle.lgp_flexo.specs.Tape.{Tape}
-use Rattle.lgp_table.specs.Activity.{ended}
+use Rattle.lgp_table.specs.Activity.{after_order}
 use Rattle.lgp_table.specs.Rows.{arithmetic_effect}
 use Rattle.lgp_table.specs.declared.panel.Status.TheVariants.{Going}
 use Rattle.lgp_table.specs.declared.panel.Switches.{Switches}
@@ -50,7 +50,7 @@ pub adds : (switches : Switches) (counter accumulator register : ℕ) (words : L
 adds switches counter accumulator register words tape word address sum fetches is =
     performs switches counter accumulator register words tape word A address fetches refl refl
     (core_at switches (address_after counter) sum word words tape)
-    (ap (λ result. ended (arithmetic_effect (core_at switches (address_after counter) accumulator word words tape) result) Going) is)
+    (ap (λ result. after_order (arithmetic_effect (core_at switches (address_after counter) accumulator word words tape) result) Going) is)
 
 -- the block loader lies on the drum, but for its three cells
 pub record HasBlockLoader (words : List ℕ) : Type 0 where

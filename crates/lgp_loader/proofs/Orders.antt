@@ -17,9 +17,9 @@ use Rattle.lgp_flexo.specs.WordCodes.{word_codes}
 use Rattle.lgp_flexo.proofs.WordCodes.{word_keyed}
 use Rattle.lgp_table.specs.State.{Core, core_of}
 use Rattle.lgp_table.specs.Rows.{passes_stop, row}
-use Rattle.lgp_table.specs.Activity.{core_after, ended, print_of, with_status}
+use Rattle.lgp_table.specs.Activity.{after_order, begun_order, core_after, print_of, with_status}
 use Rattle.lgp_table.specs.Console.{is_at_rest}
-use Rattle.lgp_table.specs.SwitchPresses.{looks_by, order_looks}
+use Rattle.lgp_table.specs.SwitchPresses.{looks, order_looks}
 use Rattle.lgp_table.specs.declared.panel.Mode.TheVariants.{Normal}
 use Rattle.lgp_table.specs.declared.panel.Panel.{Panel}
 use Rattle.lgp_table.specs.declared.panel.Status.TheVariants.{Going, Halted}
@@ -48,7 +48,7 @@ on passed left = record { on = true; passed = passed; left = left }
 pub record IsCalm (core : Core) : Type 0 where
   pub works : is_at_rest core.panel.status ≡ false
   pub silent : print_of core ≡ None
-  pub blind : looks_by core.panel.status core ≡ false
+  pub blind : looks (begun_order core) ≡ false
 
 -- it is calm and leads to this core
 pub record Leads (core last : Core) : Type 0 where
@@ -68,7 +68,7 @@ core_at switches counter accumulator register words tape = core_of (going switch
 -- an order performed
 abbrev pub performed : Switches → ℕ → ℕ → List ℕ → Tape → Op → Bool → ℕ → ℕ → Core
 performed switches counter accumulator words tape op minus address word =
-    ended (row op minus address (core_at switches (address_after counter) accumulator word words tape)) Going
+    after_order (row op minus address (core_at switches (address_after counter) accumulator word words tape)) Going
 
 prints_row : (op other : Op) (minus : Bool) (address : ℕ) (core : Core) (code : Option ℕ) → op ≡ other → (row other minus address core).prints ≡ code
     → (row op minus address core).prints ≡ code
@@ -136,7 +136,7 @@ enters_word codes word accumulator same is =
 -- the core after codes have been read
 input_core : Switches → ℕ → ℕ → ℕ → List ℕ → List ℕ → List ℕ → Bool → Core
 input_core switches counter accumulator word words passed left met =
-    ended (record { core = core_at switches counter accumulator word words (off passed left); ending = cond met Plain Unfinished; prints = None }) Going
+    after_order (record { core = core_at switches counter accumulator word words (off passed left); ending = cond met Plain Unfinished; prints = None }) Going
 
 -- i 0000 reads a word
 pub word_read : (switches : Switches) (counter accumulator register : ℕ) (words passed codes rest : List ℕ) (order word : ℕ)
@@ -208,4 +208,4 @@ pub stops : (switches : Switches) (counter accumulator register : ℕ) (words : 
     (with_status (core_at switches (address_after counter) accumulator word words tape) (Halted Stop))
 stops switches counter accumulator register words tape word fetches =
     performs switches counter accumulator register words tape word Z 0 fetches refl refl
-    (with_status (core_at switches (address_after counter) accumulator word words tape) (Halted Stop)) (ap (λ b. ended (record { core = core_at switches (address_after counter) accumulator word words tape; ending = cond b Plain Stopped; prints = None }) Going) (no_stop_passed switches))
+    (with_status (core_at switches (address_after counter) accumulator word words tape) (Halted Stop)) (ap (λ b. after_order (record { core = core_at switches (address_after counter) accumulator word words tape; ending = cond b Plain Stopped; prints = None }) Going) (no_stop_passed switches))

@@ -1,6 +1,7 @@
 -- What loading leaves of the program, and how long all of it takes.
 use Rattle.std.proofs.Common.{◌≡◌, ◌≢◌, ℕ, zero, suc, ◌+◌, ◌<◌, ◌≤◌, true, refl, sym, ap, ◌∙◌, subst, arith, ⊎_elim, List, [], ◌∷◌, ◌++◌, Option, length, map, slice_index, slice_index_or, slice_set, take, take_all}
-use Rattle.std.specs.Prelude.{IfSome, sum_by}
+use Rattle.std.specs.Prelude.{IfSome, OnOk, Result, sum_by}
+use Rattle.std.proofs.lemmas.Result.{on_ok_weaker}
 use Rattle.std.specs.List.{All, AllPairs, range_with_len}
 use Rattle.std.proofs.lemmas.List.{get_or-set_other, get_or-set_same, length-set}
 use Rattle.std.proofs.lemmas.List.Elements.{All-head, All-tail}
@@ -21,7 +22,9 @@ use Rattle.lgp_loader.specs.Cutting.{are_blocks, cells_of}
 use Rattle.lgp_loader.specs.LoadedOver.{IsLoadedOver}
 use Rattle.lgp_loader.specs.LoaderTape.{end_word}
 use Rattle.lgp_loader.specs.Loading.{TapeLoad, begun, loaded, loading_cost, order_states, overlay, prepared, store_states}
+use Rattle.lgp_loader.specs.Loads.{IsLoad}
 use Rattle.lgp_loader.specs.Places.{loader_base}
+use Rattle.lgp_loader.specs.declared.loading.LoadFault.{LoadFault}
 use Rattle.lgp_loader.specs.ReadyInside.{LeavesProgram}
 use Rattle.lgp_loader.specs.SingleLoading.{last_control, single_load, words_after_single}
 use Rattle.lgp_loader.specs.SinglePlaces.{single_end_cell, single_loader_words, single_store_cell}
@@ -174,5 +177,12 @@ time_loaded now s load at = ap (λ (c : Configuration). c.state.clock) at ∙ lo
 pub program_loaded : (now : Configuration) (s : State) (load : TapeLoad) (cells : List (ℕ × ℕ)) → now ≡ at_boundary (loaded s load) → length s.core.words ≡ 4096
     → LeavesProgram load cells → IsLoadedOver s.core.words now.state.core.words cells
 program_loaded now s load cells at long leaves = subst (λ (c : Configuration). IsLoadedOver s.core.words c.state.core.words cells) (sym at) (leaves s long)
+
+-- the same behind a load
+pub program_read : (load : TapeLoad) (cells : List (ℕ × ℕ)) (before after : Configuration) (answer : Result ℕ LoadFault)
+    → IsLoad load before after answer → length before.state.core.words ≡ 4096 → LeavesProgram load cells
+    → OnOk answer (IsLoadedOver before.state.core.words after.state.core.words cells)
+program_read load cells before after answer is long leaves =
+    on_ok_weaker answer (λ at. program_loaded after before.state load cells at long leaves) is.leaves
 
 pub ruleset tape_loaded = (keyed_up, past_by_keying, time_loaded)

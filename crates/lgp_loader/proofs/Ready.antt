@@ -12,7 +12,7 @@ use Rattle.lgp_table.specs.Interleaving.{Configuration, at_boundary}
 use Rattle.lgp_machine.specs.Answers.{clock_end}
 use Rattle.lgp_table.proofs.After.{after_none, after_one_more, after_sum, clock_after}
 use Rattle.lgp_keyin.specs.KeyIn.{about_to_jump, keyed}
-use Rattle.lgp_loader.specs.Loading.{BeginsOrder, TapeLoad, begun, loaded, prepared}
+use Rattle.lgp_loader.specs.Loading.{TapeLoad, begun, loaded, prepared}
 use Rattle.lgp_loader.specs.Places.{loader_base}
 use Rattle.lgp_loader.proofs.Begun.{keyed_up}
 
@@ -68,7 +68,7 @@ past_by_jump now s load at past =
     let later = loading_time s load in
     omega (arith, past, same, later)
 
-pub past_by_order : (now : Configuration) (s : State) (load : TapeLoad) → BeginsOrder now s load → clock_end < now.state.clock + cost now.state → clock_end < (loaded s load).clock
+pub past_by_order : (now : Configuration) (s : State) (load : TapeLoad) → (done : ℕ) × (done < load.orders) × (now ≡ at_boundary (after (begun s load) done)) → clock_end < now.state.clock + cost now.state → clock_end < (loaded s load).clock
 past_by_order now s load (done, less, at) past =
     let same : now.state.clock + cost now.state ≡ (after (begun s load) (done + 1)).clock =
     ap (λ (c : Configuration). (next c.state).clock) at ∙ ap (λ (t : State). t.clock) (sym (after_one_more (begun s load) done)) in

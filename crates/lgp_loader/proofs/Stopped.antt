@@ -1,5 +1,5 @@
 -- Where loading meets the end of the clock.
-use Rattle.std.proofs.Common.{◌≡◌, ℕ, zero, suc, ◌+◌, ◌-◌, ◌<◌, ◌≤◌, true, false, cond, refl, sym, ap, ◌∙◌, arith, List, [], ◌∷◌, Option, Some, None, length, map, slice_index, subst, take, take_all, inl, inr}
+use Rattle.std.proofs.Common.{◌≡◌, ℕ, zero, suc, ◌+◌, ◌-◌, ◌<◌, ◌≤◌, true, false, cond, refl, sym, ap, ◌∙◌, arith, List, [], ◌∷◌, Option, Some, None, length, map, slice_index, subst, take, take_all}
 use Rattle.std.specs.List.{find, range_with_len}
 use Rattle.std.specs.Option.{option_or}
 use Rattle.std.proofs.lemmas.Bool.Decides.{nat_tests}
@@ -9,73 +9,73 @@ use Rattle.lgp_table.specs.Activity.{cost, next}
 use Rattle.lgp_table.specs.After.{after}
 use Rattle.lgp_table.specs.Interleaving.{Configuration, at_boundary}
 use Rattle.lgp_table.proofs.After.{after_none, after_one_more}
-use Rattle.lgp_machine.specs.Answers.{clock_end}
+use Rattle.lgp_machine.specs.Answers.{clock_end, passes_clock_end}
 use Rattle.lgp_keyin.specs.KeyIn.{about_to_jump, about_to_store, keyed, with_four_bit_input, words_keyed}
 use Rattle.lgp_keyin.specs.Keyed.{before_store}
-use Rattle.lgp_loader.specs.Loading.{EndsLoading, TapeLoad, begun, loaded, loading_stopped, order_states, passes_end, prepared, store_states}
+use Rattle.lgp_loader.specs.Loading.{TapeLoad, begun, loaded, loading_stopped, order_states, prepared, store_states}
 use Rattle.lgp_loader.specs.Places.{loader_base}
 use Rattle.lgp_loader.proofs.Ready.{begun_later, clock_later, loading_time}
 
 -- an activity within the clock, and one past its end
-fits : (s : State) → s.clock + cost s ≤ clock_end → passes_end s ≡ false
+fits : (s : State) → s.clock + cost s ≤ clock_end → passes_clock_end s ≡ false
 fits s within = grind (arith, nat_tests)
 
-passes : (s : State) → clock_end < s.clock + cost s → passes_end s ≡ true
+passes : (s : State) → clock_end < s.clock + cost s → passes_clock_end s ≡ true
 passes s past = grind (arith, nat_tests)
 
 -- the first of states that are told by their number
 module _ (f : ℕ → State) where
-  none_of : (first count : ℕ) → ((k : ℕ) → k < count → passes_end (f (first + k)) ≡ false)
-      → find passes_end (map f (range_with_len first count)) ≡ None
+  none_of : (first count : ℕ) → ((k : ℕ) → k < count → passes_clock_end (f (first + k)) ≡ false)
+      → find passes_clock_end (map f (range_with_len first count)) ≡ None
   none_of first zero calm = refl
   none_of first (suc count) calm =
-      let here : passes_end (f first) ≡ false = ap (λ n. passes_end (f n)) (let e : first ≡ first + 0 = omega arith in e) ∙ calm 0 (omega arith) in
-      ap (λ b. cond b (Some (f first)) (find passes_end (map f (range_with_len (first + 1) count)))) here
-      ∙ none_of (first + 1) count (λ k less. ap (λ n. passes_end (f n)) (let e : first + 1 + k ≡ first + (k + 1) = omega arith in e) ∙ calm (k + 1) (omega (arith, less)))
+      let here : passes_clock_end (f first) ≡ false = ap (λ n. passes_clock_end (f n)) (let e : first ≡ first + 0 = omega arith in e) ∙ calm 0 (omega arith) in
+      ap (λ b. cond b (Some (f first)) (find passes_clock_end (map f (range_with_len (first + 1) count)))) here
+      ∙ none_of (first + 1) count (λ k less. ap (λ n. passes_clock_end (f n)) (let e : first + 1 + k ≡ first + (k + 1) = omega arith in e) ∙ calm (k + 1) (omega (arith, less)))
 
-  first_of : (first count done : ℕ) → done < count → ((k : ℕ) → k < done → passes_end (f (first + k)) ≡ false) → passes_end (f (first + done)) ≡ true
-      → find passes_end (map f (range_with_len first count)) ≡ Some (f (first + done))
+  first_of : (first count done : ℕ) → done < count → ((k : ℕ) → k < done → passes_clock_end (f (first + k)) ≡ false) → passes_clock_end (f (first + done)) ≡ true
+      → find passes_clock_end (map f (range_with_len first count)) ≡ Some (f (first + done))
   first_of first zero done less calm past = absurd (let wrong : ⊥ = omega (arith, less) in wrong)
   first_of first (suc count) zero less calm past =
       let same : first ≡ first + 0 = omega arith in
-      ap (λ b. cond b (Some (f first)) (find passes_end (map f (range_with_len (first + 1) count)))) (ap (λ n. passes_end (f n)) same ∙ past)
+      ap (λ b. cond b (Some (f first)) (find passes_clock_end (map f (range_with_len (first + 1) count)))) (ap (λ n. passes_clock_end (f n)) same ∙ past)
       ∙ ap (λ n. Some (f n)) same
   first_of first (suc count) (suc done) less calm past =
-      let here : passes_end (f first) ≡ false = ap (λ n. passes_end (f n)) (let e : first ≡ first + 0 = omega arith in e) ∙ calm 0 (omega arith) in
+      let here : passes_clock_end (f first) ≡ false = ap (λ n. passes_clock_end (f n)) (let e : first ≡ first + 0 = omega arith in e) ∙ calm 0 (omega arith) in
       let same : first + 1 + done ≡ first + suc done = omega arith in
-      ap (λ b. cond b (Some (f first)) (find passes_end (map f (range_with_len (first + 1) count)))) here
+      ap (λ b. cond b (Some (f first)) (find passes_clock_end (map f (range_with_len (first + 1) count)))) here
       ∙ (first_of (first + 1) count done (omega (arith, less))
-      (λ k below. ap (λ n. passes_end (f n)) (let e : first + 1 + k ≡ first + (k + 1) = omega arith in e) ∙ calm (k + 1) (omega (arith, below)))
-      (ap (λ n. passes_end (f n)) same ∙ past)
+      (λ k below. ap (λ n. passes_clock_end (f n)) (let e : first + 1 + k ≡ first + (k + 1) = omega arith in e) ∙ calm (k + 1) (omega (arith, below)))
+      (ap (λ n. passes_clock_end (f n)) same ∙ past)
       ∙ ap (λ n. Some (f n)) same)
 
 -- the same for the states of stores and of orders
-no_store : (s : State) (base : ℕ) (words : List ℕ) → ((k : ℕ) → k < length words → passes_end (before_store s base words k) ≡ false)
-    → find passes_end (store_states s base words) ≡ None
+no_store : (s : State) (base : ℕ) (words : List ℕ) → ((k : ℕ) → k < length words → passes_clock_end (before_store s base words k) ≡ false)
+    → find passes_clock_end (store_states s base words) ≡ None
 unfolding store_states
 no_store s base words calm =
-    none_of (before_store s base words) 0 (length words) (λ k less. ap (λ n. passes_end (before_store s base words n)) (let e : 0 + k ≡ k = omega arith in e) ∙ calm k less)
+    none_of (before_store s base words) 0 (length words) (λ k less. ap (λ n. passes_clock_end (before_store s base words n)) (let e : 0 + k ≡ k = omega arith in e) ∙ calm k less)
 
-first_store : (s : State) (base : ℕ) (words : List ℕ) (done : ℕ) → done < length words → ((k : ℕ) → k < done → passes_end (before_store s base words k) ≡ false)
-    → passes_end (before_store s base words done) ≡ true → find passes_end (store_states s base words) ≡ Some (before_store s base words done)
+first_store : (s : State) (base : ℕ) (words : List ℕ) (done : ℕ) → done < length words → ((k : ℕ) → k < done → passes_clock_end (before_store s base words k) ≡ false)
+    → passes_clock_end (before_store s base words done) ≡ true → find passes_clock_end (store_states s base words) ≡ Some (before_store s base words done)
 unfolding store_states
 first_store s base words done less calm past =
     let same : 0 + done ≡ done = omega arith in
-    first_of (before_store s base words) 0 (length words) done less (λ k below. ap (λ n. passes_end (before_store s base words n)) (let e : 0 + k ≡ k = omega arith in e) ∙ calm k below)
-    (ap (λ n. passes_end (before_store s base words n)) same ∙ past)
+    first_of (before_store s base words) 0 (length words) done less (λ k below. ap (λ n. passes_clock_end (before_store s base words n)) (let e : 0 + k ≡ k = omega arith in e) ∙ calm k below)
+    (ap (λ n. passes_clock_end (before_store s base words n)) same ∙ past)
     ∙ ap (λ n. Some (before_store s base words n)) same
 
-no_order : (s : State) (count : ℕ) → ((k : ℕ) → k < count → passes_end (after s k) ≡ false) → find passes_end (order_states s count) ≡ None
+no_order : (s : State) (count : ℕ) → ((k : ℕ) → k < count → passes_clock_end (after s k) ≡ false) → find passes_clock_end (order_states s count) ≡ None
 unfolding order_states
-no_order s count calm = none_of (after s) 0 count (λ k less. ap (λ n. passes_end (after s n)) (let e : 0 + k ≡ k = omega arith in e) ∙ calm k less)
+no_order s count calm = none_of (after s) 0 count (λ k less. ap (λ n. passes_clock_end (after s n)) (let e : 0 + k ≡ k = omega arith in e) ∙ calm k less)
 
-first_order : (s : State) (count done : ℕ) → done < count → ((k : ℕ) → k < done → passes_end (after s k) ≡ false) → passes_end (after s done) ≡ true
-    → find passes_end (order_states s count) ≡ Some (after s done)
+first_order : (s : State) (count done : ℕ) → done < count → ((k : ℕ) → k < done → passes_clock_end (after s k) ≡ false) → passes_clock_end (after s done) ≡ true
+    → find passes_clock_end (order_states s count) ≡ Some (after s done)
 unfolding order_states
 first_order s count done less calm past =
     let same : 0 + done ≡ done = omega arith in
-    first_of (after s) 0 count done less (λ k below. ap (λ n. passes_end (after s n)) (let e : 0 + k ≡ k = omega arith in e) ∙ calm k below)
-    (ap (λ n. passes_end (after s n)) same ∙ past)
+    first_of (after s) 0 count done less (λ k below. ap (λ n. passes_clock_end (after s n)) (let e : 0 + k ≡ k = omega arith in e) ∙ calm k below)
+    (ap (λ n. passes_clock_end (after s n)) same ∙ past)
     ∙ ap (λ n. Some (after s n)) same
 
 -- one word more stored
@@ -111,7 +111,7 @@ keyed_grows s base words k (suc more) le =
 
 -- a store before others ends before they begin
 store_fits : (s : State) (base : ℕ) (words : List ℕ) (k done : ℕ) → k < done → done ≤ length words
-    → (keyed s base (take done words)).clock ≤ clock_end → passes_end (before_store s base words k) ≡ false
+    → (keyed s base (take done words)).clock ≤ clock_end → passes_clock_end (before_store s base words k) ≡ false
 store_fits s base words k done below within clock =
     let left : k + 1 + (done - (k + 1)) ≡ done = omega (arith, below) in
     let later : (keyed s base (take (k + 1) words)).clock ≤ (keyed s base (take (k + 1 + (done - (k + 1))) words)).clock =
@@ -119,55 +119,55 @@ store_fits s base words k done below within clock =
     let same : (keyed s base (take (k + 1 + (done - (k + 1))) words)).clock ≡ (keyed s base (take done words)).clock = ap (λ n. (keyed s base (take n words)).clock) left in
     fits (before_store s base words k) (omega (arith, keyed_clock s base words k (omega (arith, below, within)), later, same, clock))
 
-order_fits : (s : State) (k done : ℕ) → k < done → (after s done).clock ≤ clock_end → passes_end (after s k) ≡ false
+order_fits : (s : State) (k done : ℕ) → k < done → (after s done).clock ≤ clock_end → passes_clock_end (after s k) ≡ false
 order_fits s k done below clock =
     let one : (after s (k + 1)).clock ≡ (after s k).clock + cost (after s k) = ap (λ (t : State). t.clock) (after_one_more s k) in
     let later = clock_later s (k + 1) done (omega (arith, below)) in
     fits (after s k) (omega (arith, one, later, clock))
 
 -- no store of the loader passes the end where the clock after them all is within it
-stores_fit : (s : State) (load : TapeLoad) → (keyed s loader_base load.loader).clock ≤ clock_end → find passes_end (store_states s loader_base load.loader) ≡ None
+stores_fit : (s : State) (load : TapeLoad) → (keyed s loader_base load.loader).clock ≤ clock_end → find passes_clock_end (store_states s loader_base load.loader) ≡ None
 stores_fit s load clock = no_store s loader_base load.loader (λ k less. store_fits s loader_base load.loader k (length load.loader) less (omega arith)
     (subst (λ words. (keyed s loader_base words).clock ≤ clock_end) (sym (take_all (length load.loader) load.loader (omega arith))) clock))
 
-jump_fits : (s : State) (load : TapeLoad) → (begun s load).clock ≤ clock_end → passes_end (about_to_jump (prepared s load) loader_base) ≡ false
+jump_fits : (s : State) (load : TapeLoad) → (begun s load).clock ≤ clock_end → passes_clock_end (about_to_jump (prepared s load) loader_base) ≡ false
 jump_fits s load clock = fits (about_to_jump (prepared s load) loader_base) clock
 
 -- the first of all states of loading, by the parts
 behind_stores : (s : State) (load : TapeLoad) → (keyed s loader_base load.loader).clock ≤ clock_end
     → loading_stopped s load
-    ≡ find passes_end (about_to_jump (prepared s load) loader_base ∷ order_states (begun s load) load.orders)
+    ≡ find passes_clock_end (about_to_jump (prepared s load) loader_base ∷ order_states (begun s load) load.orders)
 unfolding loading_stopped
 behind_stores s load clock =
     let others = about_to_jump (prepared s load) loader_base ∷ order_states (begun s load) load.orders in
-    find-append passes_end (store_states s loader_base load.loader) others ∙ ap (λ o. option_or o (find passes_end others)) (stores_fit s load clock)
+    find-append passes_clock_end (store_states s loader_base load.loader) others ∙ ap (λ o. option_or o (find passes_clock_end others)) (stores_fit s load clock)
 
 behind_jump : (s : State) (load : TapeLoad) → (begun s load).clock ≤ clock_end
-    → loading_stopped s load ≡ find passes_end (order_states (begun s load) load.orders)
+    → loading_stopped s load ≡ find passes_clock_end (order_states (begun s load) load.orders)
 behind_jump s load clock =
     let jump = about_to_jump (prepared s load) loader_base in
     let stores : (keyed s loader_base load.loader).clock ≤ clock_end = omega (arith, begun_later s load, clock) in
     behind_stores s load stores
-    ∙ ap (λ b. cond b (Some jump) (find passes_end (order_states (begun s load) load.orders))) (jump_fits s load clock)
+    ∙ ap (λ b. cond b (Some jump) (find passes_clock_end (order_states (begun s load) load.orders))) (jump_fits s load clock)
 
 stopped_in_store : (s : State) (load : TapeLoad) (done : ℕ) → done < length load.loader
-    → (before_store s loader_base load.loader done).clock ≤ clock_end → passes_end (before_store s loader_base load.loader done) ≡ true
+    → (before_store s loader_base load.loader done).clock ≤ clock_end → passes_clock_end (before_store s loader_base load.loader done) ≡ true
     → loading_stopped s load ≡ Some (before_store s loader_base load.loader done)
 unfolding loading_stopped
 stopped_in_store s load done less clock past =
     let others = about_to_jump (prepared s load) loader_base ∷ order_states (begun s load) load.orders in
     let found = first_store s loader_base load.loader done less (λ k below. store_fits s loader_base load.loader k done below (omega (arith, less)) clock) past in
-    find-append passes_end (store_states s loader_base load.loader) others ∙ ap (λ o. option_or o (find passes_end others)) found
+    find-append passes_clock_end (store_states s loader_base load.loader) others ∙ ap (λ o. option_or o (find passes_clock_end others)) found
 
 stopped_in_jump : (s : State) (load : TapeLoad)
-    → (about_to_jump (prepared s load) loader_base).clock ≤ clock_end → passes_end (about_to_jump (prepared s load) loader_base) ≡ true
+    → (about_to_jump (prepared s load) loader_base).clock ≤ clock_end → passes_clock_end (about_to_jump (prepared s load) loader_base) ≡ true
     → loading_stopped s load ≡ Some (about_to_jump (prepared s load) loader_base)
 stopped_in_jump s load clock past =
     let jump = about_to_jump (prepared s load) loader_base in
-    behind_stores s load clock ∙ ap (λ b. cond b (Some jump) (find passes_end (order_states (begun s load) load.orders))) past
+    behind_stores s load clock ∙ ap (λ b. cond b (Some jump) (find passes_clock_end (order_states (begun s load) load.orders))) past
 
 stopped_in_order : (s : State) (load : TapeLoad) (done : ℕ) → done < load.orders
-    → (after (begun s load) done).clock ≤ clock_end → passes_end (after (begun s load) done) ≡ true
+    → (after (begun s load) done).clock ≤ clock_end → passes_clock_end (after (begun s load) done) ≡ true
     → loading_stopped s load ≡ Some (after (begun s load) done)
 stopped_in_order s load done less clock past =
     let none : (after (begun s load) 0).clock ≡ (begun s load).clock = ap (λ (t : State). t.clock) (after_none (begun s load)) in
@@ -177,23 +177,35 @@ stopped_in_order s load done less clock past =
 
 -- a boundary of some state, and what is known of it there
 found_at : (now : Configuration) (t : State) (found : Option State) → now ≡ at_boundary t → now.state.clock ≤ clock_end → clock_end < now.state.clock + cost now.state
-    → (t.clock ≤ clock_end → passes_end t ≡ true → found ≡ Some t) → found ≡ Some now.state
+    → (t.clock ≤ clock_end → passes_clock_end t ≡ true → found ≡ Some t) → found ≡ Some now.state
 found_at now t found at within past is =
     let clock : now.state.clock ≡ t.clock = ap (λ (c : Configuration). c.state.clock) at in
     let end : now.state.clock + cost now.state ≡ t.clock + cost t = ap (λ (c : Configuration). c.state.clock + cost c.state) at in
     is (omega (arith, clock, within)) (passes t (omega (arith, end, past))) ∙ ap (λ (c : Configuration). Some c.state) (sym at)
 
--- where loading ends at the clock, it does so in the first state whose activity would pass the end: the clock goes on by what the
--- activities cost, so none before it would
-pub stopped_first : (s : State) (load : TapeLoad) (now : Configuration) → EndsLoading now s load → now.state.clock ≤ clock_end
-    → loading_stopped s load ≡ Some now.state
-stopped_first s load now ends within = elim ends.0 [
-  | inl store ↦ found_at now (before_store s loader_base load.loader store.0) (loading_stopped s load) store.2 within ends.1 (stopped_in_store s load store.0 store.1)
-  | inr later ↦ elim later [
-    | inl jump ↦ found_at now (about_to_jump (prepared s load) loader_base) (loading_stopped s load) jump within ends.1 (stopped_in_jump s load)
-    | inr order ↦ found_at now (after (begun s load) order.0) (loading_stopped s load) order.2 within ends.1 (stopped_in_order s load order.0 order.1)
-  ]
-]
+-- where a machine stands whose next activity would pass the end, about to store a word, to start the loader or to perform one of
+-- its orders, loading stops there: the clock goes on by what the activities cost, so none before it would
+pub stops_in_store : (s : State) (load : TapeLoad) (now : Configuration)
+    → (done : ℕ) × (done < length load.loader) × (now ≡ at_boundary (before_store s loader_base load.loader done))
+    → now.state.clock ≤ clock_end → clock_end < now.state.clock + cost now.state → loading_stopped s load ≡ Some now.state
+stops_in_store s load now (done, less, at) within past =
+    found_at now (before_store s loader_base load.loader done) (loading_stopped s load) at within past (stopped_in_store s load done less)
+
+pub stops_in_jump : (s : State) (load : TapeLoad) (now : Configuration)
+    → now ≡ at_boundary (about_to_jump (prepared s load) loader_base)
+    → now.state.clock ≤ clock_end → clock_end < now.state.clock + cost now.state → loading_stopped s load ≡ Some now.state
+stops_in_jump s load now at within past =
+    found_at now (about_to_jump (prepared s load) loader_base) (loading_stopped s load) at within past (stopped_in_jump s load)
+
+pub stops_in_order : (s : State) (load : TapeLoad) (now : Configuration)
+    → (done : ℕ) × (done < load.orders) × (now ≡ at_boundary (after (begun s load) done))
+    → now.state.clock ≤ clock_end → clock_end < now.state.clock + cost now.state → loading_stopped s load ≡ Some now.state
+stops_in_order s load now (done, less, at) within past =
+    found_at now (after (begun s load) done) (loading_stopped s load) at within past (stopped_in_order s load done less)
+
+-- a boundary of some state is one of the machine's own
+pub own_boundary : (now : Configuration) (s : State) → now ≡ at_boundary s → now ≡ at_boundary now.state
+own_boundary now s e = e ∙ ap at_boundary (sym (ap (λ (c : Configuration). c.state) e))
 
 -- and where the clock after loading is within the end, nowhere
 pub stopped_nowhere : (s : State) (load : TapeLoad) → (loaded s load).clock ≤ clock_end → loading_stopped s load ≡ None
@@ -202,4 +214,4 @@ stopped_nowhere s load clock =
     behind_jump s load (omega (arith, time, clock))
     ∙ no_order (begun s load) load.orders (λ k less. order_fits (begun s load) k load.orders less clock)
 
-pub ruleset loading_stops = (stopped_first, stopped_nowhere)
+pub ruleset loading_stops = (stopped_nowhere)

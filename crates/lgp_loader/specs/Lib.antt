@@ -1,6 +1,7 @@
 pub mod Places
 pub mod LoaderTape
 pub mod Loading
+pub mod Loads
 pub mod Cutting
 pub mod BlockPlaces
 pub mod BlockTape

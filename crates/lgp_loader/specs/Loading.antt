@@ -1,18 +1,18 @@
 -- Part of the public promise. Loading: a loader is keyed in, a tape mounted, the loader started, and so many orders performed.
-use Rattle.std.specs.Prelude.{◌≡◌, ℕ, ◌+◌, ◌<◌, ◌≤◌, ◌⊎◌, ◌++◌, Bool, false, nat_lt, List, ◌∷◌, [], Option, None, Some, find, fold, length, map, slice_set, sum_by, unwrap_or}
+use Rattle.std.specs.Prelude.{ℕ, ◌+◌, ◌<◌, ◌≤◌, ◌++◌, false, List, ◌∷◌, [], Option, None, Some, find, fold, length, map, slice_set, sum_by, unwrap_or}
 use Rattle.std.specs.List.{All, range_with_len}
 use Rattle.lgp_word.specs.Word.{IsWord}
 use Rattle.lgp_flexo.specs.Tape.{Tape}
 use Rattle.lgp_table.specs.State.{State}
 use Rattle.lgp_table.specs.Activity.{cost}
 use Rattle.lgp_table.specs.After.{after}
-use Rattle.lgp_table.specs.Interleaving.{Configuration, after_mount, at_boundary}
+use Rattle.lgp_table.specs.Interleaving.{after_mount}
 use Rattle.lgp_table.specs.declared.panel.Panel.{Panel}
 use Rattle.lgp_table.specs.declared.panel.Cause.TheVariants.{Stop}
 use Rattle.lgp_table.specs.declared.panel.Mode.TheVariants.{Normal}
 use Rattle.lgp_table.specs.declared.panel.Status.{Status}
 use Rattle.lgp_table.specs.declared.panel.Status.TheVariants.{Halted, Going}
-use Rattle.lgp_machine.specs.Answers.{clock_end}
+use Rattle.lgp_machine.specs.Answers.{passes_clock_end}
 use Rattle.lgp_keyin.specs.KeyIn.{about_to_jump, keyed, started}
 use Rattle.lgp_keyin.specs.Keyed.{before_store}
 use Rattle.lgp_loader.specs.LoaderTape.{end_word}
@@ -70,29 +70,6 @@ panel_after_load panel end_cell start = record {
 abbrev pub read_tape : List ℕ → Tape
 read_tape codes = record { on = false; passed = codes; left = [] }
 
--- where loading meets the end of the clock: about to store a word of the loader, about to start it, or about to perform one of
--- its orders
-abbrev pub BeginsStore : Configuration → State → List ℕ → Type 0
-BeginsStore now s words =
-    (done : ℕ) × (done < length words) × (now ≡ at_boundary (before_store s loader_base words done))
-
-abbrev pub BeginsJump : Configuration → State → TapeLoad → Type 0
-BeginsJump now s load = now ≡ at_boundary (about_to_jump (prepared s load) loader_base)
-
-abbrev pub BeginsOrder : Configuration → State → TapeLoad → Type 0
-BeginsOrder now s load =
-    (done : ℕ) × (done < load.orders) × (now ≡ at_boundary (after (begun s load) done))
-
--- the activity that begins there would pass it
-abbrev pub EndsLoading : Configuration → State → TapeLoad → Type 0
-EndsLoading now s load =
-    (BeginsStore now s load.loader ⊎ (BeginsJump now s load ⊎ BeginsOrder now s load))
-    × (clock_end < now.state.clock + cost now.state)
-
--- whether the activity that begins in a state would pass it
-abbrev pub passes_end : State → Bool
-passes_end s = nat_lt clock_end (s.clock + cost s)
-
 -- the states in which words are about to be stored, and those in which so many activities begin, one after another
 unfoldable pub store_states : State → ℕ → List ℕ → List State
 store_states s base words = map (before_store s base words) (range_with_len 0 (length words))
@@ -112,4 +89,4 @@ loading_cost s load = sum_by cost (loading_states s load)
 
 -- where loading meets the end of the clock: in the first of these states whose activity would pass it; None where there is none
 unfoldable pub loading_stopped : State → TapeLoad → Option State
-loading_stopped s load = find passes_end (loading_states s load)
+loading_stopped s load = find passes_clock_end (loading_states s load)

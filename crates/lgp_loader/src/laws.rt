@@ -1,17 +1,17 @@
 //! What follows from the definitions, each law as the contract of a function that does nothing.
 
-ghost use Rattle.std.specs.Prelude.{◌≡◌, ◌+◌, ◌<◌, ◌≤◌, ℕ, List, [], IfSome, None, Option, Some, false, length, true};
+ghost use Rattle.std.specs.Prelude.{◌≡◌, ◌+◌, ◌<◌, ◌≤◌, ℕ, List, [], IfSome, None, Option, false, length, true};
 ghost use Rattle.std.specs.List.{count_by, list_all};
 ghost use Rattle.lgp_assembler.specs.Image.{faults_of, image_of};
 ghost use Rattle.lgp_assembler.specs.Parts.{AreProgramCells, HaveOwnPlaces, ImageParts};
 ghost use Rattle.lgp_loader.specs.BlockLoading.{block_load, cut_load, left_by_blocks, longest_load};
 ghost use Rattle.lgp_loader.specs.Cutting.{StandApart, are_blocks, cells_of, is_cutting, longest_blocks, pieces_of};
 ghost use Rattle.lgp_loader.specs.LoadedOver.{IsLoadedOver};
-ghost use Rattle.lgp_loader.specs.Loading.{EndsLoading, TapeLoad, begun, loaded, loading_cost, loading_stopped};
+ghost use Rattle.lgp_loader.specs.Loading.{TapeLoad, begun, loaded, loading_cost, loading_stopped};
 ghost use Rattle.lgp_loader.specs.SingleLoading.{left_by_single, single_load};
 ghost use Rattle.lgp_machine.specs.Answers.{clock_end};
 ghost use Rattle.lgp_table.specs.After.{after, total_cost};
-ghost use Rattle.lgp_table.specs.Interleaving.{Configuration, after_events, at_boundary};
+ghost use Rattle.lgp_table.specs.Interleaving.{after_events, at_boundary};
 ghost use Rattle.lgp_table.specs.State.{State};
 ghost use Rattle.lgp_table.specs.SwitchPresses.{is_time_or_switch, is_word_time, looks_at_switches, with_switches};
 ghost use Rattle.lgp_table.specs.declared.panel.Switches.{Switches};
@@ -139,14 +139,10 @@ pub fn undisturbed()
         ≡ at_boundary (with_switches (loaded s (single_load image)) switches)) }
 {}
 
-/// Where the clock's end stops loading there is one state alone in which the machine can stand: the first one whose activity would
-/// pass the end. The clock goes on by what the activities cost, so none before it would. A loading that ends within the clock is
-/// stopped nowhere.
+/// A loading that ends within the clock is stopped nowhere: the clock goes on by what the activities cost, so none of them passes
+/// its end.
 #[tactic(auto, using(crate::proofs::Stopped::loading_stops))]
 pub fn stopped()
-    ensures first { (s : State) → (load : TapeLoad) → (now : Configuration)
-        → EndsLoading now s load → now.state.clock ≤ clock_end
-        → loading_stopped s load ≡ Some now.state }
     ensures nowhere { (s : State) → (load : TapeLoad)
         → (loaded s load).clock ≤ clock_end → loading_stopped s load ≡ None }
 {}

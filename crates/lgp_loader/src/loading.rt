@@ -1,6 +1,6 @@
 //! Loading a program.
 
-ghost use Rattle.std.specs.Prelude.{◌≡◌, ◌≢◌, ◌+◌, ◌<◌, ◌≤◌, ◌↔◌, ℕ, None, false, true, IfNone, IfOk, IfSome, IsTrue, OnOk, OnSome, Err, vec_len};
+ghost use Rattle.std.specs.Prelude.{◌≡◌, ◌≢◌, ◌+◌, ◌<◌, ◌≤◌, ◌↔◌, ℕ, None, Some, false, true, IsTrue, OnOk, Err, length, vec_len};
 ghost use Rattle.std.specs.Bool.{OnFalse, OnTrue};
 ghost use Rattle.lgp_flexo.specs.TapeText.{tape_limit};
 ghost use Rattle.lgp_table.specs.Activity.{cost, next, print_of};
@@ -9,14 +9,14 @@ ghost use Rattle.lgp_table.specs.Console.{is_at_rest};
 ghost use Rattle.lgp_table.specs.Interleaving.{after_mount, at_boundary, is_boundary};
 ghost use Rattle.lgp_machine.specs.Answers.{clock_end};
 ghost use Rattle.lgp_keyin.specs.KeyIn.{about_to_jump, keyed, started};
+ghost use Rattle.lgp_keyin.specs.Keyed.{before_store};
 ghost use Rattle.lgp_loader.specs.BlockLoading.{cut_load, longest_load};
-ghost use Rattle.lgp_loader.specs.BlockPlaces.{block_loader_words};
 ghost use Rattle.lgp_loader.specs.Cutting.{is_cutting};
-ghost use Rattle.lgp_loader.specs.Loading.{BeginsStore, EndsLoading, IsLoader, load_with, loaded, loading_cost};
+ghost use Rattle.lgp_loader.specs.Loading.{IsLoader, load_with, loaded, loading_cost, loading_stopped};
+ghost use Rattle.lgp_loader.specs.Loads.{IsLoad};
 ghost use Rattle.lgp_loader.specs.LoadedOver.{IsLoadedOver};
 ghost use Rattle.lgp_loader.specs.ReadyInside.{IsReady};
 ghost use Rattle.lgp_loader.specs.SingleLoading.{single_load};
-ghost use Rattle.lgp_loader.specs.SinglePlaces.{single_loader_words};
 ghost use Rattle.lgp_loader.specs.Places.{loader_base};
 
 use crate::reading::{Reading, in_cut, in_longest, in_single};
@@ -84,8 +84,10 @@ fn prepare<A: Allocator, M: Operate<Tape = Vec<Code, A>>>(
     requires short { vec_len tape ≤ tape_limit }
     ensures prepared { OnTrue result (M.configuration machine.new ≡ at_boundary (after_mount
         (keyed (M.configuration machine.old).state loader_base loader.now) tape.items)) }
-    ensures stands { OnFalse result
-        (BeginsStore (M.configuration machine.new) (M.configuration machine.old).state loader.now) }
+    ensures within { OnFalse result ((M.configuration machine.new).state.clock ≤ clock_end) }
+    ensures stands { OnFalse result ((done : ℕ) × (done < length loader.now)
+        × (M.configuration machine.new ≡ at_boundary
+        (before_store (M.configuration machine.old).state loader_base loader.now done))) }
     ensures clock_end { OnFalse result (clock_end < (M.configuration machine.new).state.clock
         + cost (M.configuration machine.new).state) }
     ensures past { OnFalse result (clock_end
@@ -109,6 +111,7 @@ fn begin<M: Operate>(machine: &mut M) -> bool
     requires up { (M.configuration machine.old).state.core.panel.switches.six_bit ≡ false }
     ensures begun { OnTrue result (M.configuration machine.new
         ≡ at_boundary (started (M.configuration machine.old).state loader_base)) }
+    ensures within { OnFalse result ((M.configuration machine.new).state.clock ≤ clock_end) }
     ensures stands { OnFalse result (M.configuration machine.new
         ≡ at_boundary (about_to_jump (M.configuration machine.old).state loader_base)) }
     ensures clock_end { OnFalse result (clock_end < (M.configuration machine.new).state.clock
@@ -130,7 +133,7 @@ fn perform_one<M: Operate>(machine: &mut M) -> bool
     requires silent { print_of (M.configuration machine.old).state.core ≡ None }
     ensures performed { OnTrue result (M.configuration machine.new
         ≡ at_boundary (next (M.configuration machine.old).state)) }
-    ensures clock { OnTrue result ((M.configuration machine.new).state.clock ≤ clock_end) }
+    ensures within { (M.configuration machine.new).state.clock ≤ clock_end }
     ensures stands { OnFalse result (M.configuration machine.new ≡ M.configuration machine.old) }
     ensures clock_end { OnFalse result (clock_end < (M.configuration machine.old).state.clock
         + cost (M.configuration machine.old).state) }
@@ -150,6 +153,7 @@ fn perform<M: Operate>(machine: &mut M, orders: u64) -> bool
         ≡ at_boundary (after (M.configuration machine.old).state orders)) }
     ensures clock { OnTrue result
         (0 < orders → (M.configuration machine.new).state.clock ≤ clock_end) }
+    ensures within { OnFalse result ((M.configuration machine.new).state.clock ≤ clock_end) }
     ensures stands { OnFalse result ((done : ℕ) × (done < orders)
         × (M.configuration machine.new
         ≡ at_boundary (after (M.configuration machine.old).state done))) }
@@ -184,8 +188,10 @@ fn load_tape<A: Allocator, M: Operate<Tape = Vec<Code, A>>>(
         (M.configuration machine.old).state (load_with loader.now tape.items orders)) }
     ensures clock { OnTrue result ((loaded (M.configuration machine.old).state
         (load_with loader.now tape.items orders)).clock ≤ clock_end) }
-    ensures stands { OnFalse result (EndsLoading (M.configuration machine.new)
-        (M.configuration machine.old).state (load_with loader.now tape.items orders)) }
+    ensures stands { OnFalse result (loading_stopped (M.configuration machine.old).state
+        (load_with loader.now tape.items orders) ≡ Some (M.configuration machine.new).state) }
+    ensures own { OnFalse result (M.configuration machine.new
+        ≡ at_boundary (M.configuration machine.new).state) }
     ensures past { OnFalse result (clock_end < (loaded (M.configuration machine.old).state
         (load_with loader.now tape.items orders)).clock) }
 {
@@ -198,68 +204,28 @@ fn load_tape<A: Allocator, M: Operate<Tape = Vec<Code, A>>>(
     perform(machine, orders)
 }
 
-/// Loads by the loader of 22 words. Answers how many orders it has performed; none where the clock would pass its end.
-fn read_blocks<A: Allocator, M: Operate<Tape = Vec<Code, A>>>(
+/// The same of a tape that is ready. Answers how many orders the loader has performed.
+#[tactic(auto, using(crate::proofs::Stopped::stopped_nowhere))]
+fn read<A: Allocator, M: Operate<Tape = Vec<Code, A>>>(
     machine: &mut M,
+    loader: &[Word],
     reading: Reading<A>,
-) -> Option<u64>
+) -> Result<u64, LoadFault>
     requires tapes { M.codes ≡ (λ tape. tape.items) }
     requires boundary { IsTrue (is_boundary (M.configuration machine.old)) }
     requires ready { IsReady (M.configuration machine.old).state
-        (load_with block_loader_words reading.tape.items reading.orders) }
-    ensures loaded { OnSome result (M.configuration machine.new
-        ≡ at_boundary (loaded (M.configuration machine.old).state
-        (load_with block_loader_words reading.tape.items reading.orders))) }
-    ensures time { OnSome result ((M.configuration machine.new).state.clock
-        ≡ (M.configuration machine.old).state.clock
-        + loading_cost (M.configuration machine.old).state
-        (load_with block_loader_words reading.tape.items reading.orders)) }
-    ensures orders { IfSome result (λ orders. orders ≡ reading.orders) }
-    ensures clock { OnSome result ((loaded (M.configuration machine.old).state
-        (load_with block_loader_words reading.tape.items reading.orders)).clock ≤ clock_end) }
-    ensures stands { IfNone result (EndsLoading (M.configuration machine.new)
-        (M.configuration machine.old).state
-        (load_with block_loader_words reading.tape.items reading.orders)) }
-    ensures past { IfNone result (clock_end < (loaded (M.configuration machine.old).state
-        (load_with block_loader_words reading.tape.items reading.orders)).clock) }
+        (load_with loader.now reading.tape.items reading.orders) }
+    ensures load { IsLoad (load_with loader.now reading.tape.items reading.orders)
+        (M.configuration machine.old) (M.configuration machine.new) result }
+    ensures memory { result ≢ Err LoadFault.Memory }
+    ensures bad_cut { result ≢ Err LoadFault.BadCut }
 {
     let Reading { tape, orders } = reading;
-    if !load_tape(machine, &LOADER, tape, orders) {
-        return None;
+    if load_tape(machine, loader, tape, orders) {
+        Ok(orders)
+    } else {
+        Err(LoadFault::ClockEnd)
     }
-    Some(orders)
-}
-
-/// The same by the loader of ten words.
-fn read_cells<A: Allocator, M: Operate<Tape = Vec<Code, A>>>(
-    machine: &mut M,
-    reading: Reading<A>,
-) -> Option<u64>
-    requires tapes { M.codes ≡ (λ tape. tape.items) }
-    requires boundary { IsTrue (is_boundary (M.configuration machine.old)) }
-    requires ready { IsReady (M.configuration machine.old).state
-        (load_with single_loader_words reading.tape.items reading.orders) }
-    ensures loaded { OnSome result (M.configuration machine.new
-        ≡ at_boundary (loaded (M.configuration machine.old).state
-        (load_with single_loader_words reading.tape.items reading.orders))) }
-    ensures time { OnSome result ((M.configuration machine.new).state.clock
-        ≡ (M.configuration machine.old).state.clock
-        + loading_cost (M.configuration machine.old).state
-        (load_with single_loader_words reading.tape.items reading.orders)) }
-    ensures orders { IfSome result (λ orders. orders ≡ reading.orders) }
-    ensures clock { OnSome result ((loaded (M.configuration machine.old).state
-        (load_with single_loader_words reading.tape.items reading.orders)).clock ≤ clock_end) }
-    ensures stands { IfNone result (EndsLoading (M.configuration machine.new)
-        (M.configuration machine.old).state
-        (load_with single_loader_words reading.tape.items reading.orders)) }
-    ensures past { IfNone result (clock_end < (loaded (M.configuration machine.old).state
-        (load_with single_loader_words reading.tape.items reading.orders)).clock) }
-{
-    let Reading { tape, orders } = reading;
-    if !load_tape(machine, &LOADER_10, tape, orders) {
-        return None;
-    }
-    Some(orders)
 }
 
 /// Loads a program, as an operator does: the loader is keyed in, the tape mounted, and the loader started; it then reads the tape,
@@ -268,34 +234,19 @@ fn read_cells<A: Allocator, M: Operate<Tape = Vec<Code, A>>>(
 /// loader performed, 10 for each word, 8 for each block, and 5.
 ///
 /// Refused, in this order: within an activity (`Moving`), where there is no memory for the tape (`Memory`), both before anything
-/// is pressed; where the clock would pass its end (`ClockEnd`).
+/// is pressed; where the clock would pass its end (`ClockEnd`): the machine then stands at the first boundary of the loading whose
+/// activity would pass it.
 pub fn load<A: Allocator + Copy, B: Allocator, M: Operate<Tape = Vec<Code, A>>>(
     alloc: A,
     machine: &mut M,
     image: &Image<B>,
 ) -> Result<u64, LoadFault>
     requires tapes { M.codes ≡ (λ tape. tape.items) }
-    ensures loaded { OnOk result (M.configuration machine.new
-        ≡ at_boundary (loaded (M.configuration machine.old).state (longest_load image.now))) }
+    ensures load { IsLoad (longest_load image.now)
+        (M.configuration machine.old) (M.configuration machine.new) result }
     ensures program { OnOk result (IsLoadedOver (M.configuration machine.old).state.core.words
         (M.configuration machine.new).state.core.words image.now.cells) }
-    ensures time { OnOk result ((M.configuration machine.new).state.clock
-        ≡ (M.configuration machine.old).state.clock
-        + loading_cost (M.configuration machine.old).state (longest_load image.now)) }
-    ensures orders { IfOk result (λ orders. orders ≡ (longest_load image.now).orders) }
-    ensures clock { OnOk result ((loaded (M.configuration machine.old).state
-        (longest_load image.now)).clock ≤ clock_end) }
-    ensures moving { (result ≡ Err LoadFault.Moving)
-        ↔ (is_boundary (M.configuration machine.old) ≡ false) }
-    ensures unmoved { result ≡ Err LoadFault.Moving
-        → M.configuration machine.new ≡ M.configuration machine.old }
-    ensures no_memory { result ≡ Err LoadFault.Memory
-        → M.configuration machine.new ≡ M.configuration machine.old }
     ensures no_bad_cut { result ≢ Err LoadFault.BadCut }
-    ensures stands { result ≡ Err LoadFault.ClockEnd → EndsLoading (M.configuration machine.new)
-        (M.configuration machine.old).state (longest_load image.now) }
-    ensures past { result ≡ Err LoadFault.ClockEnd → clock_end
-        < (loaded (M.configuration machine.old).state (longest_load image.now)).clock }
 {
     if machine.look().is_none() {
         return Err(LoadFault::Moving);
@@ -303,10 +254,7 @@ pub fn load<A: Allocator + Copy, B: Allocator, M: Operate<Tape = Vec<Code, A>>>(
     let Ok(reading) = in_longest(alloc, image) else {
         return Err(LoadFault::Memory);
     };
-    let Some(orders) = read_blocks(machine, reading) else {
-        return Err(LoadFault::ClockEnd);
-    };
-    Ok(orders)
+    read(machine, &LOADER, reading)
 }
 
 /// Loads a program as `load` does, from the tape in blocks of so many words each.
@@ -321,31 +269,15 @@ pub fn load_cut<A: Allocator + Copy, B: Allocator, M: Operate<Tape = Vec<Code, A
     counts: &[usize],
 ) -> Result<u64, LoadFault>
     requires tapes { M.codes ≡ (λ tape. tape.items) }
-    ensures loaded { OnOk result (M.configuration machine.new ≡ at_boundary
-        (loaded (M.configuration machine.old).state (cut_load image.now counts.now))) }
+    ensures load { IsLoad (cut_load image.now counts.now)
+        (M.configuration machine.old) (M.configuration machine.new) result }
     ensures program { OnOk result (IsLoadedOver (M.configuration machine.old).state.core.words
         (M.configuration machine.new).state.core.words image.now.cells) }
-    ensures time { OnOk result ((M.configuration machine.new).state.clock
-        ≡ (M.configuration machine.old).state.clock
-        + loading_cost (M.configuration machine.old).state (cut_load image.now counts.now)) }
-    ensures orders { IfOk result (λ orders. orders ≡ (cut_load image.now counts.now).orders) }
-    ensures clock { OnOk result ((loaded (M.configuration machine.old).state
-        (cut_load image.now counts.now)).clock ≤ clock_end) }
-    ensures moving { (result ≡ Err LoadFault.Moving)
-        ↔ (is_boundary (M.configuration machine.old) ≡ false) }
-    ensures unmoved { result ≡ Err LoadFault.Moving
-        → M.configuration machine.new ≡ M.configuration machine.old }
     ensures bad_cut { (result ≡ Err LoadFault.BadCut)
         ↔ (IsTrue (is_boundary (M.configuration machine.old))
         × (is_cutting counts.now image.now.cells ≡ false)) }
     ensures uncut { result ≡ Err LoadFault.BadCut
         → M.configuration machine.new ≡ M.configuration machine.old }
-    ensures no_memory { result ≡ Err LoadFault.Memory
-        → M.configuration machine.new ≡ M.configuration machine.old }
-    ensures stands { result ≡ Err LoadFault.ClockEnd → EndsLoading (M.configuration machine.new)
-        (M.configuration machine.old).state (cut_load image.now counts.now) }
-    ensures past { result ≡ Err LoadFault.ClockEnd → clock_end
-        < (loaded (M.configuration machine.old).state (cut_load image.now counts.now)).clock }
 {
     if machine.look().is_none() {
         return Err(LoadFault::Moving);
@@ -355,10 +287,7 @@ pub fn load_cut<A: Allocator + Copy, B: Allocator, M: Operate<Tape = Vec<Code, A
         Err(CutFault::BadCut) => return Err(LoadFault::BadCut),
         Err(CutFault::Memory) => return Err(LoadFault::Memory),
     };
-    let Some(orders) = read_blocks(machine, reading) else {
-        return Err(LoadFault::ClockEnd);
-    };
-    Ok(orders)
+    read(machine, &LOADER, reading)
 }
 
 /// Loads a program cell by cell, by the loader of ten words. Answers how many orders it performed, 8 for each word and 5. Refused
@@ -369,27 +298,11 @@ pub fn load_single<A: Allocator + Copy, B: Allocator, M: Operate<Tape = Vec<Code
     image: &Image<B>,
 ) -> Result<u64, LoadFault>
     requires tapes { M.codes ≡ (λ tape. tape.items) }
-    ensures loaded { OnOk result (M.configuration machine.new
-        ≡ at_boundary (loaded (M.configuration machine.old).state (single_load image.now))) }
+    ensures load { IsLoad (single_load image.now)
+        (M.configuration machine.old) (M.configuration machine.new) result }
     ensures program { OnOk result (IsLoadedOver (M.configuration machine.old).state.core.words
         (M.configuration machine.new).state.core.words image.now.cells) }
-    ensures time { OnOk result ((M.configuration machine.new).state.clock
-        ≡ (M.configuration machine.old).state.clock
-        + loading_cost (M.configuration machine.old).state (single_load image.now)) }
-    ensures orders { IfOk result (λ orders. orders ≡ (single_load image.now).orders) }
-    ensures clock { OnOk result
-        ((loaded (M.configuration machine.old).state (single_load image.now)).clock ≤ clock_end) }
-    ensures moving { (result ≡ Err LoadFault.Moving)
-        ↔ (is_boundary (M.configuration machine.old) ≡ false) }
-    ensures unmoved { result ≡ Err LoadFault.Moving
-        → M.configuration machine.new ≡ M.configuration machine.old }
-    ensures no_memory { result ≡ Err LoadFault.Memory
-        → M.configuration machine.new ≡ M.configuration machine.old }
     ensures no_bad_cut { result ≢ Err LoadFault.BadCut }
-    ensures stands { result ≡ Err LoadFault.ClockEnd → EndsLoading (M.configuration machine.new)
-        (M.configuration machine.old).state (single_load image.now) }
-    ensures past { result ≡ Err LoadFault.ClockEnd → clock_end
-        < (loaded (M.configuration machine.old).state (single_load image.now)).clock }
 {
     if machine.look().is_none() {
         return Err(LoadFault::Moving);
@@ -397,8 +310,5 @@ pub fn load_single<A: Allocator + Copy, B: Allocator, M: Operate<Tape = Vec<Code
     let Ok(reading) = in_single(alloc, image) else {
         return Err(LoadFault::Memory);
     };
-    let Some(orders) = read_cells(machine, reading) else {
-        return Err(LoadFault::ClockEnd);
-    };
-    Ok(orders)
+    read(machine, &LOADER_10, reading)
 }

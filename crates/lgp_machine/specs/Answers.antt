@@ -1,5 +1,6 @@
 -- Part of the public promise. What the machine answers to a press, and when it refuses a word time.
 use Rattle.std.specs.Prelude.{◌≡◌, ◌≢◌, ℕ, ◌+◌, ◌^◌, ◌==◌, ◌&&◌, Bool, if◌then◌else◌, nat_lt, length, is_some, Result, Ok, Err, IsTrue}
+use Rattle.lgp_table.specs.State.{State}
 use Rattle.lgp_table.specs.Activity.{cost, print_of}
 use Rattle.lgp_table.specs.Console.{is_live}
 use Rattle.lgp_table.specs.Interleaving.{Configuration, is_boundary, latch_limit}
@@ -15,6 +16,10 @@ use Rattle.lgp_machine.specs.declared.fault.TurnFault.TheVariants.{ClockEnd, Mem
 abbrev pub clock_end : ℕ
 clock_end = 2 ^ 62
 
+-- whether the activity that begins in a state would pass it
+abbrev pub passes_clock_end : State → Bool
+passes_clock_end s = nat_lt clock_end (s.clock + cost s)
+
 -- the present clock
 abbrev pub clock_of : Configuration → ℕ
 clock_of now = now.state.clock + now.elapsed
@@ -24,8 +29,8 @@ abbrev pub prints_now : Configuration → Bool
 prints_now now = (now.elapsed + 1 == cost now.state) && is_some (print_of now.state.core)
 
 -- the answer to a press
-abbrev pub answer_to_press : Configuration → Action → Result Pressed PressFault
-answer_to_press now action =
+abbrev pub press_outcome : Configuration → Action → Result Pressed PressFault
+press_outcome now action =
     if is_boundary now then (if is_live now.state.core.panel action then Ok Live else Ok Dead)
     else (if nat_lt (length now.kept) latch_limit then Ok Kept else Err Full)
 

@@ -17,5 +17,5 @@ look_of s = record {
 }
 
 -- something that shows at a boundary alone
-abbrev pub shown : {X : Type 0} → Configuration → X → Option X
-shown now x = if is_boundary now then Some x else None
+abbrev pub seen_at_boundary : {X : Type 0} → Configuration → X → Option X
+seen_at_boundary now x = if is_boundary now then Some x else None

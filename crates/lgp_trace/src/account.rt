@@ -4,7 +4,7 @@ ghost use Rattle.std.specs.Prelude.{◌≡◌, ◌+◌, ◌-◌, ◌≤◌, IsTr
 ghost use Rattle.lgp_table.specs.Activity.{next};
 ghost use Rattle.lgp_table.specs.Interleaving.{at_boundary, is_boundary};
 ghost use Rattle.lgp_table.specs.State.{State};
-ghost use Rattle.lgp_machine.specs.Look.{look_of, shown};
+ghost use Rattle.lgp_machine.specs.Look.{look_of, seen_at_boundary};
 ghost use Rattle.lgp_trace.specs.Account.{account_of, begun_of, finished, found_of, operand_in, order_of, place_of};
 ghost use Rattle.lgp_trace.specs.Phases.{only_act, phases_of};
 
@@ -148,7 +148,7 @@ impl Begun {
     /// What is known of the activity that begins here; `None` within an activity.
     #[tactic(auto, using(crate::proofs::PhaseLaws::phases_cost, crate::proofs::PhaseLaws::phases_last))]
     pub fn of<A: Allocator>(machine: &Machine<A>) -> Option<Begun>
-        ensures { result ≡ shown machine.now (begun_of machine.now.state) }
+        ensures { result ≡ seen_at_boundary machine.now (begun_of machine.now.state) }
     {
         let begun = Begun::before_acting(machine)?;
         let ahead = machine.ahead()?;
@@ -158,7 +158,7 @@ impl Begun {
     /// The same before the order acts, with no word time in which it does and nothing that it prints.
     #[inline(always)]
     pub(crate) fn before_acting<A: Allocator>(machine: &Machine<A>) -> Option<Begun>
-        ensures { result ≡ shown machine.now (record (begun_of machine.now.state) {
+        ensures { result ≡ seen_at_boundary machine.now (record (begun_of machine.now.state) {
           phases = record (phases_of machine.now.state) { act = 0 };
           prints = None;
         }) }

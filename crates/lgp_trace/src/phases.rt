@@ -1,7 +1,7 @@
 //! The four phases of an activity.
 
 ghost use Rattle.std.specs.Prelude.{◌≡◌, ◌+◌, ◌-◌, ◌≤◌};
-ghost use Rattle.lgp_machine.specs.Look.{shown};
+ghost use Rattle.lgp_machine.specs.Look.{seen_at_boundary};
 ghost use Rattle.lgp_trace.specs.Phases.{phases_of};
 
 use lgp_machine::Machine;
@@ -39,7 +39,7 @@ impl Phases {
     /// The phases of the activity that begins here; together they are its cost. `None` within an activity.
     #[tactic(auto, using(crate::proofs::PhaseLaws::phases_cost, crate::proofs::PhaseLaws::phases_last))]
     pub fn of<A: Allocator>(machine: &Machine<A>) -> Option<Phases>
-        ensures { result ≡ shown machine.now (phases_of machine.now.state) }
+        ensures { result ≡ seen_at_boundary machine.now (phases_of machine.now.state) }
     {
         let waits = Phases::before_acting(machine)?;
         let cost = machine.ahead()?.cost;
@@ -51,7 +51,7 @@ impl Phases {
     #[tactic(auto, unfolding(crate::specs::Phases::phases_of))]
     pub fn before_acting<A: Allocator>(machine: &Machine<A>) -> Option<Phases>
         ensures { result
-            ≡ shown machine.now (record (phases_of machine.now.state) { act = 0 }) }
+            ≡ seen_at_boundary machine.now (record (phases_of machine.now.state) { act = 0 }) }
     {
         let look = machine.look()?;
         let phases = match look.status {

@@ -1,14 +1,21 @@
--- The tape goes through from every state, and leaves the program over what was there.
-use Rattle.std.proofs.Common.{sym, subst}
-use Rattle.lgp_table.specs.Interleaving.{Configuration}
-use Rattle.lgp_loader.specs.LoadedOver.{IsLoadedOver}
+-- The tape that was read is the load's, and leaves the program over what was there.
+use Rattle.std.proofs.Common.{subst, sym}
+use Rattle.lgp_loader.specs.BlockLoading.{longest_load}
+use Rattle.lgp_loader.specs.Loading.{TapeLoad}
+use Rattle.lgp_loader.specs.Loads.{IsLoad}
+use Rattle.lgp_loader.proofs.Loads.{same_load}
+use Rattle.lgp_loader.proofs.Program.{program_read}
 use Rattle.lgp_loader.proofs.loading.load.Goals as goal
 
-pub read_blocks-requires-clause-ready : goal.read_blocks-requires-clause-ready
-read_blocks-requires-clause-ready g c = c.in-Ok.ensures.ready (g.M.Operate.configuration c.args.machine.now).state c.look.ensures.drum
+pub returns-clause-load : goal.returns-clause-load
+returns-clause-load g c =
+    let before = g.M.Operate.configuration c.args.machine.now in
+    let after = g.M.Operate.configuration c.read.new.machine in
+    let same = same_load (longest_load c.args.image.now) c.in-Ok.reading.tape.items c.in-Ok.reading.orders c.in-Ok.ensures.tape c.in-Ok.ensures.orders in
+    subst (λ (load : TapeLoad). IsLoad load before after c.read.result) (sym same) c.read.ensures.load
 
 pub returns-clause-program : goal.returns-clause-program
 returns-clause-program g c =
-    let old = (g.M.Operate.configuration c.args.machine.now).state in
-    let Left : Configuration → Type 0 = λ now. IsLoadedOver old.core.words now.state.core.words c.args.image.now.cells in
-    subst Left (sym c.in-Some.ensures.loaded) (c.in-Ok.ensures.program old c.look.ensures.drum)
+    let before = g.M.Operate.configuration c.args.machine.now in
+    let after = g.M.Operate.configuration c.read.new.machine in
+    program_read _ c.args.image.now.cells before after c.read.result c.read.ensures.load c.look.ensures.drum c.in-Ok.ensures.program
