@@ -5,7 +5,7 @@ use Rattle.std.proofs.lemmas.Bool.Decides.{nat_tests}
 use mir.Val.{bool_byte}
 use Rattle.lgp_table.specs.State.{State}
 use Rattle.lgp_history.specs.Steps.{AreStepsTo, CanStep, Leads, first_state, is_order, is_order_back, orders_in, state_back, stepped, steps_back, with_step}
-use Rattle.lgp_history.specs.declared.step.Step.{Step}
+use Rattle.lgp_history.specs.Step.{KeptStep, Step, step_from}
 
 -- where orders are counted from the end, one step more shifts the count by itself
 same_test : (later m more : ℕ) → (later + more + 1 == m + more) ≡ (later + 1 == m)
@@ -36,79 +36,78 @@ pub bool_byte-few : (b : Bool) → bool_byte b ≤ 1
 bool_byte-few true = omega arith
 bool_byte-few false = omega arith
 
-module _ {A : Type 0} where
-  pub first_state-more : (kept : List (State × Step A)) (k : State × Step A) (now : State) → first_state (kept ++ k ∷ []) now ≡ first_state kept k.0
-  first_state-more [] k now = refl
-  first_state-more (x ∷ xs) k now = refl
+pub first_state-more : (kept : List KeptStep) (k : KeptStep) (now : State) → first_state (kept ++ k ∷ []) now ≡ first_state kept k.before
+first_state-more [] k now = refl
+first_state-more (x ∷ xs) k now = refl
 
-  are_steps-more : (kept : List (State × Step A)) (before : State) (step : Step A) → AreStepsTo before kept → CanStep step before → AreStepsTo (stepped step before) (kept ++ (before, step) ∷ [])
-  are_steps-more [] before step led can = (can, refl, tt)
-  are_steps-more (x ∷ xs) before step led can = (led.0, led.1 ∙ sym (first_state-more xs (before, step) (stepped step before)), are_steps-more xs before step led.2 can)
+are_steps-more : (kept : List KeptStep) (before : State) (step : Step) → AreStepsTo before kept → CanStep step before → AreStepsTo (stepped step before) (kept ++ step_from before step ∷ [])
+are_steps-more [] before step led can = (can, refl, tt)
+are_steps-more (x ∷ xs) before step led can = (led.0, led.1 ∙ sym (first_state-more xs (step_from before step) (stepped step before)), are_steps-more xs before step led.2 can)
 
-  are_steps-drop : (n : ℕ) (kept : List (State × Step A)) (now : State) → AreStepsTo now kept → AreStepsTo now (drop n kept)
-  are_steps-drop zero kept now led = led
-  are_steps-drop (suc n) [] now led = led
-  are_steps-drop (suc n) (x ∷ xs) now led = are_steps-drop n xs now led.2
+are_steps-drop : (n : ℕ) (kept : List KeptStep) (now : State) → AreStepsTo now kept → AreStepsTo now (drop n kept)
+are_steps-drop zero kept now led = led
+are_steps-drop (suc n) [] now led = led
+are_steps-drop (suc n) (x ∷ xs) now led = are_steps-drop n xs now led.2
 
-  pub leads-more : (capacity : ℕ) (kept : List (State × Step A)) (before : State) (step : Step A) → Leads kept before → CanStep step before → Leads (with_step capacity kept before step) (stepped step before)
-  leads-more capacity kept before step led can = record { steps = are_steps-drop _ _ _ (are_steps-more kept before step led.steps can) }
+pub leads-more : (capacity : ℕ) (kept : List KeptStep) (before : State) (step : Step) → Leads kept before → CanStep step before → Leads (with_step capacity kept before step) (stepped step before)
+leads-more capacity kept before step led can = record { steps = are_steps-drop _ _ _ (are_steps-more kept before step led.steps can) }
 
-  first_state-back : (n : ℕ) (kept : List (State × Step A)) (now : State) → first_state (steps_back n kept) (state_back n kept now) ≡ first_state kept now
-  first_state-back n [] now = refl
-  first_state-back n (x ∷ xs) now =
-      elim (is_order_back n x xs) as (λ b. first_state (cond b [] (x ∷ steps_back n xs)) (cond b x.0 (state_back n xs now)) ≡ x.0) [ true ↦ refl | false ↦ refl ]
+first_state-back : (n : ℕ) (kept : List KeptStep) (now : State) → first_state (steps_back n kept) (state_back n kept now) ≡ first_state kept now
+first_state-back n [] now = refl
+first_state-back n (x ∷ xs) now =
+    elim (is_order_back n x xs) as (λ b. first_state (cond b [] (x ∷ steps_back n xs)) (cond b x.before (state_back n xs now)) ≡ x.before) [ true ↦ refl | false ↦ refl ]
 
-  are_steps-back : (n : ℕ) (kept : List (State × Step A)) (now : State) → AreStepsTo now kept → AreStepsTo (state_back n kept now) (steps_back n kept)
-  are_steps-back n [] now led = tt
-  are_steps-back n (x ∷ xs) now led =
-      elim (is_order_back n x xs) as (λ b. AreStepsTo (cond b x.0 (state_back n xs now)) (cond b [] (x ∷ steps_back n xs)))
-      [ true ↦ tt | false ↦ (led.0, led.1 ∙ sym (first_state-back n xs now), are_steps-back n xs now led.2) ]
+are_steps-back : (n : ℕ) (kept : List KeptStep) (now : State) → AreStepsTo now kept → AreStepsTo (state_back n kept now) (steps_back n kept)
+are_steps-back n [] now led = tt
+are_steps-back n (x ∷ xs) now led =
+    elim (is_order_back n x xs) as (λ b. AreStepsTo (cond b x.before (state_back n xs now)) (cond b [] (x ∷ steps_back n xs)))
+    [ true ↦ tt | false ↦ (led.0, led.1 ∙ sym (first_state-back n xs now), are_steps-back n xs now led.2) ]
 
-  pub leads-back : (n : ℕ) (kept : List (State × Step A)) (now : State) → Leads kept now → Leads (steps_back n kept) (state_back n kept now)
-  leads-back n kept now led = record { steps = are_steps-back n kept now led.steps }
+pub leads-back : (n : ℕ) (kept : List KeptStep) (now : State) → Leads kept now → Leads (steps_back n kept) (state_back n kept now)
+leads-back n kept now led = record { steps = are_steps-back n kept now led.steps }
 
-  -- 1 for an order
-  abbrev pub order_count : Step A → ℕ
-  order_count step = cond (is_order step) 1 0
+-- 1 for an order
+abbrev pub order_count : Step → ℕ
+order_count step = cond (is_order step) 1 0
 
-  -- whether a step is an order, as a number
-  pub bool_byte-order : (step : Step A) (b : Bool) → b ≡ is_order step → bool_byte b ≡ order_count step
-  bool_byte-order step b e = rw e (bool_byte-count (is_order step))
+-- whether a step is an order, as a number
+pub bool_byte-order : (step : Step) (b : Bool) → b ≡ is_order step → bool_byte b ≡ order_count step
+bool_byte-order step b e = rw e (bool_byte-count (is_order step))
 
-  pub orders_in-more : (kept : List (State × Step A)) (k : State × Step A) → orders_in (kept ++ k ∷ []) ≡ orders_in kept + order_count k.1
-  orders_in-more [] k = omega arith
-  orders_in-more (x ∷ xs) k = omega (arith, orders_in-more xs k)
+pub orders_in-more : (kept : List KeptStep) (k : KeptStep) → orders_in (kept ++ k ∷ []) ≡ orders_in kept + order_count k.step
+orders_in-more [] k = omega arith
+orders_in-more (x ∷ xs) k = omega (arith, orders_in-more xs k)
 
-  pub orders_in-within : (kept : List (State × Step A)) → orders_in kept ≤ length kept
-  orders_in-within [] = omega arith
-  orders_in-within (k ∷ later) = within_more (is_order k.1) (orders_in later) (length later) (orders_in-within later)
+pub orders_in-within : (kept : List KeptStep) → orders_in kept ≤ length kept
+orders_in-within [] = omega arith
+orders_in-within (k ∷ later) = within_more (is_order k.step) (orders_in later) (length later) (orders_in-within later)
 
-  is_order_back-more : (xs : List (State × Step A)) (k x : State × Step A) (m : ℕ) → is_order_back (m + order_count k.1) x (xs ++ k ∷ []) ≡ is_order_back m x xs
-  is_order_back-more xs k x m = rw (orders_in-more xs k) (ap (λ t. is_order x.1 && t) (same_test (orders_in xs) m (order_count k.1)))
+is_order_back-more : (xs : List KeptStep) (k x : KeptStep) (m : ℕ) → is_order_back (m + order_count k.step) x (xs ++ k ∷ []) ≡ is_order_back m x xs
+is_order_back-more xs k x m = rw (orders_in-more xs k) (ap (λ t. is_order x.step && t) (same_test (orders_in xs) m (order_count k.step)))
 
-  -- going back over the last step
-  pub state_back-more : (kept : List (State × Step A)) (k : State × Step A) (now : State) (m : ℕ) → 1 ≤ m + order_count k.1 → m ≤ orders_in kept → state_back (m + order_count k.1) (kept ++ k ∷ []) now ≡ state_back m kept k.0
-  state_back-more [] k now m h within = rw (last_test (is_order k.1) m h within)
-  state_back-more (x ∷ xs) k now m h within =
-      rw (is_order_back-more xs k x m)
-      (elim (is_order_back m x xs) as (λ b. is_order_back m x xs ≡ b → cond b x.0 (state_back (m + order_count k.1) (xs ++ k ∷ []) now) ≡ cond b x.0 (state_back m xs k.0))
-      [ true ↦ λ e. refl | false ↦ λ e. state_back-more xs k now m h (within_rest (is_order x.1) (orders_in xs) m e within) ] refl)
+-- going back over the last step
+pub state_back-more : (kept : List KeptStep) (k : KeptStep) (now : State) (m : ℕ) → 1 ≤ m + order_count k.step → m ≤ orders_in kept → state_back (m + order_count k.step) (kept ++ k ∷ []) now ≡ state_back m kept k.before
+state_back-more [] k now m h within = rw (last_test (is_order k.step) m h within)
+state_back-more (x ∷ xs) k now m h within =
+    rw (is_order_back-more xs k x m)
+    (elim (is_order_back m x xs) as (λ b. is_order_back m x xs ≡ b → cond b x.before (state_back (m + order_count k.step) (xs ++ k ∷ []) now) ≡ cond b x.before (state_back m xs k.before))
+    [ true ↦ λ e. refl | false ↦ λ e. state_back-more xs k now m h (within_rest (is_order x.step) (orders_in xs) m e within) ] refl)
 
-  pub steps_back-more : (kept : List (State × Step A)) (k : State × Step A) (m : ℕ) → 1 ≤ m + order_count k.1 → m ≤ orders_in kept → steps_back (m + order_count k.1) (kept ++ k ∷ []) ≡ steps_back m kept
-  steps_back-more [] k m h within = rw (last_test (is_order k.1) m h within)
-  steps_back-more (x ∷ xs) k m h within =
-      rw (is_order_back-more xs k x m)
-      (elim (is_order_back m x xs) as (λ b. is_order_back m x xs ≡ b → cond b [] (x ∷ steps_back (m + order_count k.1) (xs ++ k ∷ [])) ≡ cond b [] (x ∷ steps_back m xs))
-      [ true ↦ λ e. refl | false ↦ λ e. ap (λ ks. x ∷ ks) (steps_back-more xs k m h (within_rest (is_order x.1) (orders_in xs) m e within)) ] refl)
+pub steps_back-more : (kept : List KeptStep) (k : KeptStep) (m : ℕ) → 1 ≤ m + order_count k.step → m ≤ orders_in kept → steps_back (m + order_count k.step) (kept ++ k ∷ []) ≡ steps_back m kept
+steps_back-more [] k m h within = rw (last_test (is_order k.step) m h within)
+steps_back-more (x ∷ xs) k m h within =
+    rw (is_order_back-more xs k x m)
+    (elim (is_order_back m x xs) as (λ b. is_order_back m x xs ≡ b → cond b [] (x ∷ steps_back (m + order_count k.step) (xs ++ k ∷ [])) ≡ cond b [] (x ∷ steps_back m xs))
+    [ true ↦ λ e. refl | false ↦ λ e. ap (λ ks. x ∷ ks) (steps_back-more xs k m h (within_rest (is_order x.step) (orders_in xs) m e within)) ] refl)
 
-  no_order_back : (k : State × Step A) (later : List (State × Step A)) → is_order_back 0 k later ≡ false
-  no_order_back k later = none_back (is_order k.1) (orders_in later)
+no_order_back : (k : KeptStep) (later : List KeptStep) → is_order_back 0 k later ≡ false
+no_order_back k later = none_back (is_order k.step) (orders_in later)
 
-  -- no order back is here
-  pub state_back-none : (kept : List (State × Step A)) (now : State) → state_back 0 kept now ≡ now
-  state_back-none [] now = refl
-  state_back-none (k ∷ later) now = rw (no_order_back k later) (state_back-none later now)
+-- no order back is here
+pub state_back-none : (kept : List KeptStep) (now : State) → state_back 0 kept now ≡ now
+state_back-none [] now = refl
+state_back-none (k ∷ later) now = rw (no_order_back k later) (state_back-none later now)
 
-  pub steps_back-none : (kept : List (State × Step A)) → steps_back 0 kept ≡ kept
-  steps_back-none [] = refl
-  steps_back-none (k ∷ later) = rw (no_order_back k later) (ap (λ ks. k ∷ ks) (steps_back-none later))
+pub steps_back-none : (kept : List KeptStep) → steps_back 0 kept ≡ kept
+steps_back-none [] = refl
+steps_back-none (k ∷ later) = rw (no_order_back k later) (ap (λ ks. k ∷ ks) (steps_back-none later))

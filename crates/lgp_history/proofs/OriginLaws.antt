@@ -6,7 +6,7 @@ use Rattle.lgp_table.specs.State.{State, word_at}
 use Rattle.lgp_history.specs.Steps.{AreStepsTo, Leads, first_state, is_order, orders_in, steps_back}
 use Rattle.lgp_history.specs.Origins.{IsOrigin, changed_at, latest_change, origin_of}
 use Rattle.lgp_history.specs.declared.origin.Origin.{Origin}
-use Rattle.lgp_history.specs.declared.step.Step.{Step}
+use Rattle.lgp_history.specs.Step.{KeptStep}
 use Rattle.lgp_history.proofs.StepLaws.{here_back, not_so_far, or_none, orders_in-append}
 
 not_not : (b : Bool) → not b ≡ false → b ≡ true
@@ -17,77 +17,76 @@ not_taken : {Y : Type 0} (b : Bool) (y : Y) → cond b (Some y) None ≡ None �
 not_taken true y e = cc
 not_taken false y e = refl
 
-module _ {A : Type 0} where
-  -- where no step changed the word, none of them did
-  pub none_changed : (address : ℕ) (kept : List (State × Step A)) → latest_change address kept ≡ None → All (λ (k : State × Step A). changed_at address k ≡ false) kept
-  unfolding latest_change
-  none_changed address [] none = All-nil (λ (k : State × Step A). changed_at address k ≡ false)
-  none_changed address (k ∷ later) none =
-      let both = or_none (latest_change address later) (cond (changed_at address k) (Some (origin_of address k (orders_in (k ∷ later)))) None) none in
-      All-cons (λ (k : State × Step A). changed_at address k ≡ false) k later (not_taken (changed_at address k) (origin_of address k (orders_in (k ∷ later))) both.1) (none_changed address later both.0)
+-- where no step changed the word, none of them did
+pub none_changed : (address : ℕ) (kept : List KeptStep) → latest_change address kept ≡ None → All (λ (k : KeptStep). changed_at address k ≡ false) kept
+unfolding latest_change
+none_changed address [] none = All-nil (λ (k : KeptStep). changed_at address k ≡ false)
+none_changed address (k ∷ later) none =
+    let both = or_none (latest_change address later) (cond (changed_at address k) (Some (origin_of address k (orders_in (k ∷ later)))) None) none in
+    All-cons (λ (k : KeptStep). changed_at address k ≡ false) k later (not_taken (changed_at address k) (origin_of address k (orders_in (k ∷ later))) both.1) (none_changed address later both.0)
 
-  word_stays : (address : ℕ) (kept : List (State × Step A)) (now : State) → AreStepsTo now kept → latest_change address kept ≡ None → word_at now.core address ≡ word_at (first_state kept now).core address
-  unfolding latest_change
-  word_stays address [] now led none = refl
-  word_stays address (k ∷ later) now led none =
-      let both = or_none (latest_change address later) (cond (changed_at address k) (Some (origin_of address k (orders_in (k ∷ later)))) None) none in
-      let same = eqb-true _ _ (not_not _ (not_taken (changed_at address k) (origin_of address k (orders_in (k ∷ later))) both.1)) in
-      word_stays address later now led.2 both.0 ∙ ap (λ (s : State). word_at s.core address) (sym led.1) ∙ sym same
+word_stays : (address : ℕ) (kept : List KeptStep) (now : State) → AreStepsTo now kept → latest_change address kept ≡ None → word_at now.core address ≡ word_at (first_state kept now).core address
+unfolding latest_change
+word_stays address [] now led none = refl
+word_stays address (k ∷ later) now led none =
+    let both = or_none (latest_change address later) (cond (changed_at address k) (Some (origin_of address k (orders_in (k ∷ later)))) None) none in
+    let same = eqb-true _ _ (not_not _ (not_taken (changed_at address k) (origin_of address k (orders_in (k ∷ later))) both.1)) in
+    word_stays address later now led.2 both.0 ∙ ap (λ (s : State). word_at s.core address) (sym led.1) ∙ sym same
 
-  -- and the word is the one with which the kept steps begin
-  pub word_kept : (address : ℕ) (kept : List (State × Step A)) (now : State) → Leads kept now → latest_change address kept ≡ None → word_at now.core address ≡ word_at (first_state kept now).core address
-  word_kept address kept now led none = word_stays address kept now led.steps none
+-- and the word is the one with which the kept steps begin
+pub word_kept : (address : ℕ) (kept : List KeptStep) (now : State) → Leads kept now → latest_change address kept ≡ None → word_at now.core address ≡ word_at (first_state kept now).core address
+word_kept address kept now led none = word_stays address kept now led.steps none
 
-  earlier_origin : (address : ℕ) (k : State × Step A) (later : List (State × Step A)) (now : State) (origin : Origin) → IsOrigin address later now origin → IsOrigin address (k ∷ later) now origin
-  earlier_origin address k later now origin o = record {
-    earlier = k ∷ o.earlier;
-    step = o.step;
-    later = o.later;
-    parts = ap (λ (ks : List (State × Step A)). k ∷ ks) o.parts;
-    changed = o.changed;
-    named = o.named;
-    stands = o.stands;
-    later_stay = o.later_stay;
-  }
+earlier_origin : (address : ℕ) (k : KeptStep) (later : List KeptStep) (now : State) (origin : Origin) → IsOrigin address later now origin → IsOrigin address (k ∷ later) now origin
+earlier_origin address k later now origin o = record {
+  earlier = k ∷ o.earlier;
+  change = o.change;
+  later = o.later;
+  parts = ap (λ (ks : List KeptStep). k ∷ ks) o.parts;
+  changed = o.changed;
+  named = o.named;
+  stands = o.stands;
+  later_stay = o.later_stay;
+}
 
-  this_origin : (address : ℕ) (k : State × Step A) (later : List (State × Step A)) (now : State) (origin : Origin) → AreStepsTo now (k ∷ later) → latest_change address later ≡ None
-      → changed_at address k ≡ true → origin ≡ origin_of address k (orders_in (k ∷ later)) → IsOrigin address (k ∷ later) now origin
-  this_origin address k later now origin led none changed named = record {
-    earlier = [];
-    step = k;
-    later = later;
-    parts = refl;
-    changed = changed;
-    named = named;
-    stands = word_stays address later now led.2 none ∙ ap (λ (s : State). word_at s.core address) (sym led.1);
-    later_stay = none_changed address later none;
-  }
+this_origin : (address : ℕ) (k : KeptStep) (later : List KeptStep) (now : State) (origin : Origin) → AreStepsTo now (k ∷ later) → latest_change address later ≡ None
+    → changed_at address k ≡ true → origin ≡ origin_of address k (orders_in (k ∷ later)) → IsOrigin address (k ∷ later) now origin
+this_origin address k later now origin led none changed named = record {
+  earlier = [];
+  change = k;
+  later = later;
+  parts = refl;
+  changed = changed;
+  named = named;
+  stands = word_stays address later now led.2 none ∙ ap (λ (s : State). word_at s.core address) (sym led.1);
+  later_stay = none_changed address later none;
+}
 
-  by_change : (address : ℕ) (k : State × Step A) (later : List (State × Step A)) (now : State) (origin : Origin) (b : Bool) → AreStepsTo now (k ∷ later) → latest_change address later ≡ None → changed_at address k ≡ b
-      → cond b (Some (origin_of address k (orders_in (k ∷ later)))) None ≡ Some origin → IsOrigin address (k ∷ later) now origin
-  by_change address k later now origin true led none changed e = this_origin address k later now origin led none changed cc
-  by_change address k later now origin false led none changed e = cc
+by_change : (address : ℕ) (k : KeptStep) (later : List KeptStep) (now : State) (origin : Origin) (b : Bool) → AreStepsTo now (k ∷ later) → latest_change address later ≡ None → changed_at address k ≡ b
+    → cond b (Some (origin_of address k (orders_in (k ∷ later)))) None ≡ Some origin → IsOrigin address (k ∷ later) now origin
+by_change address k later now origin true led none changed e = this_origin address k later now origin led none changed cc
+by_change address k later now origin false led none changed e = cc
 
-  by_later_change : (address : ℕ) (k : State × Step A) (later : List (State × Step A)) (now : State) (origin : Origin) (o : Option Origin) → AreStepsTo now (k ∷ later) → latest_change address later ≡ o
-      → ((other : Origin) → o ≡ Some other → IsOrigin address later now other)
-      → option_or o (cond (changed_at address k) (Some (origin_of address k (orders_in (k ∷ later)))) None) ≡ Some origin → IsOrigin address (k ∷ later) now origin
-  by_later_change address k later now origin (Some other) led is ih e = earlier_origin address k later now origin (ih origin e)
-  by_later_change address k later now origin None led is ih e = by_change address k later now origin (changed_at address k) led is refl e
+by_later_change : (address : ℕ) (k : KeptStep) (later : List KeptStep) (now : State) (origin : Origin) (o : Option Origin) → AreStepsTo now (k ∷ later) → latest_change address later ≡ o
+    → ((other : Origin) → o ≡ Some other → IsOrigin address later now other)
+    → option_or o (cond (changed_at address k) (Some (origin_of address k (orders_in (k ∷ later)))) None) ≡ Some origin → IsOrigin address (k ∷ later) now origin
+by_later_change address k later now origin (Some other) led is ih e = earlier_origin address k later now origin (ih origin e)
+by_later_change address k later now origin None led is ih e = by_change address k later now origin (changed_at address k) led is refl e
 
-  origin_found : (address : ℕ) (kept : List (State × Step A)) (now : State) (origin : Origin) → AreStepsTo now kept → latest_change address kept ≡ Some origin → IsOrigin address kept now origin
-  unfolding latest_change
-  origin_found address [] now origin led e = cc
-  origin_found address (k ∷ later) now origin led e =
-      by_later_change address k later now origin (latest_change address later) led refl (λ other q. origin_found address later now other led.2 q) e
+origin_found : (address : ℕ) (kept : List KeptStep) (now : State) (origin : Origin) → AreStepsTo now kept → latest_change address kept ≡ Some origin → IsOrigin address kept now origin
+unfolding latest_change
+origin_found address [] now origin led e = cc
+origin_found address (k ∷ later) now origin led e =
+    by_later_change address k later now origin (latest_change address later) led refl (λ other q. origin_found address later now other led.2 q) e
 
-  pub word_came : (address : ℕ) (kept : List (State × Step A)) (now : State) (origin : Origin) → Leads kept now → latest_change address kept ≡ Some origin → IsOrigin address kept now origin
-  word_came address kept now origin led e = origin_found address kept now origin led.steps e
+pub word_came : (address : ℕ) (kept : List KeptStep) (now : State) (origin : Origin) → Leads kept now → latest_change address kept ≡ Some origin → IsOrigin address kept now origin
+word_came address kept now origin led e = origin_found address kept now origin led.steps e
 
-  steps_back_to : (earlier : List (State × Step A)) (k : State × Step A) (later : List (State × Step A)) → is_order k.1 ≡ true → steps_back (orders_in (k ∷ later)) (earlier ++ k ∷ later) ≡ earlier
-  steps_back_to [] k later order = rw (here_back k later order) refl
-  steps_back_to (x ∷ xs) k later order =
-      rw (not_so_far (is_order x.1) (orders_in (k ∷ later)) (orders_in (xs ++ k ∷ later)) (orders_in-append xs (k ∷ later))) (ap (λ (ks : List (State × Step A)). x ∷ ks) (steps_back_to xs k later order))
+steps_back_to : (earlier : List KeptStep) (k : KeptStep) (later : List KeptStep) → is_order k.step ≡ true → steps_back (orders_in (k ∷ later)) (earlier ++ k ∷ later) ≡ earlier
+steps_back_to [] k later order = rw (here_back k later order) refl
+steps_back_to (x ∷ xs) k later order =
+    rw (not_so_far (is_order x.step) (orders_in (k ∷ later)) (orders_in (xs ++ k ∷ later)) (orders_in-append xs (k ∷ later))) (ap (λ (ks : List KeptStep). x ∷ ks) (steps_back_to xs k later order))
 
-  pub origin_back : (address : ℕ) (earlier : List (State × Step A)) (k : State × Step A) (later : List (State × Step A)) → IsTrue (is_order k.1)
-      → latest_change address (steps_back (orders_in (k ∷ later)) (earlier ++ k ∷ later)) ≡ latest_change address earlier
-  origin_back address earlier k later order = ap (λ (ks : List (State × Step A)). latest_change address ks) (steps_back_to earlier k later order)
+pub origin_back : (address : ℕ) (earlier : List KeptStep) (k : KeptStep) (later : List KeptStep) → IsTrue (is_order k.step)
+    → latest_change address (steps_back (orders_in (k ∷ later)) (earlier ++ k ∷ later)) ≡ latest_change address earlier
+origin_back address earlier k later order = ap (λ (ks : List KeptStep). latest_change address ks) (steps_back_to earlier k later order)

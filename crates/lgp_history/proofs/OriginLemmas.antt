@@ -18,7 +18,7 @@ use Rattle.lgp_history.specs.RecordedInside.{Recorded, can_restore, lost_at, ord
 use Rattle.lgp_history.specs.declared.origin.Changer.{Changer}
 use Rattle.lgp_history.specs.declared.origin.Changer.TheVariants.{Order, Hand}
 use Rattle.lgp_history.specs.declared.origin.Origin.{Origin}
-use Rattle.lgp_history.specs.declared.step.Step.{Step}
+use Rattle.lgp_history.specs.Step.{KeptStep, Step, step_from}
 use Rattle.lgp_history.proofs.RecordedSteps.{and_left, and_right, belonging, differs_too, drop-before, leads-read, order_is, orders_in-read, read-drop, same_not_different, undone-belonging, with_tape-words}
 
 -- an order leaves the instruction register
@@ -86,91 +86,90 @@ came-mapped true changer lost = refl
 came-mapped false changer lost = refl
 
 -- where no step is kept no word was changed
-pub no_change : (X : Type 0) (address : ℕ) → latest_change {A = X} address [] ≡ None
+pub no_change : (address : ℕ) → latest_change address [] ≡ None
 unfolding latest_change
-no_change X address = refl
+no_change address = refl
 
-module _ {X : Type 0} where
-  -- what did the recorded step
-  changer_as_recorded : (r : Recorded X) (before after : State) (register n : ℕ) → before.core.panel ≡ r.mark.panel → before.clock ≡ r.mark.clock → stepped r.step before ≡ after → register ≡ after.core.panel.register
-      → changer_of (before, r.step) n ≡ recorded_changer r register n
-  changer_as_recorded r before after register n panel clock leads held =
-      elim (is_order r.step) as (λ b. is_order r.step ≡ b → cond b (Order (past_order before n)) (Hand before.clock) ≡ cond b (Order (recorded_order r register n)) (Hand r.mark.clock)) [
-        | true ↦ λ e.
-            let performed : next before ≡ after = subst (λ (step : Step X). stepped step before ≡ after) (order_is r.step e) leads in
-            let word : order_by before.core.panel.status before.core ≡ register = sym (register_after before) ∙ ap (λ (s : State). s.core.panel.register) performed ∙ sym held in
-            let place : place_by before.core.panel.status before.core ≡ cond (is_going r.mark.panel.status) (Some r.mark.panel.counter) None =
-            place_going before.core.panel.status before.core ∙ ap (λ (p : Panel). cond (is_going p.status) (Some p.counter) None) panel in
-            rw (place, word, clock) refl
-        | false ↦ λ e. ap Hand clock
-      ] refl
+-- what did the recorded step
+changer_as_recorded : (r : Recorded) (before after : State) (register n : ℕ) → before.core.panel ≡ r.mark.panel → before.clock ≡ r.mark.clock → stepped r.step before ≡ after → register ≡ after.core.panel.register
+    → changer_of (step_from before r.step) n ≡ recorded_changer r register n
+changer_as_recorded r before after register n panel clock leads held =
+    elim (is_order r.step) as (λ b. is_order r.step ≡ b → cond b (Order (past_order before n)) (Hand before.clock) ≡ cond b (Order (recorded_order r register n)) (Hand r.mark.clock)) [
+      | true ↦ λ e.
+          let performed : next before ≡ after = subst (λ (step : Step). stepped step before ≡ after) (order_is r.step e) leads in
+          let word : order_by before.core.panel.status before.core ≡ register = sym (register_after before) ∙ ap (λ (s : State). s.core.panel.register) performed ∙ sym held in
+          let place : place_by before.core.panel.status before.core ≡ cond (is_going r.mark.panel.status) (Some r.mark.panel.counter) None =
+          place_going before.core.panel.status before.core ∙ ap (λ (p : Panel). cond (is_going p.status) (Some p.counter) None) panel in
+          rw (place, word, clock) refl
+      | false ↦ λ e. ap Hand clock
+    ] refl
 
-  -- the origin that a recorded step is of the word at an address
-  came_as_recorded : (r : Recorded X) (after : State) (address register n : ℕ) → stepped r.step (undone r after) ≡ after → register ≡ after.core.panel.register
-      → cond (changed_at address (undone r after, r.step)) (Some (origin_of address (undone r after, r.step) n)) None ≡ option_map (came (recorded_changer r register n)) (lost_at r.lost address)
-  came_as_recorded r after address register n leads held =
-      let ok = belonging r after leads in
-      let is = undone-belonging r after ok in
-      let words : (undone r after).core.words ≡ words_with after.core.words r.lost =
-      ap (λ (s : State). s.core.words) is ∙ ap (λ (ws : List ℕ). words_with ws r.lost) (with_tape-words r.tape r.mark.passed after) in
-      let changer = changer_as_recorded r (undone r after) after register n (ap (λ (s : State). s.core.panel) is) (ap (λ (s : State). s.clock) is) leads held in
-      ap (λ (s : State). cond (not (word_at (undone r after).core address == word_at s.core address)) (Some (origin_of address (undone r after, r.step) n)) None) leads
-      ∙ ap (λ (ch : Changer). cond (not (word_at (undone r after).core address == word_at after.core address)) (Some (came ch (word_at (undone r after).core address))) None) changer
-      ∙ ap (λ (ws : List ℕ). cond (not (get_or ws address 0 == word_at after.core address)) (Some (came (recorded_changer r register n) (get_or ws address 0))) None) words
-      ∙ came-mapped _ (recorded_changer r register n) (get_or (words_with after.core.words r.lost) address 0)
-      ∙ ap (λ (o : Option ℕ). option_map (came (recorded_changer r register n)) o) (lost_as_change after.core.words r.lost address (and_right _ _ ok))
+-- the origin that a recorded step is of the word at an address
+came_as_recorded : (r : Recorded) (after : State) (address register n : ℕ) → stepped r.step (undone r after) ≡ after → register ≡ after.core.panel.register
+    → cond (changed_at address (step_from (undone r after) r.step)) (Some (origin_of address (step_from (undone r after) r.step) n)) None ≡ option_map (came (recorded_changer r register n)) (lost_at r.lost address)
+came_as_recorded r after address register n leads held =
+    let ok = belonging r after leads in
+    let is = undone-belonging r after ok in
+    let words : (undone r after).core.words ≡ words_with after.core.words r.lost =
+    ap (λ (s : State). s.core.words) is ∙ ap (λ (ws : List ℕ). words_with ws r.lost) (with_tape-words r.tape r.mark.passed after) in
+    let changer = changer_as_recorded r (undone r after) after register n (ap (λ (s : State). s.core.panel) is) (ap (λ (s : State). s.clock) is) leads held in
+    ap (λ (s : State). cond (not (word_at (undone r after).core address == word_at s.core address)) (Some (origin_of address (step_from (undone r after) r.step) n)) None) leads
+    ∙ ap (λ (ch : Changer). cond (not (word_at (undone r after).core address == word_at after.core address)) (Some (came ch (word_at (undone r after).core address))) None) changer
+    ∙ ap (λ (ws : List ℕ). cond (not (get_or ws address 0 == word_at after.core address)) (Some (came (recorded_changer r register n) (get_or ws address 0))) None) words
+    ∙ came-mapped _ (recorded_changer r register n) (get_or (words_with after.core.words r.lost) address 0)
+    ∙ ap (λ (o : Option ℕ). option_map (came (recorded_changer r register n)) o) (lost_as_change after.core.words r.lost address (and_right _ _ ok))
 
-  latest_change-next : (address : ℕ) (r : Recorded X) (later : List (Recorded X)) (now : State) (register : ℕ) → Leads (read (r ∷ later) now) now → latest_change address (read later now) ≡ None
-      → register ≡ (first_state (read later now) now).core.panel.register
-      → latest_change address (read (r ∷ later) now) ≡ option_map (came (recorded_changer r register (orders_recorded (r ∷ later)))) (lost_at r.lost address)
-  unfolding latest_change
-  latest_change-next address r later now register led none held =
-      let after = first_state (read later now) now in
-      rw none (ap (λ (n : ℕ). cond (changed_at address (undone r after, r.step)) (Some (origin_of address (undone r after, r.step) n)) None) (orders_in-read (r ∷ later) now)
-      ∙ came_as_recorded r after address register (orders_recorded (r ∷ later)) led.steps.1 held)
+latest_change-next : (address : ℕ) (r : Recorded) (later : List Recorded) (now : State) (register : ℕ) → Leads (read (r ∷ later) now) now → latest_change address (read later now) ≡ None
+    → register ≡ (first_state (read later now) now).core.panel.register
+    → latest_change address (read (r ∷ later) now) ≡ option_map (came (recorded_changer r register (orders_recorded (r ∷ later)))) (lost_at r.lost address)
+unfolding latest_change
+latest_change-next address r later now register led none held =
+    let after = first_state (read later now) now in
+    rw none (ap (λ (n : ℕ). cond (changed_at address (step_from (undone r after) r.step)) (Some (origin_of address (step_from (undone r after) r.step) n)) None) (orders_in-read (r ∷ later) now)
+    ∙ came_as_recorded r after address register (orders_recorded (r ∷ later)) led.steps.1 held)
 
-  latest_change-drop : (address n : ℕ) (kept : List (State × Step X)) (origin : Origin) → latest_change address (drop n kept) ≡ Some origin → latest_change address kept ≡ Some origin
-  unfolding latest_change
-  latest_change-drop address zero kept origin e = e
-  latest_change-drop address (suc n) [] origin e = e
-  latest_change-drop address (suc n) (k ∷ ks) origin e = rw (latest_change-drop address n ks origin e) refl
+latest_change-drop : (address n : ℕ) (kept : List KeptStep) (origin : Origin) → latest_change address (drop n kept) ≡ Some origin → latest_change address kept ≡ Some origin
+unfolding latest_change
+latest_change-drop address zero kept origin e = e
+latest_change-drop address (suc n) [] origin e = e
+latest_change-drop address (suc n) (k ∷ ks) origin e = rw (latest_change-drop address n ks origin e) refl
 
-  -- the steps from the record before an index on
-  module _ (address : ℕ) (rs : List (Recorded X)) (now : State) (i : ℕ) (r : Recorded X) (register : ℕ) (led : Leads (read rs now) now) (some : 0 < i) (is : slice_get rs (i - 1) ≡ Some r) where
-    here : drop (i - 1) rs ≡ r ∷ drop i rs
-    here = drop-before rs i r some is
+-- the steps from the record before an index on
+module _ (address : ℕ) (rs : List Recorded) (now : State) (i : ℕ) (r : Recorded) (register : ℕ) (led : Leads (read rs now) now) (some : 0 < i) (is : slice_get rs (i - 1) ≡ Some r) where
+  here : drop (i - 1) rs ≡ r ∷ drop i rs
+  here = drop-before rs i r some is
 
-    led-here : Leads (read (r ∷ drop i rs) now) now
-    led-here = subst (λ (xs : List (Recorded X)). Leads (read xs now) now) here (leads-read (i - 1) rs now led)
+  led-here : Leads (read (r ∷ drop i rs) now) now
+  led-here = subst (λ (xs : List Recorded). Leads (read xs now) now) here (leads-read (i - 1) rs now led)
 
-    change-before : latest_change address (read (drop i rs) now) ≡ None → register ≡ (first_state (read (drop i rs) now) now).core.panel.register
-        → latest_change address (read (drop (i - 1) rs) now) ≡ option_map (came (recorded_changer r register (orders_recorded (drop (i - 1) rs)))) (lost_at r.lost address)
-    change-before none held =
-        ap (λ (xs : List (Recorded X)). latest_change address (read xs now)) here
-        ∙ latest_change-next address r (drop i rs) now register led-here none held
-        ∙ ap (λ (xs : List (Recorded X)). option_map (came (recorded_changer r register (orders_recorded xs))) (lost_at r.lost address)) (sym here)
+  change-before : latest_change address (read (drop i rs) now) ≡ None → register ≡ (first_state (read (drop i rs) now) now).core.panel.register
+      → latest_change address (read (drop (i - 1) rs) now) ≡ option_map (came (recorded_changer r register (orders_recorded (drop (i - 1) rs)))) (lost_at r.lost address)
+  change-before none held =
+      ap (λ (xs : List Recorded). latest_change address (read xs now)) here
+      ∙ latest_change-next address r (drop i rs) now register led-here none held
+      ∙ ap (λ (xs : List Recorded). option_map (came (recorded_changer r register (orders_recorded xs))) (lost_at r.lost address)) (sym here)
 
-  pub register-before : (rs : List (Recorded X)) (now : State) (i : ℕ) (r : Recorded X) → Leads (read rs now) now → 0 < i → slice_get rs (i - 1) ≡ Some r
-      → r.mark.panel.register ≡ (first_state (read (drop (i - 1) rs) now) now).core.panel.register
-  register-before rs now i r led some is =
-      let later = read (drop i rs) now in
-      let ok = belonging r (first_state later now) (led-here 0 rs now i r 0 led some is).steps.1 in
-      sym (ap (λ (xs : List (Recorded X)). (first_state (read xs now) now).core.panel.register) (drop-before rs i r some is)
-      ∙ ap (λ (s : State). s.core.panel.register) (undone-belonging r (first_state later now) ok))
+pub register-before : (rs : List Recorded) (now : State) (i : ℕ) (r : Recorded) → Leads (read rs now) now → 0 < i → slice_get rs (i - 1) ≡ Some r
+    → r.mark.panel.register ≡ (first_state (read (drop (i - 1) rs) now) now).core.panel.register
+register-before rs now i r led some is =
+    let later = read (drop i rs) now in
+    let ok = belonging r (first_state later now) (led-here 0 rs now i r 0 led some is).steps.1 in
+    sym (ap (λ (xs : List Recorded). (first_state (read xs now) now).core.panel.register) (drop-before rs i r some is)
+    ∙ ap (λ (s : State). s.core.panel.register) (undone-belonging r (first_state later now) ok))
 
-  -- a record that lost no word there is passed, one that did is the origin
-  pub change-passed : (address : ℕ) (rs : List (Recorded X)) (now : State) (i : ℕ) (r : Recorded X) (register : ℕ) → Leads (read rs now) now → 0 < i → slice_get rs (i - 1) ≡ Some r
-      → latest_change address (read (drop i rs) now) ≡ None → register ≡ (first_state (read (drop i rs) now) now).core.panel.register
-      → lost_at r.lost address ≡ None → latest_change address (read (drop (i - 1) rs) now) ≡ None
-  change-passed address rs now i r register led some is none held stays =
-      change-before address rs now i r register led some is none held
-      ∙ ap (λ (o : Option ℕ). option_map (came (recorded_changer r register (orders_recorded (drop (i - 1) rs)))) o) stays
+-- a record that lost no word there is passed, one that did is the origin
+pub change-passed : (address : ℕ) (rs : List Recorded) (now : State) (i : ℕ) (r : Recorded) (register : ℕ) → Leads (read rs now) now → 0 < i → slice_get rs (i - 1) ≡ Some r
+    → latest_change address (read (drop i rs) now) ≡ None → register ≡ (first_state (read (drop i rs) now) now).core.panel.register
+    → lost_at r.lost address ≡ None → latest_change address (read (drop (i - 1) rs) now) ≡ None
+change-passed address rs now i r register led some is none held stays =
+    change-before address rs now i r register led some is none held
+    ∙ ap (λ (o : Option ℕ). option_map (came (recorded_changer r register (orders_recorded (drop (i - 1) rs)))) o) stays
 
-  pub change-found : (address : ℕ) (rs : List (Recorded X)) (now : State) (i : ℕ) (r : Recorded X) (register : ℕ) → Leads (read rs now) now → 0 < i → slice_get rs (i - 1) ≡ Some r
-      → latest_change address (read (drop i rs) now) ≡ None → register ≡ (first_state (read (drop i rs) now) now).core.panel.register
-      → (lost : ℕ) → lost_at r.lost address ≡ Some lost → latest_change address (read rs now) ≡ Some (came (recorded_changer r register (orders_recorded (drop (i - 1) rs))) lost)
-  change-found address rs now i r register led some is none held lost loses =
-      latest_change-drop address (i - 1) (read rs now) (came (recorded_changer r register (orders_recorded (drop (i - 1) rs))) lost)
-      (ap (λ (ks : List (State × Step X)). latest_change address ks) (sym (read-drop (i - 1) rs now))
-      ∙ change-before address rs now i r register led some is none held
-      ∙ ap (λ (o : Option ℕ). option_map (came (recorded_changer r register (orders_recorded (drop (i - 1) rs)))) o) loses)
+pub change-found : (address : ℕ) (rs : List Recorded) (now : State) (i : ℕ) (r : Recorded) (register : ℕ) → Leads (read rs now) now → 0 < i → slice_get rs (i - 1) ≡ Some r
+    → latest_change address (read (drop i rs) now) ≡ None → register ≡ (first_state (read (drop i rs) now) now).core.panel.register
+    → (lost : ℕ) → lost_at r.lost address ≡ Some lost → latest_change address (read rs now) ≡ Some (came (recorded_changer r register (orders_recorded (drop (i - 1) rs))) lost)
+change-found address rs now i r register led some is none held lost loses =
+    latest_change-drop address (i - 1) (read rs now) (came (recorded_changer r register (orders_recorded (drop (i - 1) rs))) lost)
+    (ap (λ (ks : List KeptStep). latest_change address ks) (sym (read-drop (i - 1) rs now))
+    ∙ change-before address rs now i r register led some is none held
+    ∙ ap (λ (o : Option ℕ). option_map (came (recorded_changer r register (orders_recorded (drop (i - 1) rs)))) o) loses)

@@ -20,8 +20,7 @@ use Rattle.lgp_table.specs.declared.panel.Status.TheVariants.{Halted, Going, Exe
 use Rattle.lgp_machine.specs.Marks.{mark_of, state_at_mark, words_with}
 use Rattle.lgp_history.specs.Steps.{stepped}
 use Rattle.lgp_history.specs.RecordedInside.{belongs, can_restore, lost_by, lost_in, lost_word, recorded, undone}
-use Rattle.lgp_history.specs.declared.step.Step.{Step}
-use Rattle.lgp_history.specs.declared.step.Step.TheVariants.{Perform, Press, Idle, Mount, Put}
+use Rattle.lgp_history.specs.Step.{Step, Perform, Press, Idle, Mount, Put}
 
 lt_or_le : (a b : ℕ) → (a < b) ⊎ (b ≤ a)
 lt_or_le a b = grind arith
@@ -158,29 +157,29 @@ taken_back : (s t : State) (lost : Option (ℕ × ℕ)) (more : List ℕ) → Ar
 taken_back s t lost more words tape printed =
     rw (words.restored, tape.codes, printed, take-append_seam s.printed more, take-append_seam s.core.tape.passed s.core.tape.left, drop-append_seam s.core.tape.passed s.core.tape.left) refl
 
-can_be_after : {X : Type 0} (step : Step X) (s t : State) (lost : Option (ℕ × ℕ)) (more : List ℕ) → AreAfter s.core.words t.core.words lost → IsLaterTape s.core.tape t.core.tape → t.printed ≡ s.printed ++ more
+can_be_after : (step : Step) (s t : State) (lost : Option (ℕ × ℕ)) (more : List ℕ) → AreAfter s.core.words t.core.words lost → IsLaterTape s.core.tape t.core.tape → t.printed ≡ s.printed ++ more
     → belongs (record { step = step; mark = mark_of s; lost = lost; tape = None }) t ≡ true
 can_be_after step s t lost more words tape printed =
     let room : length s.printed ≤ length t.printed = rw printed (omega (arith, length-append s.printed more)) in
     rw (le-leb _ _ room, le-leb _ _ tape.passed, words.restorable) refl
 
-undone-plain : (X : Type 0) (step : Step X) (s t : State) (lost : Option (ℕ × ℕ)) (more : List ℕ) → AreAfter s.core.words t.core.words lost → IsLaterTape s.core.tape t.core.tape → t.printed ≡ s.printed ++ more
+undone-plain : (step : Step) (s t : State) (lost : Option (ℕ × ℕ)) (more : List ℕ) → AreAfter s.core.words t.core.words lost → IsLaterTape s.core.tape t.core.tape → t.printed ≡ s.printed ++ more
     → undone (record { step = step; mark = mark_of s; lost = lost; tape = None }) t ≡ s
-undone-plain X step s t lost more words tape printed =
+undone-plain step s t lost more words tape printed =
     rw (can_be_after step s t lost more words tape printed) (taken_back s t lost more words tape printed)
 
-undone-mount : (X : Type 0) (codes : List ℕ) (s : State) → undone (recorded {X = X} (Mount codes) s) (stepped {A = X} (Mount codes) s) ≡ s
-undone-mount X codes s =
+undone-mount : (codes : List ℕ) (s : State) → undone (recorded (Mount codes) s) (stepped (Mount codes) s) ≡ s
+undone-mount codes s =
     let tape = s.core.tape in
     rw (le-leb (length s.printed) (length s.printed) (omega arith), take-append-drop (length tape.passed) (tape.passed ++ tape.left), take_all (length s.printed) s.printed (omega arith), take-append_seam tape.passed tape.left, drop-append_seam tape.passed tape.left) refl
 
 -- every step is undone by what is recorded of it
-pub undone-recorded : {X : Type 0} (step : Step X) (s : State) → undone (recorded step s) (stepped step s) ≡ s
+pub undone-recorded : (step : Step) (s : State) → undone (recorded step s) (stepped step s) ≡ s
 unfolding core_after print_of
-undone-recorded {X = X} Perform s =
-    undone-plain X Perform s (next s) (lost_in s.core.panel.status s.core) (option_to_list (print_of s.core)) (words_after s.core.panel.status s.core) (tape_after s.core.panel.status s.core) refl
-undone-recorded {X = X} (Press action) s = undone-plain X (Press action) s (stepped {A = X} (Press action) s) None [] (same_words s.core.words) (action_tape s action) (sym (append-nil s.printed))
-undone-recorded {X = X} (Idle times) s = undone-plain X (Idle times) s (stepped {A = X} (Idle times) s) None [] (same_words s.core.words) (same_tape s.core.tape s.core.tape.on) (sym (append-nil s.printed))
-undone-recorded {X = X} (Mount codes) s = undone-mount X codes s
-undone-recorded {X = X} (Put address word) s =
-    undone-plain X (Put address word) s (stepped {A = X} (Put address word) s) (lost_word s.core address word) [] (words_stored s.core.words address word) (same_tape s.core.tape s.core.tape.on) (sym (append-nil s.printed))
+undone-recorded Perform s =
+    undone-plain Perform s (next s) (lost_in s.core.panel.status s.core) (option_to_list (print_of s.core)) (words_after s.core.panel.status s.core) (tape_after s.core.panel.status s.core) refl
+undone-recorded (Press action) s = undone-plain (Press action) s (stepped (Press action) s) None [] (same_words s.core.words) (action_tape s action) (sym (append-nil s.printed))
+undone-recorded (Idle times) s = undone-plain (Idle times) s (stepped (Idle times) s) None [] (same_words s.core.words) (same_tape s.core.tape s.core.tape.on) (sym (append-nil s.printed))
+undone-recorded (Mount codes) s = undone-mount codes s
+undone-recorded (Put address word) s =
+    undone-plain (Put address word) s (stepped (Put address word) s) (lost_word s.core address word) [] (words_stored s.core.words address word) (same_tape s.core.tape s.core.tape.on) (sym (append-nil s.printed))

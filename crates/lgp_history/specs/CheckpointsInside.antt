@@ -1,13 +1,14 @@
--- Serves proofs only: the steps of a trail, of which every 64th begins with a copy of the machine, and what they play.
+-- Serves proofs only: the steps of a trail, of which every 64th begins with a copy of the machine,
+-- and what they play.
 use Rattle.std.specs.Prelude.{◌≡◌, ℕ, ◌+◌, ◌-◌, ◌≤◌, ◌<◌, ◌%◌, ◌==◌, if◌then◌else◌, List, [], ◌∷◌, length, Option, Some, None}
 use Rattle.lgp_table.specs.State.{State, opening}
 use Rattle.lgp_table.specs.Interleaving.{Configuration, at_boundary}
 use Rattle.lgp_history.specs.Steps.{CanStep, stepped}
-use Rattle.lgp_history.specs.declared.step.Step.{Step}
+use Rattle.lgp_history.specs.Step.{KeptStep, Step, step_from}
 
 -- a step, and the machine before it where a copy was made
-pub record Noted (X : Type 0) : Type 0 where
-  pub step : Step X
+pub record Noted : Type 0 where
+  pub step : Step
   pub copy : Option Configuration
 
 -- the copy that is made at a place of the trail
@@ -18,47 +19,52 @@ abbrev pub copied_state : Option Configuration → State
 copied_state None = opening []
 copied_state (Some copy) = copy.state
 
-module _ {X : Type 0} where
-  -- the state in which a trail begins
-  abbrev pub start_of : List (Noted X) → State
-  start_of [] = opening []
-  start_of (e ∷ later) = copied_state e.copy
+-- the state in which a trail begins
+abbrev pub start_of : List Noted → State
+start_of [] = opening []
+start_of (e ∷ later) = copied_state e.copy
 
-  -- the steps of a trail, each with the state before it
-  abbrev pub played : State → List (Noted X) → List (State × Step X)
-  played s [] = []
-  played s (e ∷ later) = (s, e.step) ∷ played (stepped e.step s) later
+-- the steps of a trail, each with the state before it
+abbrev pub played : State → List Noted → List KeptStep
+played s [] = []
+played s (e ∷ later) = step_from s e.step ∷ played (stepped e.step s) later
 
-  -- the state that a trail leads to
-  abbrev pub played_to : State → List (Noted X) → State
-  played_to s [] = s
-  played_to s (e ∷ later) = played_to (stepped e.step s) later
+-- the state that a trail leads to
+abbrev pub played_to : State → List Noted → State
+played_to s [] = s
+played_to s (e ∷ later) = played_to (stepped e.step s) later
 
-  -- each step can be done where it is, and the copies are those of every 64th place
-  abbrev pub AreNotedFrom : ℕ → State → List (Noted X) → Type 0
-  AreNotedFrom place s [] = Unit {0}
-  AreNotedFrom place s (e ∷ later) = (e.copy ≡ copy_at place s) × CanStep e.step s × AreNotedFrom (place + 1) (stepped e.step s) later
+-- each step can be done where it is, and the copies are those of every 64th place
+abbrev pub AreNotedFrom : ℕ → State → List Noted → Type 0
+AreNotedFrom place s [] = Unit {0}
+AreNotedFrom place s (e ∷ later) =
+    (e.copy ≡ copy_at place s) × CanStep e.step s
+    × AreNotedFrom (place + 1) (stepped e.step s) later
 
-  -- the same from a trail's first copy on
-  pub record IsNoted (trail : List (Noted X)) : Type 0 where
-    pub noted : AreNotedFrom 0 (start_of trail) trail
+-- the same from a trail's first copy on
+pub record IsNoted (trail : List Noted) : Type 0 where
+  pub noted : AreNotedFrom 0 (start_of trail) trail
 
-  -- a trail of which fewer than 64 steps in front do not count; where none counts there are none
-  pub record IsTrail (trail : List (Noted X)) (passed : ℕ) (capacity : ℕ) : Type 0 where
-    pub noted : IsNoted trail
-    pub few : passed < 64
-    pub some : passed ≤ length trail - 1
-    pub within : length trail ≤ passed + capacity
+-- a trail of which fewer than 64 steps in front do not count; where none counts there are none
+pub record IsTrail (trail : List Noted) (passed : ℕ) (capacity : ℕ) : Type 0 where
+  pub noted : IsNoted trail
+  pub few : passed < 64
+  pub some : passed ≤ length trail - 1
+  pub within : length trail ≤ passed + capacity
 
--- what a history by checkpoints shows: the kept steps, how many steps are on the trail before them, and the capacity
-pub record Trail (X : Type 0) : Type 0 where
-  pub steps : List (State × Step X)
+-- what a history by checkpoints shows: the kept steps, how many steps are on the trail before them,
+-- and the capacity
+pub record Trail : Type 0 where
+  pub steps : List KeptStep
   pub passed : ℕ
   pub capacity : ℕ
 
 -- what is noted of a step behind a trail
-abbrev pub noted_after : {X : Type 0} → Trail X → State → Step X → Noted X
-noted_after trail before step = record { step = step; copy = copy_at (trail.passed + length trail.steps) before }
+abbrev pub noted_after : Trail → State → Step → Noted
+noted_after trail before step = record {
+  step = step;
+  copy = copy_at (trail.passed + length trail.steps) before;
+}
 
 -- the latest hit, by the orders from it on and its rule
 abbrev pub hit_of : ℕ → Option ℕ → Option (ℕ × ℕ)

@@ -6,7 +6,7 @@ use Rattle.lgp_table.specs.Activity.{next}
 use Rattle.lgp_table.specs.declared.panel.Status.{Status}
 use Rattle.lgp_table.specs.declared.panel.Status.TheVariants.{Going}
 use Rattle.lgp_history.specs.Steps.{is_order, orders_in}
-use Rattle.lgp_history.specs.declared.step.Step.{Step}
+use Rattle.lgp_history.specs.Step.{KeptStep}
 use Rattle.lgp_history.specs.declared.rule.Rule.{Rule}
 use Rattle.lgp_history.specs.declared.rule.Rule.TheVariants.{At, Changed}
 
@@ -31,9 +31,11 @@ is_hit s (Changed address) = changes s address
 abbrev pub first_hit : List Rule → State → Option ℕ
 first_hit rules s = position (is_hit s) rules
 
--- the latest kept order that a rule hits: how many orders back it is, and the first rule that hits it
-abbrev pub last_hit : {A : Type 0} → List Rule → List (State × Step A) → Option (ℕ × ℕ)
+-- the latest kept order that a rule hits: how many orders back it is, and the first rule that hits
+-- it
+abbrev pub last_hit : List Rule → List KeptStep → Option (ℕ × ℕ)
 last_hit rules [] = None
 last_hit rules (k ∷ later) =
     option_or (last_hit rules later)
-    (if is_order k.1 then option_map (λ number. (orders_in later + 1, number)) (first_hit rules k.0) else None)
+    (if is_order k.step
+    then option_map (λ number. (orders_in later + 1, number)) (first_hit rules k.before) else None)

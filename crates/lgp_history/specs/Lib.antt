@@ -1,3 +1,4 @@
+pub mod Step
 pub mod Steps
 pub mod Hits
 pub mod Origins

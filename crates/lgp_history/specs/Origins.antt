@@ -1,4 +1,5 @@
--- Part of the public promise. Where words came from: the latest kept step that changed the word at an address.
+-- Part of the public promise. Where words came from: the latest kept step that changed the word at
+-- an address.
 use Rattle.std.specs.Prelude.{◌≡◌, ℕ, ◌==◌, Bool, false, not, if◌then◌else◌, List, [], ◌∷◌, ◌++◌, Option, Some, None, IsTrue, All}
 use Rattle.std.specs.Option.{option_or}
 use Rattle.lgp_table.specs.State.{Core, State, word_at}
@@ -9,7 +10,7 @@ use Rattle.lgp_history.specs.declared.origin.Changer.{Changer}
 use Rattle.lgp_history.specs.declared.origin.Changer.TheVariants.{Order, Hand}
 use Rattle.lgp_history.specs.declared.origin.Origin.{Origin}
 use Rattle.lgp_history.specs.declared.origin.PastOrder.{PastOrder}
-use Rattle.lgp_history.specs.declared.step.Step.{Step}
+use Rattle.lgp_history.specs.Step.{KeptStep}
 
 -- where the order of an activity stands: only an order at the counter has a place
 abbrev pub place_by : Status → Core → Option ℕ
@@ -30,36 +31,38 @@ past_order s orders_back = record {
   orders_back = orders_back;
 }
 
-module _ {A : Type 0} where
-  -- whether a kept step left another word at an address
-  abbrev pub changed_at : ℕ → State × Step A → Bool
-  changed_at address k = not (word_at k.0.core address == word_at (stepped k.1 k.0).core address)
+-- whether a kept step left another word at an address
+abbrev pub changed_at : ℕ → KeptStep → Bool
+changed_at address k =
+    not (word_at k.before.core address == word_at (stepped k.step k.before).core address)
 
-  -- what did a kept step: an order, so many orders back, or a hand
-  abbrev pub changer_of : State × Step A → ℕ → Changer
-  changer_of k orders_back = if is_order k.1 then Order (past_order k.0 orders_back) else Hand k.0.clock
+-- what did a kept step: an order, so many orders back, or a hand
+abbrev pub changer_of : KeptStep → ℕ → Changer
+changer_of k orders_back =
+    if is_order k.step then Order (past_order k.before orders_back) else Hand k.before.clock
 
-  -- a kept step as the origin of the word at an address
-  abbrev pub origin_of : ℕ → State × Step A → ℕ → Origin
-  origin_of address k orders_back = record {
-    changer = changer_of k orders_back;
-    lost = word_at k.0.core address;
-  }
+-- a kept step as the origin of the word at an address
+abbrev pub origin_of : ℕ → KeptStep → ℕ → Origin
+origin_of address k orders_back = record {
+  changer = changer_of k orders_back;
+  lost = word_at k.before.core address;
+}
 
-  -- the latest kept step that changed the word at an address; an order back is counted as it is in going back
-  unfoldable pub latest_change : ℕ → List (State × Step A) → Option Origin
-  latest_change address [] = None
-  latest_change address (k ∷ later) =
-      option_or (latest_change address later)
-      (if changed_at address k then Some (origin_of address k (orders_in (k ∷ later))) else None)
+-- the latest kept step that changed the word at an address; an order back is counted as it is in
+-- going back
+unfoldable pub latest_change : ℕ → List KeptStep → Option Origin
+latest_change address [] = None
+latest_change address (k ∷ later) =
+    option_or (latest_change address later)
+    (if changed_at address k then Some (origin_of address k (orders_in (k ∷ later))) else None)
 
-  -- an origin: the step that it names left the word as it stands now, and no later step changed it
-  pub record IsOrigin (address : ℕ) (kept : List (State × Step A)) (now : State) (origin : Origin) : Type 0 where
-    pub earlier : List (State × Step A)
-    pub step : State × Step A
-    pub later : List (State × Step A)
-    pub parts : kept ≡ earlier ++ step ∷ later
-    pub changed : IsTrue (changed_at address step)
-    pub named : origin ≡ origin_of address step (orders_in (step ∷ later))
-    pub stands : word_at now.core address ≡ word_at (stepped step.1 step.0).core address
-    pub later_stay : All (λ k. changed_at address k ≡ false) later
+-- an origin: the step that it names left the word as it stands now, and no later step changed it
+pub record IsOrigin (address : ℕ) (kept : List KeptStep) (now : State) (origin : Origin) : Type 0 where
+  pub earlier : List KeptStep
+  pub change : KeptStep
+  pub later : List KeptStep
+  pub parts : kept ≡ earlier ++ change ∷ later
+  pub changed : IsTrue (changed_at address change)
+  pub named : origin ≡ origin_of address change (orders_in (change ∷ later))
+  pub stands : word_at now.core address ≡ word_at (stepped change.step change.before).core address
+  pub later_stay : All (λ k. changed_at address k ≡ false) later

@@ -5,6 +5,7 @@ ghost use Rattle.lgp_flexo.specs.TapeText.{tape_limit};
 ghost use Rattle.lgp_word.specs.Address.{address_after};
 ghost use Rattle.lgp_table.specs.Interleaving.{at_boundary, is_boundary};
 ghost use Rattle.lgp_table.specs.declared.panel.Panel.{Panel};
+ghost use Rattle.lgp_history.specs.Step.{Perform, plain};
 ghost use Rattle.lgp_history.specs.Steps.{is_order};
 ghost use Rattle.lgp_history.specs.RecordedInside.{lost_by, lost_by_order, lost_in, lost_of, lost_word, tape_of, tape_or_none, with_tape};
 
@@ -84,12 +85,13 @@ impl<A: Allocator> Model for Record<A> {
     ghost use Rattle.std.specs.Prelude.{◌≡◌, ℕ, ◌≤◌, List, length, option_map, Some, None, if◌then◌else◌};
     ghost use Rattle.lgp_flexo.specs.TapeText.{tape_limit};
     ghost use Rattle.lgp_machine.specs.Answers.{clock_end};
+    ghost use Rattle.lgp_history.specs.Step.{plain};
     ghost use Rattle.lgp_history.specs.RecordedInside.{Recorded, step_or_order, tape_or_none};
 
-    ghost Value = { Recorded A };
+    ghost Value = { Recorded };
 
     ghost view = { λ r. record {
-      step = step_or_order (option_map (λ other. other.value.step) r.other);
+      step = step_or_order (option_map (λ other. plain other.value.step) r.other);
       mark = record {
         panel = r.panel;
         reader_on = r.reader_on;
@@ -115,7 +117,7 @@ impl<A: Allocator> Record<A> {
     #[inline(always)]
     pub fn of_order(before: &Machine<A>) -> Record<A>
         requires { IsTrue (is_boundary before.now) }
-        ensures { result ≡ recorded Step.Perform before.now.state }
+        ensures { result ≡ recorded Perform before.now.state }
     {
         let Some(mark) = before.mark() else {
             unreachable!()
@@ -132,7 +134,7 @@ impl<A: Allocator> Record<A> {
             → tape_or_none (option_map (λ other. other.value.tape) other) ≡ Some codes
             → (mark.now.passed ≤ length codes) × (length codes ≤ tape_limit) }
         ensures { result ≡ record {
-          step = step_or_order (option_map (λ other. other.value.step) other);
+          step = step_or_order (option_map (λ other. plain other.value.step) other);
           mark = mark.now;
           lost = lost;
           tape = tape_or_none (option_map (λ other. other.value.tape) other);
@@ -157,7 +159,7 @@ impl<A: Allocator + Clone> Record<A> {
     #[inline(always)]
     pub fn new(alloc: &A, before: &Machine<A>, step: &Step<A>) -> Result<Record<A>, AllocError>
         requires { IsTrue (is_boundary before.now) }
-        ensures { IfOk result (λ r. r ≡ recorded step.now before.now.state) }
+        ensures { IfOk result (λ r. r ≡ recorded (plain step.now) before.now.state) }
     {
         match step {
             Step::Perform => Ok(Record::of_order(before)),
@@ -171,7 +173,7 @@ impl<A: Allocator + Clone> Record<A> {
     #[inline(never)]
     fn of_other(alloc: &A, before: &Machine<A>, step: &Step<A>) -> Result<Record<A>, AllocError>
         requires { IsTrue (is_boundary before.now) }
-        ensures { IfOk result (λ r. r ≡ recorded step.now before.now.state) }
+        ensures { IfOk result (λ r. r ≡ recorded (plain step.now) before.now.state) }
     {
         let Some(mark) = before.mark() else {
             unreachable!()
@@ -396,7 +398,7 @@ fn lost_in<A: Allocator>(machine: &Machine<A>) -> Lost
 /// The word that a step loses.
 fn lost_of<A: Allocator>(machine: &Machine<A>, step: &Step<A>) -> Lost
     requires { IsTrue (is_boundary machine.now) }
-    ensures { result ≡ lost_of step.now machine.now.state }
+    ensures { result ≡ lost_of (plain step.now) machine.now.state }
 {
     match step {
         Step::Perform => lost_in(machine),
@@ -411,7 +413,7 @@ fn tape_of<A: Allocator + Clone>(
     step: &Step<A>,
 ) -> Result<Option<Tape<A>>, AllocError>
     requires { IsTrue (is_boundary machine.now) }
-    ensures tape { IfOk result (λ tape. tape ≡ tape_of step.now machine.now.state) }
+    ensures tape { IfOk result (λ tape. tape ≡ tape_of (plain step.now) machine.now.state) }
     ensures few { IfOk result (λ tape. (codes : List ℕ) → tape ≡ Some codes
         → (length machine.now.state.core.tape.passed ≤ length codes)
         × (length codes ≤ tape_limit)) }

@@ -6,6 +6,7 @@ ghost use Rattle.lgp_table.specs.Console.{is_at_rest};
 ghost use Rattle.lgp_machine.specs.Answers.{clock_end};
 ghost use Rattle.lgp_table.specs.State.{State};
 ghost use Rattle.lgp_table.specs.Interleaving.{at_boundary, is_boundary};
+ghost use Rattle.lgp_history.specs.Step.{plain};
 ghost use Rattle.lgp_history.specs.Steps.{CanStep, is_order, orders_in, state_back, stepped, steps_back};
 ghost use Rattle.lgp_history.specs.CheckpointsInside.{IsNoted, hit_more, noted_after, played, played_to, start_of};
 ghost use Rattle.lgp_history.specs.Hits.{first_hit, last_hit};
@@ -33,11 +34,15 @@ pub struct Checkpoint<A: Allocator> {
 
 impl<A: Allocator> Model for Checkpoint<A> {
     ghost use Rattle.std.specs.Prelude.{option_map};
+    ghost use Rattle.lgp_history.specs.Step.{plain};
     ghost use Rattle.lgp_history.specs.CheckpointsInside.{Noted};
 
-    ghost Value = { Noted A };
+    ghost Value = { Noted };
 
-    ghost view = { λ c. record { step = c.step; copy = option_map (λ copy. copy.value) c.copy } };
+    ghost view = { λ c. record {
+      step = plain c.step;
+      copy = option_map (λ copy. copy.value) c.copy;
+    } };
 }
 
 impl<A: Allocator> Checkpoint<A> {
@@ -59,7 +64,7 @@ impl<A: Allocator + Clone> Checkpoint<A> {
     ) -> Result<Checkpoint<A>, AllocError>
         requires { before.now ≡ at_boundary before.now.state }
         ensures { IfOk result (λ noted. noted ≡ record {
-          step = step.now;
+          step = plain step.now;
           copy = if copied then Some (at_boundary before.now.state) else None;
         }) }
     {
@@ -111,8 +116,9 @@ fn perform<A: Allocator>(machine: &mut Machine<A>) -> Result<(), AllocError>
 /// Does a step that can be done.
 fn do_step<A: Allocator + Clone>(machine: &mut Machine<A>, step: &Step<A>) -> Result<(), AllocError>
     requires boundary { machine.old ≡ at_boundary machine.old.state }
-    requires possible { CanStep step.now machine.old.state }
-    ensures { OnOk result (machine.new ≡ at_boundary (stepped step.now machine.old.state)) }
+    requires possible { CanStep (plain step.now) machine.old.state }
+    ensures { OnOk result
+        (machine.new ≡ at_boundary (stepped (plain step.now) machine.old.state)) }
 {
     match step {
         Step::Perform => perform(machine)?,
@@ -311,7 +317,7 @@ impl<A: Allocator> Model for Checkpoints<A> {
     ghost use Rattle.std.specs.Prelude.{◌-◌, ◌≡◌, ◌+◌, ◌<◌, drop};
     ghost use Rattle.lgp_history.specs.CheckpointsInside.{IsTrail, Trail, played, start_of};
 
-    ghost Value = { Trail A };
+    ghost Value = { Trail };
 
     ghost view = { λ h. record {
       steps = drop h.passed (played (start_of h.trail.items) h.trail.items);

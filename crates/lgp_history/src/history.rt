@@ -3,9 +3,9 @@
 ghost use Rattle.std.specs.Prelude.{◌≡◌, ◌↔◌, ◌<◌, ◌≤◌, ◌^◌, ◌++◌, ℕ, [], ◌∷◌, List, length, Bool, IfOk, OnOk, OnErr, IfErr, IsTrue, Ok, Err, ◌≢◌};
 ghost use Rattle.lgp_table.specs.State.{State};
 ghost use Rattle.lgp_table.specs.Interleaving.{at_boundary, is_boundary};
+ghost use Rattle.lgp_history.specs.Step.{KeptStep, Step as PlainStep, plain};
 ghost use Rattle.lgp_history.specs.Steps.{CanStep, Leads, orders_in, state_back, stepped, steps_back, with_step};
 ghost use Rattle.lgp_history.specs.Hits.{last_hit};
-ghost use Rattle.lgp_history.specs.declared.step.Step.{Step};
 
 use crate::rule::Rule;
 use crate::step::Step;
@@ -31,11 +31,11 @@ pub trait History<A: Allocator>: Drop {
     /// What `prepare` makes for `note`.
     type Note: Drop;
 
-    ghost steps: { Self → State → List (State × Step A) };
+    ghost steps: { Self → State → List KeptStep };
 
     ghost capacity: { Self → ℕ };
 
-    ghost fits: { Self → Self.Note → State → Step A → Type 0 };
+    ghost fits: { Self → Self.Note → State → PlainStep → Type 0 };
 
     /// Whether going back takes no memory.
     ghost goes_back_freely: { Bool };
@@ -43,20 +43,20 @@ pub trait History<A: Allocator>: Drop {
     /// Prepares to keep a step that can be done where the machine is.
     fn prepare(&mut self, before: &Machine<A>, step: &Step<A>) -> Result<Self::Note, AllocError>
         requires boundary { before.now ≡ at_boundary before.now.state }
-        requires possible { CanStep step.now before.now.state }
-        ensures fits { IfOk result (λ note. fits self.new note before.now.state step.now) }
+        requires possible { CanStep (plain step.now) before.now.state }
+        ensures fits { IfOk result (λ note. fits self.new note before.now.state (plain step.now)) }
         ensures steps { (now : State) → steps self.new now ≡ steps self.old now }
         ensures capacity { capacity self.new ≡ capacity self.old };
 
     /// Keeps a step for which it was prepared. Where as many are kept as there is room for, the oldest one goes.
     fn note(&mut self, note: Self::Note)
-        requires { (before : State) × ((step : Step A) × (CanStep step before
+        requires { (before : State) × ((step : PlainStep) × (CanStep step before
             × fits self.old note before step × Leads (steps self.old before) before)) }
-        ensures kept { (before : State) → (step : Step A) → CanStep step before
+        ensures kept { (before : State) → (step : PlainStep) → CanStep step before
             → fits self.old note before step → Leads (steps self.old before) before
             → steps self.new (stepped step before)
             ≡ with_step (capacity self.old) (steps self.old before) before step }
-        ensures leads { (before : State) → (step : Step A) → CanStep step before
+        ensures leads { (before : State) → (step : PlainStep) → CanStep step before
             → fits self.old note before step → Leads (steps self.old before) before
             → Leads (steps self.new (stepped step before)) (stepped step before) }
         ensures capacity { capacity self.new ≡ capacity self.old };

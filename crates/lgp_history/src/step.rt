@@ -4,6 +4,7 @@ ghost use Rattle.std.specs.Prelude.{◌≡◌, ◌≤◌, length, IfOk, IsTrue};
 ghost use Rattle.lgp_flexo.specs.Tape.{all_codes};
 ghost use Rattle.lgp_flexo.specs.TapeText.{tape_limit};
 ghost use Rattle.lgp_table.specs.Interleaving.{is_boundary};
+ghost use Rattle.lgp_history.specs.Step.{plain};
 ghost use Rattle.lgp_history.specs.Steps.{is_order};
 
 use lgp_flexo::Code;
@@ -94,7 +95,7 @@ pub enum Step<A: Allocator = Global> {
 impl<A: Allocator> Step<A> {
     /// Whether the step is an order.
     pub fn is_order(&self) -> bool
-        ensures { result ≡ is_order self.now }
+        ensures { result ≡ is_order (plain self.now) }
     {
         matches!(self, Step::Perform)
     }

@@ -1,9 +1,8 @@
 use Rattle.std.proofs.Common.{sym, ap, arith, ◌∙◌, ◌≤◌, List, length}
-use Rattle.lgp_table.specs.State.{State}
 use Rattle.lgp_history.specs.Hits.{last_hit}
 use Rattle.lgp_history.specs.CheckpointsInside.{hit_of, start_of}
 use Rattle.lgp_history.specs.declared.checkpoints.Latest.{Latest}
-use Rattle.lgp_history.specs.declared.step.Step.{Step}
+use Rattle.lgp_history.specs.Step.{KeptStep}
 use Rattle.lgp_history.proofs.Trails.{at_its_boundary, can_at, done_at, kept_to-all, kept_to-none, latest_passed, latest_skipped, nothing_within}
 use Rattle.lgp_history.proofs.checkpoints.find_from.Goals as goal
 use Rattle.lgp_history.proofs.checkpoints.find_from.Goals.{then-is_order, else-is_order}
@@ -14,7 +13,7 @@ loop-place-init g c =
     record {
       machine = c.in_ok-machine.ensures;
       few = omega arith;
-      latest = sym (ap (λ (ks : List (State × Step g.row.A.Denot)). last_hit c.args.rules.now ks) (kept_to-none (start_of es) es c.args.passed));
+      latest = sym (ap (λ (ks : List KeptStep). last_hit c.args.rules.now ks) (kept_to-none (start_of es) es c.args.passed));
     }
 
 pub unreachable-requires : goal.unreachable-requires
@@ -50,4 +49,4 @@ pub returns : goal.returns
 returns g c =
     let es = c.args.trail.now.items in
     let end : length es ≤ c.loop-place.place = omega arith in
-    c.found.ensures ∙ c.loop-place.invariant.latest ∙ ap (λ (ks : List (State × Step g.row.A.Denot)). last_hit c.args.rules.now ks) (kept_to-all (start_of es) es c.args.passed c.loop-place.place end)
+    c.found.ensures ∙ c.loop-place.invariant.latest ∙ ap (λ (ks : List KeptStep). last_hit c.args.rules.now ks) (kept_to-all (start_of es) es c.args.passed c.loop-place.place end)

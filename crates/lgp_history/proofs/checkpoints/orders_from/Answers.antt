@@ -1,8 +1,7 @@
 use Rattle.std.proofs.Common.{sym, ap, arith, List}
-use Rattle.lgp_table.specs.State.{State}
 use Rattle.lgp_history.specs.Steps.{orders_in}
 use Rattle.lgp_history.specs.CheckpointsInside.{start_of}
-use Rattle.lgp_history.specs.declared.step.Step.{Step}
+use Rattle.lgp_history.specs.Step.{KeptStep}
 use Rattle.lgp_history.proofs.KeptSteps.{bool_byte-few, bool_byte-order}
 use Rattle.lgp_history.proofs.Trails.{kept_to-none, nothing_within, orders_to-next}
 use Rattle.lgp_history.proofs.checkpoints.orders_from.Goals as goal
@@ -10,7 +9,7 @@ use Rattle.lgp_history.proofs.checkpoints.orders_from.Goals as goal
 pub loop-place-init : goal.loop-place-init
 loop-place-init g c =
     let es = c.args.trail.now.items in
-    record { few = omega arith; so_far = sym (ap (λ (ks : List (State × Step g.row.A.Denot)). orders_in ks) (kept_to-none (start_of es) es c.args.passed)) }
+    record { few = omega arith; so_far = sym (ap (λ (ks : List KeptStep). orders_in ks) (kept_to-none (start_of es) es c.args.passed)) }
 
 pub unreachable-requires : goal.unreachable-requires
 unreachable-requires g c = nothing_within c.args.trail.now.items c.loop-place.place (omega arith) c.in_default.ensures

@@ -2,7 +2,7 @@ use Rattle.std.proofs.Common.{ap, sym, subst, arith, ◌∙◌, ◌≡◌, ◌<�
 use Rattle.lgp_table.specs.State.{State}
 use Rattle.lgp_history.specs.Steps.{CanStep, Leads, stepped, with_step}
 use Rattle.lgp_history.specs.CheckpointsInside.{IsTrail, Trail, noted_after}
-use Rattle.lgp_history.specs.declared.step.Step.{Step}
+use Rattle.lgp_history.specs.Step.{KeptStep, Step}
 use Rattle.lgp_history.proofs.KeptSteps.{leads-more}
 use Rattle.lgp_history.proofs.Trails.{IsAfterNote, noted_trail, room_left}
 use Rattle.lgp_history.proofs.checkpoints.CheckpointsHistory.note.Goals as goal
@@ -12,7 +12,7 @@ pub cut-self-inside-requires : goal.cut-self-inside-requires
 cut-self-inside-requires g c = room_left c.self.inside.trail.items c.push-passed.new.trail.items c.self.inside.passed c.push-passed.result (c.self.inside.trail.capacity - 64) c.args.note c.self.invariant.0 (omega arith) c.push-passed.ensures.items c.push-passed.ensures.passed
 
 -- the trail after the step, whatever step the note fits
-after : (g : given.Over) (c : goal.After-self-1 g) (before : State) (step : Step g.row.A.Denot) → CanStep step before → c.args.note ≡ noted_after c.args.self.now before step → Leads c.args.self.now.steps before
+after : (g : given.Over) (c : goal.After-self-1 g) (before : State) (step : Step) → CanStep step before → c.args.note ≡ noted_after c.args.self.now before step → Leads c.args.self.now.steps before
     → IsAfterNote c.self.inside.trail.items c.cut-self-inside.new.trail.items c.self.inside.passed c.cut-self-inside.result (c.self.inside.trail.capacity - 64) before step
 after g c before step can fits led =
     noted_trail c.self.inside.trail.items c.push-passed.new.trail.items c.cut-self-inside.new.trail.items c.self.inside.passed c.push-passed.result c.cut-self-inside.result (c.self.inside.trail.capacity - 64) c.args.self.now c.args.note before step
@@ -26,9 +26,9 @@ invariant_of-self g c =
 
 pub returns-clause-kept : goal.returns-clause-kept
 returns-clause-kept g c = λ before step can fits led.
-    (after g c before step can fits led).kept ∙ ap (λ (t : Trail g.row.A.Denot). with_step t.capacity t.steps before step) c.self.view_is
+    (after g c before step can fits led).kept ∙ ap (λ (t : Trail). with_step t.capacity t.steps before step) c.self.view_is
 
 pub returns-clause-leads : goal.returns-clause-leads
 returns-clause-leads g c = λ before step can fits led.
-    let kept = (after g c before step can fits led).kept ∙ ap (λ (t : Trail g.row.A.Denot). with_step t.capacity t.steps before step) c.self.view_is in
-    subst (λ (ks : List (State × Step g.row.A.Denot)). Leads ks (stepped step before)) (sym kept) (leads-more c.args.self.now.capacity c.args.self.now.steps before step led can)
+    let kept = (after g c before step can fits led).kept ∙ ap (λ (t : Trail). with_step t.capacity t.steps before step) c.self.view_is in
+    subst (λ (ks : List KeptStep). Leads ks (stepped step before)) (sym kept) (leads-more c.args.self.now.capacity c.args.self.now.steps before step led can)

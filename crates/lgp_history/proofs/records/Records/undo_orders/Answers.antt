@@ -26,7 +26,7 @@ loop-left-preserved g c =
     let few = bool_byte-few c.is_order.result in
     let whole : m + order_count r.step ≡ c.loop-left.left = omega arith in
     let u = undone-last rs r s m popped (omega arith) (omega arith) c.loop-left.invariant.leads in
-    let items : c.pop_back.new.self.items ≡ take (length rs - 1) rs = ap (λ (b : Buffer (Recorded g.row.A.Denot)). b.items) c.in-Some.ensures.items in
+    let items : c.pop_back.new.self.items ≡ take (length rs - 1) rs = ap (λ (b : Buffer Recorded). b.items) c.in-Some.ensures.items in
     let state : c.undo.new.machine.state ≡ undone r s = ap (λ (now : Configuration). now.state) c.undo.ensures in
     record {
       boundary = c.undo.ensures ∙ ap at_boundary (sym state);
@@ -34,7 +34,7 @@ loop-left-preserved g c =
       recorded = rw items u.recorded;
       state = rw (items, state) (sym u.state ∙ ap (λ n. state_back n (read rs s) s) whole ∙ c.loop-left.invariant.state);
       steps = rw (items, state) (sym u.steps ∙ ap (λ n. steps_back n (read rs s)) whole ∙ c.loop-left.invariant.steps);
-      capacity = ap (λ (b : Buffer (Recorded g.row.A.Denot)). b.capacity) c.in-Some.ensures.items ∙ c.loop-left.invariant.capacity;
+      capacity = ap (λ (b : Buffer Recorded). b.capacity) c.in-Some.ensures.items ∙ c.loop-left.invariant.capacity;
     }
 
 pub returns-clause-state : goal.returns-clause-state

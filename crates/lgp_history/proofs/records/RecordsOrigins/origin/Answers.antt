@@ -17,9 +17,9 @@ loop-unread-init g c =
     record {
       within = omega arith;
       few = omega arith;
-      orders_so_far = sym (ap (λ (xs : List (Recorded g.row.A.Denot)). orders_recorded xs) none);
-      held = search rules ∙ sym (ap (λ (xs : List (Recorded g.row.A.Denot)). (first_state (read xs c.args.now.now.state) c.args.now.now.state).core.panel.register) none);
-      none_so_far = ap (λ (xs : List (Recorded g.row.A.Denot)). latest_change c.args.address (read xs c.args.now.now.state)) none ∙ no_change g.row.A.Denot c.args.address;
+      orders_so_far = sym (ap (λ (xs : List Recorded). orders_recorded xs) none);
+      held = search rules ∙ sym (ap (λ (xs : List Recorded). (first_state (read xs c.args.now.now.state) c.args.now.now.state).core.panel.register) none);
+      none_so_far = ap (λ (xs : List Recorded). latest_change c.args.address (read xs c.args.now.now.state)) none ∙ no_change c.args.address;
     }
 
 pub returns-in-Some-lost_at : goal.returns-in-Some-lost_at
