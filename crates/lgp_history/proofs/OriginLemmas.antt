@@ -6,14 +6,14 @@ use Rattle.lgp_word.specs.declared.order.Op.{Op}
 use Rattle.lgp_word.specs.declared.order.Op.TheVariants.{Z, B, Y, R, I, D, N, M, P, E, U, T, H, C, A, S}
 use Rattle.lgp_table.specs.State.{Core, State, word_at}
 use Rattle.lgp_table.specs.Rows.{row}
-use Rattle.lgp_table.specs.Activity.{after_fetch, core_after, core_by, next}
+use Rattle.lgp_table.specs.Activity.{after_fetch, begun_in, begun_order, core_after, core_behind, next, place_in}
 use Rattle.lgp_table.specs.declared.panel.Panel.{Panel}
 use Rattle.lgp_table.specs.declared.panel.Status.{Status}
 use Rattle.lgp_table.specs.declared.panel.Status.TheVariants.{Halted, Going, Executing, Waiting, Reading}
 use Rattle.lgp_machine.specs.Marks.{words_with}
 use Rattle.lgp_history.specs.Steps.{Leads, first_state, is_order, stepped}
 use Rattle.lgp_history.specs.Hits.{is_going}
-use Rattle.lgp_history.specs.Origins.{changed_at, changer_of, latest_change, order_by, origin_of, past_order, place_by}
+use Rattle.lgp_history.specs.Origins.{changed_at, changer_of, latest_change, origin_of, past_order, word_or_register}
 use Rattle.lgp_history.specs.RecordedInside.{Recorded, can_restore, lost_at, orders_recorded, read, recorded_changer, recorded_order, undone}
 use Rattle.lgp_history.specs.declared.origin.Changer.{Changer}
 use Rattle.lgp_history.specs.declared.origin.Changer.TheVariants.{Order, Hand}
@@ -40,7 +40,8 @@ row_register C minus m core = refl
 row_register A minus m core = refl
 row_register S minus m core = refl
 
-register_by : (status : Status) (core : Core) → (core_by status core).panel.register ≡ order_by status core
+register_by : (status : Status) (core : Core)
+    → (core_behind (begun_in status core) status core).panel.register ≡ word_or_register (begun_in status core) core
 register_by (Halted cause) core = refl
 register_by Going core =
     let word = word_at core core.panel.counter in
@@ -52,11 +53,11 @@ register_by Waiting core = refl
 register_by Reading core = refl
 
 -- so after an activity its order stands there
-register_after : (s : State) → (next s).core.panel.register ≡ order_by s.core.panel.status s.core
+register_after : (s : State) → (next s).core.panel.register ≡ word_or_register (begun_order s.core) s.core
 unfolding core_after
 register_after s = register_by s.core.panel.status s.core
 
-place_going : (status : Status) (core : Core) → place_by status core ≡ cond (is_going status) (Some core.panel.counter) None
+place_going : (status : Status) (core : Core) → place_in (begun_in status core) ≡ cond (is_going status) (Some core.panel.counter) None
 place_going (Halted cause) core = refl
 place_going Going core = refl
 place_going Executing core = refl
@@ -97,8 +98,8 @@ changer_as_recorded r before after register n panel clock leads held =
     elim (is_order r.step) as (λ b. is_order r.step ≡ b → cond b (Order (past_order before n)) (Hand before.clock) ≡ cond b (Order (recorded_order r register n)) (Hand r.mark.clock)) [
       | true ↦ λ e.
           let performed : next before ≡ after = subst (λ (step : Step). stepped step before ≡ after) (order_is r.step e) leads in
-          let word : order_by before.core.panel.status before.core ≡ register = sym (register_after before) ∙ ap (λ (s : State). s.core.panel.register) performed ∙ sym held in
-          let place : place_by before.core.panel.status before.core ≡ cond (is_going r.mark.panel.status) (Some r.mark.panel.counter) None =
+          let word : word_or_register (begun_order before.core) before.core ≡ register = sym (register_after before) ∙ ap (λ (s : State). s.core.panel.register) performed ∙ sym held in
+          let place : place_in (begun_order before.core) ≡ cond (is_going r.mark.panel.status) (Some r.mark.panel.counter) None =
           place_going before.core.panel.status before.core ∙ ap (λ (p : Panel). cond (is_going p.status) (Some p.counter) None) panel in
           rw (place, word, clock) refl
       | false ↦ λ e. ap Hand clock

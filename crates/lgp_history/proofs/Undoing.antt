@@ -10,7 +10,7 @@ use Rattle.lgp_flexo.specs.Input.{left_after, passed_codes}
 use Rattle.lgp_flexo.specs.Tape.{Tape, all_codes, passing, tape_after_input}
 use Rattle.lgp_table.specs.State.{Core, State, word_at}
 use Rattle.lgp_table.specs.Rows.{row}
-use Rattle.lgp_table.specs.Activity.{after_fetch, core_after, core_by, next, print_of}
+use Rattle.lgp_table.specs.Activity.{after_fetch, begun_in, begun_order, core_after, core_behind, next, print_of}
 use Rattle.lgp_table.specs.Console.{desk_after, effect_on, is_live}
 use Rattle.lgp_table.specs.Interleaving.{desk_of}
 use Rattle.lgp_table.specs.declared.action.Action.{Action}
@@ -73,7 +73,7 @@ row_words T minus m core = same_words core.words
 row_words A minus m core = same_words core.words
 row_words S minus m core = same_words core.words
 
-words_after : (status : Status) (core : Core) → AreAfter core.words (core_by status core).words (lost_in status core)
+words_after : (status : Status) (core : Core) → AreAfter core.words (core_behind (begun_in status core) status core).words (lost_in (begun_in status core))
 words_after (Halted cause) core = same_words core.words
 words_after Going core =
     let word = word_at core core.panel.counter in
@@ -123,7 +123,7 @@ row_tape C minus m core = same_tape core.tape core.tape.on
 row_tape A minus m core = same_tape core.tape core.tape.on
 row_tape S minus m core = same_tape core.tape core.tape.on
 
-tape_after : (status : Status) (core : Core) → IsLaterTape core.tape (core_by status core).tape
+tape_after : (status : Status) (core : Core) → IsLaterTape core.tape (core_behind (begun_in status core) status core).tape
 tape_after (Halted cause) core = same_tape core.tape core.tape.on
 tape_after Going core =
     let word = word_at core core.panel.counter in
@@ -177,7 +177,7 @@ undone-mount codes s =
 pub undone-recorded : (step : Step) (s : State) → undone (recorded step s) (stepped step s) ≡ s
 unfolding core_after print_of
 undone-recorded Perform s =
-    undone-plain Perform s (next s) (lost_in s.core.panel.status s.core) (option_to_list (print_of s.core)) (words_after s.core.panel.status s.core) (tape_after s.core.panel.status s.core) refl
+    undone-plain Perform s (next s) (lost_in (begun_order s.core)) (option_to_list (print_of s.core)) (words_after s.core.panel.status s.core) (tape_after s.core.panel.status s.core) refl
 undone-recorded (Press action) s = undone-plain (Press action) s (stepped (Press action) s) None [] (same_words s.core.words) (action_tape s action) (sym (append-nil s.printed))
 undone-recorded (Idle times) s = undone-plain (Idle times) s (stepped (Idle times) s) None [] (same_words s.core.words) (same_tape s.core.tape s.core.tape.on) (sym (append-nil s.printed))
 undone-recorded (Mount codes) s = undone-mount codes s

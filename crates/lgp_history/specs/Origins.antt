@@ -3,8 +3,7 @@
 use Rattle.std.specs.Prelude.{◌≡◌, ℕ, ◌==◌, Bool, false, not, if◌then◌else◌, List, [], ◌∷◌, ◌++◌, Option, Some, None, IsTrue, All}
 use Rattle.std.specs.Option.{option_or}
 use Rattle.lgp_table.specs.State.{Core, State, word_at}
-use Rattle.lgp_table.specs.declared.panel.Status.{Status}
-use Rattle.lgp_table.specs.declared.panel.Status.TheVariants.{Going}
+use Rattle.lgp_table.specs.Activity.{BegunOrder, begun_order, place_in}
 use Rattle.lgp_history.specs.Steps.{is_order, orders_in, stepped}
 use Rattle.lgp_history.specs.declared.origin.Changer.{Changer}
 use Rattle.lgp_history.specs.declared.origin.Changer.TheVariants.{Order, Hand}
@@ -12,21 +11,16 @@ use Rattle.lgp_history.specs.declared.origin.Origin.{Origin}
 use Rattle.lgp_history.specs.declared.origin.PastOrder.{PastOrder}
 use Rattle.lgp_history.specs.Step.{KeptStep}
 
--- where the order of an activity stands: only an order at the counter has a place
-abbrev pub place_by : Status → Core → Option ℕ
-place_by Going core = Some core.panel.counter
-place_by _ core = None
-
--- the order's word, from the drum or in the instruction register
-abbrev pub order_by : Status → Core → ℕ
-order_by Going core = word_at core core.panel.counter
-order_by _ core = core.panel.register
+-- the word of an activity's order; where the operator has the tape read, what stands in the register
+abbrev pub word_or_register : Option BegunOrder → Core → ℕ
+word_or_register None core = core.panel.register
+word_or_register (Some order) core = order.word
 
 -- the order that began in a state, so many orders back
 abbrev pub past_order : State → ℕ → PastOrder
 past_order s orders_back = record {
-  place = place_by s.core.panel.status s.core;
-  word = order_by s.core.panel.status s.core;
+  place = place_in (begun_order s.core);
+  word = word_or_register (begun_order s.core) s.core;
   clock = s.clock;
   orders_back = orders_back;
 }

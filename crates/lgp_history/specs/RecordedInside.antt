@@ -8,9 +8,7 @@ use Rattle.lgp_word.specs.declared.order.Op.{Op}
 use Rattle.lgp_word.specs.declared.order.Op.TheVariants.{Y, R, H, C}
 use Rattle.lgp_flexo.specs.Tape.{all_codes}
 use Rattle.lgp_table.specs.State.{Core, State, with_word, word_at}
-use Rattle.lgp_table.specs.Activity.{after_fetch}
-use Rattle.lgp_table.specs.declared.panel.Status.{Status}
-use Rattle.lgp_table.specs.declared.panel.Status.TheVariants.{Going, Executing}
+use Rattle.lgp_table.specs.Activity.{BegunOrder, begun_order}
 use Rattle.lgp_machine.specs.Marks.{mark_of, state_at_mark, with_tape_at}
 use Rattle.lgp_machine.specs.declared.mark.Mark.{Mark}
 use Rattle.lgp_history.specs.Steps.{first_state, is_order}
@@ -41,11 +39,10 @@ lost_by _ m core = None
 abbrev pub lost_by_order : ℕ → Core → Option (ℕ × ℕ)
 lost_by_order word core = lost_by (op_at word) (address_at word) core
 
--- the word that the activity loses which begins with this status
-abbrev pub lost_in : Status → Core → Option (ℕ × ℕ)
-lost_in Going core = lost_by_order (word_at core core.panel.counter) (after_fetch core)
-lost_in Executing core = lost_by_order core.panel.register core
-lost_in _ core = None
+-- the word that an activity loses by its order, if it has one
+abbrev pub lost_in : Option BegunOrder → Option (ℕ × ℕ)
+lost_in None = None
+lost_in (Some order) = lost_by_order order.word order.core
 
 -- what is recorded: the step, the mark of the state before it, the word that it loses, and the tape
 -- that it takes out
@@ -87,7 +84,7 @@ step_or_order (Some step) = step
 
 -- the word that a step loses, and the tape that it takes out
 abbrev pub lost_of : Step → State → Option (ℕ × ℕ)
-lost_of Perform s = lost_in s.core.panel.status s.core
+lost_of Perform s = lost_in (begun_order s.core)
 lost_of (Put address word) s = lost_word s.core address word
 lost_of _ s = None
 

@@ -3,6 +3,7 @@
 ghost use Rattle.std.specs.Prelude.{◌≡◌, ◌≤◌, ℕ, List, Some, length, option_map, position, IfOk, IsTrue};
 ghost use Rattle.lgp_flexo.specs.TapeText.{tape_limit};
 ghost use Rattle.lgp_word.specs.Address.{address_after};
+ghost use Rattle.lgp_table.specs.Activity.{begun_order};
 ghost use Rattle.lgp_table.specs.Interleaving.{at_boundary, is_boundary};
 ghost use Rattle.lgp_table.specs.declared.panel.Panel.{Panel};
 ghost use Rattle.lgp_history.specs.Step.{Perform, plain};
@@ -380,7 +381,7 @@ fn lost_in_register<A: Allocator>(machine: &Machine<A>) -> Lost
 #[inline(always)]
 fn lost_in<A: Allocator>(machine: &Machine<A>) -> Lost
     requires { IsTrue (is_boundary machine.now) }
-    ensures { result ≡ lost_in machine.now.state.core.panel.status machine.now.state.core }
+    ensures { result ≡ lost_in (begun_order machine.now.state.core) }
 {
     let Some(look) = machine.look() else {
         unreachable!()
