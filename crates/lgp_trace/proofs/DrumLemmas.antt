@@ -2,7 +2,7 @@
 use Rattle.std.proofs.Common.{◌≡◌, ◌∙◌, ℕ, zero, suc, ◌+◌, ◌-◌, ◌<◌, ◌++◌, [], ◌∷◌, List, Option, None, Some, length, replicate, length-append, append_assoc, refl, sym, ap, arith}
 use Rattle.std.proofs.lemmas.List.{append-nil, length-replicate, replicate_more}
 use Rattle.std.specs.Str.{byte}
-use Rattle.lgp_trace.specs.Account.{stored_by}
+use Rattle.lgp_trace.specs.Account.{stored_address}
 use Rattle.lgp_trace.specs.DrumRows.{seek_signs, sign_in_row, signs_in_rows, signs_of, use_sign, waited}
 use Rattle.lgp_trace.specs.Phases.{all_phases}
 use Rattle.lgp_trace.specs.declared.account.Account.{Account}
@@ -23,7 +23,7 @@ as_many_signs account =
     let phases = account.phases in
     let found = waited phases.find (byte "F") in
     let taken = replicate phases.take (byte "i") in
-    let sought = seek_signs account.operand (stored_by account.order) phases.seek in
+    let sought = seek_signs account.operand (stored_address account.order) phases.seek in
     let acted = replicate phases.act (byte "x") in
     omega (
       arith,
@@ -32,7 +32,7 @@ as_many_signs account =
       length-append sought acted,
       length-waited phases.find (byte "F"),
       length-replicate phases.take (byte "i"),
-      length-seek_signs account.operand (stored_by account.order) phases.seek,
+      length-seek_signs account.operand (stored_address account.order) phases.seek,
       length-replicate phases.act (byte "x"),
     )
 
@@ -73,7 +73,7 @@ wait_done text clock (suc before) sign some =
 pub account_drawn : (text : List ℕ) (clock : ℕ) (account : Account)
     → (((text ++ signs_in_rows clock (waited account.phases.find (byte "F")))
     ++ signs_in_rows (clock + account.phases.find) (replicate account.phases.take (byte "i")))
-    ++ signs_in_rows (clock + account.phases.find + account.phases.take) (seek_signs account.operand (stored_by account.order) account.phases.seek))
+    ++ signs_in_rows (clock + account.phases.find + account.phases.take) (seek_signs account.operand (stored_address account.order) account.phases.seek))
     ++ signs_in_rows (clock + account.phases.find + account.phases.take + account.phases.seek) (replicate account.phases.act (byte "x"))
     ≡ text ++ signs_in_rows clock (signs_of account)
 unfolding signs_of
@@ -81,9 +81,9 @@ account_drawn text clock account =
     let phases = account.phases in
     let found = waited phases.find (byte "F") in
     let taken = replicate phases.take (byte "i") in
-    let sought = seek_signs account.operand (stored_by account.order) phases.seek in
+    let sought = seek_signs account.operand (stored_address account.order) phases.seek in
     let acted = replicate phases.act (byte "x") in
-    rows_behind ((text ++ signs_in_rows clock found) ++ signs_in_rows (clock + phases.find) taken) sought acted (clock + phases.find + phases.take) phases.seek (length-seek_signs account.operand (stored_by account.order) phases.seek)
+    rows_behind ((text ++ signs_in_rows clock found) ++ signs_in_rows (clock + phases.find) taken) sought acted (clock + phases.find + phases.take) phases.seek (length-seek_signs account.operand (stored_address account.order) phases.seek)
     ∙ rows_behind (text ++ signs_in_rows clock found) taken (sought ++ acted) (clock + phases.find) phases.take (length-replicate phases.take (byte "i"))
     ∙ rows_behind text found (taken ++ (sought ++ acted)) clock phases.find (length-waited phases.find (byte "F"))
 

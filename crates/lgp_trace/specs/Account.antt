@@ -4,50 +4,32 @@
 use Rattle.std.specs.Prelude.{ℕ, ◌-◌, if◌then◌else◌, Option, Some, None, length, option_map}
 use Rattle.lgp_word.specs.Order.{address_at, op_at}
 use Rattle.lgp_table.specs.State.{Core, State, word_at}
-use Rattle.lgp_table.specs.Activity.{next, print_of}
-use Rattle.lgp_table.specs.declared.panel.Status.{Status}
-use Rattle.lgp_table.specs.declared.panel.Status.TheVariants as statuses
+use Rattle.lgp_table.specs.Activity.{begun_order, next, place_in, print_of, seeks, stores}
 use Rattle.lgp_machine.specs.Look.{look_of}
-use Rattle.lgp_phases.specs.Decoded.{stores}
 use Rattle.lgp_trace.specs.Phases.{phases_of}
-use Rattle.lgp_trace.specs.Uses.{seeks}
 use Rattle.lgp_trace.specs.declared.account.Account.{Account}
 use Rattle.lgp_trace.specs.declared.account.Begun.{Begun}
 use Rattle.lgp_trace.specs.declared.account.Found.{Found}
 use Rattle.lgp_trace.specs.declared.account.Operand.{Operand}
 
 -- where the order of the activity stands: only an order at the counter has a place
-abbrev pub place_by : Status → Core → Option ℕ
-place_by (statuses.Halted cause) core = None
-place_by statuses.Going core = Some core.panel.counter
-place_by statuses.Executing core = None
-place_by statuses.Waiting core = None
-place_by statuses.Reading core = None
-
 abbrev pub place_of : State → Option ℕ
-place_of s = place_by s.core.panel.status s.core
+place_of s = place_in (begun_order s.core)
 
 -- the order's word, from the drum or in the instruction register
-abbrev pub order_by : Status → Core → Option ℕ
-order_by (statuses.Halted cause) core = None
-order_by statuses.Going core = Some (word_at core core.panel.counter)
-order_by statuses.Executing core = Some core.panel.register
-order_by statuses.Waiting core = None
-order_by statuses.Reading core = None
-
 abbrev pub order_of : State → Option ℕ
-order_of s = order_by s.core.panel.status s.core
+order_of s = option_map (λ order. order.word) (begun_order s.core)
 
 -- the word that an order waits for, as it finds it
-abbrev pub found_by : Option ℕ → Core → Option Found
-found_by None core = None
-found_by (Some order) core =
+abbrev pub sought_word : Option ℕ → Core → Option Found
+sought_word None core = None
+sought_word (Some order) core =
     let address = address_at order in
     if seeks (op_at order) then Some (record { address = address; word = word_at core address })
     else None
 
 abbrev pub found_of : State → Option Found
-found_of s = found_by (order_of s) s.core
+found_of s = sought_word (order_of s) s.core
 
 -- that word, and what stands there afterwards
 abbrev pub operand_in : Core → Found → Operand
@@ -58,12 +40,12 @@ operand_in after found = record {
 }
 
 -- the address at which the activity stores
-abbrev pub stored_by : Option ℕ → Option ℕ
-stored_by None = None
-stored_by (Some order) = if stores (op_at order) then Some (address_at order) else None
+abbrev pub stored_address : Option ℕ → Option ℕ
+stored_address None = None
+stored_address (Some order) = if stores (op_at order) then Some (address_at order) else None
 
 abbrev pub stored_at : State → Option ℕ
-stored_at s = stored_by (order_of s)
+stored_at s = stored_address (order_of s)
 
 -- all that is known when the activity begins
 abbrev pub begun_of : State → Begun

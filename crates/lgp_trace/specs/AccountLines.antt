@@ -8,7 +8,7 @@ use Rattle.lgp_word.specs.declared.order.Op.TheVariants.{Z, I, P}
 use Rattle.lgp_flexo.specs.Code.{sign_at}
 use Rattle.lgp_table.specs.declared.panel.Status.{Status}
 use Rattle.lgp_table.specs.declared.panel.Status.TheVariants as statuses
-use Rattle.lgp_phases.specs.Decoded.{stores}
+use Rattle.lgp_table.specs.Activity.{stores}
 use Rattle.lgp_text.specs.PanelWords.{status_text}
 use Rattle.lgp_trace.specs.Columns.{left_aligned, right_aligned, spaced_number}
 use Rattle.lgp_trace.specs.Phases.{all_phases}

@@ -3,7 +3,7 @@
 use Rattle.std.specs.Prelude.{ℕ, zero, suc, ◌+◌, ◌-◌, ◌%◌, ◌++◌, ◌==◌, if◌then◌else◌, Option, Some, None, List, [], ◌∷◌, codes, replicate}
 use Rattle.std.specs.Str.{byte}
 use Rattle.lgp_trace.specs.Columns.{blanks, right_aligned}
-use Rattle.lgp_trace.specs.Account.{stored_by}
+use Rattle.lgp_trace.specs.Account.{stored_address}
 use Rattle.lgp_trace.specs.declared.account.Account.{Account}
 use Rattle.lgp_trace.specs.declared.account.Operand.{Operand}
 
@@ -26,7 +26,7 @@ seek_signs (Some operand) stored times = waited times (use_sign stored)
 unfoldable pub signs_of : Account → List ℕ
 signs_of account =
     waited account.phases.find (byte "F") ++ (replicate account.phases.take (byte "i")
-    ++ (seek_signs account.operand (stored_by account.order) account.phases.seek
+    ++ (seek_signs account.operand (stored_address account.order) account.phases.seek
     ++ replicate account.phases.act (byte "x")))
 
 -- ---- rows

@@ -1,4 +1,3 @@
-pub mod Uses
 pub mod Phases
 pub mod Account
 pub mod OrderInside

@@ -5,7 +5,7 @@ use Rattle.lgp_word.specs.declared.order.Op.{Op}
 use Rattle.lgp_word.specs.declared.order.Op.TheVariants.{I}
 use Rattle.lgp_machine.specs.declared.look.Look.{Look}
 use Rattle.lgp_table.specs.declared.panel.Status.TheVariants as statuses
-use Rattle.lgp_trace.specs.Uses.{seeks}
+use Rattle.lgp_table.specs.Activity.{seeks}
 use Rattle.lgp_trace.specs.declared.account.Account.{Account}
 use Rattle.lgp_trace.specs.declared.account.Operand.{Operand}
 use Rattle.lgp_trace.specs.declared.phases.Phases.{Phases}

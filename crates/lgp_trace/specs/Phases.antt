@@ -1,15 +1,13 @@
 -- Part of the public promise. The four phases of an activity in word times. The first and the third
 -- are waits, in which the word time is counted that reads the word.
-use Rattle.std.specs.Prelude.{◌≡◌, ◌≢◌, ℕ, ◌+◌, ◌*◌, ◌<◌, ◌≤◌, length}
+use Rattle.std.specs.Prelude.{◌≡◌, ◌≢◌, ℕ, ◌+◌, ◌<◌, ◌≤◌, Option, Some, None}
 use Rattle.lgp_word.specs.Address.{sector_of}
 use Rattle.lgp_word.specs.Drum.{position_of, position_under_head}
 use Rattle.lgp_word.specs.Order.{address_at, op_at}
-use Rattle.lgp_flexo.specs.Tape.{passing}
-use Rattle.lgp_table.specs.State.{Core, State, word_at}
-use Rattle.lgp_table.specs.Activity.{act_time, seek_time}
-use Rattle.lgp_table.specs.Wait.{wait}
+use Rattle.lgp_flexo.specs.Tape.{Tape}
+use Rattle.lgp_table.specs.State.{State}
+use Rattle.lgp_table.specs.Activity.{BegunOrder, act_time, begun_order, find_time, seek_time, take_time, time_alone}
 use Rattle.lgp_table.specs.declared.panel.Status.{Status}
-use Rattle.lgp_table.specs.declared.panel.Status.TheVariants as statuses
 use Rattle.lgp_trace.specs.declared.phases.Phases.{Phases}
 
 abbrev pub all_phases : Phases → ℕ
@@ -19,28 +17,26 @@ all_phases phases = phases.find + phases.take + phases.seek + phases.act
 abbrev pub only_act : ℕ → Phases
 only_act times = record { find = 0; take = 0; seek = 0; act = times }
 
--- an order word whose third phase begins at this clock, with so many word times to find and take it
-abbrev pub order_phases : ℕ → ℕ → ℕ → Core → ℕ → Phases
-order_phases word find take core clock = record {
-  find = find;
-  take = take;
-  seek = seek_time (op_at word) (address_at word) clock;
-  act = act_time (op_at word) (address_at word) core.tape;
-}
+-- an order that begins at this clock
+abbrev pub order_phases : BegunOrder → Tape → ℕ → Phases
+order_phases order tape clock =
+    let find = find_time order.place clock in
+    let take = take_time order.place in
+    record {
+      find = find;
+      take = take;
+      seek = seek_time (op_at order.word) (address_at order.word) (clock + (find + take));
+      act = act_time (op_at order.word) (address_at order.word) tape;
+    }
 
--- the order at the counter is found and taken; that in the register is there already
-abbrev pub phases_by : Status → Core → ℕ → Phases
-phases_by (statuses.Halted cause) core clock = only_act 1
-phases_by statuses.Going core clock =
-    let find = wait (sector_of core.panel.counter) clock in
-    order_phases (word_at core core.panel.counter) find 1 core (clock + find + 1)
-phases_by statuses.Executing core clock = order_phases core.panel.register 0 0 core clock
-phases_by statuses.Waiting core clock = only_act 1
-phases_by statuses.Reading core clock = only_act (1 + 384 * length (passing core.tape))
+-- the same, or an activity without an order
+abbrev pub phases_with : Option BegunOrder → Status → Tape → ℕ → Phases
+phases_with None status tape clock = only_act (time_alone status tape)
+phases_with (Some order) status tape clock = order_phases order tape clock
 
 -- the phases of the activity that begins here
 unfoldable pub phases_of : State → Phases
-phases_of s = phases_by s.core.panel.status s.core s.clock
+phases_of s = phases_with (begun_order s.core) s.core.panel.status s.core.tape s.clock
 
 -- From this clock on the head has read the sector of an address when so many word times have
 -- passed, and not before.

@@ -9,10 +9,9 @@ ghost use Rattle.lgp_trace.specs.Account.{account_of, begun_of, finished, found_
 ghost use Rattle.lgp_trace.specs.Phases.{only_act, phases_of};
 
 use crate::phases::{Phases, only_act};
-use crate::uses::seeks;
 use lgp_flexo::Code;
 use lgp_machine::{Look, Machine};
-use lgp_table::Status;
+use lgp_table::{Status, seeks};
 use lgp_word::{Address, Word, parts};
 use std::alloc::Allocator;
 

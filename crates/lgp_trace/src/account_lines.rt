@@ -11,7 +11,7 @@ use crate::account::{Account, Operand};
 use crate::columns::{push_blanks_behind, push_right, push_spaced};
 use crate::labels::Labels;
 use crate::phases::Phases;
-use crate::uses::stores;
+use lgp_table::stores;
 use lgp_flexo::{Code, sign_of};
 use lgp_table::Status;
 use lgp_text::{Piece, push_pieces, status_text};

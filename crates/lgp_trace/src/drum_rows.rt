@@ -2,13 +2,13 @@
 
 ghost use Rattle.std.specs.Prelude.{◌≡◌, ◌+◌, ◌++◌, ◌^◌, ◌≤◌, length, replicate, OnOk};
 ghost use Rattle.lgp_trace.specs.DrumRows.{rows_begun, rows_ended, seek_signs, sign_in_row, signs_in_rows, signs_of, use_sign, waited};
-ghost use Rattle.lgp_trace.specs.Account.{stored_by};
+ghost use Rattle.lgp_trace.specs.Account.{stored_address};
 ghost use Rattle.lgp_trace.specs.Phases.{all_phases};
 ghost use Rattle.lgp_machine.specs.Answers.{clock_end};
 
 use crate::account::Account;
 use crate::columns::{push_copies, push_right};
-use crate::uses::stores;
+use lgp_table::stores;
 use lgp_word::{Word, parts};
 use std::alloc::{AllocError, Allocator};
 
@@ -91,7 +91,7 @@ fn push_wait<A: Allocator>(
 
 /// The sign of a word that is waited for.
 fn use_sign(order: Option<Word>) -> u8
-    ensures { result ≡ use_sign (stored_by order) }
+    ensures { result ≡ use_sign (stored_address order) }
 {
     match order {
         Some(order) if stores(parts(order).1) => b'W',
@@ -107,7 +107,7 @@ fn push_seek<A: Allocator>(
 ) -> Result<(), AllocError>
     requires { clock + account.now.phases.seek ≤ clock_end }
     ensures { OnOk result (text.new.items ≡ text.old.items ++ signs_in_rows clock
-        (seek_signs account.now.operand (stored_by account.now.order) account.now.phases.seek)) }
+        (seek_signs account.now.operand (stored_address account.now.order) account.now.phases.seek)) }
 {
     match account.operand {
         None => push_signs(text, clock, b'-', account.phases.seek),

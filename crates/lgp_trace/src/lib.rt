@@ -16,7 +16,6 @@ mod runs;
 mod stepping;
 mod take;
 mod trace;
-mod uses;
 
 pub use account::{Account, Begun, Found, Operand};
 pub use account_lines::{
@@ -33,4 +32,4 @@ pub use runs::profile_run;
 pub use stepping::step_account;
 pub use take::take_account;
 pub use trace::trace_run;
-pub use uses::{seeks, stores};
+pub use lgp_table::{seeks, stores};

@@ -10,13 +10,12 @@ ghost use Rattle.lgp_trace.specs.Account.{account_of};
 ghost use Rattle.lgp_trace.specs.OrderInside.{passed_in, with_deeds, with_looks};
 
 use crate::account::{Account, Begun, Operand};
-use crate::uses::seeks;
 use lgp_debugger::{Debugger, StepFault};
 use lgp_flexo::Code;
 use lgp_history::History;
 use lgp_machine::Look;
 use lgp_phases::wait;
-use lgp_table::Status;
+use lgp_table::{Status, seeks};
 use lgp_word::{Op, parts};
 use std::alloc::Allocator;
 
