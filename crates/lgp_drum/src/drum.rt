@@ -4,15 +4,12 @@ ghost use Rattle.std.specs.Prelude.{◌≡◌, ℕ, ◌+◌, ◌*◌, ◌<◌, l
 ghost use Rattle.lgp_word.specs.Drum.{blank_words, position_of, position_under_head};
 ghost use Rattle.lgp_drum.specs.DrumInside.{place_of};
 
-use lgp_word::{Address, Word};
+use lgp_word::{Address, Word, position_of};
 use std::alloc::{AllocError, Allocator, Global};
 use std::marker::Model;
 
-/// How many words the drum has.
-const WORDS: usize = 4096;
-
 /// How many words a track has.
-const SECTORS: usize = 64;
+const SECTORS: usize = Address::SECTORS as usize;
 
 /// The drum. Clauses see the list of its 4096 words by address.
 #[derive(Drop)]
@@ -37,8 +34,7 @@ fn place(address: Address) -> usize
     ensures place { result ≡ place_of address }
     ensures within { result < 4096 }
 {
-    let position = 9 * address.sector() % 64;
-    usize::from(64 * address.track() + position)
+    usize::from(Address::SECTORS * address.track() + position_of(address.sector()))
 }
 
 impl<A: Allocator + Copy> Drum<A> {
@@ -47,7 +43,7 @@ impl<A: Allocator + Copy> Drum<A> {
         ensures blank { IfOk result (λ drum. drum ≡ blank_words) }
     {
         Ok(Drum {
-            cells: vec![in alloc; Word::default(); WORDS]?,
+            cells: vec![in alloc; Word::default(); Address::COUNT]?,
         })
     }
 }

@@ -13,7 +13,7 @@ use crate::times::act_time;
 use lgp_drum::Drum;
 use lgp_reader::Reader;
 use lgp_table::{Panel, Status, seeks};
-use lgp_word::{Word, parts};
+use lgp_word::{Word, parts, position_of};
 use std::alloc::Allocator;
 
 /// The phase that an activity is in.
@@ -38,7 +38,7 @@ fn is_under_head(sector: u16, clock: u64) -> bool
     ensures position { IsTrue result → position_of sector ≡ position_under_head (clock + 1) }
     ensures later { result ≡ false → wait sector clock ≡ wait sector (clock + 1) + 1 }
 {
-    u64::from(sector) * 9 % 64 == clock.wrapping_add(1) % 64
+    u64::from(position_of(sector)) == clock.wrapping_add(1) % 64
 }
 
 /// The phase in which the activity begins that the panel asks for.

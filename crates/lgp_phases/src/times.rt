@@ -13,7 +13,7 @@ use lgp_drum::Drum;
 use lgp_flexo::Code;
 use lgp_reader::Reader;
 use lgp_table::{Panel, Status, seeks};
-use lgp_word::{Address, Op, Word, parts};
+use lgp_word::{Address, Op, Word, parts, position_of};
 use std::alloc::Allocator;
 
 /// What the activity will cost and print that begins with these registers, drum and reader at this clock.
@@ -36,7 +36,7 @@ pub fn wait(sector: u16, clock: u64, after: u64) -> u64
     ensures wait { result ≡ wait sector (clock + after) }
     ensures range { result ≤ 64 }
 {
-    1 + (9 * u64::from(sector) + 63 * (clock % 64 + after + 1)) % 64
+    1 + (u64::from(position_of(sector)) + 63 * (clock % 64 + after + 1)) % 64
 }
 
 /// The word times of an order's third phase, the seek, where it begins at `clock + after`: the wait for the word at its address, or 1

@@ -1,6 +1,7 @@
 -- Part of the public promise. How worked orders are written down: addresses by track and sector, order words by their letter, tapes
 -- by their codes, and how an order begins.
 use Rattle.std.specs.Prelude.{◌≡◌, ℕ, ◌+◌, ◌*◌, false, true, List, [], ◌∷◌}
+use Rattle.lgp_word.specs.Drum.{track_size}
 use Rattle.lgp_word.specs.Order.{order_word}
 use Rattle.lgp_word.specs.declared.order.Op.{Op}
 use Rattle.lgp_word.specs.declared.order.Op.TheVariants.{T}
@@ -11,7 +12,7 @@ use Rattle.lgp_table.specs.declared.panel.Mode.TheVariants.{Normal}
 
 -- the address at a track and a sector
 abbrev pub at : ℕ → ℕ → ℕ
-at track sector = 64 * track + sector
+at track sector = track_size * track + sector
 
 -- an order word: the letter, and the track and the sector of the address
 abbrev pub order : Op → ℕ → ℕ → ℕ

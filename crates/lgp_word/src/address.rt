@@ -26,6 +26,9 @@ impl Model for Address {
 }
 
 impl Address {
+    /// How many sectors a track has, and how many tracks the drum.
+    pub const SECTORS: u16 = 64;
+
     /// How many addresses there are: 64 tracks of 64 sectors.
     pub const COUNT: usize = 64 * 64;
 
