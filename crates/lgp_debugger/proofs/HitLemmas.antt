@@ -2,11 +2,10 @@
 use Rattle.std.proofs.Common.{◌≡◌, ◌≤◌, ◌+◌, ℕ, Bool, true, false, List, [], ◌∷◌, Option, None, Some, ap, arith, option_map}
 use Rattle.std.specs.Prelude.{if◌then◌else◌}
 use Rattle.std.specs.Option.{option_or}
-use Rattle.lgp_table.specs.State.{State}
 use Rattle.lgp_history.specs.Hits.{first_hit, last_hit}
 use Rattle.lgp_history.specs.Steps.{is_order, orders_in}
 use Rattle.lgp_history.specs.declared.rule.Rule.{Rule}
-use Rattle.lgp_history.specs.declared.step.Step.{Step}
+use Rattle.lgp_history.specs.Step.{KeptStep}
 
 -- how many orders back a hit is; 0 where there is none
 abbrev orders_back : Option (ℕ × ℕ) → ℕ
@@ -29,9 +28,9 @@ step_within None true (Some number) m n i within e =
 step_within None true None m n i within e = let bad : false ≡ true = ap is_found e in cc
 step_within None false first m n i within e = let bad : false ≡ true = ap is_found e in cc
 
-pub last_hit-within : {A : Type 0} (rules : List Rule) (kept : List (State × Step A)) (n i : ℕ)
+pub last_hit-within : (rules : List Rule) (kept : List KeptStep) (n i : ℕ)
     → last_hit rules kept ≡ Some (n, i) → (1 ≤ n) × (n ≤ orders_in kept)
 last_hit-within rules [] n i e = let bad : false ≡ true = ap is_found e in cc
 last_hit-within rules (k ∷ later) n i e =
-    step_within (last_hit rules later) (is_order k.1) (first_hit rules k.0) (orders_in later) n i
+    step_within (last_hit rules later) (is_order k.step) (first_hit rules k.before) (orders_in later) n i
     (last_hit-within rules later n i) e

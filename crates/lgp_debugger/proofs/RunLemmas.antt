@@ -1,77 +1,192 @@
 -- A run in the middle: what was done so far, and what a run goes on to from here.
-use Rattle.std.proofs.Common.{◌≡◌, ◌∙◌, ◌+◌, ◌-◌, ◌≤◌, ◌<◌, ℕ, zero, suc, Bool, true, false, Option, None, Some, ap, refl, sym, arith, add-zero, zero-add}
+use Rattle.std.proofs.Common.{◌≡◌, ◌∙◌, ◌+◌, ◌-◌, ◌≤◌, ◌<◌, ℕ, zero, suc, Bool, true, false, List, Option, None, Some, Ok, Err, ap, refl, sym, subst, arith, add-zero, zero-add, lt-ltb, le-ltb}
+use Rattle.std.specs.Prelude.{Result}
+use Rattle.lgp_table.specs.State.{State}
+use Rattle.lgp_table.specs.Activity.{cost, next}
 use Rattle.lgp_table.specs.Console.{is_at_rest}
-use Rattle.lgp_history.specs.declared.step.Step.TheVariants.{Perform}
-use Rattle.lgp_debugger.specs.Debugging.{Debugging, after_step, ended_for, first_stop, one_order_more, run_of, unless_stopped}
+use Rattle.lgp_machine.specs.Answers.{clock_end}
+use Rattle.lgp_history.specs.Step.{Perform}
+use Rattle.lgp_history.specs.Steps.{CanStep}
+use Rattle.lgp_history.specs.declared.rule.Rule.{Rule}
+use Rattle.lgp_debugger.specs.Debugging.{Debugging, after_step, performed}
+use Rattle.lgp_debugger.specs.Run.{IsOrderOfRun, broken_off, ended_for, first_stop, one_order_more, passes_clock_end, run_of, unless_stopped}
+use Rattle.lgp_debugger.specs.RunInside.{IsRun, rules_in_force}
 use Rattle.lgp_debugger.specs.declared.fault.Ran.{Ran}
 use Rattle.lgp_debugger.specs.declared.fault.Reason.TheVariants as reasons
+use Rattle.lgp_debugger.specs.declared.fault.RunFault.{RunFault}
+use Rattle.lgp_debugger.specs.declared.fault.RunRefusal.TheVariants as refusals
+use Rattle.lgp_debugger.specs.declared.fault.StepFault.{StepFault}
+use Rattle.lgp_debugger.specs.declared.fault.StepFault.TheVariants.{AtRest, ClockEnd, Memory}
 
-module _ {A : Type 0} where
-  -- so many orders before a run
-  abbrev pub more : ℕ → Ran × Debugging A → Ran × Debugging A
-  more done run = (record run.0 { orders = run.0.orders + done }, run.1)
+abbrev pub rests : State → Bool
+rests s = is_at_rest s.core.panel.status
 
-  -- so many orders were done without an end, and from here the run goes on
-  pub record HasRun (first now : Debugging A) (done : ℕ) : Type 0 where
-    pub goes_on : (n : ℕ) → run_of (done + n) first ≡ more done (run_of n now)
+-- so many orders before a run
+abbrev pub more : ℕ → Result Ran RunFault → Result Ran RunFault
+more done (Ok ran) = Ok (record ran { orders = ran.orders + done })
+more done (Err fault) = Err (record fault { orders = fault.orders + done })
 
-  abbrev pub rests : Debugging A → Bool
-  rests d = is_at_rest d.state.core.panel.status
+no_more : (run : Result Ran RunFault) → more 0 run ≡ run
+no_more (Ok ran) = ap (λ (n : ℕ). Ok (record ran { orders = n })) (add-zero ran.orders)
+no_more (Err fault) = ap (λ (n : ℕ). Err (record fault { orders = n })) (add-zero fault.orders)
 
-  at_rest : (n : ℕ) (d : Debugging A) → rests d ≡ true → run_of n d ≡ ended_for reasons.Rest d
+more_one : (done : ℕ) (run : Result Ran RunFault) → more done (one_order_more run) ≡ more (done + 1) run
+more_one done (Ok ran) =
+    let count : ran.orders + 1 + done ≡ ran.orders + (done + 1) = omega arith in
+    ap (λ (n : ℕ). Ok (record ran { orders = n })) count
+more_one done (Err fault) =
+    let count : fault.orders + 1 + done ≡ fault.orders + (done + 1) = omega arith in
+    ap (λ (n : ℕ). Err (record fault { orders = n })) count
+
+module _ (rules : List Rule) where
+  at_rest : (n : ℕ) (s : State) → rests s ≡ true → run_of rules n s ≡ ended_for reasons.Rest
   unfolding run_of
-  at_rest zero d e = rw e refl
-  at_rest (suc n) d e = rw e refl
+  at_rest zero s e = rw e refl
+  at_rest (suc n) s e = rw e refl
 
-  no_order : (d : Debugging A) → rests d ≡ false → run_of 0 d ≡ ended_for reasons.Limit d
+  no_order : (s : State) → rests s ≡ false → run_of rules 0 s ≡ ended_for reasons.Limit
   unfolding run_of
-  no_order d e = rw e refl
+  no_order s e = rw e refl
 
-  an_order : (n : ℕ) (d : Debugging A) → rests d ≡ false
-      → run_of (suc n) d ≡ one_order_more (unless_stopped (first_stop d.rules d.state) (after_step d Perform) (run_of n (after_step d Perform)))
+  at_clock_end : (n : ℕ) (s : State) → rests s ≡ false → passes_clock_end s ≡ true → run_of rules (suc n) s ≡ broken_off
   unfolding run_of
-  an_order n d e = rw e refl
+  at_clock_end n s e f = rw (e, f) refl
 
-  no_more : (run : Ran × Debugging A) → more 0 run ≡ run
-  no_more run = ap (λ (n : ℕ). (record run.0 { orders = n }, run.1)) (add-zero run.0.orders)
+  an_order : (n : ℕ) (s : State) → CanStep Perform s → run_of rules (suc n) s ≡ one_order_more (unless_stopped (first_stop rules s) (run_of rules n (next s)))
+  unfolding run_of
+  an_order n s can = rw (can.0, le-ltb clock_end (s.clock + cost s) can.1) refl
 
-  pub run_begun : (d : Debugging A) → HasRun d d 0
-  run_begun d = record { goes_on = λ n. ap (λ (k : ℕ). run_of k d) (zero-add n) ∙ sym (no_more (run_of n d)) }
+-- after one order more
+performed_more : (d : Debugging) (count : ℕ) → after_step (performed d count) Perform ≡ performed d (count + 1)
+unfolding performed
+performed_more d count = let e : count + 1 ≡ suc count = omega arith in sym (ap (λ (n : ℕ). performed d n) e)
 
-  pub run_step : (first now : Debugging A) (done : ℕ) → HasRun first now done → rests now ≡ false
-      → first_stop now.rules now.state ≡ None → HasRun first (after_step now Perform) (done + 1)
-  run_step first now done h busy free = record {
-    goes_on = λ n.
-        let shift : done + 1 + n ≡ done + suc n = omega arith in
-        let count : (run_of n (after_step now Perform)).0.orders + 1 + done ≡ (run_of n (after_step now Perform)).0.orders + (done + 1) = omega arith in
-        ap (λ (k : ℕ). run_of k first) shift ∙ h.goes_on (suc n)
-        ∙ ap (more done) (an_order n now busy)
-        ∙ ap (λ (o : Option ℕ). more done (one_order_more (unless_stopped o (after_step now Perform) (run_of n (after_step now Perform))))) free
-        ∙ ap (λ (k : ℕ). (record (run_of n (after_step now Perform)).0 { orders = k }, (run_of n (after_step now Perform)).1)) count;
-  }
+performed_none : (d : Debugging) → d ≡ performed d 0
+unfolding performed
+performed_none d = refl
 
-  pub run_stopped : (first now : Debugging A) (done limit number : ℕ) → HasRun first now done → done < limit → rests now ≡ false
-      → first_stop now.rules now.state ≡ Some number
-      → run_of limit first ≡ (record { orders = done + 1; reason = reasons.Rule number }, after_step now Perform)
-  run_stopped first now done limit number h below busy stop =
+-- so many orders were done without an end, and from here the run goes on
+pub record HasRun (by_rules : Bool) (first now : Debugging) (done : ℕ) : Type 0 where
+  pub goes_on : (n : ℕ) → run_of (rules_in_force by_rules first.rules) (done + n) first.state ≡ more done (run_of (rules_in_force by_rules first.rules) n now.state)
+  pub reached : now ≡ performed first done
+  pub same_rules : now.rules ≡ first.rules
+
+pub run_begun : (by_rules : Bool) (d : Debugging) → HasRun by_rules d d 0
+run_begun by_rules d = record {
+  goes_on = λ n. ap (λ (k : ℕ). run_of (rules_in_force by_rules d.rules) k d.state) (zero-add n) ∙ sym (no_more (run_of (rules_in_force by_rules d.rules) n d.state));
+  reached = performed_none d;
+  same_rules = refl;
+}
+
+-- the next order, and how the run ends with it or goes on
+module _ (by_rules : Bool) (first now new : Debugging) (done limit : ℕ) (h : HasRun by_rules first now done) where
+  abbrev rules : List Rule
+  rules = rules_in_force by_rules first.rules
+
+  abbrev IsOrder : Result (Option ℕ) StepFault → Type 0
+  IsOrder answer = IsOrderOfRun (rules_in_force by_rules now.rules) now new answer
+
+  by_these : (answer told : Result (Option ℕ) StepFault) → answer ≡ told → IsOrder answer → IsOrderOfRun rules now new told
+  by_these answer told is order =
+      subst (λ (rs : List Rule). IsOrderOfRun (rules_in_force by_rules rs) now new told) h.same_rules (subst IsOrder is order)
+
+  one_further : new ≡ after_step now Perform → new ≡ performed first (done + 1)
+  one_further after = after ∙ ap (λ (d : Debugging). after_step d Perform) h.reached ∙ performed_more first done
+
+  an_order_on : (n : ℕ) (stop : Option ℕ) → IsOrderOfRun rules now new (Ok stop)
+      → run_of rules (done + suc n) first.state ≡ more done (one_order_more (unless_stopped stop (run_of rules n new.state)))
+  an_order_on n stop order =
+      h.goes_on (suc n) ∙ ap (more done) (an_order rules n now.state order.0)
+      ∙ ap (λ (o : Option ℕ). more done (one_order_more (unless_stopped o (run_of rules n (next now.state))))) (sym order.1)
+      ∙ ap (λ (d : Debugging). more done (one_order_more (unless_stopped stop (run_of rules n d.state)))) (sym order.2)
+
+  pub run_step : (answer : Result (Option ℕ) StepFault) → answer ≡ Ok None → IsOrder answer → HasRun by_rules first new (done + 1)
+  run_step answer is order =
+      let here = by_these answer (Ok None) is order in
+      record {
+        goes_on = λ n.
+            let shift : done + 1 + n ≡ done + suc n = omega arith in
+            ap (λ (k : ℕ). run_of rules k first.state) shift ∙ an_order_on n None here ∙ more_one done (run_of rules n new.state);
+        reached = one_further here.2;
+        same_rules = ap (λ (d : Debugging). d.rules) here.2 ∙ h.same_rules;
+      }
+
+  pub run_stopped : (answer : Result (Option ℕ) StepFault) (number : ℕ) → answer ≡ Ok (Some number) → IsOrder answer → done < limit
+      → IsRun rules limit first new (Ok (record { orders = done + 1; reason = reasons.Rule number }))
+  run_stopped answer number is order below =
+      let here = by_these answer (Ok (Some number)) is order in
       let shift : limit ≡ done + suc (limit - done - 1) = omega arith in
       let count : 0 + 1 + done ≡ done + 1 = omega arith in
-      ap (λ (k : ℕ). run_of k first) shift ∙ h.goes_on (suc (limit - done - 1))
-      ∙ ap (more done) (an_order (limit - done - 1) now busy)
-      ∙ ap (λ (o : Option ℕ). more done (one_order_more (unless_stopped o (after_step now Perform) (run_of (limit - done - 1) (after_step now Perform))))) stop
-      ∙ ap (λ (k : ℕ). (record { orders = k; reason = reasons.Rule number }, after_step now Perform)) count
+      record {
+        ran = ap (λ (k : ℕ). run_of rules k first.state) shift ∙ an_order_on (limit - done - 1) (Some number) here
+            ∙ ap (λ (k : ℕ). Ok (record { orders = k; reason = reasons.Rule number })) count;
+        cut = tt;
+        stands = tt;
+        clock = tt;
+        within = tt;
+        reached = one_further here.2;
+      }
 
-  pub run_rested : (first now : Debugging A) (done limit : ℕ) → HasRun first now done → done ≤ limit → rests now ≡ true
-      → run_of limit first ≡ (record { orders = done; reason = reasons.Rest }, now)
-  run_rested first now done limit h below rest =
+  pub run_rested : done ≤ limit → rests now.state ≡ true → new ≡ now → IsRun rules limit first new (Ok (record { orders = done; reason = reasons.Rest }))
+  run_rested within rest same =
       let shift : limit ≡ done + (limit - done) = omega arith in
-      ap (λ (k : ℕ). run_of k first) shift ∙ h.goes_on (limit - done)
-      ∙ ap (more done) (at_rest (limit - done) now rest)
-      ∙ ap (λ (k : ℕ). (record { orders = k; reason = reasons.Rest }, now)) (zero-add done)
+      record {
+        ran = ap (λ (k : ℕ). run_of rules k first.state) shift ∙ h.goes_on (limit - done) ∙ ap (more done) (at_rest rules (limit - done) now.state rest)
+            ∙ ap (λ (k : ℕ). Ok (record { orders = k; reason = reasons.Rest })) (zero-add done);
+        cut = tt;
+        stands = tt;
+        clock = tt;
+        within = tt;
+        reached = same ∙ h.reached;
+      }
 
-  pub run_limited : (first now : Debugging A) (done : ℕ) → HasRun first now done → rests now ≡ false
-      → run_of done first ≡ (record { orders = done; reason = reasons.Limit }, now)
-  run_limited first now done h busy =
-      ap (λ (k : ℕ). run_of k first) (sym (add-zero done)) ∙ h.goes_on 0
-      ∙ ap (more done) (no_order now busy)
-      ∙ ap (λ (k : ℕ). (record { orders = k; reason = reasons.Limit }, now)) (zero-add done)
+  -- an order refused for rest
+  pub run_found_at_rest : (answer : Result (Option ℕ) StepFault) → answer ≡ Err AtRest → IsOrder answer → done < limit
+      → IsRun rules limit first new (Ok (record { orders = done; reason = reasons.Rest }))
+  run_found_at_rest answer is order below = let here = by_these answer (Err AtRest) is order in run_rested (omega arith) here.0 here.1
+
+  done_all : rests now.state ≡ false → run_of rules done first.state ≡ Ok (record { orders = done; reason = reasons.Limit })
+  done_all busy =
+      ap (λ (k : ℕ). run_of rules k first.state) (sym (add-zero done)) ∙ h.goes_on 0 ∙ ap (more done) (no_order rules now.state busy)
+      ∙ ap (λ (k : ℕ). Ok (record { orders = k; reason = reasons.Limit })) (zero-add done)
+
+  pub run_limited : rests now.state ≡ false → new ≡ now → IsRun rules done first new (Ok (record { orders = done; reason = reasons.Limit }))
+  run_limited busy same = record {
+    ran = done_all busy;
+    cut = tt;
+    stands = tt;
+    clock = tt;
+    within = tt;
+    reached = same ∙ h.reached;
+  }
+
+  pub run_cut : (answer : Result (Option ℕ) StepFault) → answer ≡ Err ClockEnd → IsOrder answer → done < limit
+      → IsRun rules limit first new (Err (record { orders = done; fault = refusals.ClockEnd }))
+  run_cut answer is order below =
+      let here = by_these answer (Err ClockEnd) is order in
+      let shift : limit ≡ done + suc (limit - done - 1) = omega arith in
+      let past : clock_end < new.state.clock + cost new.state = subst (λ (d : Debugging). clock_end < d.state.clock + cost d.state) (sym here.2) here.1 in
+      record {
+        ran = tt;
+        cut = λ _. ap (λ (k : ℕ). run_of rules k first.state) shift ∙ h.goes_on (suc (limit - done - 1))
+            ∙ ap (more done) (at_clock_end rules (limit - done - 1) now.state here.0 (lt-ltb clock_end (now.state.clock + cost now.state) here.1))
+            ∙ ap (λ (k : ℕ). Err (record { orders = k; fault = refusals.ClockEnd })) (zero-add done);
+        stands = done_all here.0;
+        clock = (λ _. past, λ _. refl);
+        within = below;
+        reached = here.2 ∙ h.reached;
+      }
+
+  pub run_refused : (answer : Result (Option ℕ) StepFault) → answer ≡ Err Memory → IsOrder answer → done < limit
+      → IsRun rules limit first new (Err (record { orders = done; fault = refusals.Memory }))
+  run_refused answer is order below =
+      let here = by_these answer (Err Memory) is order in
+      let within : new.state.clock + cost new.state ≤ clock_end = subst (λ (d : Debugging). d.state.clock + cost d.state ≤ clock_end) (sym here.1) here.0.1 in
+      record {
+        ran = tt;
+        cut = λ e. cc;
+        stands = done_all here.0.0;
+        clock = (λ e. cc, λ past. absurd (omega arith));
+        within = below;
+        reached = here.1 ∙ h.reached;
+      }

@@ -7,15 +7,15 @@ use Rattle.lgp_table.specs.State.{State}
 use Rattle.lgp_table.specs.Activity.{next}
 use Rattle.lgp_history.specs.declared.rule.Rule.{Rule}
 use Rattle.lgp_history.specs.declared.rule.Rule.TheVariants.{At, Changed}
-use Rattle.lgp_debugger.specs.Debugging.{first_stop, is_stop}
+use Rattle.lgp_debugger.specs.Run.{first_stop, stops_run}
 use Rattle.lgp_debugger.specs.WatchInside.{stops_now, watch_of, watches_of}
 
-stops-watched : (before : State) (rule : Rule) → stops_now (next before) (watch_of before rule) ≡ is_stop before rule
+stops-watched : (before : State) (rule : Rule) → stops_now (next before) (watch_of before rule) ≡ stops_run before rule
 stops-watched before (At address) = refl
 stops-watched before (Changed address) = refl
 
 prefix-watched : (before : State) (rules : List Rule)
-    → prefix_len (λ watch. not (stops_now (next before) watch)) (watches_of before rules) ≡ prefix_len (λ rule. not (is_stop before rule)) rules
+    → prefix_len (λ watch. not (stops_now (next before) watch)) (watches_of before rules) ≡ prefix_len (λ rule. not (stops_run before rule)) rules
 prefix-watched before [] = refl
 prefix-watched before (rule ∷ rules) =
     ap₂ (λ (b : Bool) (n : ℕ). cond (not b) (1 + n) 0) (stops-watched before rule) (prefix-watched before rules)

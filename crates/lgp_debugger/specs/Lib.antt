@@ -1,10 +1,14 @@
 pub mod Debugging
+pub mod Run
+pub mod RunInside
 pub mod WatchInside
+pub use Rattle.lgp_history.specs.Step
 pub use Rattle.lgp_history.specs.Steps
 pub use Rattle.lgp_history.specs.Hits
 pub use Rattle.lgp_machine.specs.Look
 pub use Rattle.lgp_table.specs.State
 pub use Rattle.lgp_table.specs.Activity
+pub use Rattle.lgp_table.specs.After
 pub use Rattle.lgp_table.specs.Console
 pub use Rattle.lgp_table.specs.Interleaving
 pub use Rattle.lgp_loader.specs.Loading

@@ -1,4 +1,4 @@
-//! The debugger.
+//! The debugger: a machine with its history and its rules, its steps, its runs and its way back.
 
 ghost use Rattle.std.specs.Prelude.{◌≡◌, ◌≢◌, ◌==◌, ◌+◌, ◌<◌, ◌≤◌, ◌↔◌, ◌++◌, ◌∷◌, ℕ, [], List, length, remove, slice_get, vec_len, false, None, Some, Err, Ok, IfErr, IfOk, IfSome, IsTrue, OnErr, OnOk, if◌then◌else◌};
 ghost use Rattle.lgp_table.specs.Activity.{cost, print_of};
@@ -6,13 +6,15 @@ ghost use Rattle.lgp_table.specs.Console.{is_at_rest, is_live};
 ghost use Rattle.lgp_table.specs.Interleaving.{at_boundary};
 ghost use Rattle.lgp_machine.specs.Answers.{clock_end};
 ghost use Rattle.lgp_machine.specs.Look.{look_of};
-ghost use Rattle.lgp_history.specs.declared.step.Step.{Step};
+ghost use Rattle.lgp_history.specs.Step.{Idle, Mount, Perform, Press, Put, plain};
 ghost use Rattle.lgp_history.specs.Hits.{last_hit};
 ghost use Rattle.lgp_history.specs.Origins.{latest_change};
 ghost use Rattle.lgp_history.specs.Steps.{Leads, orders_in};
 ghost use Rattle.lgp_flexo.specs.TapeText.{tape_limit};
 ghost use Rattle.lgp_debugger.specs.WatchInside.{watches_of};
-ghost use Rattle.lgp_debugger.specs.Debugging.{after_back, after_step, first_stop, rule_limit, run_of};
+ghost use Rattle.lgp_debugger.specs.Debugging.{after_back, after_step, performed, rule_limit};
+ghost use Rattle.lgp_debugger.specs.Run.{IsOrderOfRun, orders_of, run_of};
+ghost use Rattle.lgp_debugger.specs.RunInside.{IsRun, rules_in_force};
 ghost use Rattle.lgp_loader.specs.BlockLoading.{longest_load};
 ghost use Rattle.lgp_loader.specs.LoadedOver.{IsLoadedOver};
 ghost use Rattle.lgp_loader.specs.Loading.{loaded, loading_cost, loading_stopped};
@@ -69,7 +71,7 @@ impl<H: History<A>, A: Allocator> Model for Debugger<H, A> {
     ghost use Rattle.lgp_debugger.specs.Debugging.{Debugging};
     ghost use Rattle.std.specs.Prelude.{◌≡◌};
 
-    ghost Value = { Debugging A };
+    ghost Value = { Debugging };
 
     ghost view = { λ d. record {
       state = d.machine.state;
@@ -105,7 +107,7 @@ impl<H: History<A>, A: Allocator> Debugger<H, A> {
     /// One order: the activity that begins here.
     #[inline(always)]
     pub fn step(&mut self) -> Result<Outcome, StepFault>
-        ensures performed { OnOk result (self.new ≡ after_step self.old Step.Perform) }
+        ensures performed { OnOk result (self.new ≡ after_step self.old Perform) }
         ensures cost { IfOk result (λ outcome. outcome.cost ≡ cost self.old.state) }
         ensures status { IfOk result (λ outcome.
             outcome.status ≡ self.new.state.core.panel.status) }
@@ -166,61 +168,48 @@ impl<H: History<A>, A: Allocator> Debugger<H, A> {
         watches
     }
 
-    /// An order of a run; then the number of the first rule that stops the run there.
-    fn go_on(&mut self) -> Result<Option<u8>, StepFault>
-        ensures performed { OnOk result (self.new ≡ after_step self.old Step.Perform) }
-        ensures stop { IfOk result (λ stop. stop ≡ first_stop self.old.rules self.old.state) }
-        ensures at_work { OnOk result (is_at_rest self.old.state.core.panel.status ≡ false) }
-        ensures memory { result ≡ Err StepFault.Memory
-            → is_at_rest self.old.state.core.panel.status ≡ false }
-        ensures at_rest { (result ≡ Err StepFault.AtRest)
-            ↔ IsTrue (is_at_rest self.old.state.core.panel.status) }
-        ensures clock_end { (result ≡ Err StepFault.ClockEnd)
-            ↔ ((is_at_rest self.old.state.core.panel.status ≡ false)
-            × (clock_end < self.old.state.clock + cost self.old.state)) }
-        ensures unchanged { OnErr result (self.new ≡ self.old) }
+    /// One order of a run; then the number of the first rule that stops the run there.
+    #[inline(always)]
+    pub fn go_on(&mut self) -> Result<Option<u8>, StepFault>
+        ensures { IsOrderOfRun self.old.rules self.old self.new result }
     {
-        if self.rules.is_empty() {
-            return self.go_on_freely();
-        }
-        self.go_on_by_rules()
+        let by_rules = self.has_rules();
+        self.go_on_so(by_rules)
     }
 
-    /// The same where there are no rules.
+    /// Whether a run has to look at the rules: where there are none, it is one without them.
+    #[inline(always)]
+    fn has_rules(&self) -> bool
+        ensures { rules_in_force result self.now.rules ≡ self.now.rules }
+    {
+        !self.rules.is_empty()
+    }
+
+    /// One order of a run by the rules or without them.
+    #[inline(always)]
+    fn go_on_so(&mut self, by_rules: bool) -> Result<Option<u8>, StepFault>
+        ensures { IsOrderOfRun (rules_in_force by_rules self.old.rules) self.old self.new result }
+    {
+        if by_rules {
+            return self.go_on_by_rules();
+        }
+        self.go_on_freely()
+    }
+
+    /// One order of a run that no rule stops.
     #[inline(always)]
     fn go_on_freely(&mut self) -> Result<Option<u8>, StepFault>
-        requires { self.old.rules ≡ [] }
-        ensures performed { OnOk result (self.new ≡ after_step self.old Step.Perform) }
-        ensures stop { IfOk result (λ stop. stop ≡ first_stop self.old.rules self.old.state) }
-        ensures at_work { OnOk result (is_at_rest self.old.state.core.panel.status ≡ false) }
-        ensures memory { result ≡ Err StepFault.Memory
-            → is_at_rest self.old.state.core.panel.status ≡ false }
-        ensures at_rest { (result ≡ Err StepFault.AtRest)
-            ↔ IsTrue (is_at_rest self.old.state.core.panel.status) }
-        ensures clock_end { (result ≡ Err StepFault.ClockEnd)
-            ↔ ((is_at_rest self.old.state.core.panel.status ≡ false)
-            × (clock_end < self.old.state.clock + cost self.old.state)) }
-        ensures unchanged { OnErr result (self.new ≡ self.old) }
+        ensures { IsOrderOfRun [] self.old self.new result }
     {
         self.step()?;
         Ok(None)
     }
 
-    /// The same where there are rules, out of the way of a run without any.
+    /// One order of a run by the rules, out of the way of a run without any.
     #[inline(never)]
     #[tactic(auto, using(crate::proofs::WatchLemmas::watched_stop))]
     fn go_on_by_rules(&mut self) -> Result<Option<u8>, StepFault>
-        ensures performed { OnOk result (self.new ≡ after_step self.old Step.Perform) }
-        ensures stop { IfOk result (λ stop. stop ≡ first_stop self.old.rules self.old.state) }
-        ensures at_work { OnOk result (is_at_rest self.old.state.core.panel.status ≡ false) }
-        ensures memory { result ≡ Err StepFault.Memory
-            → is_at_rest self.old.state.core.panel.status ≡ false }
-        ensures at_rest { (result ≡ Err StepFault.AtRest)
-            ↔ IsTrue (is_at_rest self.old.state.core.panel.status) }
-        ensures clock_end { (result ≡ Err StepFault.ClockEnd)
-            ↔ ((is_at_rest self.old.state.core.panel.status ≡ false)
-            × (clock_end < self.old.state.clock + cost self.old.state)) }
-        ensures unchanged { OnErr result (self.new ≡ self.old) }
+        ensures { IsOrderOfRun self.old.rules self.old self.new result }
     {
         let watches = self.watches();
         self.step()?;
@@ -229,17 +218,21 @@ impl<H: History<A>, A: Allocator> Debugger<H, A> {
 
     /// Performs orders until the machine is at rest, a rule stops it or as many orders as the limit allows are done. Where an order
     /// is refused, those before it stand: for the clock's end where that order would pass it, and else for memory. Each order that is
-    /// performed ends within the clock's end.
+    /// performed is kept, and ends within the clock's end.
     pub fn run(&mut self, limit: u64) -> Result<Ran, RunFault>
-        ensures ran { IfOk result (λ ran. run_of limit self.old ≡ (ran, self.new)) }
-        ensures stands { IfErr result (λ fault. run_of fault.orders self.old
-            ≡ (record { orders = fault.orders; reason = Reason.Limit }, self.new)) }
+        ensures ran { IfOk result (λ ran. run_of self.old.rules limit self.old.state ≡ Ok ran) }
+        ensures broken_off { IfErr result (λ fault. fault.fault ≡ RunRefusal.ClockEnd
+            → run_of self.old.rules limit self.old.state ≡ Err fault) }
+        ensures stands { IfErr result (λ fault. run_of self.old.rules fault.orders self.old.state
+            ≡ Ok (record { orders = fault.orders; reason = Reason.Limit })) }
         ensures within { IfErr result (λ fault. fault.orders < limit) }
         ensures clock_end { IfErr result (λ fault. (fault.fault ≡ RunRefusal.ClockEnd)
             ↔ (clock_end < self.new.state.clock + cost self.new.state)) }
+        ensures performed { self.new ≡ performed self.old (orders_of result) }
         ensures within_clock { self.new.state.clock ≤ clock_end }
     {
-        let outcome = self.run_orders(limit);
+        let by_rules = self.has_rules();
+        let outcome = self.run_orders(limit, by_rules);
         // That the clock is within its end is what the mark's clause says.
         let Some(_) = self.machine.mark() else {
             unreachable!()
@@ -247,17 +240,33 @@ impl<H: History<A>, A: Allocator> Debugger<H, A> {
         outcome
     }
 
-    /// The orders of a run.
-    fn run_orders(&mut self, limit: u64) -> Result<Ran, RunFault>
-        ensures ran { IfOk result (λ ran. run_of limit self.old ≡ (ran, self.new)) }
-        ensures stands { IfErr result (λ fault. run_of fault.orders self.old
-            ≡ (record { orders = fault.orders; reason = Reason.Limit }, self.new)) }
+    /// The same, but no rule stops it.
+    pub fn run_freely(&mut self, limit: u64) -> Result<Ran, RunFault>
+        ensures ran { IfOk result (λ ran. run_of [] limit self.old.state ≡ Ok ran) }
+        ensures broken_off { IfErr result (λ fault. fault.fault ≡ RunRefusal.ClockEnd
+            → run_of [] limit self.old.state ≡ Err fault) }
+        ensures stands { IfErr result (λ fault. run_of [] fault.orders self.old.state
+            ≡ Ok (record { orders = fault.orders; reason = Reason.Limit })) }
         ensures within { IfErr result (λ fault. fault.orders < limit) }
         ensures clock_end { IfErr result (λ fault. (fault.fault ≡ RunRefusal.ClockEnd)
             ↔ (clock_end < self.new.state.clock + cost self.new.state)) }
+        ensures performed { self.new ≡ performed self.old (orders_of result) }
+        ensures within_clock { self.new.state.clock ≤ clock_end }
+    {
+        let outcome = self.run_orders(limit, false);
+        // That the clock is within its end is what the mark's clause says.
+        let Some(_) = self.machine.mark() else {
+            unreachable!()
+        };
+        outcome
+    }
+
+    /// The orders of a run by the rules or without them.
+    fn run_orders(&mut self, limit: u64, by_rules: bool) -> Result<Ran, RunFault>
+        ensures { IsRun (rules_in_force by_rules self.old.rules) limit self.old self.new result }
     {
         for orders in 0..limit {
-            match self.go_on() {
+            match self.go_on_so(by_rules) {
                 Ok(None) => {}
                 Ok(Some(rule)) => {
                     return Ok(Ran {
@@ -300,7 +309,7 @@ impl<H: History<A>, A: Allocator> Debugger<H, A> {
     pub fn press(&mut self, action: Action) -> Result<bool, AllocError>
         ensures live { IfOk result (λ live. live ≡ is_live self.old.state.core.panel action) }
         ensures pressed { OnOk result (self.new ≡ (if is_live self.old.state.core.panel action
-            then after_step self.old (Step.Press action) else self.old)) }
+            then after_step self.old (Press action) else self.old)) }
         ensures dead { is_live self.old.state.core.panel action ≡ false → result ≡ Ok false }
         ensures unchanged { OnErr result (self.new ≡ self.old) }
     {
@@ -325,7 +334,7 @@ impl<H: History<A>, A: Allocator> Debugger<H, A> {
     fn press_live(&mut self, action: &Action) -> Result<(), AllocError>
         requires { IsTrue (is_live self.old.state.core.panel action.now) }
         ensures pressed { OnOk result (self.new
-            ≡ after_step self.old (Step.Press action.now)) }
+            ≡ after_step self.old (Press action.now)) }
         ensures unchanged { OnErr result (self.new ≡ self.old) }
     {
         let step: Step<A> = Step::Press(*action);
@@ -338,7 +347,7 @@ impl<H: History<A>, A: Allocator> Debugger<H, A> {
     /// Word times at rest, one step. None of them is no step, and takes no memory.
     pub fn idle(&mut self, times: u64) -> Result<(), IdleFault>
         ensures rested { OnOk result (self.new ≡ (if times == 0
-            then self.old else after_step self.old (Step.Idle times))) }
+            then self.old else after_step self.old (Idle times))) }
         ensures at_work { (result ≡ Err IdleFault.AtWork)
             ↔ (is_at_rest self.old.state.core.panel.status ≡ false) }
         ensures clock_end { (result ≡ Err IdleFault.ClockEnd)
@@ -378,7 +387,7 @@ impl<H: History<A>, A: Allocator> Debugger<H, A> {
 
     /// Mounts a tape, at rest, as one step; the reader is off afterwards. A refused tape is handed back.
     pub fn mount(&mut self, codes: Vec<Code, A>) -> Result<(), (MountFault, Vec<Code, A>)>
-        ensures mounted { OnOk result (self.new ≡ after_step self.old (Step.Mount codes.items)) }
+        ensures mounted { OnOk result (self.new ≡ after_step self.old (Mount codes.items)) }
         ensures moving { IsErrAnd result (λ e. e.0 ≡ MountFault.Moving)
             ↔ (is_at_rest self.old.state.core.panel.status ≡ false) }
         ensures too_long { IsErrAnd result (λ e. e.0 ≡ MountFault.TooLong)
@@ -409,7 +418,7 @@ impl<H: History<A>, A: Allocator> Debugger<H, A> {
 
     /// Puts a word on the drum, at rest, as one step.
     pub fn put(&mut self, address: Address, word: Word) -> Result<(), PutFault>
-        ensures put { OnOk result (self.new ≡ after_step self.old (Step.Put address word)) }
+        ensures put { OnOk result (self.new ≡ after_step self.old (Put address word)) }
         ensures moving { (result ≡ Err PutFault.Moving)
             ↔ (is_at_rest self.old.state.core.panel.status ≡ false) }
         ensures unchanged { OnErr result (self.new ≡ self.old) }

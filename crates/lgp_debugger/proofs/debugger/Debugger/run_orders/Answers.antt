@@ -1,46 +1,39 @@
 -- Where the loop ends, the run has ended so.
-use Rattle.std.proofs.Common.{◌≡◌, ◌∙◌, ◌+◌, ℕ, ap, arith, rules, subst, sym}
-use Rattle.lgp_debugger.specs.Debugging.{Debugging}
-use Rattle.lgp_debugger.specs.declared.fault.Ran.{Ran}
-use Rattle.lgp_debugger.specs.declared.fault.Reason.TheVariants as reasons
-use Rattle.lgp_debugger.proofs.RunLemmas.{HasRun, run_limited, run_rested, run_step, run_stopped}
+use Rattle.std.proofs.Common.{◌≡◌, ℕ, Ok, Err, ap, arith, refl, rules, subst}
+use Rattle.lgp_debugger.proofs.RunLemmas.{HasRun, run_begun, run_cut, run_found_at_rest, run_limited, run_refused, run_rested, run_step, run_stopped}
 use Rattle.lgp_debugger.proofs.debugger.Debugger.run_orders.Goals as goal
 
--- what a run came to, with an equal debugger
-same : {A : Type 0} {d e : Debugging A} → (with_it : Debugging A → Ran × Debugging A) → d ≡ e → with_it d ≡ with_it e
-same with_it e = ap with_it e
+pub returns-in-Ok-Some : goal.returns-in-Ok-Some
+returns-in-Ok-Some g c =
+    run_stopped c.args.by_rules c.args.self.now c.loop-orders.self c.go_on_so.new.self c.loop-orders.orders c.args.limit c.loop-orders.invariant _ c.in-Ok-Some.rule (ap Ok c.in-Ok-Some.field-0-is) c.in-Ok-Some.ensures (omega arith)
 
-pub returns-in-Ok-Some-clause-ran : goal.returns-in-Ok-Some-clause-ran
-returns-in-Ok-Some-clause-ran g c =
-    run_stopped {A = g.row.A.Denot} c.args.self.now c.loop-orders.self c.loop-orders.orders c.args.limit c.in-Ok-Some.rule
-    c.loop-orders.invariant (omega arith) (search rules) (search rules) ∙ same (λ d. (record { orders = c.loop-orders.orders + 1; reason = reasons.Rule c.in-Ok-Some.rule }, d)) (sym c.in-Ok-Some.ensures.performed)
+pub returns-in-Err-AtRest : goal.returns-in-Err-AtRest
+returns-in-Err-AtRest g c =
+    run_found_at_rest c.args.by_rules c.args.self.now c.loop-orders.self c.go_on_so.new.self c.loop-orders.orders c.args.limit c.loop-orders.invariant _ (ap Err c.in-Err-AtRest.field-0-is) c.in-Err-AtRest.ensures (omega arith)
 
-pub returns-in-Err-AtRest-clause-ran : goal.returns-in-Err-AtRest-clause-ran
-returns-in-Err-AtRest-clause-ran g c =
-    run_rested {A = g.row.A.Denot} c.args.self.now c.loop-orders.self c.loop-orders.orders c.args.limit
-    c.loop-orders.invariant (omega arith) (search rules) ∙ same (λ d. (record { orders = c.loop-orders.orders; reason = reasons.Rest }, d)) (sym c.in-Err-AtRest.ensures.unchanged)
+pub returns-in-Err-ClockEnd : goal.returns-in-Err-ClockEnd
+returns-in-Err-ClockEnd g c =
+    run_cut c.args.by_rules c.args.self.now c.loop-orders.self c.go_on_so.new.self c.loop-orders.orders c.args.limit c.loop-orders.invariant _ (ap Err c.in-Err-ClockEnd.field-0-is) c.in-Err-ClockEnd.ensures (omega arith)
 
-pub returns-in-Err-ClockEnd-clause-stands : goal.returns-in-Err-ClockEnd-clause-stands
-returns-in-Err-ClockEnd-clause-stands g c =
-    run_limited {A = g.row.A.Denot} c.args.self.now c.loop-orders.self c.loop-orders.orders c.loop-orders.invariant (search rules) ∙ same (λ d. (record { orders = c.loop-orders.orders; reason = reasons.Limit }, d)) (sym c.in-Err-ClockEnd.ensures.unchanged)
+pub returns-in-Err-Memory : goal.returns-in-Err-Memory
+returns-in-Err-Memory g c =
+    run_refused c.args.by_rules c.args.self.now c.loop-orders.self c.go_on_so.new.self c.loop-orders.orders c.args.limit c.loop-orders.invariant _ (ap Err c.in-Err-Memory.field-0-is) c.in-Err-Memory.ensures (omega arith)
 
-pub returns-in-Err-Memory-clause-stands : goal.returns-in-Err-Memory-clause-stands
-returns-in-Err-Memory-clause-stands g c =
-    run_limited {A = g.row.A.Denot} c.args.self.now c.loop-orders.self c.loop-orders.orders c.loop-orders.invariant (search rules) ∙ same (λ d. (record { orders = c.loop-orders.orders; reason = reasons.Limit }, d)) (sym c.in-Err-Memory.ensures.unchanged)
+pub loop-orders-init : goal.loop-orders-init
+loop-orders-init g c = run_begun c.args.by_rules c.args.self.now
 
 pub loop-orders-preserved : goal.loop-orders-preserved
 loop-orders-preserved g c =
-    let Goes : Debugging g.row.A.Denot → Type 0 = λ d. HasRun c.args.self.now d (c.loop-orders.orders + 1) in
-    subst Goes (sym c.in-Ok-None.ensures.performed) (run_step {A = g.row.A.Denot} c.args.self.now c.loop-orders.self c.loop-orders.orders c.loop-orders.invariant (search rules) (search rules))
+    run_step c.args.by_rules c.args.self.now c.loop-orders.self c.go_on_so.new.self c.loop-orders.orders c.args.limit c.loop-orders.invariant _ (ap Ok c.in-Ok-None.field-0-is) c.in-Ok-None.ensures
 
-pub returns-then-is_at_rest-clause-ran : goal.returns-then-is_at_rest-clause-ran
-returns-then-is_at_rest-clause-ran g c =
+pub returns-then-is_at_rest : goal.returns-then-is_at_rest
+returns-then-is_at_rest g c =
     let all : c.loop-orders.orders ≡ c.args.limit = omega arith in
-    run_rested {A = g.row.A.Denot} c.args.self.now c.loop-orders.self c.args.limit c.args.limit
-    (subst (λ (n : ℕ). HasRun {A = g.row.A.Denot} c.args.self.now c.loop-orders.self n) all c.loop-orders.invariant) (omega arith) (search rules)
+    run_rested c.args.by_rules c.args.self.now c.loop-orders.self c.loop-orders.self c.args.limit c.args.limit
+    (subst (λ (n : ℕ). HasRun c.args.by_rules c.args.self.now c.loop-orders.self n) all c.loop-orders.invariant) (omega arith) (search rules) refl
 
-pub returns-else-is_at_rest-clause-ran : goal.returns-else-is_at_rest-clause-ran
-returns-else-is_at_rest-clause-ran g c =
+pub returns-else-is_at_rest : goal.returns-else-is_at_rest
+returns-else-is_at_rest g c =
     let all : c.loop-orders.orders ≡ c.args.limit = omega arith in
-    run_limited {A = g.row.A.Denot} c.args.self.now c.loop-orders.self c.args.limit
-    (subst (λ (n : ℕ). HasRun {A = g.row.A.Denot} c.args.self.now c.loop-orders.self n) all c.loop-orders.invariant) (search rules)
+    run_limited c.args.by_rules c.args.self.now c.loop-orders.self c.loop-orders.self c.args.limit c.args.limit
+    (subst (λ (n : ℕ). HasRun c.args.by_rules c.args.self.now c.loop-orders.self n) all c.loop-orders.invariant) (search rules) refl
