@@ -1,5 +1,4 @@
 pub mod HitLemmas
 pub mod WatchLemmas
 pub mod RunLemmas
-pub mod LoadLemmas
 pub mod ClockLemmas

@@ -4,12 +4,12 @@ use Rattle.std.specs.Prelude.{Result}
 use Rattle.lgp_table.specs.State.{State}
 use Rattle.lgp_table.specs.Activity.{cost, next}
 use Rattle.lgp_table.specs.Console.{is_at_rest}
-use Rattle.lgp_machine.specs.Answers.{clock_end}
+use Rattle.lgp_machine.specs.Answers.{clock_end, passes_clock_end}
 use Rattle.lgp_history.specs.Step.{Perform}
 use Rattle.lgp_history.specs.Steps.{CanStep}
 use Rattle.lgp_history.specs.declared.rule.Rule.{Rule}
 use Rattle.lgp_debugger.specs.Debugging.{Debugging, after_step, performed}
-use Rattle.lgp_debugger.specs.Run.{IsOrderOfRun, broken_off, ended_for, first_stop, one_order_more, passes_clock_end, run_of, unless_stopped}
+use Rattle.lgp_debugger.specs.Run.{IsOrderOfRun, broken_off, ended_for, first_stop, one_order_more, run_of, unless_stopped}
 use Rattle.lgp_debugger.specs.RunInside.{IsRun, rules_in_force}
 use Rattle.lgp_debugger.specs.declared.fault.Ran.{Ran}
 use Rattle.lgp_debugger.specs.declared.fault.Reason.TheVariants as reasons

@@ -1,9 +1,10 @@
 -- Part of the public promise: the debugger as clauses see it, and what each step leaves of it.
 use Rattle.std.specs.Prelude.{ℕ, zero, suc, List, Option, Some, None}
 use Rattle.lgp_table.specs.State.{State}
+use Rattle.lgp_table.specs.Activity.{begun_order, place_in}
 use Rattle.lgp_history.specs.Step.{KeptStep, Step, Perform}
 use Rattle.lgp_history.specs.Steps.{state_back, stepped, steps_back, with_step}
-use Rattle.lgp_history.specs.Origins.{latest_change, place_by}
+use Rattle.lgp_history.specs.Origins.{latest_change}
 use Rattle.lgp_history.specs.declared.origin.Origin.{Origin}
 use Rattle.lgp_history.specs.declared.rule.Rule.{Rule}
 
@@ -45,7 +46,7 @@ origin_at (Some place) steps = latest_change place steps
 
 -- where the order came from that begins here: one in the instruction register alone has no place
 abbrev pub order_origin : Debugging → Option Origin
-order_origin d = origin_at (place_by d.state.core.panel.status d.state.core) d.steps
+order_origin d = origin_at (place_in (begun_order d.state.core)) d.steps
 
 -- where the order came from that begins after so many
 unfoldable pub order_origins : Debugging → ℕ → Option Origin

@@ -1,10 +1,10 @@
 -- Part of the public promise: what a run comes to. That depends on the state in which it begins alone;
 -- the debugger behind it is the one after as many orders, each of them kept.
-use Rattle.std.specs.Prelude.{◌≡◌, ℕ, zero, suc, ◌+◌, ◌<◌, Bool, false, List, Option, Some, None, Result, Ok, Err, IsTrue, if◌then◌else◌, nat_lt, position}
+use Rattle.std.specs.Prelude.{◌≡◌, ℕ, zero, suc, ◌+◌, ◌<◌, Bool, false, List, Option, Some, None, Result, Ok, Err, IsTrue, if◌then◌else◌, position}
 use Rattle.lgp_table.specs.State.{State}
 use Rattle.lgp_table.specs.Activity.{cost, next}
 use Rattle.lgp_table.specs.Console.{is_at_rest}
-use Rattle.lgp_machine.specs.Answers.{clock_end}
+use Rattle.lgp_machine.specs.Answers.{clock_end, passes_clock_end}
 use Rattle.lgp_history.specs.Step.{Perform}
 use Rattle.lgp_history.specs.Steps.{CanStep}
 use Rattle.lgp_history.specs.Hits.{changes, goes_at}
@@ -18,10 +18,6 @@ use Rattle.lgp_debugger.specs.declared.fault.RunFault.{RunFault}
 use Rattle.lgp_debugger.specs.declared.fault.RunRefusal.TheVariants as refusals
 use Rattle.lgp_debugger.specs.declared.fault.StepFault.{StepFault}
 use Rattle.lgp_debugger.specs.declared.fault.StepFault.TheVariants.{AtRest, ClockEnd, Memory}
-
--- whether the activity that begins here would pass the clock's end
-abbrev pub passes_clock_end : State → Bool
-passes_clock_end s = nat_lt clock_end (s.clock + cost s)
 
 -- whether a rule stops a run after the order that begins in a state: `At` where the machine then is
 -- going with this address at its counter, `Changed` where the order left another word at this address

@@ -30,7 +30,7 @@ use lgp_assembler::Image;
 use lgp_flexo::{Code, TAPE_LIMIT};
 use lgp_history::{BackFault, History, Origin, Origins, Rule, Step, Tape};
 use lgp_loader::{LoadFault, load};
-use lgp_machine::{Look, Machine};
+use lgp_machine::{CLOCK_END, Look, Machine};
 use lgp_phases::Outcome;
 use lgp_table::Action;
 use lgp_word::{Address, Word};
@@ -39,9 +39,6 @@ use std::marker::Model;
 
 /// How many rules there may be.
 const RULE_LIMIT: usize = 64;
-
-/// The clock at which no word time begins.
-const CLOCK_END: u64 = 1 << 62;
 
 /// No order takes more word times.
 const LONGEST_ORDER: u64 = 1 << 32;
@@ -530,37 +527,6 @@ impl<H: History<A>, A: Allocator> Debugger<H, A> {
     }
 }
 
-/// Loads a program into a machine at a boundary by the keyed-in loader, and answers how many orders it performed.
-#[tactic(auto, using(lgp_loader::proofs::Stopped::stopped_nowhere))]
-fn load_machine<A: Allocator + Copy, B: Allocator>(
-    alloc: A,
-    machine: &mut Machine<A>,
-    image: &Image<B>,
-) -> Result<u64, LoadFault>
-    requires { machine.old ≡ at_boundary machine.old.state }
-    ensures loaded { OnOk result
-        (machine.new ≡ at_boundary (loaded machine.old.state (longest_load image.now))) }
-    ensures program { OnOk result (IsLoadedOver machine.old.state.core.words
-        machine.new.state.core.words image.now.cells) }
-    ensures time { OnOk result (machine.new.state.clock
-        ≡ machine.old.state.clock + loading_cost machine.old.state (longest_load image.now)) }
-    ensures orders { IfOk result (λ orders. orders ≡ (longest_load image.now).orders) }
-    ensures whole { OnOk result
-        (loading_stopped machine.old.state (longest_load image.now) ≡ None) }
-    ensures moving { result ≢ Err LoadFault.Moving }
-    ensures bad_cut { result ≢ Err LoadFault.BadCut }
-    ensures no_memory { result ≡ Err LoadFault.Memory → machine.new ≡ machine.old }
-    ensures stands { result ≡ Err LoadFault.ClockEnd
-        → loading_stopped machine.old.state (longest_load image.now) ≡ Some machine.new.state }
-    ensures boundary { result ≡ Err LoadFault.ClockEnd
-        → machine.new ≡ at_boundary machine.new.state }
-{
-    let outcome = load(alloc, machine, image);
-    // That the clock is within its end is what the mark's clause says.
-    let _ = machine.mark();
-    outcome
-}
-
 impl<H: History<A>, A: Allocator + Copy> Debugger<H, A> {
     /// Loads a program by the keyed-in loader, and answers how many orders it performed: the program's words then lie over what was
     /// on the drum, and the clock has gone on by what all of it cost. No step is kept afterwards, unless nothing
@@ -587,7 +553,7 @@ impl<H: History<A>, A: Allocator + Copy> Debugger<H, A> {
         ensures emptied { result ≡ Err LoadFault.ClockEnd
             → self.new ≡ record self.old { state = self.new.state; steps = [] } }
     {
-        match load_machine(alloc, &mut self.machine, image) {
+        match load(alloc, &mut self.machine, image) {
             Ok(orders) => {
                 self.history.clear();
                 Ok(orders)

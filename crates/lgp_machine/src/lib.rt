@@ -11,5 +11,5 @@ pub use fault::{
     MountFault, OrderFault, PlayFault, PressFault, Pressed, PutFault, RestFault, TurnFault,
 };
 pub use look::Look;
-pub use machine::Machine;
+pub use machine::{CLOCK_END, Machine};
 pub use mark::Mark;
