@@ -1,5 +1,6 @@
 -- The source of a disassembled word.
 use Rattle.std.proofs.Common.{◌≡◌, ◌≢◌, ◌<◌, ◌≤◌, ◌+◌, ◌/◌, ◌%◌, ◌++◌, ◌&&◌, ◌||◌, ◌==◌, ℕ, Bool, true, false, not, List, [], ◌∷◌, codes, Option, Some, None, refl, sym, ap, subst, ◌∙◌, arith, nat_le, nat_lt, map}
+use Rattle.std.specs.Option.{option_map_or}
 use Rattle.std.proofs.lemmas.Bool.{and_parts, eqb-true, leb-true, eq-eqb, true≢false}
 use Rattle.std.proofs.lemmas.Option.{cond_some}
 use Rattle.std.proofs.lemmas.List.Elements.{All-get_or, All-from_recursion}
@@ -23,7 +24,7 @@ use Rattle.lgp_assembler.specs.Faults.{needs_at_least, fault_of, faults_in, miss
 use Rattle.lgp_assembler.specs.Parts.{ImageParts}
 use Rattle.lgp_assembler.specs.declared.refusal.Fault.{Fault}
 use Rattle.lgp_assembler.specs.Image.{passed_lines, all_lines, cells_in, start_in}
-use Rattle.lgp_listing.specs.Disassembly.{order_text, digits_text, text_by, disassembly}
+use Rattle.lgp_listing.specs.Disassembly.{order_text, digits_text, disassembly}
 use Rattle.lgp_listing.specs.Laws.{one_line, AssemblesTo, EachWordAssembles}
 use Rattle.lgp_listing.proofs.Meanings.{order_named, order_means, minus_means, word_means, end_means}
 
@@ -267,12 +268,12 @@ unfolding disassembly
 each_word word is_word = pick (decoded word) refl
   where
     pick : (order : Option OrderParts) → decoded word ≡ order → AssemblesTo (one_line (disassembly word)) word
-    pick None none = subst (λ t. AssemblesTo (one_line t) word) (sym (ap (λ o. text_by o word) none)) (digits_assemble word is_word)
+    pick None none = subst (λ t. AssemblesTo (one_line t) word) (sym (ap (λ o. option_map_or order_text o (digits_text word)) none)) (digits_assemble word is_word)
     pick (Some order) some =
         let parts = parts_of word in
         let kept = cond_some (order_word parts == word && (takes_minus parts.op || not parts.minus)) parts order some in
         let test = and_parts (order_word parts == word) (takes_minus parts.op || not parts.minus) kept.0 in
         let word_is : order_word parts ≡ word = eqb-true (order_word parts) word test.0 in
-        let text_is : disassembly word ≡ order_text parts = ap (λ o. text_by o word) (some ∙ ap Some (sym kept.1)) in
+        let text_is : disassembly word ≡ order_text parts = ap (λ o. option_map_or order_text o (digits_text word)) (some ∙ ap Some (sym kept.1)) in
         subst (λ t. AssemblesTo (one_line t) word) (sym text_is)
         (subst (AssemblesTo (one_line (order_text parts))) word_is (order_assembles parts.minus parts.op parts.address (omega arith) test.1))
