@@ -17,10 +17,10 @@ use Rattle.lgp_assembler.specs.declared.operations.Operation.TheVariants.{Order,
 use Rattle.lgp_assembler.specs.declared.operands.Meaning.TheVariants.{Cell}
 use Rattle.std.proofs.Common.{Ok}
 use Rattle.lgp_assembler.specs.Operations.{operation_of}
-use Rattle.lgp_assembler.specs.Operands.{meaning}
+use Rattle.lgp_assembler.specs.Operands.{meaning_of}
 use Rattle.lgp_assembler.specs.Fields.{LineFields, fields_of}
 use Rattle.lgp_assembler.specs.Places.{next_place, has_ended, names_of, is_taken}
-use Rattle.lgp_assembler.specs.Faults.{needs_at_least, fault_of, faults_in, missing_end}
+use Rattle.lgp_assembler.specs.Faults.{least_needed, fault_of, faults_in, missing_end}
 use Rattle.lgp_assembler.specs.Parts.{ImageParts}
 use Rattle.lgp_assembler.specs.declared.refusal.Fault.{Fault}
 use Rattle.lgp_assembler.specs.Image.{passed_lines, all_lines, cells_in, start_in}
@@ -97,11 +97,11 @@ digits_visible word =
 -- ---- the lines of the source
 
 -- the line of an operation and an operand, and an end line, as the assembler sees them
-abbrev fields_by : Option Operation → List ℕ → LineFields
-fields_by operation operand = record { number = 1; is_bad = false; label = None; has_operation = true; operation = operation; first = Some operand; second = None; count = 1 }
+abbrev fields_with : Option Operation → List ℕ → LineFields
+fields_with operation operand = record { number = 1; is_bad = false; label = None; has_operation = true; operation = operation; first = Some operand; second = None; count = 1 }
 
 abbrev line_fields : Operation → List ℕ → LineFields
-line_fields operation operand = fields_by (Some operation) operand
+line_fields operation operand = fields_with (Some operation) operand
 
 abbrev end_fields : LineFields
 end_fields = record { number = 2; is_bad = false; label = None; has_operation = true; operation = Some End; first = None; second = None; count = 0 }
@@ -133,9 +133,9 @@ module _ (n o : ℕ) (name operand : List ℕ) (operation : Operation) (named : 
   first_line =
       let statement = statement_line 1 n o name operand is_name is_operand in
       ap fields_of statement.line_is
-      ∙ ap (λ t. fields_by (operation_of t) statement.second.text) statement.name_is
-      ∙ ap (fields_by (operation_of (n ∷ name))) statement.operand_is
-      ∙ ap (λ op. fields_by op (o ∷ operand)) named
+      ∙ ap (λ t. fields_with (operation_of t) statement.second.text) statement.name_is
+      ∙ ap (fields_with (operation_of (n ∷ name))) statement.operand_is
+      ∙ ap (λ op. fields_with op (o ∷ operand)) named
 
   pub both_lines : all_lines (one_line text) ≡ end_fields ∷ line_fields operation (o ∷ operand) ∷ []
   unfolding all_lines
@@ -158,7 +158,7 @@ pub record GivesOne (operation : Operation) (operand : List ℕ) (word : ℕ) : 
   image : given (end_fields ∷ line_fields operation operand ∷ []) ≡ record { cells = (0, word) ∷ []; start = None; symbols = [] }
 
 -- an order takes one operand
-order_needs : (op : Op) → nat_lt 1 (needs_at_least (Some (Order op))) ≡ false
+order_needs : (op : Op) → nat_lt 1 (least_needed (Some (Order op))) ≡ false
 order_needs Z = refl
 order_needs B = refl
 order_needs Y = refl
@@ -176,21 +176,21 @@ order_needs C = refl
 order_needs A = refl
 order_needs S = refl
 
-order_gives : (op : Op) (operand : List ℕ) (word : ℕ) → meaning [] 0 (Order op) (Some operand) None ≡ Ok (Cell word) → GivesOne (Order op) operand word
+order_gives : (op : Op) (operand : List ℕ) (word : ℕ) → meaning_of [] 0 (Order op) (Some operand) None ≡ Ok (Cell word) → GivesOne (Order op) operand word
 unfolding faults_in fault_of next_place has_ended names_of is_taken cells_in start_in
 order_gives op operand word means = record {
   faultless = rw (order_needs op, means, end_means [] 1) refl;
   image = rw (means, end_means [] 1) refl;
 }
 
-minus_gives : (operand : List ℕ) (word : ℕ) → meaning [] 0 MinusT (Some operand) None ≡ Ok (Cell word) → GivesOne MinusT operand word
+minus_gives : (operand : List ℕ) (word : ℕ) → meaning_of [] 0 MinusT (Some operand) None ≡ Ok (Cell word) → GivesOne MinusT operand word
 unfolding faults_in fault_of next_place has_ended names_of is_taken cells_in start_in
 minus_gives operand word means = record {
   faultless = rw (means, end_means [] 1) refl;
   image = rw (means, end_means [] 1) refl;
 }
 
-word_gives : (operand : List ℕ) (word : ℕ) → meaning [] 0 Word (Some operand) None ≡ Ok (Cell word) → GivesOne Word operand word
+word_gives : (operand : List ℕ) (word : ℕ) → meaning_of [] 0 Word (Some operand) None ≡ Ok (Cell word) → GivesOne Word operand word
 unfolding faults_in fault_of next_place has_ended names_of is_taken cells_in start_in
 word_gives operand word means = record {
   faultless = rw (means, end_means [] 1) refl;

@@ -3,9 +3,9 @@ use Rattle.lgp_source.specs.Seen.{line_seen}
 use Rattle.lgp_source.specs.Source.{lines_of}
 use Rattle.lgp_assembler.specs.Fields.{fields_of}
 use Rattle.lgp_assembler.specs.Places.{names_of}
-use Rattle.lgp_assembler.specs.Image.{all_lines, image_of}
+use Rattle.lgp_assembler.specs.Image.{line_cell, all_lines, image_of}
 use Rattle.lgp_listing.specs.Listing.{listing_of}
-use Rattle.lgp_assembler.proofs.LineCells.{line_cell, cells_behind}
+use Rattle.lgp_assembler.proofs.LineCells.{cells_behind}
 use Rattle.lgp_listing.proofs.ListingSteps.{IsListedSo, taken_first, listed_none, no_cell, first_cell, listed_more, no_more, listed_all}
 use Rattle.lgp_listing.proofs.listed.listing_from_image.Goals as goal
 use Rattle.lgp_listing.proofs.listed.listing_from_image.Goals.{then-has_word, else-has_word}
