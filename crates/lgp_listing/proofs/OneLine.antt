@@ -10,7 +10,7 @@ use Rattle.lgp_word.specs.Address.{IsAddress}
 use Rattle.lgp_word.specs.Word.{IsWord}
 use Rattle.lgp_word.specs.Order.{OrderParts, op_letter, order_word, parts_of, takes_minus, decoded}
 use Rattle.lgp_word.specs.Digits.{digits, digit_byte, digits_of, four_digits, address_digits}
-use Rattle.lgp_source.specs.Source.{text_of, line_of, numbered, lines_of}
+use Rattle.lgp_source.specs.Source.{text_of, line_of, numbered_lines, lines_of}
 use Rattle.lgp_source.proofs.PlainLines.{IsPlain, ArePlain, AreVisible, plain_visible, plain_append, piece_first, text_whole, statement_line}
 use Rattle.lgp_assembler.specs.declared.operations.Operation.{Operation}
 use Rattle.lgp_assembler.specs.declared.operations.Operation.TheVariants.{Order, MinusT, Word, End}
@@ -123,9 +123,9 @@ module _ (n o : ℕ) (name operand : List ℕ) (operation : Operation) (named : 
   )
 
   two_lines : lines_of (one_line text) ≡ line_of 1 (32 ∷ text) ∷ line_of 2 (text_of (codes " end")) ∷ []
-  unfolding lines_of numbered
+  unfolding lines_of numbered_lines
   two_lines =
-      ap (numbered 1) (piece_first (32 ∷ text) (codes " end") plain_text)
+      ap (numbered_lines 1) (piece_first (32 ∷ text) (codes " end") plain_text)
       ∙ ap (λ t. line_of 1 t ∷ line_of 2 (text_of (codes " end")) ∷ []) (text_whole (32 ∷ text) plain_text)
 
   first_line : fields_of (line_of 1 (32 ∷ text)) ≡ line_fields operation (o ∷ operand)
