@@ -21,9 +21,11 @@ pub fn names_are_first_places()
     ensures { NamesAreFirstPlaces }
 {}
 
-/// A law, for readers and proofs: the faults of a source are those of its lines, in their order, and
-/// last that of a missing end line. A line behind some others adds its own fault to theirs, if it
-/// has one: that of the first row of the table that holds for it.
+/// A law, for readers and proofs: the faults of a source are those of its lines, in their order,
+/// and last that of a missing end line. A line behind some others adds its own fault to theirs, if
+/// it has one: that of the first row of the table that holds for it. What the rows ask of the lines
+/// before it is whether one of them is an end line, which labels they have, and whether one of them
+/// has a word at its place.
 #[tactic(auto, using(crate::proofs::FaultLaws::faults_law))]
 pub fn faults_follow_lines()
     ensures { FaultsFollowLines }
