@@ -8,13 +8,13 @@ use Rattle.lgp_assembler.specs.declared.operands.OperandFault.{OperandFault}
 use Rattle.lgp_assembler.specs.Fields.{LineFields}
 use Rattle.lgp_assembler.specs.Places.{has_word, word_count, place_of, names_of}
 use Rattle.lgp_assembler.specs.Faults.{fault_of, faults_in, line_meaning, missing_end}
-use Rattle.lgp_assembler.specs.Image.{all_lines, cell_at, cells_in, faults_of, image_of, passed_lines}
+use Rattle.lgp_assembler.specs.Image.{line_cell, all_lines, cell_at, cells_in, faults_of, image_of, passed_lines}
 use Rattle.lgp_word.specs.Address.{IsAddress}
 use Rattle.lgp_assembler.specs.Parts.{AreProgramCells, HaveOwnPlaces}
 use Rattle.lgp_assembler.specs.Laws.{HasCellAt, LinesHaveCells, lines_in, place_after, word_total}
 use Rattle.lgp_assembler.proofs.Assembled.{first_none}
 use Rattle.lgp_assembler.proofs.CellWords.{program_cells, start_is, words_in}
-use Rattle.lgp_assembler.proofs.LineCells.{AreFaultless, cell_missing, cell_there, cells_behind, cells_in_order, each_faultless, front_faultless, line_cell}
+use Rattle.lgp_assembler.proofs.LineCells.{AreFaultless, cell_missing, cell_there, cells_behind, cells_in_order, each_faultless, front_faultless}
 use Rattle.lgp_assembler.proofs.OwnPlaces.{own_places}
 use Rattle.lgp_assembler.proofs.PlaceLaws.{passed-append}
 

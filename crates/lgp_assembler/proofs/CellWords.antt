@@ -28,9 +28,9 @@ use Rattle.lgp_assembler.specs.declared.operands.Meaning.TheVariants.{Cell, Plac
 use Rattle.lgp_assembler.specs.declared.operands.Offset.{Offset}
 use Rattle.lgp_assembler.specs.declared.operands.OperandFault.{OperandFault}
 use Rattle.lgp_assembler.specs.declared.operands.OperandFault.TheVariants.{Misformed, Outside}
-use Rattle.lgp_assembler.specs.Operands.{address_operand, base_number, cell_of_fraction, cell_of_order, cell_or, in_range, integer_word, is_sign, meaning, moved, offset_of, order_operand, place_or, printing, scaled_word, sign_operand, unsigned_part, word_of_parts}
+use Rattle.lgp_assembler.specs.Operands.{meaning_under, address_operand, base_number, cell_of_fraction, cell_of_order, cell_of_digits, in_range, integer_word, is_sign, meaning_of, address_of_parts, offset_of, order_operand, place_meaning, cell_of_sign, scaled_word, sign_operand, unsigned_part, word_of_parts}
 use Rattle.lgp_assembler.specs.Fields.{LineFields}
-use Rattle.lgp_assembler.specs.Faults.{line_meaning, meaning_by}
+use Rattle.lgp_assembler.specs.Faults.{line_meaning}
 use Rattle.lgp_assembler.specs.Image.{cell_at, cells_in, start_at, start_in}
 use Rattle.lgp_assembler.specs.Parts.{AreProgramCells, is_loaders}
 use Rattle.lgp_assembler.specs.Places.{place_of}
@@ -45,7 +45,7 @@ found false one other first second = second refl
 ranged : (number : ℕ) → IfOk (in_range number) IsAddress
 ranged number = found (nat_lt number 4096) (Ok number) (Err Outside) (λ e. grind (arith, nat_tests)) (λ e. tt)
 
-moved_address : (offset : Option Offset) (base : Result ℕ OperandFault) → IfOk (moved offset base) IsAddress
+moved_address : (offset : Option Offset) (base : Result ℕ OperandFault) → IfOk (address_of_parts offset base) IsAddress
 moved_address None base = tt
 moved_address (Some offset) (Err fault) = tt
 moved_address (Some offset) (Ok number) = found offset.minus (cond (nat_le offset.number number) (in_range (number - offset.number)) (Err Outside)) (in_range (number + offset.number))
@@ -112,12 +112,12 @@ small_code sign = one_of (sign == byte "l") (code_in_row 2 digits (byte "1")) _ 
     (one_or (code_in_row 1 letters sign) _ (row_code 1 letters sign (omega arith) (omega arith))
     (one_or (code_in_row 2 digits sign) (code_in_row 3 other_signs sign) (row_code 2 digits sign (omega arith) (omega arith)) (row_code 3 other_signs sign (omega arith) (omega arith)))))
 
-printed_cell : (code : Option ℕ) → IfSome code (λ code. code < 64) → IfCell (printing code) IsWord
+printed_cell : (code : Option ℕ) → IfSome code (λ code. code < 64) → IfCell (cell_of_sign code) IsWord
 printed_cell (Some code) small = order_fits false 8 (64 * code) (omega arith) (omega (arith, small))
 printed_cell None small = tt
 
 sign_cell : (op : Op) (text : List ℕ) → IfCell (sign_operand op text) IsWord
-sign_cell P text = chosen (length text == 2) (printing (code_at (slice_index text 1))) (Err Misformed) (λ e. printed_cell (code_at (slice_index text 1)) (small_code (slice_index text 1))) (λ e. tt)
+sign_cell P text = chosen (length text == 2) (cell_of_sign (code_at (slice_index text 1))) (Err Misformed) (λ e. printed_cell (code_at (slice_index text 1)) (small_code (slice_index text 1))) (λ e. tt)
 sign_cell Z text = tt
 sign_cell B text = tt
 sign_cell Y text = tt
@@ -171,17 +171,17 @@ fraction_cell (Ok steps) = even_bits steps
 fraction_cell (Err Form) = tt
 fraction_cell (Err OutOfRange) = tt
 
-digits_cell : (text : List ℕ) (o : Option ℕ) → word_of_digits text ≡ o → IfCell (cell_or o) IsWord
+digits_cell : (text : List ℕ) (o : Option ℕ) → word_of_digits text ≡ o → IfCell (cell_of_digits o) IsWord
 digits_cell text None e = tt
 digits_cell text (Some word) e = IsWord-word_of_digits text word e
 
-place_cell : (r : Result ℕ OperandFault) → IfCell (place_or r) IsWord
+place_cell : (r : Result ℕ OperandFault) → IfCell (place_meaning r) IsWord
 place_cell (Ok address) = tt
 place_cell (Err fault) = tt
 
 module _ (names : List (List ℕ × ℕ)) (place : ℕ) where
-  meaning_cell : (operation : Operation) (first second : Option (List ℕ)) → IfCell (meaning names place operation first second) IsWord
-  unfolding meaning
+  meaning_cell : (operation : Operation) (first second : Option (List ℕ)) → IfCell (meaning_of names place operation first second) IsWord
+  unfolding meaning_of
   meaning_cell (Order op) None second = order_fits false (op_number op) 0 (small_op op) (omega arith)
   meaning_cell (Order op) (Some text) second = operand_cell names place false op text
   meaning_cell MinusT None second = tt
@@ -198,7 +198,7 @@ module _ (names : List (List ℕ × ℕ)) (place : ℕ) where
   meaning_cell End None second = tt
   meaning_cell End (Some text) second = place_cell _
 
-  line_word : (operation : Option Operation) (line : LineFields) → IfCell (meaning_by operation names place line) IsWord
+  line_word : (operation : Option Operation) (line : LineFields) → IfCell (meaning_under operation names place line.first line.second) IsWord
   line_word None line = tt
   line_word (Some operation) line = meaning_cell operation line.first line.second
 
@@ -235,8 +235,8 @@ program_cells (cell ∷ cells) within free are = (
 
 -- ---- the start
 
-start_found : (operation : Option Operation) (names : List (List ℕ × ℕ)) (place : ℕ) (line : LineFields) → IfSome (start_at operation (meaning_by operation names place line)) IsAddress
-unfolding meaning
+start_found : (operation : Option Operation) (names : List (List ℕ × ℕ)) (place : ℕ) (line : LineFields) → IfSome (start_at operation (meaning_under operation names place line.first line.second)) IsAddress
+unfolding meaning_of
 start_found None names place line = tt
 start_found (Some (Order op)) names place line = tt
 start_found (Some MinusT) names place line = tt
@@ -246,11 +246,11 @@ start_found (Some Frac) names place line = tt
 start_found (Some Int) names place line = tt
 start_found (Some End) names place line = by_operand line.first
   where
-    by_place : (r : Result ℕ OperandFault) → IfOk r IsAddress → IfSome (start_at (Some End) (place_or r)) IsAddress
+    by_place : (r : Result ℕ OperandFault) → IfOk r IsAddress → IfSome (start_at (Some End) (place_meaning r)) IsAddress
     by_place (Ok address) is = is
     by_place (Err fault) is = tt
 
-    by_operand : (first : Option (List ℕ)) → IfSome (start_at (Some End) (meaning names place End first line.second)) IsAddress
+    by_operand : (first : Option (List ℕ)) → IfSome (start_at (Some End) (meaning_of names place End first line.second)) IsAddress
     by_operand None = tt
     by_operand (Some text) = by_place (address_operand names place text) (address_found names place text)
 

@@ -1,11 +1,11 @@
 -- One line more in a draft.
-use Rattle.std.proofs.Common.{◌≡◌, ◌<◌, ◌≤◌, ◌+◌, ◌*◌, ◌&&◌, ◌||◌, ◌==◌, ◌++◌, ℕ, Bool, true, false, List, [], ◌∷◌, length, Option, None, Some, Result, Ok, Err, refl, sym, ap, subst, ◌∙◌, arith, ⊎_elim, nat_lt, unwrap_or, option_to_list, option_map, is_some, slice_index_or}
+use Rattle.std.proofs.Common.{◌≡◌, ◌<◌, ◌≤◌, ◌+◌, ◌*◌, ◌&&◌, ◌||◌, ◌==◌, ◌++◌, ℕ, Bool, true, false, List, [], ◌∷◌, length, Option, None, Some, Result, Ok, Err, refl, sym, ap, subst, ◌∙◌, arith, ⊎_elim, nat_lt, nat_le, unwrap_or, option_to_list, option_map, is_some, slice_index_or}
 use Rattle.std.specs.Option.{option_or}
 use Rattle.std.specs.Str.{bytes_eq}
 use Rattle.std.specs.List.{list_all}
 use Rattle.std.specs.Map.{lookup}
 use Rattle.std.specs.Char.{is_ascii_digit}
-use Rattle.std.proofs.lemmas.Bool.{cases_Bool, cases_lt, cond-true, cond-false, ltb-true, leb-true, and_parts, and_from, true≢false, lt-ltb, not-false}
+use Rattle.std.proofs.lemmas.Bool.{le-leb, cases_Bool, cases_lt, cond-true, cond-false, ltb-true, leb-true, and_parts, and_from, true≢false, not-false}
 use Rattle.std.proofs.lemmas.Option.{none-some, cond_some}
 use Rattle.lgp_word.specs.Digits.{address_text, two_at}
 use Rattle.lgp_assembler.specs.declared.operations.Operation.{Operation}
@@ -16,14 +16,14 @@ use Rattle.lgp_assembler.specs.declared.operands.OperandFault.{OperandFault}
 use Rattle.lgp_assembler.specs.declared.refusal.Fault.{Fault}
 use Rattle.lgp_assembler.specs.declared.refusal.FaultKind.{FaultKind}
 use Rattle.lgp_word.specs.Word.{IsWord}
-use Rattle.lgp_assembler.specs.Parts.{is_loaders, AreProgramCells}
+use Rattle.lgp_assembler.specs.Parts.{drum_size, is_loaders, AreProgramCells}
 use Rattle.lgp_assembler.specs.Operations.{makes_word}
-use Rattle.lgp_assembler.specs.Operands.{is_name, meaning, place_or}
+use Rattle.lgp_assembler.specs.Operands.{meaning_under, is_name, meaning_of, place_meaning}
 use Rattle.lgp_assembler.specs.Fields.{LineFields}
-use Rattle.lgp_assembler.specs.Places.{option_makes_word, has_word, word_count, org_address, next_place, place_by, place_of, has_ended, new_label, names_of}
-use Rattle.lgp_assembler.specs.Faults.{says_something, is_bad_label, is_label_again, line_meaning, meaning_by, rows, first_kind, numbered_fault, faults_in}
+use Rattle.lgp_assembler.specs.Places.{option_makes_word, has_word, word_count, org_address, next_place, place_reached, place_of, has_ended, new_label, names_of}
+use Rattle.lgp_assembler.specs.Faults.{says_something, is_bad_label, is_label_again, line_meaning, first_kind, numbered_fault, faults_in}
 use Rattle.lgp_assembler.specs.Image.{cell_at, cells_in, start_at, start_in}
-use Rattle.lgp_assembler.specs.ScanInside.{IfCell, Stands, AreMarks, kept_fault, CellFits, SymbolFits, symbol_at, IsDraftOf}
+use Rattle.lgp_assembler.specs.ScanInside.{rows, IfCell, Stands, ArePlacesTaken, coming_fault, CellFits, SymbolFits, symbol_at, IsDraftOf}
 use Rattle.lgp_assembler.proofs.Rows.{kind_here, kind_behind, fault_stands}
 
 -- ---- where no row holds
@@ -44,7 +44,7 @@ record Clear (line : LineFields) (place : ℕ) (ended : Bool) (before : List (Li
   live : (ended && says_something line) ≡ false
   label : is_bad_label line.label ≡ false
   fresh : is_label_again line.label before ≡ false
-  within : (has_word line && nat_lt 4095 place) ≡ false
+  within : (has_word line && nat_le drum_size place) ≡ false
   free : (has_word line && is_loaders place) ≡ false
 
 clear_rows : (line : LineFields) (meaning : Result Meaning OperandFault) (place : ℕ) (ended : Bool) (before : List (List ℕ × ℕ)) (taken : Bool) → first_kind (rows line meaning place ended before taken) ≡ None → Clear line place ended before
@@ -85,14 +85,14 @@ or_place_small None place small within = within
 or_place_small (Some n) place small within =
     let below : n < 4096 = small n refl in omega arith
 
-place_small : (line : LineFields) (place : ℕ) → place ≤ 4096 → place_by line place ≤ 4096
+place_small : (line : LineFields) (place : ℕ) → place ≤ 4096 → place_reached line place ≤ 4096
 place_small line place within =
     or_place_small (org_address line.operation line.first) place (org_small line.operation line.first) within
 
-pub word_within : (line : LineFields) (place : ℕ) → (has_word line && nat_lt 4095 place) ≡ false → has_word line ≡ true → place < 4096
+pub word_within : (line : LineFields) (place : ℕ) → (has_word line && nat_le drum_size place) ≡ false → has_word line ≡ true → place < 4096
 word_within line place e word = ⊎_elim
     (λ below. below)
-    (λ above. absurd (true≢false (sym (and_from (has_word line) (nat_lt 4095 place) word (lt-ltb 4095 place (omega arith))) ∙ e)))
+    (λ above. absurd (true≢false (sym (and_from (has_word line) (nat_le drum_size place) word (le-leb drum_size place (omega arith))) ∙ e)))
     (cases_lt place 4096)
 
 next_small : (line : LineFields) (place : ℕ) → place ≤ 4096 → (has_word line ≡ true → place < 4096) → place + word_count line ≤ 4096
@@ -114,23 +114,23 @@ any_fits place (Ok (Place address)) small = tt
 any_fits place (Ok Nothing) small = tt
 any_fits place (Err fault) small = tt
 
-place_fits : (place : ℕ) (r : Result ℕ OperandFault) → CellFits place (place_or r)
+place_fits : (place : ℕ) (r : Result ℕ OperandFault) → CellFits place (place_meaning r)
 place_fits place (Ok address) = tt
 place_fits place (Err fault) = tt
 
-meaning_fits : (names : List (List ℕ × ℕ)) (here place : ℕ) (operation : Operation) (first second : Option (List ℕ)) → (makes_word operation ≡ true → place < 4096) → CellFits place (meaning names here operation first second)
-unfolding meaning
-meaning_fits names here place (Order op) first second small = any_fits place (meaning names here (Order op) first second) (small refl)
-meaning_fits names here place MinusT first second small = any_fits place (meaning names here MinusT first second) (small refl)
-meaning_fits names here place Word first second small = any_fits place (meaning names here Word first second) (small refl)
-meaning_fits names here place Frac first second small = any_fits place (meaning names here Frac first second) (small refl)
-meaning_fits names here place Int first second small = any_fits place (meaning names here Int first second) (small refl)
+meaning_fits : (names : List (List ℕ × ℕ)) (here place : ℕ) (operation : Operation) (first second : Option (List ℕ)) → (makes_word operation ≡ true → place < 4096) → CellFits place (meaning_of names here operation first second)
+unfolding meaning_of
+meaning_fits names here place (Order op) first second small = any_fits place (meaning_of names here (Order op) first second) (small refl)
+meaning_fits names here place MinusT first second small = any_fits place (meaning_of names here MinusT first second) (small refl)
+meaning_fits names here place Word first second small = any_fits place (meaning_of names here Word first second) (small refl)
+meaning_fits names here place Frac first second small = any_fits place (meaning_of names here Frac first second) (small refl)
+meaning_fits names here place Int first second small = any_fits place (meaning_of names here Int first second) (small refl)
 meaning_fits names here place Org None second small = tt
 meaning_fits names here place Org (Some text) second small = place_fits place _
 meaning_fits names here place End None second small = tt
 meaning_fits names here place End (Some text) second small = place_fits place _
 
-pub line_fits : (operation : Option Operation) (names : List (List ℕ × ℕ)) (here place : ℕ) (line : LineFields) → (option_makes_word operation ≡ true → place < 4096) → CellFits place (meaning_by operation names here line)
+pub line_fits : (operation : Option Operation) (names : List (List ℕ × ℕ)) (here place : ℕ) (line : LineFields) → (option_makes_word operation ≡ true → place < 4096) → CellFits place (meaning_under operation names here line.first line.second)
 line_fits None names here place line small = tt
 line_fits (Some operation) names here place line small = meaning_fits names here place operation line.first line.second small
 
@@ -151,23 +151,23 @@ cell_free place (Ok (Place address)) free = tt
 cell_free place (Ok Nothing) free = tt
 cell_free place (Err fault) free = tt
 
-place_free : (place : ℕ) (r : Result ℕ OperandFault) → IfCell (place_or r) (λ word. is_loaders place ≡ false)
+place_free : (place : ℕ) (r : Result ℕ OperandFault) → IfCell (place_meaning r) (λ word. is_loaders place ≡ false)
 place_free place (Ok address) = tt
 place_free place (Err fault) = tt
 
-meaning_free : (names : List (List ℕ × ℕ)) (here place : ℕ) (operation : Operation) (first second : Option (List ℕ)) → (makes_word operation ≡ true → is_loaders place ≡ false) → IfCell (meaning names here operation first second) (λ word. is_loaders place ≡ false)
-unfolding meaning
-meaning_free names here place (Order op) first second free = cell_free place (meaning names here (Order op) first second) (free refl)
-meaning_free names here place MinusT first second free = cell_free place (meaning names here MinusT first second) (free refl)
-meaning_free names here place Word first second free = cell_free place (meaning names here Word first second) (free refl)
-meaning_free names here place Frac first second free = cell_free place (meaning names here Frac first second) (free refl)
-meaning_free names here place Int first second free = cell_free place (meaning names here Int first second) (free refl)
+meaning_free : (names : List (List ℕ × ℕ)) (here place : ℕ) (operation : Operation) (first second : Option (List ℕ)) → (makes_word operation ≡ true → is_loaders place ≡ false) → IfCell (meaning_of names here operation first second) (λ word. is_loaders place ≡ false)
+unfolding meaning_of
+meaning_free names here place (Order op) first second free = cell_free place (meaning_of names here (Order op) first second) (free refl)
+meaning_free names here place MinusT first second free = cell_free place (meaning_of names here MinusT first second) (free refl)
+meaning_free names here place Word first second free = cell_free place (meaning_of names here Word first second) (free refl)
+meaning_free names here place Frac first second free = cell_free place (meaning_of names here Frac first second) (free refl)
+meaning_free names here place Int first second free = cell_free place (meaning_of names here Int first second) (free refl)
 meaning_free names here place Org None second free = tt
 meaning_free names here place Org (Some text) second free = place_free place _
 meaning_free names here place End None second free = tt
 meaning_free names here place End (Some text) second free = place_free place _
 
-line_free : (operation : Option Operation) (names : List (List ℕ × ℕ)) (here place : ℕ) (line : LineFields) → (option_makes_word operation ≡ true → is_loaders place ≡ false) → IfCell (meaning_by operation names here line) (λ word. is_loaders place ≡ false)
+line_free : (operation : Option Operation) (names : List (List ℕ × ℕ)) (here place : ℕ) (line : LineFields) → (option_makes_word operation ≡ true → is_loaders place ≡ false) → IfCell (meaning_under operation names here line.first line.second) (λ word. is_loaders place ≡ false)
 line_free None names here place line free = tt
 line_free (Some operation) names here place line free = meaning_free names here place operation line.first line.second free
 
@@ -205,8 +205,8 @@ list_none number (Some kind) e = absurd (cc)
 
 pub draft_step : (names : List (List ℕ × ℕ)) (line : LineFields) (lines place : ℕ) (ended : Bool) (before : List (List ℕ × ℕ)) (taken : List Bool) (earlier : List LineFields)
     → (faults faults' : List Fault) (cells cells' : List (ℕ × ℕ)) (start start' : Option ℕ) (symbols symbols' : List (List ℕ × ℕ))
-    → (here : ℕ) → here ≡ place_by line place → Stands lines place ended before earlier → AreMarks taken earlier → IsDraftOf names faults cells start symbols earlier
-    → faults' ≡ faults ++ option_to_list (option_map (numbered_fault line.number) (kept_fault line (line_meaning names here line) here ended before taken))
+    → (here : ℕ) → here ≡ place_reached line place → Stands lines place ended before earlier → ArePlacesTaken taken earlier → IsDraftOf names faults cells start symbols earlier
+    → faults' ≡ faults ++ option_to_list (option_map (numbered_fault line.number) (coming_fault line (line_meaning names here line) here ended before taken))
     → (faults' ≡ [] → CellFits here (line_meaning names here line) → cells' ≡ cells ++ option_to_list (cell_at here (line_meaning names here line)))
     → (faults' ≡ [] → start' ≡ option_or start (start_at line.operation (line_meaning names here line)))
     → (faults' ≡ [] → SymbolFits line.label here → symbols' ≡ symbols ++ option_to_list (symbol_at line.label here))
@@ -214,12 +214,12 @@ pub draft_step : (names : List (List ℕ × ℕ)) (line : LineFields) (lines pla
     → IsDraftOf names faults' cells' start' symbols' (line ∷ earlier)
 unfolding faults_in cells_in start_in names_of next_place
 draft_step names line lines place ended before taken earlier faults faults' cells cells' start start' symbols symbols' here at s marks d faults_e cells_e start_e symbols_e word_e =
-    let here_is : here ≡ place_of line earlier = at ∙ ap (place_by line) s.place_is in
-    let kind = kept_fault line (line_meaning names here line) here ended before taken in
+    let here_is : here ≡ place_of line earlier = at ∙ ap (place_reached line) s.place_is in
+    let kind = coming_fault line (line_meaning names here line) here ended before taken in
     let told = numbered_fault line.number in
     record {
       faults_are = faults_e ∙ ap (λ fs. fs ++ option_to_list (option_map told kind)) d.faults_are
-          ∙ ap (λ h. faults_in names earlier ++ option_to_list (option_map told (kept_fault line (line_meaning names h line) h ended before taken))) at
+          ∙ ap (λ h. faults_in names earlier ++ option_to_list (option_map told (coming_fault line (line_meaning names h line) h ended before taken))) at
           ∙ ap (λ k. faults_in names earlier ++ option_to_list (option_map told k)) (fault_stands names line lines place ended before taken earlier s marks);
       image = λ none.
           let both = append_none faults (option_to_list (option_map told kind)) (sym faults_e ∙ none) in

@@ -5,6 +5,7 @@ pub mod ScanSteps
 pub mod Rows
 pub mod DraftSteps
 pub mod PlaceLaws
+pub mod FaultLaws
 pub mod LineCells
 pub mod OwnPlaces
 pub mod CellWords

@@ -17,11 +17,12 @@ use Rattle.lgp_assembler.specs.declared.operands.Meaning.TheVariants.{Cell, Plac
 use Rattle.lgp_assembler.specs.declared.operands.OperandFault.{OperandFault}
 use Rattle.lgp_assembler.specs.declared.operands.OperandFault.TheVariants.{Misformed, Unknown, Outside}
 use Rattle.lgp_assembler.specs.Operations.{makes_word}
-use Rattle.lgp_assembler.specs.Operands.{cell_of_order, printing, sign_operand, order_operand, address_operand, scaled_word, word_of_parts, integer_word, unsigned_part, cell_of_fraction, cell_or, place_or, meaning}
+use Rattle.lgp_assembler.specs.Operands.{meaning_under, cell_of_order, cell_of_sign, sign_operand, order_operand, address_operand, scaled_word, word_of_parts, integer_word, unsigned_part, cell_of_fraction, cell_of_digits, place_meaning, meaning_of}
 use Rattle.lgp_assembler.specs.Fields.{LineFields}
 use Rattle.lgp_assembler.specs.Places.{option_makes_word, has_word, place_of, has_ended, names_of, is_taken}
-use Rattle.lgp_assembler.specs.Faults.{is_misformed, is_unknown, is_out_of_range, line_meaning, meaning_by, rows, fault_of, faults_in}
-use Rattle.lgp_assembler.specs.Image.{cell_at, cells_in, passed_lines}
+use Rattle.lgp_assembler.specs.ScanInside.{rows}
+use Rattle.lgp_assembler.specs.Faults.{is_misformed, is_unknown, is_out_of_range, line_meaning, fault_of, faults_in}
+use Rattle.lgp_assembler.specs.Image.{cell_at, line_cell, cells_in, passed_lines}
 use Rattle.lgp_assembler.proofs.DraftSteps.{none_fails, append_none, list_none}
 
 -- ---- what an operation that makes a word gives is a word, or a fault
@@ -44,12 +45,12 @@ order_gives : (minus : Bool) (op : Op) (r : Result ℕ OperandFault) → IsWordO
 order_gives minus op (Ok address) = tt
 order_gives minus op (Err fault) = tt
 
-printing_gives : (code : Option ℕ) → IsWordOrFault (printing code)
+printing_gives : (code : Option ℕ) → IsWordOrFault (cell_of_sign code)
 printing_gives (Some code) = tt
 printing_gives None = tt
 
 sign_gives : (op : Op) (text : List ℕ) → IsWordOrFault (sign_operand op text)
-sign_gives P text = chosen (length text == 2) (printing (code_at (slice_index text 1))) (Err Misformed) (printing_gives (code_at (slice_index text 1))) tt
+sign_gives P text = chosen (length text == 2) (cell_of_sign (code_at (slice_index text 1))) (Err Misformed) (printing_gives (code_at (slice_index text 1))) tt
 sign_gives Z text = tt
 sign_gives B text = tt
 sign_gives Y text = tt
@@ -93,17 +94,17 @@ fraction_gives (Ok steps) = tt
 fraction_gives (Err Form) = tt
 fraction_gives (Err OutOfRange) = tt
 
-word_gives : (word : Option ℕ) → IsWordOrFault (cell_or word)
+word_gives : (word : Option ℕ) → IsWordOrFault (cell_of_digits word)
 word_gives (Some word) = tt
 word_gives None = tt
 
-place_gives : (r : Result ℕ OperandFault) → IsNoWord (place_or r)
+place_gives : (r : Result ℕ OperandFault) → IsNoWord (place_meaning r)
 place_gives (Ok address) = tt
 place_gives (Err fault) = tt
 
 module _ (names : List (List ℕ × ℕ)) (place : ℕ) where
-  makes : (operation : Operation) (first second : Option (List ℕ)) → makes_word operation ≡ true → IsWordOrFault (meaning names place operation first second)
-  unfolding meaning
+  makes : (operation : Operation) (first second : Option (List ℕ)) → makes_word operation ≡ true → IsWordOrFault (meaning_of names place operation first second)
+  unfolding meaning_of
   makes (Order op) None second e = tt
   makes (Order op) (Some text) second e = operand_gives names place false op text
   makes MinusT None second e = tt
@@ -118,8 +119,8 @@ module _ (names : List (List ℕ × ℕ)) (place : ℕ) where
   makes Org first second e = absurd (true≢false (sym e))
   makes End first second e = absurd (true≢false (sym e))
 
-  makes_none : (operation : Operation) (first second : Option (List ℕ)) → makes_word operation ≡ false → IsNoWord (meaning names place operation first second)
-  unfolding meaning
+  makes_none : (operation : Operation) (first second : Option (List ℕ)) → makes_word operation ≡ false → IsNoWord (meaning_of names place operation first second)
+  unfolding meaning_of
   makes_none Org None second e = tt
   makes_none Org (Some text) second e = place_gives _
   makes_none End None second e = tt
@@ -130,11 +131,11 @@ module _ (names : List (List ℕ × ℕ)) (place : ℕ) where
   makes_none Frac first second e = absurd (true≢false e)
   makes_none Int first second e = absurd (true≢false e)
 
-  line_makes : (operation : Option Operation) (line : LineFields) → option_makes_word operation ≡ true → IsWordOrFault (meaning_by operation names place line)
+  line_makes : (operation : Option Operation) (line : LineFields) → option_makes_word operation ≡ true → IsWordOrFault (meaning_under operation names place line.first line.second)
   line_makes None line e = absurd (true≢false (sym e))
   line_makes (Some operation) line e = makes operation line.first line.second e
 
-  pub line_makes_none : (operation : Option Operation) (line : LineFields) → option_makes_word operation ≡ false → IsNoWord (meaning_by operation names place line)
+  pub line_makes_none : (operation : Option Operation) (line : LineFields) → option_makes_word operation ≡ false → IsNoWord (meaning_under operation names place line.first line.second)
   line_makes_none None line e = tt
   line_makes_none (Some operation) line e = makes_none operation line.first line.second e
 
@@ -153,10 +154,6 @@ missing place (Ok (Cell word)) is = absurd is
 missing place (Ok (Place address)) is = refl
 missing place (Ok Nothing) is = refl
 missing place (Err fault) is = refl
-
--- the place and the word of a line after those before it, the nearest first
-abbrev pub line_cell : List (List ℕ × ℕ) → List LineFields → LineFields → Option (ℕ × ℕ)
-line_cell names earlier line = cell_at (place_of line earlier) (line_meaning names (place_of line earlier) line)
 
 module _ (names : List (List ℕ × ℕ)) (earlier : List LineFields) (line : LineFields) (faultless : fault_of names line earlier ≡ None) where
   pub cell_there : has_word line ≡ true → is_some (line_cell names earlier line) ≡ true

@@ -16,10 +16,11 @@ use Rattle.lgp_assembler.specs.declared.operands.OperandFault.{OperandFault}
 use Rattle.lgp_assembler.specs.Fields.{LineFields}
 use Rattle.lgp_assembler.specs.Parts.{HaveOwnPlaces, is_loaders}
 use Rattle.lgp_assembler.specs.Places.{has_word, place_of, has_ended, names_of, is_taken}
-use Rattle.lgp_assembler.specs.Faults.{line_meaning, rows, fault_of, faults_in}
-use Rattle.lgp_assembler.specs.Image.{cell_at, cells_in}
+use Rattle.lgp_assembler.specs.ScanInside.{rows}
+use Rattle.lgp_assembler.specs.Faults.{line_meaning, fault_of, faults_in}
+use Rattle.lgp_assembler.specs.Image.{line_cell, cell_at, cells_in}
 use Rattle.lgp_assembler.proofs.DraftSteps.{none_fails, append_none, list_none, word_within, word_free}
-use Rattle.lgp_assembler.proofs.LineCells.{cell_missing, line_cell}
+use Rattle.lgp_assembler.proofs.LineCells.{cell_missing}
 
 -- ---- distinct places on the drum that are not the loader's are at most 4,074
 

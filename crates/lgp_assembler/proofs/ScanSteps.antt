@@ -3,11 +3,11 @@ use Rattle.std.proofs.Common.{◌≡◌, ◌≢◌, ◌<◌, ◌≤◌, ◌+◌,
 use Rattle.std.proofs.lemmas.Bool.{cases_eq, eq-eqb, ne_eqb}
 use Rattle.std.proofs.lemmas.List.{get_or-set_same, get_or-set_other}
 use Rattle.lgp_assembler.specs.Fields.{LineFields}
-use Rattle.lgp_assembler.specs.Places.{has_word, word_count, next_place, place_by, place_of, is_end, has_ended, new_label, names_of, is_taken}
-use Rattle.lgp_assembler.specs.ScanInside.{Stands, AreMarks}
+use Rattle.lgp_assembler.specs.Places.{has_word, word_count, next_place, place_reached, place_of, is_end, has_ended, new_label, names_of, is_taken}
+use Rattle.lgp_assembler.specs.ScanInside.{Stands, ArePlacesTaken}
 
-pub clear_marks : (marks : List Bool) (n p : ℕ) → marks ≡ replicate n false → slice_index_or marks p false ≡ false
-clear_marks marks n p e = ap (λ m. slice_index_or m p false) e ∙ blank n p
+pub clear_places : (taken : List Bool) (n p : ℕ) → taken ≡ replicate n false → slice_index_or taken p false ≡ false
+clear_places taken n p e = ap (λ m. slice_index_or m p false) e ∙ blank n p
   where
     blank : (n p : ℕ) → slice_index_or (replicate n false) p false ≡ false
     blank zero p = refl
@@ -31,26 +31,26 @@ size_kept : (has_one : Bool) (here : ℕ) (taken : List Bool) → length (if has
 size_kept false here taken = refl
 size_kept true here taken = length-set taken here true
 
-pub marks_step : (taken taken' : List Bool) (earlier : List LineFields) (line : LineFields) → AreMarks taken earlier
-    → taken' ≡ (if has_word line then slice_set taken (place_of line earlier) true else taken) → AreMarks taken' (line ∷ earlier)
+pub taken_step : (taken taken' : List Bool) (earlier : List LineFields) (line : LineFields) → ArePlacesTaken taken earlier
+    → taken' ≡ (if has_word line then slice_set taken (place_of line earlier) true else taken) → ArePlacesTaken taken' (line ∷ earlier)
 unfolding is_taken
-marks_step taken taken' earlier line marks e = record {
+taken_step taken taken' earlier line marks e = record {
   length_is = ap length e ∙ size_kept (has_word line) (place_of line earlier) taken ∙ marks.length_is;
-  marks_are = λ p small.
+  places_are = λ p small.
       let within : p < length taken = omega (arith, marks.length_is) in
-      ap (λ t. slice_index_or t p false) e ∙ marked (has_word line) (place_of line earlier) p taken (is_taken p earlier) within (marks.marks_are p small);
+      ap (λ t. slice_index_or t p false) e ∙ marked (has_word line) (place_of line earlier) p taken (is_taken p earlier) within (marks.places_are p small);
 }
 
 pub stands_step : (lines place : ℕ) (ended : Bool) (names : List (List ℕ × ℕ)) (earlier : List LineFields) (line : LineFields) (lines' place' : ℕ) (ended' : Bool) (names' : List (List ℕ × ℕ))
     → Stands lines place ended names earlier
     → lines' ≡ lines + 1
-    → names' ≡ names ++ option_to_list (new_label line.label (place_by line place) ended names)
-    → place' ≡ place_by line place + word_count line
+    → names' ≡ names ++ option_to_list (new_label line.label (place_reached line place) ended names)
+    → place' ≡ place_reached line place + word_count line
     → ended' ≡ (is_end line.operation || ended)
     → Stands lines' place' ended' names' (line ∷ earlier)
 unfolding next_place has_ended names_of
 stands_step lines place ended names earlier line lines' place' ended' names' s lines_e names_e place_e ended_e =
-    let here_is : place_by line place ≡ place_of line earlier = ap (place_by line) s.place_is in
+    let here_is : place_reached line place ≡ place_of line earlier = ap (place_reached line) s.place_is in
     record {
       lines_are = omega (arith, s.lines_are);
       place_is = place_e ∙ ap (λ h. h + word_count line) here_is;
@@ -61,11 +61,11 @@ stands_step lines place ended names earlier line lines' place' ended' names' s l
     }
 
 -- what a pass adds, in the place of the line
-pub names_at : (line : LineFields) (here place : ℕ) (ended : Bool) (names : List (List ℕ × ℕ)) → here ≡ place_by line place
-    → names ++ option_to_list (new_label line.label here ended names) ≡ names ++ option_to_list (new_label line.label (place_by line place) ended names)
+pub names_at : (line : LineFields) (here place : ℕ) (ended : Bool) (names : List (List ℕ × ℕ)) → here ≡ place_reached line place
+    → names ++ option_to_list (new_label line.label here ended names) ≡ names ++ option_to_list (new_label line.label (place_reached line place) ended names)
 names_at line here place ended names e = ap (λ h. names ++ option_to_list (new_label line.label h ended names)) e
 
-pub place_at : (line : LineFields) (here place : ℕ) → here ≡ place_by line place → here + word_count line ≡ place_by line place + word_count line
+pub place_at : (line : LineFields) (here place : ℕ) → here ≡ place_reached line place → here + word_count line ≡ place_reached line place + word_count line
 place_at line here place e = ap (λ h. h + word_count line) e
 
 pub word_count_small : (line : LineFields) → word_count line ≤ 1

@@ -1,19 +1,26 @@
 -- Part of the public promise: the faults of a source. This project's own choice.
-use Rattle.std.specs.Prelude.{ℕ, ◌+◌, ◌&&◌, ◌||◌, not, nat_lt, Bool, true, false, if◌then◌else◌, find, List, [], ◌∷◌, ◌++◌, length, Option, None, Some, Result, Ok, Err, is_some, is_none, option_map, option_to_list}
+use Rattle.std.specs.Prelude.{ℕ, ◌+◌, ◌&&◌, ◌||◌, not, nat_lt, nat_le, Bool, true, false}
+use Rattle.std.specs.Prelude.{if◌then◌else◌, find, List, [], ◌∷◌, ◌++◌, length, Option, None, Some}
+use Rattle.std.specs.Prelude.{Result, Err, is_some, is_none, option_map, option_to_list}
 use Rattle.std.specs.Str.{bytes_eq}
 use Rattle.std.specs.Map.{lookup}
 use Rattle.lgp_assembler.specs.declared.operations.Operation.{Operation}
 use Rattle.lgp_assembler.specs.declared.operands.Meaning.{Meaning}
-use Rattle.lgp_assembler.specs.declared.operands.Meaning.TheVariants.{Nothing}
 use Rattle.lgp_assembler.specs.declared.operands.OperandFault.{OperandFault}
-use Rattle.lgp_assembler.specs.declared.operands.OperandFault.TheVariants.{Misformed, Unknown, Outside}
+use Rattle.lgp_assembler.specs.declared.operands.OperandFault.TheVariants.{Misformed, Unknown}
+use Rattle.lgp_assembler.specs.declared.operands.OperandFault.TheVariants.{Outside}
 use Rattle.lgp_assembler.specs.declared.refusal.Fault.{Fault}
 use Rattle.lgp_assembler.specs.declared.refusal.FaultKind.{FaultKind}
-use Rattle.lgp_assembler.specs.declared.refusal.FaultKind.TheVariants.{BadByte, AfterEnd, Extra, BadLabel, LabelTwice, UnknownOrder, MissingOperand, BadOperand, UnknownName, OutOfRange, PastEnd, InLoader, PlaceTaken, NoEnd}
+use Rattle.lgp_assembler.specs.declared.refusal.FaultKind.TheVariants.{BadByte, AfterEnd, Extra}
+use Rattle.lgp_assembler.specs.declared.refusal.FaultKind.TheVariants.{BadLabel, LabelTwice}
+use Rattle.lgp_assembler.specs.declared.refusal.FaultKind.TheVariants.{UnknownOrder, MissingOperand}
+use Rattle.lgp_assembler.specs.declared.refusal.FaultKind.TheVariants.{BadOperand, UnknownName}
+use Rattle.lgp_assembler.specs.declared.refusal.FaultKind.TheVariants.{OutOfRange, PastEnd}
+use Rattle.lgp_assembler.specs.declared.refusal.FaultKind.TheVariants.{InLoader, PlaceTaken, NoEnd}
 use Rattle.lgp_assembler.specs.Operations.{least_operands, most_operands}
-use Rattle.lgp_assembler.specs.Operands.{is_name, meaning}
+use Rattle.lgp_assembler.specs.Operands.{is_name, meaning_under}
 use Rattle.lgp_assembler.specs.Fields.{LineFields}
-use Rattle.lgp_assembler.specs.Parts.{is_loaders}
+use Rattle.lgp_assembler.specs.Parts.{drum_size, is_loaders}
 use Rattle.lgp_assembler.specs.Places.{has_word, place_of, has_ended, names_of, is_taken}
 
 -- ---- the conditions of the table
@@ -22,15 +29,15 @@ use Rattle.lgp_assembler.specs.Places.{has_word, place_of, has_ended, names_of, 
 abbrev pub says_something : LineFields → Bool
 says_something line = is_some line.label || line.has_operation
 
--- more operands than the operation takes; for an unknown one, more than two
-abbrev pub takes_at_most : Option Operation → ℕ
-takes_at_most None = 2
-takes_at_most (Some operation) = most_operands operation
+-- the most operands that a line may have, by its operation; two where that is unknown
+abbrev pub most_allowed : Option Operation → ℕ
+most_allowed None = 2
+most_allowed (Some operation) = most_operands operation
 
--- fewer operands than needed
-abbrev pub needs_at_least : Option Operation → ℕ
-needs_at_least None = 0
-needs_at_least (Some operation) = least_operands operation
+-- the least operands that it has to have
+abbrev pub least_needed : Option Operation → ℕ
+least_needed None = 0
+least_needed (Some operation) = least_operands operation
 
 abbrev pub is_bad_label : Option (List ℕ) → Bool
 is_bad_label None = false
@@ -53,45 +60,62 @@ abbrev pub is_out_of_range : Result Meaning OperandFault → Bool
 is_out_of_range (Err Outside) = true
 is_out_of_range _ = false
 
--- what the operands of a line stand for
-abbrev pub meaning_by : Option Operation → List (List ℕ × ℕ) → ℕ → LineFields → Result Meaning OperandFault
-meaning_by None names place line = Ok Nothing
-meaning_by (Some operation) names place line = meaning names place operation line.first line.second
-
+-- what the operands of a line stand for in its place; with no operation, nothing
 abbrev pub line_meaning : List (List ℕ × ℕ) → ℕ → LineFields → Result Meaning OperandFault
-line_meaning names place line = meaning_by line.operation names place line
+line_meaning names place line =
+    meaning_under line.operation names place line.first line.second
 
--- ---- the table: the conditions in order, each with its kind. `meaning` is what the line's operands stand for and `place` is its
--- place, `ended` says that the end line stands before it, `before` are the names of the lines before it, and `taken` says that a
--- word of theirs lies at its place
+-- ---- the table of faults
 
-abbrev pub rows : LineFields → Result Meaning OperandFault → ℕ → Bool → List (List ℕ × ℕ) → Bool → List (Bool × FaultKind)
-rows line meaning place ended before taken =
-    (line.is_bad, BadByte)
-    ∷ (ended && says_something line, AfterEnd)
-    ∷ (nat_lt (takes_at_most line.operation) line.count, Extra)
-    ∷ (is_bad_label line.label, BadLabel)
-    ∷ (is_label_again line.label before, LabelTwice)
-    ∷ (line.has_operation && is_none line.operation, UnknownOrder)
-    ∷ (nat_lt line.count (needs_at_least line.operation), MissingOperand)
-    ∷ (is_misformed meaning, BadOperand)
-    ∷ (is_unknown meaning, UnknownName)
-    ∷ (is_out_of_range meaning, OutOfRange)
-    ∷ (has_word line && nat_lt 4095 place, PastEnd)
-    ∷ (has_word line && is_loaders place, InLoader)
-    ∷ (has_word line && taken, PlaceTaken)
+-- what is known of a line where it stands
+pub record LineFacts : Type 0 where
+  pub line : LineFields
+  pub place : ℕ
+  -- what its operands stand for there
+  pub meaning : Result Meaning OperandFault
+  -- whether the end line stands before it
+  pub ended : Bool
+  -- the names of the lines before it
+  pub names : List (List ℕ × ℕ)
+  -- whether a word of theirs lies at its place
+  pub taken : Bool
+
+-- the conditions in order, each with its kind
+abbrev pub fault_rows : LineFacts → List (Bool × FaultKind)
+fault_rows known =
+    (known.line.is_bad, BadByte)
+    ∷ (known.ended && says_something known.line, AfterEnd)
+    ∷ (nat_lt (most_allowed known.line.operation) known.line.count, Extra)
+    ∷ (is_bad_label known.line.label, BadLabel)
+    ∷ (is_label_again known.line.label known.names, LabelTwice)
+    ∷ (known.line.has_operation && is_none known.line.operation, UnknownOrder)
+    ∷ (nat_lt known.line.count (least_needed known.line.operation), MissingOperand)
+    ∷ (is_misformed known.meaning, BadOperand)
+    ∷ (is_unknown known.meaning, UnknownName)
+    ∷ (is_out_of_range known.meaning, OutOfRange)
+    ∷ (has_word known.line && nat_le drum_size known.place, PastEnd)
+    ∷ (has_word known.line && is_loaders known.place, InLoader)
+    ∷ (has_word known.line && known.taken, PlaceTaken)
     ∷ []
 
 -- the kind of the first row whose condition holds
 abbrev pub first_kind : List (Bool × FaultKind) → Option FaultKind
 first_kind rows = option_map (λ row. row.1) (find (λ row. row.0) rows)
 
--- the fault of a line after those before it
+-- what is known of a line after those before it, with the names of the whole source
+abbrev pub facts_of : List (List ℕ × ℕ) → LineFields → List LineFields → LineFacts
+facts_of names line earlier = let place = place_of line earlier in record {
+  line = line;
+  place = place;
+  meaning = line_meaning names place line;
+  ended = has_ended earlier;
+  names = names_of earlier;
+  taken = is_taken place earlier;
+}
+
+-- the fault of a line after those before it: the kind of the first row that holds
 unfoldable pub fault_of : List (List ℕ × ℕ) → LineFields → List LineFields → Option FaultKind
-fault_of names line earlier =
-    let place = place_of line earlier in
-    first_kind
-    (rows line (line_meaning names place line) place (has_ended earlier) (names_of earlier) (is_taken place earlier))
+fault_of names line earlier = first_kind (fault_rows (facts_of names line earlier))
 
 abbrev pub numbered_fault : ℕ → FaultKind → Fault
 numbered_fault number kind = record { line = number; kind = kind }
@@ -100,7 +124,8 @@ numbered_fault number kind = record { line = number; kind = kind }
 unfoldable pub faults_in : List (List ℕ × ℕ) → List LineFields → List Fault
 faults_in names [] = []
 faults_in names (line ∷ earlier) =
-    faults_in names earlier ++ option_to_list (option_map (numbered_fault line.number) (fault_of names line earlier))
+    faults_in names earlier
+    ++ option_to_list (option_map (numbered_fault line.number) (fault_of names line earlier))
 
 -- a source without an end line has a fault past its last line
 abbrev pub end_fault : Bool → ℕ → List Fault

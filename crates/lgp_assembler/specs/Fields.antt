@@ -1,5 +1,6 @@
 -- Part of the public promise: a line as the assembler sees it. This project's own choice.
-use Rattle.std.specs.Prelude.{ℕ, Bool, if◌then◌else◌, List, Option, None, is_some, option_map, option_and_then, slice_index_or}
+use Rattle.std.specs.Prelude.{ℕ, Bool, if◌then◌else◌, List, Option, None, is_some, option_map}
+use Rattle.std.specs.Prelude.{option_and_then, slice_index_or}
 use Rattle.lgp_source.specs.Source.{SourceLine, SourceToken}
 use Rattle.lgp_assembler.specs.declared.operations.Operation.{Operation}
 use Rattle.lgp_assembler.specs.Operations.{operation_of}

@@ -1,7 +1,12 @@
 -- Part of the public promise: the names of the kinds of faults. This project's own choice.
 use Rattle.std.specs.Prelude.{ℕ, List, codes}
 use Rattle.lgp_assembler.specs.declared.refusal.FaultKind.{FaultKind}
-use Rattle.lgp_assembler.specs.declared.refusal.FaultKind.TheVariants.{BadByte, AfterEnd, Extra, BadLabel, LabelTwice, UnknownOrder, MissingOperand, BadOperand, UnknownName, OutOfRange, PastEnd, InLoader, PlaceTaken, NoEnd}
+use Rattle.lgp_assembler.specs.declared.refusal.FaultKind.TheVariants.{BadByte, AfterEnd, Extra}
+use Rattle.lgp_assembler.specs.declared.refusal.FaultKind.TheVariants.{BadLabel, LabelTwice}
+use Rattle.lgp_assembler.specs.declared.refusal.FaultKind.TheVariants.{UnknownOrder, MissingOperand}
+use Rattle.lgp_assembler.specs.declared.refusal.FaultKind.TheVariants.{BadOperand, UnknownName}
+use Rattle.lgp_assembler.specs.declared.refusal.FaultKind.TheVariants.{OutOfRange, PastEnd}
+use Rattle.lgp_assembler.specs.declared.refusal.FaultKind.TheVariants.{InLoader, PlaceTaken, NoEnd}
 
 abbrev pub kind_name : FaultKind → List ℕ
 kind_name BadByte = codes "BadByte"

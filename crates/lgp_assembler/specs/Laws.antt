@@ -1,11 +1,18 @@
--- Part of the public promise: what places, names and cells are, in the words of the source language. The lines are here in the
--- order of the source.
-use Rattle.std.specs.Prelude.{◌≡◌, ◌⊎◌, ℕ, ◌+◌, true, false, List, [], ◌∷◌, ◌++◌, length, map, Option, None, Some}
+-- Part of the public promise: what places, names and cells are, in the words of the source
+-- language. The lines are here in the order of the source.
+use Rattle.std.specs.Prelude.{◌≡◌, ◌⊎◌, ◌↔◌, ℕ, ◌+◌, true, false, List, [], ◌∷◌, ◌++◌, length, map}
+use Rattle.std.specs.Prelude.{Option, None, Some, option_map, option_to_list}
 use Rattle.std.specs.Str.{bytes_eq}
 use Rattle.std.specs.Map.{lookup}
 use Rattle.lgp_source.specs.Source.{lines_of}
 use Rattle.lgp_assembler.specs.Fields.{LineFields, fields_of}
-use Rattle.lgp_assembler.specs.Places.{org_address, has_word, word_count, place_of, has_ended, names_of}
+use Rattle.lgp_assembler.specs.Places.{is_end, org_address, has_word, word_count, place_of}
+use Rattle.lgp_assembler.specs.Places.{has_ended}
+use Rattle.lgp_assembler.specs.Places.{names_of}
+use Rattle.lgp_assembler.specs.declared.refusal.Fault.{Fault}
+use Rattle.lgp_assembler.specs.declared.refusal.FaultKind.{FaultKind}
+use Rattle.lgp_assembler.specs.Faults.{LineFacts, facts_of, fault_rows, first_kind, fault_of}
+use Rattle.lgp_assembler.specs.Faults.{faults_in, missing_end, numbered_fault}
 use Rattle.lgp_assembler.specs.Image.{faults_of, image_of, passed_lines}
 
 -- the address of an `org` line whose first operand is one
@@ -25,13 +32,17 @@ word_total (line ∷ lines) = word_count line + word_total lines
 abbrev pub place_after : List LineFields → LineFields → ℕ
 place_after before line = place_of line (passed_lines [] before)
 
--- the place of an `org` line with an address is that address; that of any other line is the address of the nearest such line before it
--- plus the words of the lines between, or, with none, the words of the lines before it
+-- the place of an `org` line with an address is that address; that of any other line is the address
+-- of the nearest such line before it plus the words of the lines between, or, with none, the words
+-- of the lines before it
 pub record PlacesCountFromOrgs : Type 0 where
-  pub own : (before : List LineFields) (line : LineFields) (address : ℕ) → org_of line ≡ Some address → place_after before line ≡ address
-  pub nearest : (before between : List LineFields) (org line : LineFields) (address : ℕ) → org_of org ≡ Some address → HasNoOrg between → org_of line ≡ None
+  pub own : (before : List LineFields) (line : LineFields) (address : ℕ)
+      → org_of line ≡ Some address → place_after before line ≡ address
+  pub nearest : (before between : List LineFields) (org line : LineFields) (address : ℕ)
+      → org_of org ≡ Some address → HasNoOrg between → org_of line ≡ None
       → place_after (before ++ org ∷ between) line ≡ address + word_total between
-  pub none : (before : List LineFields) (line : LineFields) → HasNoOrg before → org_of line ≡ None → place_after before line ≡ word_total before
+  pub none : (before : List LineFields) (line : LineFields)
+      → HasNoOrg before → org_of line ≡ None → place_after before line ≡ word_total before
 
 abbrev pub HasNotLabel : List ℕ → List LineFields → Type 0
 HasNotLabel name [] = Unit {0}
@@ -45,15 +56,65 @@ value_in lines name = lookup (bytes_eq name) (names_of (passed_lines [] lines))
 abbrev pub HasEnd : List LineFields → Type 0
 HasEnd lines = has_ended (passed_lines [] lines) ≡ true
 
--- a name's value is the place of the first line with that label that is not after the end line; with no such line it has none
+-- a name's value is the place of the first line with that label that is not after the end line;
+-- with no such line it has none
 pub record NamesAreFirstPlaces : Type 0 where
-  pub first : (name : List ℕ) (before after : List LineFields) (line : LineFields) → has_ended (passed_lines [] before) ≡ false → HasNotLabel name before → line.label ≡ Some name
+  pub first : (name : List ℕ) (before after : List LineFields) (line : LineFields)
+      → has_ended (passed_lines [] before) ≡ false → HasNotLabel name before
+      → line.label ≡ Some name
       → value_in (before ++ line ∷ after) name ≡ Some (place_after before line)
-  pub none : (name : List ℕ) (before after : List LineFields) → HasNotLabel name before → HasEnd before ⊎ (after ≡ []) → value_in (before ++ after) name ≡ None
+  pub none : (name : List ℕ) (before after : List LineFields)
+      → HasNotLabel name before → HasEnd before ⊎ (after ≡ [])
+      → value_in (before ++ after) name ≡ None
 
 -- the lines of a source
 abbrev pub lines_in : List ℕ → List LineFields
 lines_in source = map fields_of (lines_of source)
+
+-- what is known of a line behind some others, with the names of the whole source; and its fault
+abbrev pub facts_behind : List ℕ → List LineFields → LineFields → LineFacts
+facts_behind source before line = facts_of (image_of source).symbols line (passed_lines [] before)
+
+abbrev pub fault_behind : List ℕ → List LineFields → LineFields → Option FaultKind
+fault_behind source before line = fault_of (image_of source).symbols line (passed_lines [] before)
+
+-- the faults of the first lines of a source
+abbrev pub first_faults : List ℕ → List LineFields → List Fault
+first_faults source before = faults_in (image_of source).symbols (passed_lines [] before)
+
+-- an end line is among some lines
+abbrev pub HasEndLine : List LineFields → Type 0
+HasEndLine [] = ⊥
+HasEndLine (line ∷ lines) = (is_end line.operation ≡ true) ⊎ HasEndLine lines
+
+-- one of some lines has a word, at this place
+pub record HasWordAt (lines : List LineFields) (place : ℕ) : Type 0 where
+  pub before : List LineFields
+  pub line : LineFields
+  pub after : List LineFields
+  pub lines_are : lines ≡ before ++ line ∷ after
+  pub makes_word : has_word line ≡ true
+  pub there : place_after before line ≡ place
+
+-- the faults of a source, line by line: no lines have none; a line behind some others adds its own
+-- fault to theirs, if it has one; and the faults of the source are those of all its lines, and
+-- behind them that of a missing end line. The fault of a line is that of the first row of the table
+-- that holds; an end line stands before it where one is among the lines before it, and its place is
+-- taken where one of them has a word there
+pub record FaultsFollowLines : Type 0 where
+  pub none : (source : List ℕ) → first_faults source [] ≡ []
+  pub more : (source : List ℕ) (before : List LineFields) (line : LineFields)
+      → first_faults source (before ++ line ∷ []) ≡ first_faults source before
+      ++ option_to_list (option_map (numbered_fault line.number) (fault_behind source before line))
+  pub all : (source : List ℕ) → faults_of source ≡ first_faults source (lines_in source)
+      ++ missing_end (passed_lines [] (lines_in source))
+  pub first_row : (source : List ℕ) (before : List LineFields) (line : LineFields)
+      → fault_behind source before line ≡ first_kind (fault_rows (facts_behind source before line))
+  pub ended : (source : List ℕ) (before : List LineFields) (line : LineFields)
+      → ((facts_behind source before line).ended ≡ true) ↔ HasEndLine before
+  pub taken : (source : List ℕ) (before : List LineFields) (line : LineFields)
+      → ((facts_behind source before line).taken ≡ true)
+      ↔ HasWordAt before (place_after before line)
 
 -- among some cells, behind so many others, the cell of a place
 abbrev pub HasCellAt : List (ℕ × ℕ) → ℕ → ℕ → Type 0
@@ -61,9 +122,11 @@ HasCellAt cells place others =
     (word : ℕ) × (front : List (ℕ × ℕ)) × (behind : List (ℕ × ℕ))
     × (cells ≡ front ++ (place, word) ∷ behind) × (length front ≡ others)
 
--- in a source without faults each line with a word has its cell, at the line's place and behind the cells of the lines before it;
--- and there are as many cells as such lines
+-- in a source without faults each line with a word has its cell, at the line's place and behind the
+-- cells of the lines before it; and there are as many cells as such lines
 pub record LinesHaveCells : Type 0 where
-  pub each : (source : List ℕ) (before after : List LineFields) (line : LineFields) → faults_of source ≡ [] → lines_in source ≡ before ++ line ∷ after → has_word line ≡ true
+  pub each : (source : List ℕ) (before after : List LineFields) (line : LineFields)
+      → faults_of source ≡ [] → lines_in source ≡ before ++ line ∷ after → has_word line ≡ true
       → HasCellAt (image_of source).cells (place_after before line) (word_total before)
-  pub count : (source : List ℕ) → faults_of source ≡ [] → length (image_of source).cells ≡ word_total (lines_in source)
+  pub count : (source : List ℕ) → faults_of source ≡ []
+      → length (image_of source).cells ≡ word_total (lines_in source)

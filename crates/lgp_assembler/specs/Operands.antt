@@ -1,5 +1,8 @@
 -- Part of the public promise: what operands stand for. This project's own choice.
-use Rattle.std.specs.Prelude.{ℕ, ◌+◌, ◌-◌, ◌*◌, ◌%◌, ◌^◌, ◌==◌, ◌&&◌, ◌||◌, nat_le, nat_lt, Bool, true, false, if◌then◌else◌, List, length, take, drop, codes, slice_index, Option, None, Some, option_map, Result, Ok, Err, ok_or, ℤ, pos, ◌*ℤ◌}
+use Rattle.std.specs.Prelude.{ℕ, ◌+◌, ◌-◌, ◌*◌, ◌%◌, ◌^◌, ◌==◌, ◌&&◌, ◌||◌, nat_le, nat_lt, Bool}
+use Rattle.std.specs.Prelude.{true, false, if◌then◌else◌, List, length, take, drop, codes}
+use Rattle.std.specs.Prelude.{slice_index, Option, None, Some, option_map, Result, Ok, Err, ok_or}
+use Rattle.std.specs.Prelude.{ℤ, pos, ◌*ℤ◌}
 use Rattle.std.specs.Str.{bytes_eq}
 use Rattle.std.specs.Char.{is_ascii_digit, is_ascii_lowercase}
 use Rattle.std.specs.List.{list_all, position_or_len}
@@ -14,10 +17,13 @@ use Rattle.lgp_fraction.specs.declared.fraction.FractionFault.TheVariants.{Form,
 use Rattle.lgp_fraction.specs.Arithmetic.{low_bits}
 use Rattle.lgp_fraction.specs.Decimal.{decimal_fraction}
 use Rattle.lgp_flexo.specs.Code.{code_at}
+use Rattle.lgp_assembler.specs.Parts.{drum_size}
 use Rattle.lgp_assembler.specs.declared.operations.Operation.{Operation}
-use Rattle.lgp_assembler.specs.declared.operations.Operation.TheVariants.{Order, MinusT, Org, Word, Frac, Int, End}
+use Rattle.lgp_assembler.specs.declared.operations.Operation.TheVariants.{Order, MinusT, Org, Word}
+use Rattle.lgp_assembler.specs.declared.operations.Operation.TheVariants.{Frac, Int, End}
 use Rattle.lgp_assembler.specs.declared.operands.OperandFault.{OperandFault}
-use Rattle.lgp_assembler.specs.declared.operands.OperandFault.TheVariants.{Misformed, Unknown, Outside}
+use Rattle.lgp_assembler.specs.declared.operands.OperandFault.TheVariants.{Misformed, Unknown}
+use Rattle.lgp_assembler.specs.declared.operands.OperandFault.TheVariants.{Outside}
 use Rattle.lgp_assembler.specs.declared.operands.Offset.{Offset}
 use Rattle.lgp_assembler.specs.declared.operands.Meaning.{Meaning}
 use Rattle.lgp_assembler.specs.declared.operands.Meaning.TheVariants.{Cell, Place, Nothing}
@@ -28,7 +34,8 @@ is_name_byte b = is_ascii_lowercase b || is_ascii_digit b
 
 -- a name: a letter from a to z, then at most seven letters or digits
 unfoldable pub is_name : List ℕ → Bool
-is_name text = is_ascii_lowercase (slice_index text 0) && list_all is_name_byte text && nat_le (length text) 8
+is_name text =
+    is_ascii_lowercase (slice_index text 0) && list_all is_name_byte text && nat_le (length text) 8
 
 -- ---- address operands
 
@@ -40,7 +47,8 @@ is_sign b = b == 43 || b == 45
 unfoldable pub offset_of : List ℕ → Option Offset
 offset_of text =
     if length text == 0 then Some (record { minus = false; number = 0 })
-    else option_map (λ number. record { minus = slice_index text 0 == 45; number = number }) (decimal_number 4 (drop 1 text))
+    else option_map (λ number. record { minus = slice_index text 0 == 45; number = number })
+    (decimal_number 4 (drop 1 text))
 
 -- the number of a base: the place of the line, that of a name, or an address
 unfoldable pub base_number : List (List ℕ × ℕ) → ℕ → List ℕ → Result ℕ OperandFault
@@ -51,47 +59,59 @@ base_number names place base =
 
 -- the number of a place on the drum
 abbrev pub in_range : ℕ → Result ℕ OperandFault
-in_range number = if nat_lt number 4096 then Ok number else Err Outside
+in_range number = if nat_lt number drum_size then Ok number else Err Outside
 
-abbrev pub moved_by : Offset → ℕ → Result ℕ OperandFault
-moved_by offset number =
-    if offset.minus then (if nat_le offset.number number then in_range (number - offset.number) else Err Outside)
+-- the address that lies an offset from a number
+abbrev pub address_beside : Offset → ℕ → Result ℕ OperandFault
+address_beside offset number =
+    if offset.minus
+    then (if nat_le offset.number number then in_range (number - offset.number) else Err Outside)
     else in_range (number + offset.number)
 
-abbrev pub moved : Option Offset → Result ℕ OperandFault → Result ℕ OperandFault
-moved None base = Err Misformed
-moved (Some offset) (Err fault) = Err fault
-moved (Some offset) (Ok number) = moved_by offset number
+-- the address of an offset and a base, where both are there
+abbrev pub address_of_parts : Option Offset → Result ℕ OperandFault → Result ℕ OperandFault
+address_of_parts None base = Err Misformed
+address_of_parts (Some offset) (Err fault) = Err fault
+address_of_parts (Some offset) (Ok number) = address_beside offset number
 
 -- the value of an address operand: a base, then optionally a sign and a number
 unfoldable pub address_operand : List (List ℕ × ℕ) → ℕ → List ℕ → Result ℕ OperandFault
 address_operand names place text =
     let base = position_or_len is_sign text in
-    moved (offset_of (drop base text)) (base_number names place (take base text))
+    address_of_parts (offset_of (drop base text)) (base_number names place (take base text))
 
 -- ---- words
 
+-- the word of an order with what its operand stands for
 abbrev pub cell_of_order : Bool → Op → Result ℕ OperandFault → Result Meaning OperandFault
-cell_of_order minus op (Ok address) = Ok (Cell (order_word (record { minus = minus; op = op; address = address })))
+cell_of_order minus op (Ok address) =
+    Ok (Cell (order_word (record { minus = minus; op = op; address = address })))
 cell_of_order minus op (Err fault) = Err fault
 
 -- `=` and one sign: the p that prints the sign's code, which is its track
-abbrev pub printing : Option ℕ → Result Meaning OperandFault
-printing (Some code) = Ok (Cell (order_word (record { minus = false; op = P; address = 64 * code })))
-printing None = Err Misformed
+abbrev pub cell_of_sign : Option ℕ → Result Meaning OperandFault
+cell_of_sign (Some code) =
+    Ok (Cell (order_word (record { minus = false; op = P; address = 64 * code })))
+cell_of_sign None = Err Misformed
 
 abbrev pub sign_operand : Op → List ℕ → Result Meaning OperandFault
-sign_operand P text = if length text == 2 then printing (code_at (slice_index text 1)) else Err Misformed
+sign_operand P text =
+    if length text == 2 then cell_of_sign (code_at (slice_index text 1)) else Err Misformed
 sign_operand _ text = Err Misformed
 
-unfoldable pub order_operand : List (List ℕ × ℕ) → ℕ → Bool → Op → List ℕ → Result Meaning OperandFault
+unfoldable pub order_operand : List (List ℕ × ℕ) → ℕ → Bool → Op → List ℕ
+    → Result Meaning OperandFault
 order_operand names place minus op text =
-    if slice_index text 0 == 61 then sign_operand op text else cell_of_order minus op (address_operand names place text)
+    if slice_index text 0 == 61 then sign_operand op text
+    else cell_of_order minus op (address_operand names place text)
 
--- n and q stand for n * 2^(31 - q), where n * 2^(30 - q) lies from -2^30 up to 2^30; `scaled` is the size of the latter
+-- n and q stand for n * 2^(31 - q), where n * 2^(30 - q) lies from -2^30 up to 2^30; `scaled` is
+-- the size of the latter
 abbrev pub scaled_word : Bool → ℕ → Result Meaning OperandFault
 scaled_word minus scaled =
-    if minus then (if nat_le scaled (2 ^ 30) then Ok (Cell ((2 ^ 32 - 2 * scaled) % 2 ^ 32)) else Err Outside)
+    if minus
+    then (if nat_le scaled (2 ^ 30) then Ok (Cell ((2 ^ 32 - 2 * scaled) % 2 ^ 32))
+    else Err Outside)
     else (if nat_lt scaled (2 ^ 30) then Ok (Cell (2 * scaled)) else Err Outside)
 
 -- without one minus in front
@@ -107,7 +127,8 @@ word_of_parts minus _ _ = Err Misformed
 -- n has perhaps a minus and one to ten digits, q one or two
 unfoldable pub integer_word : List ℕ → List ℕ → Result Meaning OperandFault
 integer_word number point =
-    word_of_parts (slice_index number 0 == 45) (decimal_number 10 (unsigned_part number)) (decimal_number 2 point)
+    let size = decimal_number 10 (unsigned_part number) in
+    word_of_parts (slice_index number 0 == 45) size (decimal_number 2 point)
 
 -- the word of a decimal
 abbrev pub cell_of_fraction : Result ℤ FractionFault → Result Meaning OperandFault
@@ -115,29 +136,38 @@ cell_of_fraction (Ok steps) = Ok (Cell (low_bits (pos 2 *ℤ steps)))
 cell_of_fraction (Err Form) = Err Misformed
 cell_of_fraction (Err OutOfRange) = Err Outside
 
-abbrev pub cell_or : Option ℕ → Result Meaning OperandFault
-cell_or (Some word) = Ok (Cell word)
-cell_or None = Err Misformed
+abbrev pub cell_of_digits : Option ℕ → Result Meaning OperandFault
+cell_of_digits (Some word) = Ok (Cell word)
+cell_of_digits None = Err Misformed
 
-abbrev pub place_or : Result ℕ OperandFault → Result Meaning OperandFault
-place_or (Ok address) = Ok (Place address)
-place_or (Err fault) = Err fault
+abbrev pub place_meaning : Result ℕ OperandFault → Result Meaning OperandFault
+place_meaning (Ok address) = Ok (Place address)
+place_meaning (Err fault) = Err fault
 
 -- ---- what the operands of a line stand for, in its place and with the names of the whole source
 
-unfoldable pub meaning : List (List ℕ × ℕ) → ℕ → Operation → Option (List ℕ) → Option (List ℕ) → Result Meaning OperandFault
-meaning names place (Order op) None second = Ok (Cell (order_word (record { minus = false; op = op; address = 0 })))
-meaning names place (Order op) (Some text) second = order_operand names place false op text
-meaning names place MinusT (Some text) second = order_operand names place true T text
-meaning names place MinusT None second = Err Misformed
-meaning names place Org (Some text) second = place_or (ok_or (address_text text) Misformed)
-meaning names place Org None second = Err Misformed
-meaning names place Word (Some text) second = cell_or (word_of_digits text)
-meaning names place Word None second = Err Misformed
-meaning names place Frac (Some text) second = cell_of_fraction (decimal_fraction text)
-meaning names place Frac None second = Err Misformed
-meaning names place Int (Some number) (Some point) = integer_word number point
-meaning names place Int None second = Err Misformed
-meaning names place Int (Some number) None = Err Misformed
-meaning names place End None second = Ok Nothing
-meaning names place End (Some text) second = place_or (address_operand names place text)
+unfoldable pub meaning_of : List (List ℕ × ℕ) → ℕ → Operation → Option (List ℕ)
+    → Option (List ℕ) → Result Meaning OperandFault
+meaning_of names place (Order op) None second =
+    Ok (Cell (order_word (record { minus = false; op = op; address = 0 })))
+meaning_of names place (Order op) (Some text) second = order_operand names place false op text
+meaning_of names place MinusT (Some text) second = order_operand names place true T text
+meaning_of names place MinusT None second = Err Misformed
+meaning_of names place Org (Some text) second = place_meaning (ok_or (address_text text) Misformed)
+meaning_of names place Org None second = Err Misformed
+meaning_of names place Word (Some text) second = cell_of_digits (word_of_digits text)
+meaning_of names place Word None second = Err Misformed
+meaning_of names place Frac (Some text) second = cell_of_fraction (decimal_fraction text)
+meaning_of names place Frac None second = Err Misformed
+meaning_of names place Int (Some number) (Some point) = integer_word number point
+meaning_of names place Int None second = Err Misformed
+meaning_of names place Int (Some number) None = Err Misformed
+meaning_of names place End None second = Ok Nothing
+meaning_of names place End (Some text) second = place_meaning (address_operand names place text)
+
+-- the same of an operation that a line may have; with none, nothing
+abbrev pub meaning_under : Option Operation → List (List ℕ × ℕ) → ℕ → Option (List ℕ)
+    → Option (List ℕ) → Result Meaning OperandFault
+meaning_under None names place first second = Ok Nothing
+meaning_under (Some operation) names place first second =
+    meaning_of names place operation first second

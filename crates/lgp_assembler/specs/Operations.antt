@@ -1,12 +1,14 @@
--- Part of the public promise: the operations of the source language, and how many operands each takes. This project's own choice; the order letters
--- are those of the Programming Manual.
-use Rattle.std.specs.Prelude.{ℕ, ◌==◌, Bool, true, false, if◌then◌else◌, List, length, codes, slice_index, Option, None, Some, option_map}
+-- Part of the public promise: the operations of the source language, and how many operands each
+-- takes. This project's own choice; the order letters are those of the Programming Manual.
+use Rattle.std.specs.Prelude.{ℕ, ◌==◌, Bool, true, false, if◌then◌else◌, List, length, codes}
+use Rattle.std.specs.Prelude.{slice_index, Option, None, Some, option_map}
 use Rattle.std.specs.Str.{bytes_eq}
 use Rattle.lgp_word.specs.declared.order.Op.{Op}
 use Rattle.lgp_word.specs.declared.order.Op.TheVariants.{Z, I, P}
 use Rattle.lgp_word.specs.Order.{op_of_letter}
 use Rattle.lgp_assembler.specs.declared.operations.Operation.{Operation}
-use Rattle.lgp_assembler.specs.declared.operations.Operation.TheVariants.{Order, MinusT, Org, Word, Frac, Int, End}
+use Rattle.lgp_assembler.specs.declared.operations.Operation.TheVariants.{Order, MinusT, Org, Word}
+use Rattle.lgp_assembler.specs.declared.operations.Operation.TheVariants.{Frac, Int, End}
 
 -- an order, named by its letter
 abbrev pub letter_operation : List ℕ → Option Operation

@@ -1,36 +1,51 @@
 -- Serves proofs only: what the assembler keeps of the lines that it has passed, the nearest first.
 use Rattle.std.specs.Prelude.{◌≡◌, ℕ, ◌<◌, ◌≤◌, Bool, false, List, length, slice_index_or}
 use Rattle.std.specs.Prelude.{[], Option, None, Some, Result, Ok}
+use Rattle.lgp_word.specs.Address.{IsAddress}
 use Rattle.lgp_assembler.specs.declared.operands.Meaning.{Meaning}
 use Rattle.lgp_assembler.specs.declared.operands.Meaning.TheVariants.{Cell}
 use Rattle.lgp_assembler.specs.declared.operands.OperandFault.{OperandFault}
 use Rattle.lgp_assembler.specs.declared.refusal.Fault.{Fault}
 use Rattle.lgp_assembler.specs.declared.refusal.FaultKind.{FaultKind}
 use Rattle.lgp_assembler.specs.Fields.{LineFields}
-use Rattle.lgp_assembler.specs.Parts.{AreProgramCells}
-use Rattle.lgp_assembler.specs.Faults.{rows, first_kind, faults_in}
+use Rattle.lgp_assembler.specs.Parts.{AreProgramCells, drum_size}
+use Rattle.lgp_assembler.specs.Faults.{fault_rows, first_kind, faults_in}
 use Rattle.lgp_assembler.specs.Image.{cells_in, start_in}
 use Rattle.lgp_assembler.specs.Places.{next_place, has_ended, names_of, is_taken}
 
-pub record Stands (lines place : ℕ) (ended : Bool) (names : List (List ℕ × ℕ)) (earlier : List LineFields) : Type 0 where
+pub record Stands (lines place : ℕ) (ended : Bool) (names : List (List ℕ × ℕ))
+    (earlier : List LineFields) : Type 0 where
   pub lines_are : lines ≡ length earlier
   pub place_is : place ≡ next_place earlier
   pub ended_is : ended ≡ has_ended earlier
   pub names_are : names ≡ names_of earlier
 
--- the places of the drum that are marked are those at which words of the lines lie
-pub record AreMarks (taken : List Bool) (earlier : List LineFields) : Type 0 where
-  pub length_is : length taken ≡ 4096
-  pub marks_are : (p : ℕ) → p < 4096 → slice_index_or taken p false ≡ is_taken p earlier
+-- whether each place of the drum is taken: words of the lines lie there
+pub record ArePlacesTaken (taken : List Bool) (earlier : List LineFields) : Type 0 where
+  pub length_is : length taken ≡ drum_size
+  pub places_are : (p : ℕ) → p < drum_size → slice_index_or taken p false ≡ is_taken p earlier
 
--- the fault of the line that comes, by what is kept of the lines before it
-abbrev pub kept_fault : LineFields → Result Meaning OperandFault → ℕ → Bool → List (List ℕ × ℕ) → List Bool → Option FaultKind
-kept_fault line meaning place ended before taken =
-    first_kind (rows line meaning place ended before (slice_index_or taken place false))
+-- the table of a line by what the program has found of it
+abbrev pub rows : LineFields → Result Meaning OperandFault → ℕ → Bool → List (List ℕ × ℕ) → Bool
+    → List (Bool × FaultKind)
+rows line meaning place ended names taken = fault_rows (record {
+  line = line;
+  place = place;
+  meaning = meaning;
+  ended = ended;
+  names = names;
+  taken = taken;
+})
+
+-- the fault of the line that comes, by the places that are taken
+abbrev pub coming_fault : LineFields → Result Meaning OperandFault → ℕ → Bool
+    → List (List ℕ × ℕ) → List Bool → Option FaultKind
+coming_fault line meaning place ended names taken =
+    first_kind (rows line meaning place ended names (slice_index_or taken place false))
 
 -- a word lies on the drum
 abbrev pub CellFits : ℕ → Result Meaning OperandFault → Type 0
-CellFits place (Ok (Cell word)) = place < 4096
+CellFits place (Ok (Cell word)) = IsAddress place
 CellFits place _ = Unit {0}
 
 -- what holds of the word of a line, where it has one
@@ -41,21 +56,24 @@ IfCell _ P = Unit {0}
 -- a label has at most eight bytes, and its value is at most one past the drum
 abbrev pub SymbolFits : Option (List ℕ) → ℕ → Type 0
 SymbolFits None place = Unit {0}
-SymbolFits (Some label) place = (length label ≤ 8) × (place ≤ 4096)
+SymbolFits (Some label) place = (length label ≤ 8) × (place ≤ drum_size)
 
 abbrev pub symbol_at : Option (List ℕ) → ℕ → Option (List ℕ × ℕ)
 symbol_at None place = None
 symbol_at (Some label) place = Some (label, place)
 
 -- what lines without a fault give
-pub record IsImageOf (names : List (List ℕ × ℕ)) (cells : List (ℕ × ℕ)) (start : Option ℕ) (symbols : List (List ℕ × ℕ)) (earlier : List LineFields) : Type 0 where
+pub record IsImageOf (names : List (List ℕ × ℕ)) (cells : List (ℕ × ℕ)) (start : Option ℕ)
+    (symbols : List (List ℕ × ℕ)) (earlier : List LineFields) : Type 0 where
   pub cells_are : cells ≡ cells_in names earlier
   pub start_is : start ≡ start_in names earlier
   pub symbols_are : symbols ≡ names_of earlier
-  pub within : next_place earlier ≤ 4096
+  pub within : next_place earlier ≤ drum_size
   pub program : AreProgramCells cells
 
--- what some lines give: their faults, and where there are none their words, their start and their names
-pub record IsDraftOf (names : List (List ℕ × ℕ)) (faults : List Fault) (cells : List (ℕ × ℕ)) (start : Option ℕ) (symbols : List (List ℕ × ℕ)) (earlier : List LineFields) : Type 0 where
+-- what some lines give: their faults, and where there are none their words, their start and their
+-- names
+pub record IsDraftOf (names : List (List ℕ × ℕ)) (faults : List Fault) (cells : List (ℕ × ℕ))
+    (start : Option ℕ) (symbols : List (List ℕ × ℕ)) (earlier : List LineFields) : Type 0 where
   pub faults_are : faults ≡ faults_in names earlier
   pub image : faults ≡ [] → IsImageOf names cells start symbols earlier

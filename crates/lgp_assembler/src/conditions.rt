@@ -5,6 +5,7 @@ ghost use Rattle.std.specs.Option.{option_copied};
 ghost use Rattle.lgp_assembler.specs.Faults as spec;
 ghost use Rattle.lgp_assembler.specs.Parts.{is_loaders};
 ghost use Rattle.lgp_assembler.specs.FieldsSeenInside.{fields_seen};
+ghost use Rattle.lgp_assembler.specs.ScanInside.{rows};
 
 use crate::line_fields::Fields;
 use crate::name_table::{NameValues, Names};
@@ -22,9 +23,9 @@ fn says_something(fields: &Fields) -> bool
     fields.label.is_some() || fields.has_operation
 }
 
-/// How many operands a line may have.
-fn takes_at_most(operation: Option<Operation>) -> usize
-    ensures { result ≡ spec.takes_at_most operation }
+/// The most operands that a line may have.
+fn most_allowed(operation: Option<Operation>) -> usize
+    ensures { result ≡ spec.most_allowed operation }
 {
     match operation {
         Some(operation) => operation.most_operands(),
@@ -32,9 +33,9 @@ fn takes_at_most(operation: Option<Operation>) -> usize
     }
 }
 
-/// How many operands a line has to have.
-fn needs_at_least(operation: Option<Operation>) -> usize
-    ensures { result ≡ spec.needs_at_least operation }
+/// The least operands that a line has to have.
+fn least_needed(operation: Option<Operation>) -> usize
+    ensures { result ≡ spec.least_needed operation }
 {
     match operation {
         Some(operation) => operation.least_operands(),
@@ -111,8 +112,8 @@ fn first_kind(rows: &[(bool, FaultKind)]) -> Option<FaultKind>
     rows.iter().find(|row| row.0).map(|row| row.1)
 }
 
-/// The fault of the line that comes, by its place, whether that is taken, and what its operands stand
-/// for.
+/// The fault of the line that comes, by its place, whether that is taken, and what its operands
+/// stand for.
 pub fn fault_of<'a, A: Allocator>(
     scan: &Scan<'a, A>,
     fields: &Fields<'a>,
@@ -122,14 +123,14 @@ pub fn fault_of<'a, A: Allocator>(
 ) -> Option<FaultKind>
     ensures { let line = fields_seen fields.now in
         result ≡ spec.first_kind
-        (spec.rows line meaning.now place scan.now.ended scan.now.names is_taken) }
+        (rows line meaning.now place scan.now.ended scan.now.names is_taken) }
 {
     let has_word = fields.has_word();
     first_kind(&[
         (fields.is_bad, FaultKind::BadByte),
         (scan.ended && says_something(fields), FaultKind::AfterEnd),
         (
-            takes_at_most(fields.operation) < fields.count,
+            most_allowed(fields.operation) < fields.count,
             FaultKind::Extra,
         ),
         (is_bad_label(fields.label), FaultKind::BadLabel),
@@ -142,7 +143,7 @@ pub fn fault_of<'a, A: Allocator>(
             FaultKind::UnknownOrder,
         ),
         (
-            fields.count < needs_at_least(fields.operation),
+            fields.count < least_needed(fields.operation),
             FaultKind::MissingOperand,
         ),
         (is_misformed(meaning), FaultKind::BadOperand),

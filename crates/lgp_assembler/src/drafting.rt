@@ -7,24 +7,24 @@ ghost use Rattle.lgp_assembler.specs.Faults.{numbered_fault, line_meaning};
 ghost use Rattle.lgp_assembler.specs.FieldsSeenInside.{fields_seen};
 ghost use Rattle.lgp_assembler.specs.Image as spec;
 ghost use Rattle.lgp_assembler.specs.Image.{all_lines};
-ghost use Rattle.lgp_assembler.specs.Places.{has_word, place_by};
-ghost use Rattle.lgp_assembler.specs.ScanInside.{AreMarks, kept_fault, CellFits, IfCell, SymbolFits, symbol_at, IsDraftOf};
+ghost use Rattle.lgp_assembler.specs.Places.{has_word};
+ghost use Rattle.lgp_assembler.specs.ScanInside.{ArePlacesTaken, coming_fault, CellFits, IfCell, SymbolFits, symbol_at, IsDraftOf};
 
 use crate::conditions::{fault_of, line_meaning};
 use crate::line_fields::{Fields, fields_of};
-use crate::marks::{is_marked, mark, no_marks};
 use crate::name_table::Names;
 use crate::operands::{Meaning, OperandFault, in_range};
 use crate::operations::Operation;
 use crate::output::{Name, Parts};
 use crate::passes::Scan;
 use crate::refusal::{Fault, FaultKind};
+use crate::taken_places::{is_taken, none_taken, take_place};
 use lgp_source::Lines;
 use lgp_word::{Address, Word};
 use std::alloc::{AllocError, Allocator};
 
-/// What the lines so far have given: their faults, and while there are none their words, their start
-/// and their names.
+/// What the lines so far have given: their faults, and while there are none their words, their
+/// start and their names.
 #[derive(Drop)]
 pub struct Draft<A: Allocator> {
     /// For each place of the drum whether a word lies there.
@@ -149,7 +149,7 @@ impl<A: Allocator> Draft<A> {
         ensures faults { let line = fields_seen fields.now in
             let meaning = line_meaning names.now place line in
             let taken = self.old.taken.items in
-            let kind = kept_fault line meaning place scan.now.ended scan.now.names taken in
+            let kind = coming_fault line meaning place scan.now.ended scan.now.names taken in
             let more = option_to_list (option_map (numbered_fault line.number) kind) in
             OnOk result (self.new.faults.items ≡ self.old.faults.items ++ more) }
         ensures cells { let meaning = line_meaning names.now place (fields_seen fields.now) in
@@ -168,11 +168,11 @@ impl<A: Allocator> Draft<A> {
             → self.new.parts.symbols.items ≡ self.old.parts.symbols.items ++ more) }
     {
         let meaning = line_meaning(names, place, fields);
-        let is_taken = is_marked(&self.taken, place);
+        let was_taken = is_taken(&self.taken, place);
         if fields.has_word() {
-            mark(&mut self.taken, place);
+            take_place(&mut self.taken, place);
         }
-        let kind = fault_of(scan, fields, place, is_taken, &meaning);
+        let kind = fault_of(scan, fields, place, was_taken, &meaning);
         add_fault(&mut self.faults, fields.number, kind)?;
         if !self.faults.is_empty() {
             return Ok(());
@@ -185,14 +185,14 @@ impl<A: Allocator> Draft<A> {
 impl<A: Allocator + Copy> Draft<A> {
     /// Nothing yet.
     pub fn new(alloc: A) -> Result<Draft<A>, AllocError>
-        ensures taken { IfOk result (λ draft. AreMarks draft.taken.items []) }
+        ensures taken { IfOk result (λ draft. ArePlacesTaken draft.taken.items []) }
         ensures faults { IfOk result (λ draft. draft.faults.items ≡ []) }
         ensures cells { IfOk result (λ draft. draft.parts.cells.items ≡ []) }
         ensures start { IfOk result (λ draft. draft.parts.start ≡ None) }
         ensures symbols { IfOk result (λ draft. draft.parts.symbols.items ≡ []) }
     {
         Ok(Draft {
-            taken: no_marks(alloc)?,
+            taken: none_taken(alloc)?,
             faults: Vec::new(alloc),
             parts: Parts::new(alloc),
         })

@@ -2,7 +2,7 @@
 
 ghost use Rattle.std.specs.Prelude.{◌≡◌, ℕ, IfSome, List, []};
 ghost use Rattle.lgp_assembler.specs.Image.{faults_of, image_of};
-ghost use Rattle.lgp_assembler.specs.Laws.{LinesHaveCells, NamesAreFirstPlaces, PlacesCountFromOrgs};
+ghost use Rattle.lgp_assembler.specs.Laws.{FaultsFollowLines, LinesHaveCells, NamesAreFirstPlaces, PlacesCountFromOrgs};
 ghost use Rattle.lgp_assembler.specs.Parts.{AreProgramCells, HaveOwnPlaces};
 ghost use Rattle.lgp_word.specs.Address.{IsAddress};
 
@@ -21,17 +21,27 @@ pub fn names_are_first_places()
     ensures { NamesAreFirstPlaces }
 {}
 
+/// A law, for readers and proofs: the faults of a source are those of its lines, in their order,
+/// and last that of a missing end line. A line behind some others adds its own fault to theirs, if
+/// it has one: that of the first row of the table that holds for it. What the rows ask of the lines
+/// before it is whether one of them is an end line, which labels they have, and whether one of them
+/// has a word at its place.
+#[tactic(auto, using(crate::proofs::FaultLaws::faults_law))]
+pub fn faults_follow_lines()
+    ensures { FaultsFollowLines }
+{}
+
 /// A law, for readers and proofs: in a source without faults each line with a word has its cell, at
-/// the line's place and behind the cells of the lines before it, and there are as many cells as such
-/// lines.
+/// the line's place and behind the cells of the lines before it, and there are as many cells as
+/// such lines.
 #[tactic(auto, using(crate::proofs::CellLaws::cells_law))]
 pub fn lines_have_cells()
     ensures { LinesHaveCells }
 {}
 
-/// A law, for readers and proofs: the words of a source without faults lie at places of their own, on
-/// the drum and at none of the loader's 22 places; so there are at most 4,074. Each is a word of the
-/// machine, and a start is an address.
+/// A law, for readers and proofs: the words of a source without faults lie at places of their own,
+/// on the drum and at none of the loader's 22 places; so there are at most 4,074. Each is a word of
+/// the machine, and a start is an address.
 #[tactic(auto, using(crate::proofs::CellLaws::own_cells))]
 pub fn cells_have_own_places()
     ensures places { (source : List ℕ) → faults_of source ≡ []

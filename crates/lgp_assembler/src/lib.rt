@@ -9,7 +9,8 @@ ghost use Rattle.lgp_assembler.specs.Parts.{AreProgramCells, HaveOwnPlaces};
 
 use drafting::{Draft, draft_source};
 pub use laws::{
-    cells_have_own_places, lines_have_cells, names_are_first_places, places_count_from_orgs,
+    cells_have_own_places, faults_follow_lines, lines_have_cells, names_are_first_places,
+    places_count_from_orgs,
 };
 pub use line_fields::has_word;
 pub use name_table::NameValues;
@@ -24,7 +25,6 @@ mod conditions;
 mod drafting;
 mod laws;
 mod line_fields;
-mod marks;
 mod name_table;
 mod operands;
 mod operations;
@@ -32,6 +32,7 @@ mod output;
 mod passes;
 mod patch;
 mod refusal;
+mod taken_places;
 
 /// Adds the fault of a source of so many lines that has not ended.
 fn add_missing_end<A: Allocator>(

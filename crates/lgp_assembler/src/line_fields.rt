@@ -91,22 +91,30 @@ pub fn fields_of<'a>(line: &Line<'a>) -> Fields<'a>
     }
 }
 
+/// Whether there is an operation that makes a word.
+fn makes_word(operation: Option<Operation>) -> bool
+    ensures { result ≡ places.option_makes_word operation }
+{
+    match operation {
+        Some(operation) => operation.makes_word(),
+        None => false,
+    }
+}
+
 impl<'a> Fields<'a> {
     /// Whether the line's operation makes a word, whatever else is wrong with the line.
     pub fn has_word(&self) -> bool
         ensures { result ≡ places.has_word (fields_seen self.now) }
     {
-        match self.operation {
-            Some(operation) => operation.makes_word(),
-            None => false,
-        }
+        makes_word(self.operation)
     }
 }
 
 /// Whether a line's operation makes a word: an order, `-t`, `word`, `frac` or `int`, whatever else
 /// is wrong with the line. In a source without a fault these are the lines that have a cell.
+#[tactic(auto, unfolding(crate::specs::Fields::fields_of))]
 pub fn has_word(line: &Line) -> bool
     ensures { result ≡ places.has_word (spec.fields_of (line_seen line.now)) }
 {
-    fields_of(line).has_word()
+    makes_word(token_operation(line.operation))
 }

@@ -121,8 +121,8 @@ pub fn in_range(number: u64) -> Result<Address, OperandFault>
 }
 
 /// The address that lies an offset from a number.
-fn moved_by(offset: Offset, number: u64) -> Result<Address, OperandFault>
-    ensures { result ≡ spec.moved_by offset number }
+fn address_beside(offset: Offset, number: u64) -> Result<Address, OperandFault>
+    ensures { result ≡ spec.address_beside offset number }
 {
     if offset.minus {
         match number.checked_sub(offset.number) {
@@ -150,9 +150,9 @@ fn base_len(text: &[u8]) -> usize
     sign_place(text).unwrap_or(text.len())
 }
 
-/// The address that an operand stands for in a line's place: a name, an address or `*`, the place itself, and behind it perhaps a
-/// sign and a number. `Misformed` where it is in no such form, `Unknown` where its name has no value, `Outside` where that is no
-/// place on the drum.
+/// The address that an operand stands for in a line's place: a name, an address or `*`, the place
+/// itself, and behind it perhaps a sign and a number. `Misformed` where it is in no such form,
+/// `Unknown` where its name has no value, `Outside` where that is no place on the drum.
 #[tactic(auto, unfolding(crate::specs::Operands::address_operand))]
 pub fn address_operand<N: NameValues>(
     names: &N,
@@ -166,7 +166,7 @@ pub fn address_operand<N: NameValues>(
         return Err(OperandFault::Misformed);
     };
     match base_number(names, place, base) {
-        Ok(number) => moved_by(offset, number),
+        Ok(number) => address_beside(offset, number),
         Err(fault) => Err(fault),
     }
 }
@@ -294,7 +294,7 @@ fn fraction_word(text: &[u8]) -> Result<Meaning, OperandFault>
 }
 
 /// What the operands of a line stand for, in its place and with the names of the source.
-#[tactic(auto, unfolding(crate::specs::Operands::meaning))]
+#[tactic(auto, unfolding(crate::specs::Operands::meaning_of))]
 pub fn meaning_of<N: NameValues>(
     names: &N,
     place: u64,
@@ -302,7 +302,7 @@ pub fn meaning_of<N: NameValues>(
     first: Option<&[u8]>,
     second: Option<&[u8]>,
 ) -> Result<Meaning, OperandFault>
-    ensures { result ≡ spec.meaning (N.values names.now) place operation
+    ensures { result ≡ spec.meaning_of (N.values names.now) place operation
         (option_copied first.entry) (option_copied second.entry) }
 {
     match (operation, first, second) {

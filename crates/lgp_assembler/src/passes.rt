@@ -58,7 +58,7 @@ fn add_label<'a, A: Allocator + Clone>(
 impl<'a, A: Allocator> Scan<'a, A> {
     /// The place of the line that comes.
     pub fn place_of(&self, fields: &Fields<'a>) -> u64
-        ensures value { result ≡ spec.place_by (fields_seen fields.now) self.now.place }
+        ensures value { result ≡ spec.place_reached (fields_seen fields.now) self.now.place }
         ensures bound { result ≤ max self.now.place 4095 }
     {
         match org_address(fields.operation, fields.first) {

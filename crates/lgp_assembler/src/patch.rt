@@ -44,8 +44,9 @@ fn word_meant(meaning: &Result<Meaning, OperandFault>) -> Result<Word, OperandFa
     }
 }
 
-/// The word of an operation with its operands in a place, by the names of a source that is already assembled. `Misformed` where
-/// there is no such operation, where it makes no word or takes another number of operands, and where an operand is not in its form.
+/// The word of an operation with its operands in a place, by the names of a source that is already
+/// assembled. `Misformed` where there is no such operation, where it makes no word or takes another
+/// number of operands, and where an operand is not in its form.
 #[tactic(auto, unfolding(crate::specs::Patch::operation_word))]
 pub fn operation_word<N: NameValues>(
     names: &N,

@@ -7,19 +7,19 @@ use Rattle.lgp_word.specs.Word.{IsWord}
 use Rattle.lgp_word.specs.Digits.{digits_of, four_digits, address_digits, address_text, word_of_digits}
 use Rattle.lgp_word.proofs.DigitLemmas.{word_of_digits-digits_of, digits_of-word_of_digits}
 use Rattle.lgp_word.proofs.TextLemmas.{address_text-address_digits, address_digits-address_text, IsWord-word_of_digits}
-use Rattle.lgp_listing.specs.Dump.{cell_line, cell_by, cell_in}
+use Rattle.lgp_listing.specs.Dump.{cell_line, used_cell, cell_in}
 use Rattle.lgp_listing.specs.Laws.{IsLineOf}
 
 -- a line of a dump is read as its address and its word
 pub cell_in-cell_line : (address word : ℕ) → IsAddress address → IsWord word → word ≢ 0 → cell_in (cell_line address word) ≡ Some (address, word)
 unfolding cell_in digits_of four_digits
 cell_in-cell_line address word is_address is_word some =
-    ap (λ a. cell_by a (word_of_digits (digits_of word))) (address_text-address_digits address is_address)
-    ∙ ap (cell_by (Some address)) (word_of_digits-digits_of word is_word)
+    ap (λ a. used_cell a (word_of_digits (digits_of word))) (address_text-address_digits address is_address)
+    ∙ ap (used_cell (Some address)) (word_of_digits-digits_of word is_word)
     ∙ cond-false (word == 0) None (Some (address, word)) (ne_eqb word 0 some)
 
 -- the two that a line in form has
-cell_parts : (a w : Option ℕ) (cell : ℕ × ℕ) → cell_by a w ≡ Some cell → (a ≡ Some cell.0) × (w ≡ Some cell.1) × (cell.1 ≢ 0)
+cell_parts : (a w : Option ℕ) (cell : ℕ × ℕ) → used_cell a w ≡ Some cell → (a ≡ Some cell.0) × (w ≡ Some cell.1) × (cell.1 ≢ 0)
 cell_parts None w cell e = cc
 cell_parts (Some address) None cell e = cc
 cell_parts (Some address) (Some word) cell e = pick (word == 0) refl e
@@ -55,7 +55,7 @@ kept false o cell e = cc
 pub cell_line-cell_in : (line : List ℕ) (cell : ℕ × ℕ) → cell_in line ≡ Some cell → IsLineOf cell.0 cell.1 line
 unfolding cell_in
 cell_line-cell_in line cell read =
-    let form = kept (length line == 14 && slice_index line 4 == 32 && slice_index line 13 == 10) (cell_by (address_text (take 4 line)) (word_of_digits (take 8 (drop 5 line)))) cell read in
+    let form = kept (length line == 14 && slice_index line 4 == 32 && slice_index line 13 == 10) (used_cell (address_text (take 4 line)) (word_of_digits (take 8 (drop 5 line)))) cell read in
     let two = and_parts (length line == 14 && slice_index line 4 == 32) (slice_index line 13 == 10) form.0 in
     let one = and_parts (length line == 14) (slice_index line 4 == 32) two.0 in
     let parts = cell_parts (address_text (take 4 line)) (word_of_digits (take 8 (drop 5 line))) cell form.1 in

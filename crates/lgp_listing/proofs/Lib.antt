@@ -1,4 +1,5 @@
 pub mod Dumps
+pub mod UsedWords
 pub mod Cells
 pub mod FaultSteps
 pub mod FaultLaws

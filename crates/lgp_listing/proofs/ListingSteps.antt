@@ -7,9 +7,9 @@ use Rattle.lgp_source.specs.Source.{SourceLine, lines_of}
 use Rattle.lgp_assembler.specs.Fields.{LineFields, fields_of}
 use Rattle.lgp_assembler.specs.Places.{has_word, names_of}
 use Rattle.lgp_assembler.specs.Faults.{faults_in, missing_end}
-use Rattle.lgp_assembler.specs.Image.{cells_in, all_lines, faults_of, image_of}
+use Rattle.lgp_assembler.specs.Image.{line_cell, cells_in, all_lines, faults_of, image_of}
 use Rattle.lgp_assembler.proofs.DraftSteps.{append_none}
-use Rattle.lgp_assembler.proofs.LineCells.{line_cell, cell_there, cell_missing, cells_behind, cells_in_order, AreFaultless, each_faultless}
+use Rattle.lgp_assembler.proofs.LineCells.{cell_there, cell_missing, cells_behind, cells_in_order, AreFaultless, each_faultless}
 use Rattle.lgp_listing.specs.Listing.{listed_line, listing_from, listing_of}
 
 -- the text so far, the lines to come and their cells

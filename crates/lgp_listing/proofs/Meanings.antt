@@ -18,7 +18,7 @@ use Rattle.lgp_assembler.specs.declared.operands.Meaning.TheVariants.{Cell, Noth
 use Rattle.lgp_assembler.specs.declared.operands.OperandFault.TheVariants.{Misformed, Unknown, Outside}
 use Rattle.lgp_assembler.specs.declared.operands.Offset.{Offset}
 use Rattle.lgp_assembler.specs.Operations.{operation_of}
-use Rattle.lgp_assembler.specs.Operands.{is_name_byte, is_name, is_sign, offset_of, base_number, in_range, moved, address_operand, cell_of_order, sign_operand, order_operand, cell_or, meaning}
+use Rattle.lgp_assembler.specs.Operands.{is_name_byte, is_name, is_sign, offset_of, base_number, in_range, address_of_parts, address_operand, cell_of_order, sign_operand, order_operand, cell_of_digits, meaning_of}
 
 -- ---- operations
 
@@ -81,29 +81,29 @@ module _ (names : List (List ℕ × ℕ)) (place address : ℕ) (is_address : Is
   address_means =
       let none : Offset = record { minus = false; number = 0 } in
       let same : address + 0 ≡ address = omega arith in
-      ap (λ n. moved (offset_of (drop n text)) (base_number names place (take n text))) all_base
-      ∙ ap (moved (Some none)) base_is
+      ap (λ n. address_of_parts (offset_of (drop n text)) (base_number names place (take n text))) all_base
+      ∙ ap (address_of_parts (Some none)) base_is
       ∙ ap in_range same
       ∙ cond-true (nat_lt address 4096) (Ok address) (Err Outside) (lt-ltb address 4096 is_address)
 
-  pub order_means : (op : Op) → meaning names place (Order op) (Some text) None ≡ Ok (Cell (order_word (record { minus = false; op = op; address = address })))
-  unfolding meaning order_operand
+  pub order_means : (op : Op) → meaning_of names place (Order op) (Some text) None ≡ Ok (Cell (order_word (record { minus = false; op = op; address = address })))
+  unfolding meaning_of order_operand
   order_means op =
       let first : (48 + address / 64 / 10 == 61) ≡ false = ne_eqb (48 + address / 64 / 10) 61 (λ e. absurd (omega arith)) in
       cond-false (48 + address / 64 / 10 == 61) (sign_operand op text) (cell_of_order false op (address_operand names place text)) first
       ∙ ap (cell_of_order false op) address_means
 
-  pub minus_means : meaning names place MinusT (Some text) None ≡ Ok (Cell (order_word (record { minus = true; op = T; address = address })))
-  unfolding meaning order_operand
+  pub minus_means : meaning_of names place MinusT (Some text) None ≡ Ok (Cell (order_word (record { minus = true; op = T; address = address })))
+  unfolding meaning_of order_operand
   minus_means =
       let first : (48 + address / 64 / 10 == 61) ≡ false = ne_eqb (48 + address / 64 / 10) 61 (λ e. absurd (omega arith)) in
       cond-false (48 + address / 64 / 10 == 61) (sign_operand T text) (cell_of_order true T (address_operand names place text)) first
       ∙ ap (cell_of_order true T) address_means
 
-pub word_means : (names : List (List ℕ × ℕ)) (place word : ℕ) → IsWord word → meaning names place Word (Some (digits_of word)) None ≡ Ok (Cell word)
-unfolding meaning
-word_means names place word is_word = ap cell_or (word_of_digits-digits_of word is_word)
+pub word_means : (names : List (List ℕ × ℕ)) (place word : ℕ) → IsWord word → meaning_of names place Word (Some (digits_of word)) None ≡ Ok (Cell word)
+unfolding meaning_of
+word_means names place word is_word = ap cell_of_digits (word_of_digits-digits_of word is_word)
 
-pub end_means : (names : List (List ℕ × ℕ)) (place : ℕ) → meaning names place End None None ≡ Ok Nothing
-unfolding meaning
+pub end_means : (names : List (List ℕ × ℕ)) (place : ℕ) → meaning_of names place End None None ≡ Ok Nothing
+unfolding meaning_of
 end_means names place = refl

@@ -1,5 +1,6 @@
 -- The source of a disassembled word.
 use Rattle.std.proofs.Common.{◌≡◌, ◌≢◌, ◌<◌, ◌≤◌, ◌+◌, ◌/◌, ◌%◌, ◌++◌, ◌&&◌, ◌||◌, ◌==◌, ℕ, Bool, true, false, not, List, [], ◌∷◌, codes, Option, Some, None, refl, sym, ap, subst, ◌∙◌, arith, nat_le, nat_lt, map}
+use Rattle.std.specs.Option.{option_map_or}
 use Rattle.std.proofs.lemmas.Bool.{and_parts, eqb-true, leb-true, eq-eqb, true≢false}
 use Rattle.std.proofs.lemmas.Option.{cond_some}
 use Rattle.std.proofs.lemmas.List.Elements.{All-get_or, All-from_recursion}
@@ -9,21 +10,21 @@ use Rattle.lgp_word.specs.Address.{IsAddress}
 use Rattle.lgp_word.specs.Word.{IsWord}
 use Rattle.lgp_word.specs.Order.{OrderParts, op_letter, order_word, parts_of, takes_minus, decoded}
 use Rattle.lgp_word.specs.Digits.{digits, digit_byte, digits_of, four_digits, address_digits}
-use Rattle.lgp_source.specs.Source.{text_of, line_of, numbered, lines_of}
+use Rattle.lgp_source.specs.Source.{text_of, line_of, numbered_lines, lines_of}
 use Rattle.lgp_source.proofs.PlainLines.{IsPlain, ArePlain, AreVisible, plain_visible, plain_append, piece_first, text_whole, statement_line}
 use Rattle.lgp_assembler.specs.declared.operations.Operation.{Operation}
 use Rattle.lgp_assembler.specs.declared.operations.Operation.TheVariants.{Order, MinusT, Word, End}
 use Rattle.lgp_assembler.specs.declared.operands.Meaning.TheVariants.{Cell}
 use Rattle.std.proofs.Common.{Ok}
 use Rattle.lgp_assembler.specs.Operations.{operation_of}
-use Rattle.lgp_assembler.specs.Operands.{meaning}
+use Rattle.lgp_assembler.specs.Operands.{meaning_of}
 use Rattle.lgp_assembler.specs.Fields.{LineFields, fields_of}
 use Rattle.lgp_assembler.specs.Places.{next_place, has_ended, names_of, is_taken}
-use Rattle.lgp_assembler.specs.Faults.{needs_at_least, fault_of, faults_in, missing_end}
+use Rattle.lgp_assembler.specs.Faults.{least_needed, fault_of, faults_in, missing_end}
 use Rattle.lgp_assembler.specs.Parts.{ImageParts}
 use Rattle.lgp_assembler.specs.declared.refusal.Fault.{Fault}
 use Rattle.lgp_assembler.specs.Image.{passed_lines, all_lines, cells_in, start_in}
-use Rattle.lgp_listing.specs.Disassembly.{order_text, digits_text, text_by, disassembly}
+use Rattle.lgp_listing.specs.Disassembly.{order_text, digits_text, disassembly}
 use Rattle.lgp_listing.specs.Laws.{one_line, AssemblesTo, EachWordAssembles}
 use Rattle.lgp_listing.proofs.Meanings.{order_named, order_means, minus_means, word_means, end_means}
 
@@ -96,11 +97,11 @@ digits_visible word =
 -- ---- the lines of the source
 
 -- the line of an operation and an operand, and an end line, as the assembler sees them
-abbrev fields_by : Option Operation → List ℕ → LineFields
-fields_by operation operand = record { number = 1; is_bad = false; label = None; has_operation = true; operation = operation; first = Some operand; second = None; count = 1 }
+abbrev fields_with : Option Operation → List ℕ → LineFields
+fields_with operation operand = record { number = 1; is_bad = false; label = None; has_operation = true; operation = operation; first = Some operand; second = None; count = 1 }
 
 abbrev line_fields : Operation → List ℕ → LineFields
-line_fields operation operand = fields_by (Some operation) operand
+line_fields operation operand = fields_with (Some operation) operand
 
 abbrev end_fields : LineFields
 end_fields = record { number = 2; is_bad = false; label = None; has_operation = true; operation = Some End; first = None; second = None; count = 0 }
@@ -122,9 +123,9 @@ module _ (n o : ℕ) (name operand : List ℕ) (operation : Operation) (named : 
   )
 
   two_lines : lines_of (one_line text) ≡ line_of 1 (32 ∷ text) ∷ line_of 2 (text_of (codes " end")) ∷ []
-  unfolding lines_of numbered
+  unfolding lines_of numbered_lines
   two_lines =
-      ap (numbered 1) (piece_first (32 ∷ text) (codes " end") plain_text)
+      ap (numbered_lines 1) (piece_first (32 ∷ text) (codes " end") plain_text)
       ∙ ap (λ t. line_of 1 t ∷ line_of 2 (text_of (codes " end")) ∷ []) (text_whole (32 ∷ text) plain_text)
 
   first_line : fields_of (line_of 1 (32 ∷ text)) ≡ line_fields operation (o ∷ operand)
@@ -132,9 +133,9 @@ module _ (n o : ℕ) (name operand : List ℕ) (operation : Operation) (named : 
   first_line =
       let statement = statement_line 1 n o name operand is_name is_operand in
       ap fields_of statement.line_is
-      ∙ ap (λ t. fields_by (operation_of t) statement.second.text) statement.name_is
-      ∙ ap (fields_by (operation_of (n ∷ name))) statement.operand_is
-      ∙ ap (λ op. fields_by op (o ∷ operand)) named
+      ∙ ap (λ t. fields_with (operation_of t) statement.second.text) statement.name_is
+      ∙ ap (fields_with (operation_of (n ∷ name))) statement.operand_is
+      ∙ ap (λ op. fields_with op (o ∷ operand)) named
 
   pub both_lines : all_lines (one_line text) ≡ end_fields ∷ line_fields operation (o ∷ operand) ∷ []
   unfolding all_lines
@@ -157,7 +158,7 @@ pub record GivesOne (operation : Operation) (operand : List ℕ) (word : ℕ) : 
   image : given (end_fields ∷ line_fields operation operand ∷ []) ≡ record { cells = (0, word) ∷ []; start = None; symbols = [] }
 
 -- an order takes one operand
-order_needs : (op : Op) → nat_lt 1 (needs_at_least (Some (Order op))) ≡ false
+order_needs : (op : Op) → nat_lt 1 (least_needed (Some (Order op))) ≡ false
 order_needs Z = refl
 order_needs B = refl
 order_needs Y = refl
@@ -175,21 +176,21 @@ order_needs C = refl
 order_needs A = refl
 order_needs S = refl
 
-order_gives : (op : Op) (operand : List ℕ) (word : ℕ) → meaning [] 0 (Order op) (Some operand) None ≡ Ok (Cell word) → GivesOne (Order op) operand word
+order_gives : (op : Op) (operand : List ℕ) (word : ℕ) → meaning_of [] 0 (Order op) (Some operand) None ≡ Ok (Cell word) → GivesOne (Order op) operand word
 unfolding faults_in fault_of next_place has_ended names_of is_taken cells_in start_in
 order_gives op operand word means = record {
   faultless = rw (order_needs op, means, end_means [] 1) refl;
   image = rw (means, end_means [] 1) refl;
 }
 
-minus_gives : (operand : List ℕ) (word : ℕ) → meaning [] 0 MinusT (Some operand) None ≡ Ok (Cell word) → GivesOne MinusT operand word
+minus_gives : (operand : List ℕ) (word : ℕ) → meaning_of [] 0 MinusT (Some operand) None ≡ Ok (Cell word) → GivesOne MinusT operand word
 unfolding faults_in fault_of next_place has_ended names_of is_taken cells_in start_in
 minus_gives operand word means = record {
   faultless = rw (means, end_means [] 1) refl;
   image = rw (means, end_means [] 1) refl;
 }
 
-word_gives : (operand : List ℕ) (word : ℕ) → meaning [] 0 Word (Some operand) None ≡ Ok (Cell word) → GivesOne Word operand word
+word_gives : (operand : List ℕ) (word : ℕ) → meaning_of [] 0 Word (Some operand) None ≡ Ok (Cell word) → GivesOne Word operand word
 unfolding faults_in fault_of next_place has_ended names_of is_taken cells_in start_in
 word_gives operand word means = record {
   faultless = rw (means, end_means [] 1) refl;
@@ -267,12 +268,12 @@ unfolding disassembly
 each_word word is_word = pick (decoded word) refl
   where
     pick : (order : Option OrderParts) → decoded word ≡ order → AssemblesTo (one_line (disassembly word)) word
-    pick None none = subst (λ t. AssemblesTo (one_line t) word) (sym (ap (λ o. text_by o word) none)) (digits_assemble word is_word)
+    pick None none = subst (λ t. AssemblesTo (one_line t) word) (sym (ap (λ o. option_map_or order_text o (digits_text word)) none)) (digits_assemble word is_word)
     pick (Some order) some =
         let parts = parts_of word in
         let kept = cond_some (order_word parts == word && (takes_minus parts.op || not parts.minus)) parts order some in
         let test = and_parts (order_word parts == word) (takes_minus parts.op || not parts.minus) kept.0 in
         let word_is : order_word parts ≡ word = eqb-true (order_word parts) word test.0 in
-        let text_is : disassembly word ≡ order_text parts = ap (λ o. text_by o word) (some ∙ ap Some (sym kept.1)) in
+        let text_is : disassembly word ≡ order_text parts = ap (λ o. option_map_or order_text o (digits_text word)) (some ∙ ap Some (sym kept.1)) in
         subst (λ t. AssemblesTo (one_line t) word) (sym text_is)
         (subst (AssemblesTo (one_line (order_text parts))) word_is (order_assembles parts.minus parts.op parts.address (omega arith) test.1))

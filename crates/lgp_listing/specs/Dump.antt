@@ -1,5 +1,9 @@
--- Part of the public promise: the text of a drum's words, and the first fault of a text that is no drum's. This project's own choice.
-use Rattle.std.specs.Prelude.{◌≡◌, ℕ, ◌+◌, ◌++◌, ◌==◌, ◌&&◌, nat_lt, if◌then◌else◌, Option, Some, None, List, [], ◌∷◌, length, take, drop, codes, slice_index, All}
+-- Part of the public promise: the text of a drum's words, and the first fault of a text that is no
+-- drum's. This project's own choice.
+use Rattle.std.specs.Prelude.{◌≡◌, ℕ, ◌+◌, ◌++◌, ◌==◌, ◌&&◌, nat_lt}
+use Rattle.std.specs.Prelude.{Bool, not, if◌then◌else◌, Option, Some, None}
+use Rattle.std.specs.Prelude.{List, [], ◌∷◌, length, take, drop, codes, slice_index, All}
+use Rattle.std.specs.Option.{option_or}
 use Rattle.bstr.specs.Text.{lines_of}
 use Rattle.lgp_word.specs.Digits.{digits_of, address_digits, address_text, word_of_digits}
 use Rattle.lgp_word.specs.Word.{IsWord}
@@ -17,6 +21,10 @@ pub record IsDrum (words : List ℕ) : Type 0 where
 abbrev pub cell_line : ℕ → ℕ → List ℕ
 cell_line address word = address_digits address ++ codes " " ++ digits_of word ++ codes "\n"
 
+-- whether a word is not zero
+abbrev pub is_used : ℕ → Bool
+is_used word = not (word == 0)
+
 -- words of zeros have no line
 abbrev pub word_line : ℕ → ℕ → List ℕ
 word_line address word = if word == 0 then [] else cell_line address word
@@ -32,27 +40,35 @@ dump_of words = dump_from 0 words
 
 -- ---- the first fault of a text
 
-abbrev pub cell_by : Option ℕ → Option ℕ → Option (ℕ × ℕ)
-cell_by (Some address) (Some word) = if word == 0 then None else Some (address, word)
-cell_by _ _ = None
+-- an address and a word, where both are there and the word is not zero
+abbrev pub used_cell : Option ℕ → Option ℕ → Option (ℕ × ℕ)
+used_cell (Some address) (Some word) = if word == 0 then None else Some (address, word)
+used_cell _ _ = None
 
--- the address and the word of a line in form: `ttss`, a space, the eight digits of a word that is not zero, and a line feed
+-- the address and the word of a line in form: `ttss`, a space, the eight digits of a word that is
+-- not zero, and a line feed
 unfoldable pub cell_in : List ℕ → Option (ℕ × ℕ)
 cell_in line =
     if length line == 14 && slice_index line 4 == 32 && slice_index line 13 == 10
-    then cell_by (address_text (take 4 line)) (word_of_digits (take 8 (drop 5 line))) else None
+    then used_cell (address_text (take 4 line)) (word_of_digits (take 8 (drop 5 line))) else None
 
--- the fault of a line of this number, or else that of the lines behind it: first its form is asked, and then whether its address
--- is at least `least`, the one after that of the line before
-abbrev pub fault_by : ℕ → ℕ → Option (ℕ × ℕ) → (ℕ → Option DumpFault) → Option DumpFault
-fault_by number least None behind = Some (Form number)
-fault_by number least (Some cell) behind = if nat_lt cell.0 least then Some (Order number) else behind (cell.0 + 1)
+-- the fault of one line of this number, whose address may be `least` or above: first its form is
+-- asked, and then its address
+abbrev pub line_fault : ℕ → ℕ → Option (ℕ × ℕ) → Option DumpFault
+line_fault number least None = Some (Form number)
+line_fault number least (Some cell) = if nat_lt cell.0 least then Some (Order number) else None
 
--- the first fault of some lines, from a number on
+-- the least address that may stand behind a line: the one after its own
+abbrev pub least_after : Option (ℕ × ℕ) → ℕ
+least_after None = 0
+least_after (Some cell) = cell.0 + 1
+
+-- the first fault of some lines, from a number and a least address on
 unfoldable pub fault_from : ℕ → ℕ → List (List ℕ) → Option DumpFault
 fault_from number least [] = None
 fault_from number least (line ∷ lines) =
-    fault_by number least (cell_in line) (λ next. fault_from (number + 1) next lines)
+    option_or (line_fault number least (cell_in line))
+    (fault_from (number + 1) (least_after (cell_in line)) lines)
 
 -- the first fault of a text, whose lines keep their line feeds and are counted from 1
 abbrev pub first_fault : List ℕ → Option DumpFault

@@ -35,7 +35,8 @@ pub record IsLineOf (address word : ℕ) (line : List ℕ) : Type 0 where
 abbrev pub AreSound : ℕ → List (List ℕ) → Type 0
 AreSound least [] = Unit {0}
 AreSound least (line ∷ lines) =
-    (address : ℕ) × (word : ℕ) × IsLineOf address word line × (least ≤ address) × AreSound (address + 1) lines
+    (address : ℕ) × (word : ℕ) × IsLineOf address word line
+    × (least ≤ address) × AreSound (address + 1) lines
 
 -- all lines before the line of this number are sound, and it is not in form
 pub record IsFormFault (text : List ℕ) (number : ℕ) : Type 0 where
@@ -47,7 +48,8 @@ pub record IsFormFault (text : List ℕ) (number : ℕ) : Type 0 where
   pub sound : AreSound 0 before
   pub misformed : (address word : ℕ) → ¬ (IsLineOf address word line)
 
--- all lines before the line of this number are sound, and it is in form with an address that is not above that of the line before it
+-- all lines before the line of this number are sound, and it is in form with an address that is not
+-- above that of the line before it
 pub record IsOrderFault (text : List ℕ) (number : ℕ) : Type 0 where
   pub before : List (List ℕ)
   pub last : List ℕ
@@ -65,6 +67,8 @@ pub record IsOrderFault (text : List ℕ) (number : ℕ) : Type 0 where
   pub not_above : address ≤ last_address
 
 pub record FirstFaultsAreFirst : Type 0 where
-  pub form : (text : List ℕ) (number : ℕ) → first_fault text ≡ Some (Form number) → IsFormFault text number
-  pub order : (text : List ℕ) (number : ℕ) → first_fault text ≡ Some (Order number) → IsOrderFault text number
+  pub form : (text : List ℕ) (number : ℕ) → first_fault text ≡ Some (Form number)
+      → IsFormFault text number
+  pub order : (text : List ℕ) (number : ℕ) → first_fault text ≡ Some (Order number)
+      → IsOrderFault text number
   pub none : (text : List ℕ) → first_fault text ≡ None → AreSound 0 (lines_of text)

@@ -1,13 +1,14 @@
--- Part of the public promise: the listing of a source, its lines beside their words. This project's own choice.
+-- Part of the public promise: the listing of a source, its lines beside their words. This project's
+-- own choice.
 use Rattle.std.specs.Prelude.{ℕ, ◌++◌, Option, Some, None, List, [], ◌∷◌, codes, replicate}
 use Rattle.lgp_word.specs.Digits.{digits_of, address_digits}
 use Rattle.lgp_source.specs.Source.{SourceLine, lines_of}
 use Rattle.lgp_assembler.specs.Fields.{LineFields, fields_of}
-use Rattle.lgp_assembler.specs.Places.{place_of, names_of}
-use Rattle.lgp_assembler.specs.Faults.{line_meaning}
-use Rattle.lgp_assembler.specs.Image.{cell_at, all_lines}
+use Rattle.lgp_assembler.specs.Places.{names_of}
+use Rattle.lgp_assembler.specs.Image.{line_cell, all_lines}
 
--- what stands before a line's text: the place and the digits of its word, each with a space behind it, or else 14 spaces
+-- what stands before a line's text: the place and the digits of its word, each with a space behind
+-- it, or else 14 spaces
 abbrev pub margin : Option (ℕ × ℕ) → List ℕ
 margin (Some cell) = address_digits cell.0 ++ codes " " ++ digits_of cell.1 ++ codes " "
 margin None = replicate 14 32
@@ -16,15 +17,12 @@ margin None = replicate 14 32
 abbrev pub listed_line : Option (ℕ × ℕ) → List ℕ → List ℕ
 listed_line cell text = margin cell ++ text ++ codes "\n"
 
--- the place and the word of a line after those before it, the nearest first, where it has a word
-abbrev pub cell_of : List (List ℕ × ℕ) → List LineFields → LineFields → Option (ℕ × ℕ)
-cell_of names earlier line = cell_at (place_of line earlier) (line_meaning names (place_of line earlier) line)
-
--- the lines of a listing that some lines of a source have behind those before them, the nearest first
+-- the lines of a listing that some lines of a source have behind those before them, the nearest
+-- first
 unfoldable pub listing_from : List (List ℕ × ℕ) → List LineFields → List SourceLine → List ℕ
 listing_from names earlier [] = []
 listing_from names earlier (line ∷ lines) =
-    listed_line (cell_of names earlier (fields_of line)) line.text
+    listed_line (line_cell names earlier (fields_of line)) line.text
     ++ listing_from names (fields_of line ∷ earlier) lines
 
 -- the listing of a source, with the names of all its lines

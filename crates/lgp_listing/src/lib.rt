@@ -2,9 +2,9 @@
 #![tactic(auto)]
 
 pub use disassembly::disassemble;
-pub use dumping::dump;
+pub use dumping::{DrumWords, dump, push_cell_line, push_dump};
 pub use laws::{each_word_assembles, first_faults_are_first};
-pub use listed::listing;
+pub use listed::{listing, listing_from_image};
 pub use reading::{DumpFault, read_dump};
 
 mod disassembly;

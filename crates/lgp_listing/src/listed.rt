@@ -3,10 +3,10 @@
 ghost use Rattle.std.specs.Prelude.{◌≡◌, ◌≢◌, ◌++◌, [], IfOk, IfErr, OnOk};
 ghost use Rattle.std.specs.Option.{option_copied};
 ghost use Rattle.lgp_assembler.specs.Answers.{IfFaults};
-ghost use Rattle.lgp_assembler.specs.Image.{faults_of};
+ghost use Rattle.lgp_assembler.specs.Image.{faults_of, image_of};
 ghost use Rattle.lgp_listing.specs.Listing as spec;
 
-use lgp_assembler::{AssembleError, assemble, has_word};
+use lgp_assembler::{AssembleError, Image, assemble, has_word};
 use lgp_source::Lines;
 use lgp_word::{Address, Word, write_digits};
 use std::alloc::{AllocError, Allocator};
@@ -42,6 +42,26 @@ fn add_line<A: Allocator>(
     Ok(())
 }
 
+/// The listing of a source by the image that it assembles to: before each line that makes a word
+/// stand its place and the word's digits, before any other 14 spaces.
+pub fn listing_from_image<A: Allocator, B: Allocator>(
+    alloc: A,
+    source: &[u8],
+    image: &Image<B>,
+) -> Result<Vec<u8, A>, AllocError>
+    requires faultless { faults_of source.now ≡ [] }
+    requires image { image.now ≡ image_of source.now }
+    ensures { IfOk result (λ text. text.items ≡ spec.listing_of source.now) }
+{
+    let mut cells = image.cells().iter().copied();
+    let mut text = Vec::new(alloc);
+    for line in Lines::new(source) {
+        let cell = if has_word(&line) { cells.next() } else { None };
+        add_line(&mut text, cell, line.text)?;
+    }
+    Ok(text)
+}
+
 /// The listing of a source that has no fault: before each line that makes a word stand its place
 /// and the word's digits, before any other 14 spaces. The refusals are those of `assemble`.
 pub fn listing<A: Allocator + Copy>(alloc: A, source: &[u8]) -> Result<Vec<u8, A>, AssembleError<A>>
@@ -52,11 +72,6 @@ pub fn listing<A: Allocator + Copy>(alloc: A, source: &[u8]) -> Result<Vec<u8, A
     ensures faulty { IfErr result (λ error. IfFaults error (λ faults. faults ≢ [])) }
 {
     let image = assemble(alloc, source)?;
-    let mut cells = image.cells().iter().copied();
-    let mut text = Vec::new(alloc);
-    for line in Lines::new(source) {
-        let cell = if has_word(&line) { cells.next() } else { None };
-        add_line(&mut text, cell, line.text)?;
-    }
+    let text = listing_from_image(alloc, source, &image)?;
     Ok(text)
 }

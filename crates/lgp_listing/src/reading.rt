@@ -84,8 +84,8 @@ fn put_lines<A: Allocator>(drum: &mut Drum<A>, text: &[u8])
     }
 }
 
-/// The drum whose dump a text is. Else `Form` or `Order` of the first faulty line; the form is asked
-/// first. `Memory` only where no line is faulty.
+/// The drum whose dump a text is. Else `Form` or `Order` of the first faulty line; the form is
+/// asked first. `Memory` only where no line is faulty.
 pub fn read_dump<A: Allocator + Copy>(alloc: A, text: &[u8]) -> Result<Drum<A>, DumpFault>
     ensures drum { IfOk result (λ drum. spec.dump_of drum ≡ text.now) }
     ensures words { IfOk result (λ drum. spec.IsDrum drum) }

@@ -1,9 +1,10 @@
 //! Disassembly, listings and dumps.
 
-use lgp_assembler::{AssembleError, FaultKind};
+use lgp_assembler::{AssembleError, FaultKind, assemble};
 use lgp_drum::Drum;
 use lgp_listing::{
-    DumpFault, disassemble, dump, each_word_assembles, first_faults_are_first, listing, read_dump,
+    DrumWords, DumpFault, disassemble, dump, each_word_assembles, first_faults_are_first, listing,
+    listing_from_image, push_cell_line, push_dump, read_dump,
 };
 use lgp_word::{Address, Word, read_digits};
 use std::alloc::{AllocError, Allocator, Global};
@@ -62,6 +63,22 @@ fn has_listing<A: Allocator + Copy>(alloc: A, source: &[u8], wanted: &[u8]) -> b
 #[test]
 fn a_listing_of_five_lines(rt: HostRuntime) {
     assert!(rt; has_listing(rt.alloc(), FIRST_PROGRAM, FIRST_LISTING));
+}
+
+/// Whether a source has this listing by its image.
+fn has_image_listing<A: Allocator + Copy>(alloc: A, source: &[u8], wanted: &[u8]) -> bool {
+    let Ok(image) = assemble(alloc, source) else {
+        return false;
+    };
+    match listing_from_image(alloc, source, &image) {
+        Ok(text) => text.as_slice() == wanted,
+        Err(_) => false,
+    }
+}
+
+#[test]
+fn the_same_listing_by_the_image(rt: HostRuntime) {
+    assert!(rt; has_image_listing(rt.alloc(), FIRST_PROGRAM, FIRST_LISTING));
 }
 
 /// The faults of a source that has one, its line and its kind.

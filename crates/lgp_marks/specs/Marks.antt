@@ -1,13 +1,15 @@
--- Part of the public promise: a faulty line of a source as it is shown, with a mark below the part that the fault speaks
--- of.
-use Rattle.std.specs.Prelude.{ℕ, ◌-◌, ◌==◌, nat_lt, if◌then◌else◌, Bool, true, false, Option, Some, None, List, [], ◌∷◌, ◌++◌, codes, drop, length, map, option_map, slice_get, take}
-use Rattle.std.specs.Option.{option_or}
+-- Part of the public promise: a faulty line of a source as it is shown, with a mark below the part
+-- that the fault speaks of.
+use Rattle.std.specs.Prelude.{ℕ, ◌-◌, ◌==◌, nat_lt, if◌then◌else◌, Bool, true, false, Option, Some}
+use Rattle.std.specs.Prelude.{None, List, [], ◌∷◌, ◌++◌, codes, drop, length, map, option_map}
+use Rattle.std.specs.Prelude.{slice_get, take}
+use Rattle.std.specs.Option.{option_map_or, option_or}
 use Rattle.std.specs.Str.{byte}
 use Rattle.lgp_source.specs.Source.{SourceLine, SourceToken, is_bad, lines_of}
 use Rattle.lgp_assembler.specs.declared.refusal.FaultKind.{FaultKind}
 use Rattle.lgp_assembler.specs.declared.refusal.FaultKind.TheVariants as kinds
 
--- ---- the part of a line that a fault speaks of: the place where it begins and how many bytes it has
+-- ---- the part of a line that a fault speaks of: where it begins, and how many bytes it has
 
 abbrev pub token_part : Option SourceToken → Option (ℕ × ℕ)
 token_part token = option_map (λ it. (it.first, it.past - it.first)) token
@@ -43,43 +45,42 @@ part_of kinds.NoEnd line = None
 abbrev pub shown_limit : ℕ
 shown_limit = 200
 
-abbrev pub shown_of : List ℕ → List ℕ
-shown_of text = take shown_limit text
+abbrev pub shown_part : List ℕ → List ℕ
+shown_part text = take shown_limit text
 
 -- a byte that no line may have is shown as a question mark
 abbrev pub shown_byte : ℕ → ℕ
 shown_byte b = if is_bad b then byte "?" else b
 
--- what stands below a byte: the mark below one of the part; below any other a tab where it is one, else a space
-abbrev pub below : Bool → ℕ → ℕ
-below marked b = if marked then byte "^" else (if b == 9 then 9 else 32)
+-- what stands below a byte: the mark below one of the part; below any other a tab where it is one,
+-- else a space
+abbrev pub byte_below : Bool → ℕ → ℕ
+byte_below marked b = if marked then byte "^" else (if b == 9 then 9 else 32)
 
 abbrev pub margin : List ℕ
 margin = codes "        "
 
 -- the line, and ` ..` behind it where not all of it is shown
-abbrev pub line_shown : List ℕ → List ℕ
-line_shown text =
-    margin ++ (map shown_byte (shown_of text) ++ (if nat_lt shown_limit (length text) then codes " ..\n" else codes "\n"))
+abbrev pub shown_line : List ℕ → List ℕ
+shown_line text =
+    margin ++ (map shown_byte (shown_part text)
+    ++ (if nat_lt shown_limit (length text) then codes " ..\n" else codes "\n"))
 
 -- the line of the mark, where a byte of the part is shown
 abbrev pub mark_line : List ℕ → List ℕ → List ℕ
 mark_line front [] = []
 mark_line front (first ∷ part) =
-    margin ++ (map (below false) front ++ (map (below true) (first ∷ part) ++ codes "\n"))
+    margin ++ (map (byte_below false) front ++ (map (byte_below true) (first ∷ part) ++ codes "\n"))
 
-abbrev pub mark_shown : Option (ℕ × ℕ) → List ℕ → List ℕ
-mark_shown None shown = []
-mark_shown (Some part) shown = mark_line (take part.0 shown) (take part.1 (drop part.0 shown))
+abbrev pub shown_mark : Option (ℕ × ℕ) → List ℕ → List ℕ
+shown_mark None shown = []
+shown_mark (Some part) shown = mark_line (take part.0 shown) (take part.1 (drop part.0 shown))
 
 -- ---- a text's first line with its mark; the empty text has none
 
 abbrev pub marked_line : FaultKind → SourceLine → List ℕ
-marked_line kind line = line_shown line.text ++ mark_shown (part_of kind line) (shown_of line.text)
-
-abbrev pub marked_first : FaultKind → Option SourceLine → List ℕ
-marked_first kind None = []
-marked_first kind (Some line) = marked_line kind line
+marked_line kind line =
+    shown_line line.text ++ shown_mark (part_of kind line) (shown_part line.text)
 
 unfoldable pub marked_text : FaultKind → List ℕ → List ℕ
-marked_text kind text = marked_first kind (slice_get (lines_of text) 0)
+marked_text kind text = option_map_or (marked_line kind) (slice_get (lines_of text) 0) []

@@ -2,7 +2,7 @@
 
 ghost use Rattle.std.specs.Prelude.{◌≡◌, ◌++◌, OnOk, drop, map, option_map, take};
 ghost use Rattle.lgp_source.specs.Seen.{line_seen, token_seen};
-ghost use Rattle.lgp_marks.specs.Marks.{below, line_shown, mark_line, mark_shown, marked_line, marked_text, operands_part, part_of, shown_byte, token_part};
+ghost use Rattle.lgp_marks.specs.Marks.{byte_below, shown_line, mark_line, shown_mark, marked_line, marked_text, operands_part, part_of, shown_byte, token_part};
 
 use lgp_assembler::FaultKind;
 use lgp_source::{Line, Lines, Token};
@@ -87,8 +87,8 @@ fn shown_byte(byte: u8) -> u8
 }
 
 /// What stands below a byte that is marked or not.
-fn below(marked: bool, byte: u8) -> u8
-    ensures { result ≡ below marked byte }
+fn byte_below(marked: bool, byte: u8) -> u8
+    ensures { result ≡ byte_below marked byte }
 {
     if marked {
         b'^'
@@ -115,17 +115,17 @@ fn push_below<A: Allocator>(
     marked: bool,
     bytes: &[u8],
 ) -> Result<(), AllocError>
-    ensures { OnOk result (text.new.items ≡ text.old.items ++ map (below marked) bytes.now) }
+    ensures { OnOk result (text.new.items ≡ text.old.items ++ map (byte_below marked) bytes.now) }
 {
     for byte in bytes {
-        text.push(below(marked, *byte))?;
+        text.push(byte_below(marked, *byte))?;
     }
     Ok(())
 }
 
 /// Appends a line as it is shown.
 fn push_line<A: Allocator>(text: &mut Vec<u8, A>, line: &[u8]) -> Result<(), AllocError>
-    ensures { OnOk result (text.new.items ≡ text.old.items ++ line_shown line.now) }
+    ensures { OnOk result (text.new.items ≡ text.old.items ++ shown_line line.now) }
 {
     text.extend_from_slice(MARGIN)?;
     push_shown(text, front_of(line, SHOWN_LIMIT))?;
@@ -160,7 +160,7 @@ fn push_mark<A: Allocator>(
     part: Option<(usize, usize)>,
     shown: &[u8],
 ) -> Result<(), AllocError>
-    ensures { OnOk result (text.new.items ≡ text.old.items ++ mark_shown part shown.now) }
+    ensures { OnOk result (text.new.items ≡ text.old.items ++ shown_mark part shown.now) }
 {
     let Some(part) = part else {
         return Ok(());
@@ -185,8 +185,8 @@ fn push_marked_line<A: Allocator>(
     push_mark(text, part_of(kind, line), front_of(line.text, SHOWN_LIMIT))
 }
 
-/// Appends a faulty line of a source, and below it a mark under the part that this kind of fault speaks of. The empty text has no
-/// line, and nothing is appended for it.
+/// Appends a faulty line of a source, and below it a mark under the part that this kind of fault
+/// speaks of. The empty text has no line, and nothing is appended for it.
 #[tactic(auto, unfolding(crate::specs::Marks::marked_text))]
 pub fn push_marked<A: Allocator>(
     text: &mut Vec<u8, A>,

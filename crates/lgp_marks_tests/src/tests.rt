@@ -116,7 +116,8 @@ fn long_lines_are_cut(rt: HostRuntime) -> Result<(), AllocError> {
     Ok(())
 }
 
-/// Shows a line with the nth growth refused: whether it was, and whether the call said so or showed the line.
+/// Shows a line with the nth growth refused: whether it was, and whether the call said so or showed
+/// the line.
 fn ended(scarce: &Scarce<Global>, nth: u64) -> (bool, bool) {
     let mut text = Vec::new(scarce);
     scarce.refuse(nth);

@@ -4,7 +4,7 @@ use Rattle.std.specs.List.{position_or_len}
 use Rattle.std.proofs.lemmas.Bool.{cases_Bool, cases_eq, cases_lt, cond-true, cond-false, ne_eqb, true≢false, false≢true}
 use Rattle.std.proofs.lemmas.List.{get_or-drop, drop-drop, drop-take, take-take}
 use Rattle.std.proofs.lemmas.List.Sums.{passes_at_first, fails_before_first}
-use Rattle.lgp_source.specs.Source.{SourceToken, is_blank, tokens_from, token_at, code_from, before_comment, tokens_of}
+use Rattle.lgp_source.specs.Source.{SourceToken, is_blank, tokens_from, token_at, body_from, before_comment, tokens_of}
 use Rattle.lgp_source.specs.Runs.{follows_blank, begins_comment, IsUpToComment, IsLongestRun, AreLongestRuns, IsSpanned, AllAreSpanned, AreInOrder, AreSlices}
 use Rattle.lgp_source.proofs.Places.{after_blank, after_visible, at_token, run_more, run_none, place_within}
 
@@ -34,25 +34,25 @@ module _ (whole : List ℕ) where
 
   one_run : (place b : ℕ) (rest : List ℕ) → b ∷ rest ≡ drop place whole → is_blank b ≡ false → follows_blank whole place ≡ true → IsLongestRun whole (token_at place (b ∷ rest))
   one_run place b rest e visible starts =
-      let code = b ∷ rest in
-      let m = position_or_len is_blank code in
+      let body = b ∷ rest in
+      let m = position_or_len is_blank body in
       let more : m ≡ suc (position_or_len is_blank rest) = run_more b rest visible in
-      let short : m ≤ length code = place_within is_blank code in
-      let n : length code ≡ length (drop place whole) = ap length e in
+      let short : m ≤ length body = place_within is_blank body in
+      let n : length body ≡ length (drop place whole) = ap length e in
       let left = length-drop place whole in
       let size : m ≡ place + m - place = omega arith in
       record {
         some = omega arith;
         within = omega (arith, inside place b rest e);
-        slice = ap (λ k. take k code) size ∙ ap (take (place + m - place)) e;
+        slice = ap (λ k. take k body) size ∙ ap (take (place + m - place)) e;
         visible = λ k low high.
             let at : place + (k - place) ≡ k = omega arith in
             let below : k - place < m = omega arith in
-            ap (λ j. is_blank (get_or whole j 0)) (sym at) ∙ ap is_blank (sym (get_or-drop place whole (k - place) 0)) ∙ ap (λ xs. is_blank (get_or xs (k - place) 0)) (sym e) ∙ fails_before_first is_blank code (k - place) 0 below;
+            ap (λ j. is_blank (get_or whole j 0)) (sym at) ∙ ap is_blank (sym (get_or-drop place whole (k - place) 0)) ∙ ap (λ xs. is_blank (get_or xs (k - place) 0)) (sym e) ∙ fails_before_first is_blank body (k - place) 0 below;
         starts = starts;
         ends = λ before.
-            let below : m < length code = omega arith in
-            ap is_blank (sym (get_or-drop place whole m 0)) ∙ ap (λ xs. is_blank (get_or xs m 0)) (sym e) ∙ passes_at_first is_blank code 0 below;
+            let below : m < length body = omega arith in
+            ap is_blank (sym (get_or-drop place whole m 0)) ∙ ap (λ xs. is_blank (get_or xs m 0)) (sym e) ∙ passes_at_first is_blank body 0 below;
       }
 
   pub all_runs : (place : ℕ) (fresh : Bool) (rest : List ℕ) → rest ≡ drop place whole → (fresh ≡ true → follows_blank whole place ≡ true) → AreLongestRuns whole (tokens_from place fresh rest)
@@ -121,15 +121,15 @@ in_order place false (b ∷ rest) from if_fresh if_not =
 
 -- ---- comments
 
--- `code` is what stands from a place on up to the first comment
-record IsRestToComment (whole : List ℕ) (place : ℕ) (rest code : List ℕ) : Type 0 where
-  front : code ≡ take (length code) rest
-  none_before : (k : ℕ) → k < length code → begins_comment whole (place + k) ≡ false
-  then_comment : length code < length rest → begins_comment whole (place + length code) ≡ true
+-- `body` is what stands from a place on up to the first comment
+record IsRestToComment (whole : List ℕ) (place : ℕ) (rest body : List ℕ) : Type 0 where
+  front : body ≡ take (length body) rest
+  none_before : (k : ℕ) → k < length body → begins_comment whole (place + k) ≡ false
+  then_comment : length body < length rest → begins_comment whole (place + length body) ≡ true
 
 module _ (whole : List ℕ) where
-  one_more : (place b : ℕ) (rest code : List ℕ) → begins_comment whole place ≡ false → IsRestToComment whole (place + 1) rest code → IsRestToComment whole place (b ∷ rest) (b ∷ code)
-  one_more place b rest code not_here after = record {
+  one_more : (place b : ℕ) (rest body : List ℕ) → begins_comment whole place ≡ false → IsRestToComment whole (place + 1) rest body → IsRestToComment whole place (b ∷ rest) (b ∷ body)
+  one_more place b rest body not_here after = record {
     front = ap (λ t. b ∷ t) after.front;
     none_before = λ k high. ⊎_elim
         (λ first.
@@ -140,11 +140,11 @@ module _ (whole : List ℕ) where
         ap (begins_comment whole) at ∙ after.none_before (k - 1) (omega arith))
         (cases_eq k 0);
     then_comment = λ short.
-        let at : place + suc (length code) ≡ place + 1 + length code = omega arith in
+        let at : place + suc (length body) ≡ place + 1 + length body = omega arith in
         ap (begins_comment whole) at ∙ after.then_comment (omega arith);
   }
 
-  rest_to_comment : (place : ℕ) (fresh : Bool) (rest : List ℕ) → rest ≡ drop place whole → follows_blank whole place ≡ fresh → IsRestToComment whole place rest (code_from fresh rest)
+  rest_to_comment : (place : ℕ) (fresh : Bool) (rest : List ℕ) → rest ≡ drop place whole → follows_blank whole place ≡ fresh → IsRestToComment whole place rest (body_from fresh rest)
   rest_to_comment place fresh [] e starts = record {
     front = refl;
     none_before = λ k high. absurd (omega arith);
@@ -153,15 +153,15 @@ module _ (whole : List ℕ) where
   rest_to_comment place fresh (b ∷ rest) e starts =
       let test : begins_comment whole place ≡ (fresh && b == 59) = ap (λ t. t && slice_index whole place == 59) starts ∙ ap (λ x. fresh && x == 59) (here whole place b rest e) in
       ⊎_elim
-      (λ comment. subst (IsRestToComment whole place (b ∷ rest)) (sym (cond-true (fresh && b == 59) [] (b ∷ code_from (is_blank b) rest) comment)) (record {
+      (λ comment. subst (IsRestToComment whole place (b ∷ rest)) (sym (cond-true (fresh && b == 59) [] (b ∷ body_from (is_blank b) rest) comment)) (record {
         front = refl;
         none_before = λ k high. absurd (omega arith);
         then_comment = λ short.
             let at : place + 0 ≡ place = omega arith in
             ap (begins_comment whole) at ∙ test ∙ comment;
       }))
-      (λ other. subst (IsRestToComment whole place (b ∷ rest)) (sym (cond-false (fresh && b == 59) [] (b ∷ code_from (is_blank b) rest) other))
-      (one_more place b rest (code_from (is_blank b) rest) (test ∙ other) (rest_to_comment (place + 1) (is_blank b) rest (onward whole place b rest e) (follows whole place b rest e))))
+      (λ other. subst (IsRestToComment whole place (b ∷ rest)) (sym (cond-false (fresh && b == 59) [] (b ∷ body_from (is_blank b) rest) other))
+      (one_more place b rest (body_from (is_blank b) rest) (test ∙ other) (rest_to_comment (place + 1) (is_blank b) rest (onward whole place b rest e) (follows whole place b rest e))))
       (cases_Bool (fresh && b == 59))
 
 pub up_to_comment : (text : List ℕ) → IsUpToComment text (before_comment text)
@@ -194,14 +194,16 @@ part_of_front text n first past order within =
     ap (λ m. take (past - first) (drop first (take m text))) size ∙ ap (take (past - first)) (drop-take first (n - first) text)
     ∙ take-take (past - first) (n - first) (drop first text) (omega arith)
 
-runs_are_slices : (text code : List ℕ) (tokens : List SourceToken) → code ≡ take (length code) text → AreLongestRuns code tokens → AreSlices text tokens
-runs_are_slices text code [] front runs = tt
-runs_are_slices text code (token ∷ tokens) front runs =
+runs_are_slices : (text body : List ℕ) (tokens : List SourceToken) → body ≡ take (length body) text → AreLongestRuns body tokens → AreSlices text tokens
+runs_are_slices text body [] front runs = tt
+runs_are_slices text body (token ∷ tokens) front runs =
     let one = runs.0 in (
       one.slice ∙ ap (λ c. take (token.past - token.first) (drop token.first c)) front
-          ∙ part_of_front text (length code) token.first token.past (omega (arith, one.some)) one.within,
-      runs_are_slices text code tokens front runs.1,
+          ∙ part_of_front text (length body) token.first token.past (omega (arith, one.some)) one.within,
+      runs_are_slices text body tokens front runs.1,
     )
 
 pub token_slices : (text : List ℕ) → AreSlices text (tokens_of text)
 token_slices text = runs_are_slices text (before_comment text) (tokens_of text) (up_to_comment text).front (longest_runs text)
+
+pub ruleset token_laws = (up_to_comment, longest_runs, token_slices, each_spanned, tokens_in_order)

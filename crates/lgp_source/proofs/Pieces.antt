@@ -69,3 +69,5 @@ with_first b rest so_far = ⊎_elim
 pub pieces_are : (bytes : List ℕ) → map (without_last 10) (cut_lines bytes) ≡ pieces bytes
 pieces_are [] = ap (map (without_last 10)) lines-nil
 pieces_are (b ∷ rest) = with_first b rest (pieces_are rest)
+
+pub ruleset without_last_cases = (without_last_yes, without_last_no)

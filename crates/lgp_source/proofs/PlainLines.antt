@@ -1,9 +1,10 @@
 -- Lines of graphic bytes without a `;`: how they are cut, and what two words with spaces before them are as tokens.
 use Rattle.std.proofs.Common.{◌≡◌, ◌≢◌, ◌≤◌, ◌+◌, ◌++◌, ◌&&◌, ◌||◌, ◌==◌, ℕ, suc, Bool, true, false, not, cond, nat_le, nat_lt, List, [], ◌∷◌, length, take, drop, Some, None, refl, sym, ap, ◌∙◌, arith}
 use Rattle.std.specs.List.{position_or_len, position}
+use Rattle.std.specs.Option.{option_map_or}
 use Rattle.std.proofs.lemmas.Bool.{cond-false, ne_eqb, le-leb, le-ltb, and_from}
 use Rattle.std.proofs.lemmas.List.{append-nil, take_at, drop_at}
-use Rattle.lgp_source.specs.Source.{SourceToken, SourceLine, before_pieces, pieces, text_of, is_blank, is_bad, code_from, before_comment, tokens_from, tokens_of, statement_of, line_of, line_by, line_with}
+use Rattle.lgp_source.specs.Source.{SourceToken, SourceLine, before_pieces, pieces, text_of, is_blank, is_bad, body_from, before_comment, tokens_from, tokens_of, statement_of, line_of, bad_line, good_line, line_with}
 use Rattle.lgp_source.proofs.Places.{run_more, run_none, past_token}
 
 -- a byte from the space to `~`, but no `;`
@@ -62,10 +63,10 @@ no_bad_byte line all =
     ap (λ n. cond (nat_lt n size) (Some n) None) (good_len line all)
     ∙ cond-false (nat_lt size size) (Some size) None (le-ltb size size (omega arith))
 
-no_comment_from : (fresh : Bool) (line : List ℕ) → ArePlain line → code_from fresh line ≡ line
+no_comment_from : (fresh : Bool) (line : List ℕ) → ArePlain line → body_from fresh line ≡ line
 no_comment_from fresh [] all = refl
 no_comment_from fresh (b ∷ line) all =
-    cond-false (fresh && b == 59) [] (b ∷ code_from (is_blank b) line) (ap (λ t. fresh && t) (ne_eqb b 59 all.0.2) ∙ neither fresh)
+    cond-false (fresh && b == 59) [] (b ∷ body_from (is_blank b) line) (ap (λ t. fresh && t) (ne_eqb b 59 all.0.2) ∙ neither fresh)
     ∙ ap (λ t. b ∷ t) (no_comment_from (is_blank b) line all.1)
   where
     neither : (fresh : Bool) → (fresh && false) ≡ false
@@ -137,6 +138,6 @@ statement_line number n o name operand is_name is_operand =
       second = token_of (behind + 1) (o ∷ operand);
       name_is = refl;
       operand_is = refl;
-      line_is = ap (line_by number text) (no_bad_byte text plain)
+      line_is = ap (λ place. option_map_or (bad_line number text) place (good_line number text)) (no_bad_byte text plain)
           ∙ ap (λ ts. line_with number text ts (statement_of ts)) tokens;
     }

@@ -1,7 +1,7 @@
 -- A step of an iterator that gives the first item of a list.
 use Rattle.std.proofs.Common.{suc, refl, ◌≡◌, ◌<◌, List, ◌∷◌, length, sym, subst, arith, Some}
 use Rattle.std.proofs.Common.{ℕ, ◌+◌, [], map, ap, ◌∙◌}
-use Rattle.lgp_source.specs.Source.{SourceLine, numbered, without_last, text_of, line_of}
+use Rattle.lgp_source.specs.Source.{SourceLine, numbered_lines, without_last, text_of, line_of}
 use Rattle.std.specs.Iterator.{MakesProgress, item_count}
 
 pub goes_on : {A B : Type 0} (view : A → B) (can : List B → Type 0) → ((l : List B) → can l) → (s t : List B) (x : A) → s ≡ view x ∷ t → MakesProgress can (item_count (λ rest. rest)) s (Some x) t
@@ -13,17 +13,17 @@ goes_on view can always s t x e = record {
 
 -- ---- the lines that the cut pieces give
 
-pub numbered_none : (number : ℕ) (cut : List (List ℕ)) → cut ≡ [] → numbered number (map (without_last 10) cut) ≡ []
-unfolding numbered
-numbered_none number cut e = ap (λ c. numbered number (map (without_last 10) c)) e
+pub numbered_none : (number : ℕ) (cut : List (List ℕ)) → cut ≡ [] → numbered_lines number (map (without_last 10) cut) ≡ []
+unfolding numbered_lines
+numbered_none number cut e = ap (λ c. numbered_lines number (map (without_last 10) c)) e
 
 pub numbered_step : (number : ℕ) (cut after : List (List ℕ)) (piece : List ℕ) (line : SourceLine) → cut ≡ piece ∷ after → line ≡ line_of number (text_of (without_last 10 piece))
-    → numbered number (map (without_last 10) cut) ≡ line ∷ numbered (number + 1) (map (without_last 10) after)
-unfolding numbered
+    → numbered_lines number (map (without_last 10) cut) ≡ line ∷ numbered_lines (number + 1) (map (without_last 10) after)
+unfolding numbered_lines
 numbered_step number cut after piece line e is =
-    ap (λ c. numbered number (map (without_last 10) c)) e ∙ ap (λ l. l ∷ numbered (number + 1) (map (without_last 10) after)) (sym is)
+    ap (λ c. numbered_lines number (map (without_last 10) c)) e ∙ ap (λ l. l ∷ numbered_lines (number + 1) (map (without_last 10) after)) (sym is)
 
-pub length-numbered : (number : ℕ) (cut : List (List ℕ)) → length (numbered number (map (without_last 10) cut)) ≡ length cut
-unfolding numbered
-length-numbered number [] = refl
-length-numbered number (piece ∷ cut) = ap suc (length-numbered (number + 1) cut)
+pub length-numbered_lines : (number : ℕ) (cut : List (List ℕ)) → length (numbered_lines number (map (without_last 10) cut)) ≡ length cut
+unfolding numbered_lines
+length-numbered_lines number [] = refl
+length-numbered_lines number (piece ∷ cut) = ap suc (length-numbered_lines (number + 1) cut)

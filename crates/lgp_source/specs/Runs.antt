@@ -1,6 +1,8 @@
--- Part of the public promise: what comments and tokens are, in the words of the source language. A `;` at the line's start or after
--- a blank begins a comment, and a token is a longest run without blanks before it.
-use Rattle.std.specs.Prelude.{◌≡◌, ◌⊎◌, ℕ, ◌+◌, ◌-◌, ◌<◌, ◌≤◌, ◌==◌, ◌&&◌, ◌||◌, Bool, true, false, List, [], ◌∷◌, length, take, drop, slice_index}
+-- Part of the public promise: what comments and tokens are, in the words of the source language. A
+-- `;` at the line's start or after a blank begins a comment, and a token is a longest run without
+-- blanks before it.
+use Rattle.std.specs.Prelude.{◌≡◌, ◌⊎◌, ℕ, ◌+◌, ◌-◌, ◌<◌, ◌≤◌, ◌==◌, ◌&&◌, ◌||◌, Bool, true, false}
+use Rattle.std.specs.Prelude.{List, [], ◌∷◌, length, take, drop, slice_index}
 use Rattle.lgp_source.specs.Source.{SourceToken, is_blank}
 
 -- a place is the line's start or follows a blank
@@ -11,38 +13,41 @@ follows_blank text place = place == 0 || is_blank (slice_index text (place - 1))
 abbrev pub begins_comment : List ℕ → ℕ → Bool
 begins_comment text place = follows_blank text place && slice_index text place == 59
 
--- `code` is the text up to the first place where a comment begins, or the whole text
-pub record IsUpToComment (text code : List ℕ) : Type 0 where
-  pub front : code ≡ take (length code) text
-  pub none_before : (k : ℕ) → k < length code → begins_comment text k ≡ false
-  pub then_comment : length code < length text → begins_comment text (length code) ≡ true
+-- `body` is the text up to the first place where a comment begins, or the whole text
+pub record IsUpToComment (text body : List ℕ) : Type 0 where
+  pub front : body ≡ take (length body) text
+  pub none_before : (k : ℕ) → k < length body → begins_comment text k ≡ false
+  pub then_comment : length body < length text → begins_comment text (length body) ≡ true
 
 -- a token is a longest run of bytes that are no blanks, and the slice at its span
-pub record IsLongestRun (code : List ℕ) (token : SourceToken) : Type 0 where
+pub record IsLongestRun (body : List ℕ) (token : SourceToken) : Type 0 where
   pub some : token.first < token.past
-  pub within : token.past ≤ length code
-  pub slice : token.text ≡ take (token.past - token.first) (drop token.first code)
-  pub visible : (k : ℕ) → token.first ≤ k → k < token.past → is_blank (slice_index code k) ≡ false
-  pub starts : follows_blank code token.first ≡ true
-  pub ends : token.past < length code → is_blank (slice_index code token.past) ≡ true
+  pub within : token.past ≤ length body
+  pub slice : token.text ≡ take (token.past - token.first) (drop token.first body)
+  pub visible : (k : ℕ) → token.first ≤ k → k < token.past → is_blank (slice_index body k) ≡ false
+  pub starts : follows_blank body token.first ≡ true
+  pub ends : token.past < length body → is_blank (slice_index body token.past) ≡ true
 
 abbrev pub AreLongestRuns : List ℕ → List SourceToken → Type 0
-AreLongestRuns code [] = Unit {0}
-AreLongestRuns code (token ∷ tokens) = IsLongestRun code token × AreLongestRuns code tokens
+AreLongestRuns body [] = Unit {0}
+AreLongestRuns body (token ∷ tokens) = IsLongestRun body token × AreLongestRuns body tokens
 
 -- each token is the slice of the line's text at its span
 abbrev pub AreSlices : List ℕ → List SourceToken → Type 0
 AreSlices text [] = Unit {0}
-AreSlices text (token ∷ tokens) = (token.text ≡ take (token.past - token.first) (drop token.first text)) × AreSlices text tokens
+AreSlices text (token ∷ tokens) =
+    (token.text ≡ take (token.past - token.first) (drop token.first text)) × AreSlices text tokens
 
 -- a place lies within the span of one of the tokens
 abbrev pub IsSpanned : ℕ → List SourceToken → Type 0
 IsSpanned place [] = ⊥
-IsSpanned place (token ∷ tokens) = ((token.first ≤ place) × (place < token.past)) ⊎ IsSpanned place tokens
+IsSpanned place (token ∷ tokens) =
+    ((token.first ≤ place) × (place < token.past)) ⊎ IsSpanned place tokens
 
 -- each byte that is no blank lies in a token
 abbrev pub AllAreSpanned : List ℕ → List SourceToken → Type 0
-AllAreSpanned code tokens = (k : ℕ) → k < length code → is_blank (slice_index code k) ≡ false → IsSpanned k tokens
+AllAreSpanned body tokens =
+    (k : ℕ) → k < length body → is_blank (slice_index body k) ≡ false → IsSpanned k tokens
 
 -- the tokens begin at `from` or later, each past the end of the one before it and the byte there
 abbrev pub AreInOrder : ℕ → List SourceToken → Type 0

@@ -1,4 +1,5 @@
--- Part of the public promise: the lines and tokens that the program's values show, which borrow the source.
+-- Part of the public promise: the lines and tokens that the program's values show, which borrow the
+-- source.
 use Rattle.std.specs.Prelude.{map}
 use Rattle.std.specs.Option.{option_map}
 use Rattle.lgp_source.specs.Source.{SourceToken, SourceLine}

@@ -1,6 +1,10 @@
--- Part of the public promise: lines and tokens of the source language, which is this project's own choice.
-use Rattle.std.specs.Prelude.{ℕ, ◌+◌, Bool, true, false, not, ◌==◌, ◌&&◌, ◌||◌, nat_le, nat_lt, if◌then◌else◌, List, [], ◌∷◌, length, Option, Some, None, slice_get, position}
+-- Part of the public promise: lines and tokens of the source language, which is this project's own
+-- choice.
+use Rattle.std.specs.Prelude.{ℕ, ◌+◌, Bool, true, false, not, ◌==◌, ◌&&◌, ◌||◌, nat_le, nat_lt}
+use Rattle.std.specs.Prelude.{if◌then◌else◌, List, [], ◌∷◌, length, Option, Some, None, slice_get}
+use Rattle.std.specs.Prelude.{position}
 use Rattle.std.specs.List.{position_or_len, before_first}
+use Rattle.std.specs.Option.{option_map_or}
 
 -- a token: its bytes, and its span in the line's text
 pub record SourceToken : Type 0 where
@@ -8,7 +12,8 @@ pub record SourceToken : Type 0 where
   pub first : ℕ
   pub past : ℕ
 
--- a line: its number, counted from 1, its text, the place of its first byte that no line may have, and its tokens by their use
+-- a line: its number, counted from 1, its text, the place of its first byte that no line may have,
+-- and its tokens by their use
 pub record SourceLine : Type 0 where
   pub number : ℕ
   pub text : List ℕ
@@ -25,7 +30,8 @@ abbrev pub before_pieces : ℕ → List (List ℕ) → List (List ℕ)
 before_pieces b [] = (b ∷ []) ∷ []
 before_pieces b (piece ∷ pieces) = (b ∷ piece) ∷ pieces
 
--- what stands between line feeds: nothing comes after a last line feed, and an empty source has no piece
+-- what stands between line feeds: nothing comes after a last line feed, and an empty source has no
+-- piece
 abbrev pub pieces : List ℕ → List (List ℕ)
 pieces [] = []
 pieces (b ∷ rest) = if b == 10 then [] ∷ pieces rest else before_pieces b (pieces rest)
@@ -50,28 +56,32 @@ is_blank b = b == 32 || b == 9
 abbrev pub is_bad : ℕ → Bool
 is_bad b = not (b == 9 || (nat_le 32 b && nat_le b 126))
 
--- a text up to its comment, which a `;` at the line's start or after a blank begins; `fresh` says that one may begin here
-abbrev pub code_from : Bool → List ℕ → List ℕ
-code_from fresh [] = []
-code_from fresh (b ∷ rest) = if fresh && b == 59 then [] else b ∷ code_from (is_blank b) rest
+-- a text up to its comment, which a `;` at the line's start or after a blank begins; `fresh` says
+-- that one may begin here
+abbrev pub body_from : Bool → List ℕ → List ℕ
+body_from fresh [] = []
+body_from fresh (b ∷ rest) = if fresh && b == 59 then [] else b ∷ body_from (is_blank b) rest
 
 abbrev pub before_comment : List ℕ → List ℕ
-before_comment text = code_from true text
+before_comment text = body_from true text
 
--- the token that begins at a place, where `code` is what stands from there on: it goes on to the next blank
+-- the token that begins at a place, where `body` is what stands from there on: it goes on to the
+-- next blank
 abbrev pub token_at : ℕ → List ℕ → SourceToken
-token_at place code = record {
-  text = before_first is_blank code;
+token_at place body = record {
+  text = before_first is_blank body;
   first = place;
-  past = place + position_or_len is_blank code;
+  past = place + position_or_len is_blank body;
 }
 
--- the tokens from a place on: one begins at each byte that is no blank and has the line's start or a blank before it, which `fresh` says
+-- the tokens from a place on: one begins at each byte that is no blank and has the line's start or
+-- a blank before it, which `fresh` says
 abbrev pub tokens_from : ℕ → Bool → List ℕ → List SourceToken
 tokens_from place fresh [] = []
 tokens_from place fresh (b ∷ rest) =
     if is_blank b then tokens_from (place + 1) true rest
-    else (if fresh then token_at place (b ∷ rest) ∷ tokens_from (place + 1) false rest else tokens_from (place + 1) false rest)
+    else (if fresh then token_at place (b ∷ rest) ∷ tokens_from (place + 1) false rest
+    else tokens_from (place + 1) false rest)
 
 abbrev pub tokens_of : List ℕ → List SourceToken
 tokens_of text = tokens_from 0 true (before_comment text)
@@ -99,10 +109,13 @@ line_with number text tokens statement = record {
   extra = nat_lt 3 (length statement);
 }
 
--- a line with a bad byte has no tokens
-abbrev pub line_by : ℕ → List ℕ → Option ℕ → SourceLine
-line_by number text None = line_with number text (tokens_of text) (statement_of (tokens_of text))
-line_by number text (Some place) = record {
+-- the line of a text whose bytes are all good
+abbrev pub good_line : ℕ → List ℕ → SourceLine
+good_line number text = line_with number text (tokens_of text) (statement_of (tokens_of text))
+
+-- the line of a text with a bad byte, which has no tokens
+abbrev pub bad_line : ℕ → List ℕ → ℕ → SourceLine
+bad_line number text place = record {
   number = number;
   text = text;
   label = None;
@@ -113,13 +126,15 @@ line_by number text (Some place) = record {
 }
 
 abbrev pub line_of : ℕ → List ℕ → SourceLine
-line_of number text = line_by number text (position is_bad text)
+line_of number text =
+    option_map_or (bad_line number text) (position is_bad text) (good_line number text)
 
 -- lines from a number on
-unfoldable pub numbered : ℕ → List (List ℕ) → List SourceLine
-numbered number [] = []
-numbered number (piece ∷ pieces) = line_of number (text_of piece) ∷ numbered (number + 1) pieces
+unfoldable pub numbered_lines : ℕ → List (List ℕ) → List SourceLine
+numbered_lines number [] = []
+numbered_lines number (piece ∷ pieces) =
+    line_of number (text_of piece) ∷ numbered_lines (number + 1) pieces
 
 -- the lines of a source
 unfoldable pub lines_of : List ℕ → List SourceLine
-lines_of source = numbered 1 (pieces source)
+lines_of source = numbered_lines 1 (pieces source)

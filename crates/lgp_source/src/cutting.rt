@@ -11,7 +11,7 @@ use crate::parts::{Line, Token};
 use std::marker::Model;
 
 /// The bytes without one `mark` at their end.
-#[tactic(auto, using(crate::proofs::Pieces::without_last_yes, crate::proofs::Pieces::without_last_no))]
+#[tactic(auto, using(crate::proofs::Pieces::without_last_cases))]
 fn without_last(bytes: &[u8], mark: u8) -> &[u8]
     ensures { result.now ≡ source.without_last mark bytes.now }
 {
@@ -60,7 +60,7 @@ fn before_comment(text: &[u8]) -> &[u8]
 /// The tokens from a place on that stands at a token's beginning, at a blank or at the end.
 #[derive(Drop)]
 struct Tokens<'a> {
-    code: &'a [u8],
+    body: &'a [u8],
     place: usize,
 }
 
@@ -70,23 +70,23 @@ impl<'a> Model for Tokens<'a> {
 
     ghost Value = { List SourceToken };
 
-    ghost view = { λ s. tokens_from s.place true (drop s.place s.code.now) };
+    ghost view = { λ s. tokens_from s.place true (drop s.place s.body.now) };
 
-    ghost invariant = { λ s. s.place ≤ length s.code.now };
+    ghost invariant = { λ s. s.place ≤ length s.body.now };
 }
 
 /// The place of the first byte that is no blank.
-fn visible_place(code: &[u8]) -> Option<usize>
-    ensures { result ≡ position is_visible code.now }
+fn visible_place(body: &[u8]) -> Option<usize>
+    ensures { result ≡ position is_visible body.now }
 {
-    code.iter().position(|byte| !is_blank(*byte))
+    body.iter().position(|byte| !is_blank(*byte))
 }
 
 /// The place of the first blank.
-fn blank_place(code: &[u8]) -> Option<usize>
-    ensures { result ≡ position source.is_blank code.now }
+fn blank_place(body: &[u8]) -> Option<usize>
+    ensures { result ≡ position source.is_blank body.now }
 {
-    code.iter().position(|byte| is_blank(*byte))
+    body.iter().position(|byte| is_blank(*byte))
 }
 
 /// The place of the first byte that may not stand in a line.
@@ -98,11 +98,11 @@ fn bad_place(text: &[u8]) -> Option<usize>
 
 /// How many bytes stand before the first blank.
 #[tactic(auto, using(crate::proofs::Places::unwrap_position, crate::proofs::Places::place_within))]
-fn run(code: &[u8]) -> usize
-    ensures value { result ≡ position_or_len source.is_blank code.now }
-    ensures within { result ≤ length code.now }
+fn run(body: &[u8]) -> usize
+    ensures value { result ≡ position_or_len source.is_blank body.now }
+    ensures within { result ≤ length body.now }
 {
-    blank_place(code).unwrap_or(code.len())
+    blank_place(body).unwrap_or(body.len())
 }
 
 impl<'a> Iterator for Tokens<'a> {
@@ -113,13 +113,13 @@ impl<'a> Iterator for Tokens<'a> {
     ghost remaining = { item_count (λ tokens. tokens) };
 
     fn next(&mut self) -> Option<Token<'a>> {
-        let Some(gap) = visible_place(&self.code[self.place..]) else {
+        let Some(gap) = visible_place(&self.body[self.place..]) else {
             return None;
         };
         let first = self.place + gap;
-        let past = first + run(&self.code[first..]);
+        let past = first + run(&self.body[first..]);
         self.place = past;
-        let text = &self.code[first..past];
+        let text = &self.body[first..past];
         Some(Token { text, first, past })
     }
 }
@@ -141,7 +141,7 @@ pub fn line_of(number: u64, text: &[u8]) -> Line
         };
     }
     let mut tokens = Tokens {
-        code: before_comment(text),
+        body: before_comment(text),
         place: 0,
     };
     let first = tokens.next();

@@ -3,7 +3,7 @@
 
 ghost use Rattle.std.specs.Prelude.{◌≡◌, ◌≤◌, List, length};
 ghost use Rattle.std.specs.Iterator.{YieldsFirstBy, item_count};
-ghost use Rattle.lgp_source.specs.Source.{SourceLine, numbered, lines_of, before_comment, tokens_of};
+ghost use Rattle.lgp_source.specs.Source.{SourceLine, numbered_lines, lines_of, before_comment, tokens_of};
 ghost use Rattle.lgp_source.specs.Runs.{IsUpToComment, AreLongestRuns, AreSlices, AllAreSpanned, AreInOrder};
 ghost use Rattle.lgp_source.specs.Seen.{line_seen};
 
@@ -27,11 +27,11 @@ pub struct Lines<'a> {
 
 impl<'a> Model for Lines<'a> {
     ghost use Rattle.std.specs.Prelude.{List, map, length, ◌+◌, ◌^◌, ◌<◌};
-    ghost use Rattle.lgp_source.specs.Source.{SourceLine, numbered, without_last};
+    ghost use Rattle.lgp_source.specs.Source.{SourceLine, numbered_lines, without_last};
 
     ghost Value = { List SourceLine };
 
-    ghost view = { λ s. numbered (s.passed + 1) (map (without_last 10) s.pieces) };
+    ghost view = { λ s. numbered_lines (s.passed + 1) (map (without_last 10) s.pieces) };
 
     ghost invariant = { λ s. s.passed + length s.pieces < 2 ^ 64 };
 }
@@ -67,12 +67,12 @@ impl<'a> Iterator for Lines<'a> {
 
 /// A law, for readers and proofs: what the tokens of a line's text are.
 ///
-/// The code is the text up to the first `;` that stands at the line's start or after a blank. Each
-/// token is a longest run of the code without blanks, and the slice of the text at its span; each
-/// byte of the code that is no blank lies in a token; and the tokens are in order.
-#[tactic(auto, using(crate::proofs::Laws::up_to_comment, crate::proofs::Laws::longest_runs, crate::proofs::Laws::token_slices, crate::proofs::Laws::each_spanned, crate::proofs::Laws::tokens_in_order))]
+/// The body is the text up to the first `;` that stands at the line's start or after a blank. Each
+/// token is a longest run of the body without blanks, and the slice of the text at its span; each
+/// byte of the body that is no blank lies in a token; and the tokens are in order.
+#[tactic(auto, using(crate::proofs::Laws::token_laws))]
 pub fn tokens_are_longest_runs(text: &[u8])
-    ensures code { IsUpToComment text.now (before_comment text.now) }
+    ensures body { IsUpToComment text.now (before_comment text.now) }
     ensures runs { AreLongestRuns (before_comment text.now) (tokens_of text.now) }
     ensures slices { AreSlices text.now (tokens_of text.now) }
     ensures whole { AllAreSpanned (before_comment text.now) (tokens_of text.now) }

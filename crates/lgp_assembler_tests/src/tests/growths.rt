@@ -1,5 +1,5 @@
-//! Sources assembled with each growth refused in turn: each time the answer is `Memory`, and at last it is what there is with ample
-//! memory.
+//! Sources assembled with each growth refused in turn: each time the answer is `Memory`, and at
+//! last it is what there is with ample memory.
 
 use super::*;
 use lgp_scarce::Scarce;
@@ -68,8 +68,9 @@ fn end_of<A: Allocator + Copy>(alloc: A, source: &[u8], ample: &Ample) -> End {
     }
 }
 
-/// Assembles a source with each growth refused in turn. How many growths it has; `None` where one is refused and the answer is
-/// another than that, or where none is and the answer is another than with ample memory.
+/// Assembles a source with each growth refused in turn. How many growths it has; `None` where one
+/// is refused and the answer is another than that, or where none is and the answer is another than
+/// with ample memory.
 fn growths<B: Allocator>(scarce: &Scarce<B>, source: &[u8], ample: &Ample) -> Option<u64> {
     for nth in 0..MOST {
         scarce.refuse(nth + 1);
@@ -89,8 +90,9 @@ fn growths_of<B: Allocator>(scarce: &Scarce<B>, global: Global, source: &[u8]) -
     growths(scarce, source, &assemble(global, source))
 }
 
-/// Sources, and growths that each has at least. The marks of the places that are taken, the names of the lines, the words, the names
-/// of the image and the faults take memory, each where there is one of them; the last source's only fault is told behind its lines.
+/// Sources, and growths that each has at least. The marks of the places that are taken, the names
+/// of the lines, the words, the names of the image and the faults take memory, each where there is
+/// one of them; the last source's only fault is told behind its lines.
 const SOURCES: [(&[u8], u64); 5] = [
     (FIRST_PROGRAM, 4),
     (OPERATIONS, 4),

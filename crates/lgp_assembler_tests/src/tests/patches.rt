@@ -1,5 +1,6 @@
-//! The word of one operation by itself, and addresses by names. The words are worked by hand: an order is its letter's number times
-//! 65,536 and its address times 4, and `n` with its point behind `q` is `n` times 2 to the power `31 - q`.
+//! The word of one operation by itself, and addresses by names. The words are worked by hand: an
+//! order is its letter's number times 65,536 and its address times 4, and `n` with its point behind
+//! `q` is `n` times 2 to the power `31 - q`.
 
 use super::*;
 use lgp_assembler::{OperandFault, Symbols, address_operand, operation_word};

@@ -2,8 +2,8 @@
 
 use super::*;
 
-/// A source of 4,074 words, each of which is four times its place: all places before the loader's and
-/// all behind it.
+/// A source of 4,074 words, each of which is four times its place: all places before the loader's
+/// and all behind it.
 fn full_source(alloc: Global) -> Result<Vec<u8>, AllocError> {
     let mut source = Vec::new(alloc);
     for _ in 0..4032u16 {
@@ -68,7 +68,8 @@ fn long_source(alloc: Global, line: &[u8], lines: u32) -> Result<Vec<u8>, AllocE
     Ok(source)
 }
 
-/// How many words a source has, or how many faults and the last one's line; none where memory is refused.
+/// How many words a source has, or how many faults and the last one's line; none where memory is
+/// refused.
 fn outcome(alloc: Global, source: &[u8]) -> Option<Result<usize, (usize, u64)>> {
     match assemble(alloc, source) {
         Ok(image) => Some(Ok(image.cells().len())),

@@ -66,6 +66,74 @@ fn an_empty_dump_is_of_zeros(rt: HostRuntime) -> Result<(), Fail> {
     Ok(())
 }
 
+/// A drum that is lent word by word.
+#[derive(Drop)]
+struct Lent<'a> {
+    drum: &'a Drum,
+}
+
+impl DrumWords for Lent<'_> {
+    ghost words = { λ lent. lent.drum.now };
+
+    fn word_at(&self, address: Address) -> Word {
+        self.drum.word(address)
+    }
+}
+
+/// How many lines the dump of a lent drum has, and whether it stands behind what was there.
+fn appended(alloc: Global, drum: &Drum, wanted: &[u8]) -> Result<(u64, bool), AllocError> {
+    let mut text = Vec::new(alloc);
+    text.extend_from_slice(b"dump\n")?;
+    let count = push_dump(&mut text, &Lent { drum })?;
+    Ok((count, text.as_slice() == wanted))
+}
+
+/// The same of a drum with these words.
+fn appended_of(
+    alloc: Global,
+    words: &[(Address, Word)],
+    wanted: &[u8],
+) -> Result<(u64, bool), AllocError> {
+    let drum = drum_with(Drum::new(alloc)?, words);
+    appended(alloc, &drum, wanted)
+}
+
+#[test]
+fn the_dump_of_a_lent_drum_is_appended(rt: HostRuntime) -> Result<(), Fail> {
+    let text = b"dump\n0100 00000004\n6363 80000000\n".as_slice();
+    let words = [
+        (at(b"0100")?, word(b"00000004")?),
+        (at(b"6363")?, word(b"80000000")?),
+    ];
+    let found = appended_of(rt.alloc(), &words, text)?;
+    assert_eq!(rt; found, (2, true));
+    Ok(())
+}
+
+/// Whether the line of an address and its word is this.
+fn has_line(
+    alloc: Global,
+    address: Address,
+    word: Word,
+    wanted: &[u8],
+) -> Result<bool, AllocError> {
+    let mut text = Vec::new(alloc);
+    push_cell_line(&mut text, address, word)?;
+    Ok(text.as_slice() == wanted)
+}
+
+#[test]
+fn a_word_of_zeros_has_a_line_of_its_own(rt: HostRuntime) -> Result<(), Fail> {
+    let found = has_line(
+        rt.alloc(),
+        at(b"0100")?,
+        word(b"00000000")?,
+        b"0100 00000000\n",
+    )?;
+    assert!(rt; found);
+    Ok(())
+}
+
 /// Why a text is no dump.
 pub(super) fn fault_of<A: Allocator + Copy>(alloc: A, text: &[u8]) -> Option<DumpFault> {
     read_dump(alloc, text).err()
@@ -91,7 +159,8 @@ fn texts_that_are_no_dump(rt: HostRuntime) {
     }
 }
 
-/// Places in the line `0100 00000004` and its line feed, each with the bytes that may stand there in a dump.
+/// Places in the line `0100 00000004` and its line feed, each with the bytes that may stand there
+/// in a dump.
 const TAKEN: [(usize, &[u8]); 5] = [
     (0, b"0123456"),
     (4, b" "),
@@ -100,8 +169,8 @@ const TAKEN: [(usize, &[u8]); 5] = [
     (13, b"\n"),
 ];
 
-/// Whether a text is a dump, and that of the drum that is read from it; none where it has another fault than that of its first
-/// line's form.
+/// Whether a text is a dump, and that of the drum that is read from it; none where it has another
+/// fault than that of its first line's form.
 fn is_dump(alloc: Global, text: &[u8]) -> Option<bool> {
     match read_dump(alloc, text) {
         Ok(drum) => has_dump(alloc, &drum, text).then_some(true),

@@ -1,5 +1,5 @@
-//! Calls with each growth refused in turn: each time the answer is that there is no memory, and at last it is what there is with
-//! ample memory.
+//! Calls with each growth refused in turn: each time the answer is that there is no memory, and at
+//! last it is what there is with ample memory.
 
 use super::dumps::{NO_DUMPS, fault_of};
 use super::*;
@@ -84,8 +84,9 @@ fn end_of<A: Allocator + Copy>(alloc: A, call: Call) -> End {
     }
 }
 
-/// Calls with each growth refused in turn. How many growths the call has; `None` where one is refused and the answer is another
-/// than that, or where none is and the answer is another than with ample memory.
+/// Calls with each growth refused in turn. How many growths the call has; `None` where one is
+/// refused and the answer is another than that, or where none is and the answer is another than
+/// with ample memory.
 fn growths<B: Allocator>(scarce: &Scarce<B>, call: Call) -> Option<u64> {
     for nth in 0..MOST {
         scarce.refuse(nth + 1);
@@ -109,8 +110,9 @@ fn growths_of_listing<B: Allocator>(
     growths(scarce, Call::Listing(source, &listing(global, source)))
 }
 
-/// Sources, and growths that the listing of each has at least. The marks of the places that are taken, the names of the lines, the
-/// words, the names of the image, the faults and the text take memory, each where there is one of them.
+/// Sources, and growths that the listing of each has at least. The marks of the places that are
+/// taken, the names of the lines, the words, the names of the image, the faults and the text take
+/// memory, each where there is one of them.
 const SOURCES: [(&[u8], u64); 4] = [
     (FIRST_PROGRAM, 5),
     (b" end", 2),

@@ -2,7 +2,8 @@
 
 use super::*;
 
-/// A source of 4,074 words, each of which is four times its place: all places before the loader's and all behind it.
+/// A source of 4,074 words, each of which is four times its place: all places before the loader's
+/// and all behind it.
 fn full_source(alloc: Global) -> Result<Vec<u8>, AllocError> {
     let mut source = Vec::new(alloc);
     for _ in 0..4032u16 {
@@ -60,7 +61,8 @@ fn odd_places<A: Allocator>(drum: &Drum<A>) -> u16 {
     odd
 }
 
-/// How long the dump of the full drum is, and at how many places the drum that is read from it differs.
+/// How long the dump of the full drum is, and at how many places the drum that is read from it
+/// differs.
 fn dumped_and_read(alloc: Global) -> Result<Option<(usize, u16)>, AllocError> {
     let drum = full_drum(Drum::new(alloc)?);
     let text = dump(alloc, &drum)?;

@@ -2,12 +2,12 @@ use Rattle.std.proofs.Common.{[], ◌∷◌, true, if◌then◌else◌, slice_se
 use Rattle.lgp_source.specs.Seen.{line_seen}
 use Rattle.lgp_assembler.specs.Fields.{fields_of}
 use Rattle.lgp_assembler.specs.FieldsSeenInside.{fields_seen}
-use Rattle.lgp_assembler.specs.Places.{has_word, next_place, place_by, names_of}
+use Rattle.lgp_assembler.specs.Places.{has_word, next_place, place_reached, names_of}
 use Rattle.lgp_assembler.specs.Parts.{AreProgramCells}
 use Rattle.lgp_assembler.specs.Faults.{faults_in}
 use Rattle.lgp_assembler.specs.Image.{all_lines, passed_lines, cells_in, start_in}
-use Rattle.lgp_assembler.specs.ScanInside.{Stands, AreMarks, IsDraftOf}
-use Rattle.lgp_assembler.proofs.ScanSteps.{marks_step, stands_step, names_at, place_at, word_count_small}
+use Rattle.lgp_assembler.specs.ScanInside.{Stands, ArePlacesTaken, IsDraftOf}
+use Rattle.lgp_assembler.proofs.ScanSteps.{taken_step, stands_step, names_at, place_at, word_count_small}
 use Rattle.lgp_assembler.proofs.DraftSteps.{draft_step}
 use Rattle.lgp_assembler.proofs.drafting.draft_source.Goals as goal
 
@@ -58,9 +58,9 @@ loop-line-preserved g c =
           (stands_step _ _ _ _ before.earlier line _ _ _ _ before.stands now.lines
           (now.names ∙ names_at line c.place_of-place.result c.loop-line.scan.place c.loop-line.scan.ended c.loop-line.scan.names place_is)
           (now.place ∙ place_at line c.place_of-place.result c.loop-line.scan.place place_is) now.ended);
-      marks = subst (λ f. AreMarks draft.taken.items (f ∷ before.earlier)) c.fields_of-fields.ensures
-          (marks_step old.taken.items draft.taken.items before.earlier line before.marks
-          (added.taken ∙ ap (λ h. if has_word line then slice_set old.taken.items h true else old.taken.items) (place_is ∙ ap (place_by line) before.stands.place_is)));
+      marks = subst (λ f. ArePlacesTaken draft.taken.items (f ∷ before.earlier)) c.fields_of-fields.ensures
+          (taken_step old.taken.items draft.taken.items before.earlier line before.marks
+          (added.taken ∙ ap (λ h. if has_word line then slice_set old.taken.items h true else old.taken.items) (place_is ∙ ap (place_reached line) before.stands.place_is)));
       draft = subst (λ f. IsDraftOf names draft.faults.items draft.parts.cells.items draft.parts.start draft.parts.symbols.items (f ∷ before.earlier)) c.fields_of-fields.ensures
           (draft_step names line c.loop-line.scan.lines c.loop-line.scan.place c.loop-line.scan.ended c.loop-line.scan.names old.taken.items before.earlier
           old.faults.items draft.faults.items old.parts.cells.items draft.parts.cells.items old.parts.start draft.parts.start old.parts.symbols.items draft.parts.symbols.items

@@ -1,7 +1,7 @@
 use Rattle.std.proofs.Common.{◌≡◌, ◌+◌, ◌≤◌, ◌<◌, ◌^◌, List, length, map}
 use Rattle.lgp_assembler.specs.Fields.{LineFields, fields_of}
 use Rattle.lgp_assembler.specs.Image.{all_lines, passed_lines}
-use Rattle.lgp_assembler.specs.ScanInside.{Stands, AreMarks, IsDraftOf}
+use Rattle.lgp_assembler.specs.ScanInside.{Stands, ArePlacesTaken, IsDraftOf}
 use Rattle.lgp_assembler.proofs.drafting.draft_source.Given as goal
 
 abbrev pub invariant-loop-line : goal.invariant-loop-line
@@ -12,7 +12,7 @@ invariant-loop-line g l = record {
   room : l.scan.place + length l.line-iterator ≤ 2 ^ 63 + 4096;
   earlier : List LineFields;
   stands : Stands l.scan.lines l.scan.place l.scan.ended l.scan.names earlier;
-  marks : AreMarks l.draft.taken.items earlier;
+  marks : ArePlacesTaken l.draft.taken.items earlier;
   draft : IsDraftOf l.names l.draft.faults.items l.draft.parts.cells.items l.draft.parts.start l.draft.parts.symbols.items earlier;
   rest : passed_lines earlier (map fields_of l.line-iterator) ≡ all_lines l.source;
 }

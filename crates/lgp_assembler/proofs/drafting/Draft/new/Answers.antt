@@ -4,6 +4,6 @@ use Rattle.lgp_assembler.proofs.drafting.Draft.new.Goals as goal
 pub returns-clause-taken : goal.returns-clause-taken
 unfolding is_taken
 returns-clause-taken g c = record {
-  length_is = c.in_ok-no_marks.ensures.size;
-  marks_are = λ p _. c.in_ok-no_marks.ensures.clear p;
+  length_is = c.in_ok-none_taken.ensures.size;
+  places_are = λ p _. c.in_ok-none_taken.ensures.clear p;
 }

@@ -4,7 +4,7 @@ use Rattle.lgp_assembler.specs.Places.{names_of}
 use Rattle.lgp_assembler.specs.Image.{all_lines}
 use Rattle.lgp_listing.specs.Listing.{listing_of}
 use Rattle.lgp_listing.proofs.ListingSteps.{IsListedSo}
-use Rattle.lgp_listing.proofs.listed.listing.Given as goal
+use Rattle.lgp_listing.proofs.listed.listing_from_image.Given as goal
 
 abbrev pub invariant-loop-line : goal.invariant-loop-line
 invariant-loop-line g l = record {

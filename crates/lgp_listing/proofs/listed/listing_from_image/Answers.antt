@@ -3,12 +3,12 @@ use Rattle.lgp_source.specs.Seen.{line_seen}
 use Rattle.lgp_source.specs.Source.{lines_of}
 use Rattle.lgp_assembler.specs.Fields.{fields_of}
 use Rattle.lgp_assembler.specs.Places.{names_of}
-use Rattle.lgp_assembler.specs.Image.{all_lines, image_of}
+use Rattle.lgp_assembler.specs.Image.{line_cell, all_lines, image_of}
 use Rattle.lgp_listing.specs.Listing.{listing_of}
-use Rattle.lgp_assembler.proofs.LineCells.{line_cell, cells_behind}
+use Rattle.lgp_assembler.proofs.LineCells.{cells_behind}
 use Rattle.lgp_listing.proofs.ListingSteps.{IsListedSo, taken_first, listed_none, no_cell, first_cell, listed_more, no_more, listed_all}
-use Rattle.lgp_listing.proofs.listed.listing.Goals as goal
-use Rattle.lgp_listing.proofs.listed.listing.Goals.{then-has_word, else-has_word}
+use Rattle.lgp_listing.proofs.listed.listing_from_image.Goals as goal
+use Rattle.lgp_listing.proofs.listed.listing_from_image.Goals.{then-has_word, else-has_word}
 
 pub loop-line-init : goal.loop-line-init
 loop-line-init g c =
@@ -16,7 +16,7 @@ loop-line-init g c =
     let names = names_of (all_lines source) in
     let cells = c.copied-cells.result.iter.rest.now in
     let is : c.copied-cells.result.iter.rest.now ≡ (image_of source).cells =
-    ap (λ i. i.rest.now) c.copied-cells.ensures.source ∙ c.iter.ensures.rest ∙ c.cells.ensures.value ∙ ap (λ i. i.cells) c.in_ok-image.ensures.image in
+    ap (λ i. i.rest.now) c.copied-cells.ensures.source ∙ c.iter.ensures.rest ∙ c.cells.ensures.value ∙ ap (λ i. i.cells) c.requires.image in
     let lines = c.into_iter-line-iterator.ensures.into_iter_gives ∙ c.new-line-items.ensures.lines in
     record {
       can = tt;
@@ -24,7 +24,7 @@ loop-line-init g c =
       earlier = [];
       so_far = subst (λ ls. IsListedSo names [] ls cells c.new-text.result.items (listing_of source)) (sym lines)
           (subst (λ t. IsListedSo names [] (lines_of source) cells t (listing_of source)) (sym c.new-text.ensures.items)
-          (listed_none source cells c.in_ok-image.ensures.faultless is));
+          (listed_none source cells c.requires.faultless is));
     }
 
 pub loop-line-preserved : goal.loop-line-preserved
@@ -55,8 +55,8 @@ loop-line-preserved g c =
           (listed_more names before.earlier line c.next.new.self cells c.loop-line.text.items (listing_of source) so_far c.if-has_word.cell c.if-has_word.cells.iter.rest.now step.0 step.1);
     }
 
-pub returns-clause-text : goal.returns-clause-text
-returns-clause-text g c =
+pub returns : goal.returns
+returns g c =
     let source = c.args.source.now in
     let names = names_of (all_lines source) in
     let done = c.loop-line.invariant in
