@@ -62,6 +62,11 @@ abbrev pub orders_of : Result Ran RunFault → ℕ
 orders_of (Ok ran) = ran.orders
 orders_of (Err fault) = fault.orders
 
+-- unless memory was refused in a run
+abbrev pub UnlessMemory : Result Ran RunFault → Type 0 → Type 0
+UnlessMemory (Ok ran) P = P
+UnlessMemory (Err fault) P = fault.fault ≡ refusals.ClockEnd → P
+
 -- what one order of a run answers, and where it leaves the debugger: it was performed, and a rule
 -- stops there or none; the machine is at rest; the order would pass the clock's end; or it could be
 -- performed, but for memory. Refused, all is as before

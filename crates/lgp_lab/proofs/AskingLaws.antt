@@ -10,7 +10,7 @@ use Rattle.lgp_lab.specs.Script.{answer_by, answer_in, answer_to_command, answer
 use Rattle.lgp_lab.specs.SourceText.{SourceText}
 use Rattle.lgp_lab.specs.Standing.{Answer, Standing, refused, silent}
 
-unmoved_by : {A : Type 0} (standing : Standing A) (command : Option Command) (text : List ℕ) → IsTrue (only_asks command)
+unmoved_by : (standing : Standing) (command : Option Command) (text : List ℕ) → IsTrue (only_asks command)
     → (answer_by standing command text).after ≡ standing
 unmoved_by standing (Some commands.Panel) text asks = refl
 unmoved_by standing (Some (commands.Words range)) text asks = refl
@@ -34,12 +34,12 @@ unmoved_by standing (Some (commands.Back orders)) text asks = absurd (true≢fal
 unmoved_by standing (Some commands.Last) text asks = absurd (true≢false (sym asks))
 unmoved_by standing None text asks = absurd (true≢false (sym asks))
 
-either_leaves : {A : Type 0} (standing : Standing A) (holds : Bool) (one other : Answer A) → one.after ≡ standing → other.after ≡ standing
+either_leaves : (standing : Standing) (holds : Bool) (one other : Answer) → one.after ≡ standing → other.after ≡ standing
     → (if holds then one else other).after ≡ standing
 either_leaves standing true one other first second = first
 either_leaves standing false one other first second = second
 
-pub unmoved : {A : Type 0} (standing : Standing A) (line : List ℕ) → standing.opened ≡ None → IsTrue (only_asks (command_of line))
+pub unmoved : (standing : Standing) (line : List ℕ) → standing.opened ≡ None → IsTrue (only_asks (command_of line))
     → script_language.after standing line ≡ standing
 unfolding answer_to_line answer_to_command
 unmoved standing line outside asks =

@@ -21,23 +21,23 @@ pub passed_over_kept : (kept : Kept) (line : List ℕ) → kept ≡ kept_of line
 passed_over_kept kept line e = rw e (passed_over line)
 
 -- a line that is passed over
-pub answer_passed : {A : Type 0} (s : Standing A) (line : List ℕ) → is_passed_over line ≡ true → answer_to_command s line ≡ silent s
+pub answer_passed : (s : Standing) (line : List ℕ) → is_passed_over line ≡ true → answer_to_command s line ≡ silent s
 unfolding answer_to_command
 answer_passed s line passed = rw passed refl
 
 -- a line that is longer than a command may be, and one that is not
-longer_line : {A : Type 0} (s : Standing A) (line : List ℕ) → is_passed_over line ≡ false → (kept_of line).longer ≡ true → answer_to_command s line ≡ refused TooLong s
+longer_line : (s : Standing) (line : List ℕ) → is_passed_over line ≡ false → (kept_of line).longer ≡ true → answer_to_command s line ≡ refused TooLong s
 unfolding kept_of answer_to_command
 longer_line s line other longer = rw (other, longer) refl
 
-pub answer_longer : {A : Type 0} (s : Standing A) (kept : Kept) (line : List ℕ) → kept ≡ kept_of line → is_passed_over line ≡ false → kept.longer ≡ true → answer_to_command s line ≡ refused TooLong s
+pub answer_longer : (s : Standing) (kept : Kept) (line : List ℕ) → kept ≡ kept_of line → is_passed_over line ≡ false → kept.longer ≡ true → answer_to_command s line ≡ refused TooLong s
 answer_longer s kept line e other longer = longer_line s line other (sym (ap (λ (k : Kept). k.longer) e) ∙ longer)
 
-short_line : {A : Type 0} (s : Standing A) (line : List ℕ) → is_passed_over line ≡ false → (kept_of line).longer ≡ false → answer_to_command s line ≡ answer_by s (command_of (kept_of line).front) (text_behind (kept_of line).front)
+short_line : (s : Standing) (line : List ℕ) → is_passed_over line ≡ false → (kept_of line).longer ≡ false → answer_to_command s line ≡ answer_by s (command_of (kept_of line).front) (text_behind (kept_of line).front)
 unfolding kept_of answer_to_command
 short_line s line other short = rw (other, short, front_kept line_limit line short) refl
 
-pub answer_within : {A : Type 0} (s : Standing A) (kept : Kept) (line : List ℕ) → kept ≡ kept_of line → is_passed_over line ≡ false → kept.longer ≡ false → answer_to_command s line ≡ answer_by s (command_of kept.front) (text_behind kept.front)
+pub answer_within : (s : Standing) (kept : Kept) (line : List ℕ) → kept ≡ kept_of line → is_passed_over line ≡ false → kept.longer ≡ false → answer_to_command s line ≡ answer_by s (command_of kept.front) (text_behind kept.front)
 answer_within s kept line e other short =
     short_line s line other (sym (ap (λ (k : Kept). k.longer) e) ∙ short) ∙ ap (λ (k : Kept). answer_by s (command_of k.front) (text_behind k.front)) (sym e)
 
@@ -49,33 +49,33 @@ pub with_line_whole : (source : SourceText) (kept : Kept) (line : List ℕ) → 
 with_line_whole source kept line e short = rw (longer_kept kept line e, short, front_whole kept line e short) refl
 
 -- a line of an open source, and a line where none is open; the end of each
-pub line_in_source : {A : Type 0} (s : Standing A) (source : SourceText) (line : List ℕ) → s.opened ≡ Some source → answer_to_line s line ≡ answer_in_source s source line
+pub line_in_source : (s : Standing) (source : SourceText) (line : List ℕ) → s.opened ≡ Some source → answer_to_line s line ≡ answer_in_source s source line
 unfolding answer_to_line
 line_in_source s source line e = ap (λ (o : Option SourceText). answer_in o s line) e
 
-pub line_outside : {A : Type 0} (s : Standing A) (line : List ℕ) → s.opened ≡ None → answer_to_line s line ≡ answer_to_command s line
+pub line_outside : (s : Standing) (line : List ℕ) → s.opened ≡ None → answer_to_line s line ≡ answer_to_command s line
 unfolding answer_to_line
 line_outside s line e = ap (λ (o : Option SourceText). answer_in o s line) e
 
-pub closed_some : {A : Type 0} (s : Standing A) (source : SourceText) → s.opened ≡ Some source → closed s ≡ answer_to_end (with_opened s None) source
+pub closed_some : (s : Standing) (source : SourceText) → s.opened ≡ Some source → closed s ≡ answer_to_end (with_opened s None) source
 unfolding closed
 closed_some s source e = ap (λ (o : Option SourceText). closed_by s o) e
 
-pub closed_none : {A : Type 0} (s : Standing A) → s.opened ≡ None → closed s ≡ silent s
+pub closed_none : (s : Standing) → s.opened ≡ None → closed s ≡ silent s
 unfolding closed
 closed_none s e = ap (λ (o : Option SourceText). closed_by s o) e
 
 -- a point, and any other line
-pub point_ends : {A : Type 0} (s : Standing A) (source : SourceText) (line : List ℕ) → is_point line ≡ true → answer_to_end (with_opened s None) source ≡ answer_in_source s source line
+pub point_ends : (s : Standing) (source : SourceText) (line : List ℕ) → is_point line ≡ true → answer_to_end (with_opened s None) source ≡ answer_in_source s source line
 point_ends s source line point = rw point refl
 
-pub line_taken : {A : Type 0} (s : Standing A) (source : SourceText) (line : List ℕ) → is_point line ≡ false → silent (with_opened s (Some (with_line source line))) ≡ answer_in_source s source line
+pub line_taken : (s : Standing) (source : SourceText) (line : List ℕ) → is_point line ≡ false → silent (with_opened s (Some (with_line source line))) ≡ answer_in_source s source line
 line_taken s source line other = rw other refl
 
 -- a line outside a source that is a command, and one that is none
-pub answer_none : {A : Type 0} (s : Standing A) (kept : Kept) (line : List ℕ) → kept ≡ kept_of line → is_passed_over line ≡ false → kept.longer ≡ false → command_of kept.front ≡ None → answer_to_command s line ≡ refused Form s
+pub answer_none : (s : Standing) (kept : Kept) (line : List ℕ) → kept ≡ kept_of line → is_passed_over line ≡ false → kept.longer ≡ false → command_of kept.front ≡ None → answer_to_command s line ≡ refused Form s
 answer_none s kept line e other short none = answer_within s kept line e other short ∙ ap (λ (o : Option Command). answer_by s o (text_behind kept.front)) none
 
-pub answer_some : {A : Type 0} (s : Standing A) (kept : Kept) (line : List ℕ) (command : Command) (text : List ℕ) → kept ≡ kept_of line → is_passed_over line ≡ false → kept.longer ≡ false → command_of kept.front ≡ Some command → text ≡ text_behind kept.front → answer_to_command s line ≡ answer_to s command text
+pub answer_some : (s : Standing) (kept : Kept) (line : List ℕ) (command : Command) (text : List ℕ) → kept ≡ kept_of line → is_passed_over line ≡ false → kept.longer ≡ false → command_of kept.front ≡ Some command → text ≡ text_behind kept.front → answer_to_command s line ≡ answer_to s command text
 answer_some s kept line command text e other short some behind =
     answer_within s kept line e other short ∙ (ap (λ (o : Option Command). answer_by s o (text_behind kept.front)) some ∙ ap (answer_to s command) (sym behind))

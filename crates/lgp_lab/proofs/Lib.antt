@@ -1,10 +1,6 @@
-pub mod AnswerLemmas
 pub mod TapeLemmas
 pub mod KeptLemmas
-pub mod UsedLemmas
 pub mod SourceLemmas
-pub mod RunLemmas
-pub mod FileLemmas
 pub mod BatchLemmas
 pub mod LoadLaws
 pub mod AskingLaws

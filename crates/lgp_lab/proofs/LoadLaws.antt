@@ -13,14 +13,14 @@ use Rattle.lgp_lab.specs.Files.{loaded_new}
 use Rattle.lgp_lab.specs.LoadCommand.{answer_to_load}
 use Rattle.lgp_lab.specs.Standing.{Standing}
 
-pub load_words : {A : Type 0} (standing : Standing A) (source : List ℕ) → standing.source ≡ Some source → faults_of source ≡ []
+pub load_words : (standing : Standing) (source : List ℕ) → standing.source ≡ Some source → faults_of source ≡ []
     → length standing.debugger.state.core.words ≡ 4096 → loading_stopped standing.debugger.state (longest_load (image_of source)) ≡ None
     → IsLoadedOver standing.debugger.state.core.words (answer_to_load standing).after.debugger.state.core.words (image_of source).cells
 unfolding answer_to_load
 load_words standing source at_hand none long within =
     rw (at_hand, within) (longest_source standing.debugger.state source long none)
 
-pub load_time : {A : Type 0} (standing : Standing A) (source : List ℕ) → standing.source ≡ Some source
+pub load_time : (standing : Standing) (source : List ℕ) → standing.source ≡ Some source
     → loading_stopped standing.debugger.state (longest_load (image_of source)) ≡ None
     → (answer_to_load standing).after.debugger.state.clock ≡ standing.debugger.state.clock + loading_cost standing.debugger.state (longest_load (image_of source))
 unfolding answer_to_load

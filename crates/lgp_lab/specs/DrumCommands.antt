@@ -1,19 +1,19 @@
 -- Part of the public promise: the script language, what is answered to the commands of the drum.
-use Rattle.std.specs.Prelude.{ℕ, zero, suc, ◌+◌, ◌==◌, ◌++◌, Bool, not, if◌then◌else◌, List, [], count_by, codes, decimal}
+use Rattle.std.specs.Prelude.{ℕ, zero, suc, ◌+◌, ◌++◌, if◌then◌else◌, List, [], count_by, codes, decimal}
 use Rattle.lgp_word.specs.Digits.{address_digits}
 use Rattle.lgp_listing.specs.Disassembly.{disassembly}
-use Rattle.lgp_listing.specs.Dump.{cell_line, dump_of}
+use Rattle.lgp_listing.specs.Dump.{cell_line, dump_of, is_used}
 use Rattle.lgp_table.specs.Console.{is_at_rest}
 use Rattle.lgp_table.specs.State.{State, word_at}
 use Rattle.lgp_lab.specs.Span.{WordRange}
-use Rattle.lgp_history.specs.declared.step.Step.TheVariants.{Put}
+use Rattle.lgp_history.specs.Step.{Put}
 use Rattle.lgp_debugger.specs.Debugging.{after_step}
-use Rattle.lgp_lab.specs.Standing.{Answer, Standing, refused, shown, with_debugger}
+use Rattle.lgp_lab.specs.Standing.{Answer, Standing, refused, answer_showing, with_debugger}
 use Rattle.lgp_lab.specs.declared.refusal.Refusal.TheVariants as refusals
 
 -- ---- put
 
-abbrev pub answer_to_put : {A : Type 0} → Standing A → ℕ → ℕ → Answer A
+abbrev pub answer_to_put : Standing → ℕ → ℕ → Answer
 answer_to_put standing address word =
     if is_at_rest standing.debugger.state.core.panel.status
     then record { reply = codes "ok\n"; after = with_debugger standing (after_step standing.debugger (Put address word)) }
@@ -21,10 +21,7 @@ answer_to_put standing address word =
 
 -- ---- words, show
 
--- the line of a word by its digits, and by its disassembly
-unfoldable pub digits_line : ℕ → ℕ → List ℕ
-digits_line address word = cell_line address word
-
+-- the line of a word by its disassembly; that by its digits is the dump's
 unfoldable pub order_line : ℕ → ℕ → List ℕ
 order_line address word = address_digits address ++ (codes " " ++ (disassembly word ++ codes "\n"))
 
@@ -34,20 +31,17 @@ lines_text line s address zero = []
 lines_text line s address (suc count) =
     lines_text line s address count ++ line (address + count) (word_at s.core (address + count))
 
-abbrev pub answer_to_words : {A : Type 0} → Standing A → WordRange → Answer A
-answer_to_words standing range = shown (lines_text digits_line standing.debugger.state range.first range.count) standing
+abbrev pub answer_to_words : Standing → WordRange → Answer
+answer_to_words standing range = answer_showing (lines_text cell_line standing.debugger.state range.first range.count) standing
 
-abbrev pub answer_to_show : {A : Type 0} → Standing A → WordRange → Answer A
-answer_to_show standing range = shown (lines_text order_line standing.debugger.state range.first range.count) standing
+abbrev pub answer_to_show : Standing → WordRange → Answer
+answer_to_show standing range = answer_showing (lines_text order_line standing.debugger.state range.first range.count) standing
 
 -- ---- dump
 
 -- how many words are not zero, and the dump of the words, which has a line for each of them
-abbrev pub is_used : ℕ → Bool
-is_used word = not (word == 0)
-
 unfoldable pub dump_text : List ℕ → List ℕ
 dump_text words = codes "dump " ++ (decimal (count_by is_used words) ++ (codes "\n" ++ dump_of words))
 
-abbrev pub answer_to_dump : {A : Type 0} → Standing A → Answer A
-answer_to_dump standing = shown (dump_text standing.debugger.state.core.words) standing
+abbrev pub answer_to_dump : Standing → Answer
+answer_to_dump standing = answer_showing (dump_text standing.debugger.state.core.words) standing

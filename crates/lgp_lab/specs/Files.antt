@@ -1,16 +1,17 @@
 -- Part of the public promise: what is written for a whole file, of a source or of a script.
-use Rattle.std.specs.Prelude.{ℕ, zero, suc, ◌+◌, ◌++◌, if◌then◌else◌, nat_lt, Option, Some, None, List, [], ◌∷◌, codes}
+use Rattle.std.specs.Prelude.{ℕ, ◌++◌, if◌then◌else◌, Option, Some, None, Result, Ok, Err, List, [], ◌∷◌, codes}
 use Rattle.lgp_word.specs.Drum.{blank_words}
 use Rattle.lgp_flexo.specs.TapeText.{written_tape}
-use Rattle.lgp_table.specs.Activity.{cost, next}
-use Rattle.lgp_table.specs.Console.{is_at_rest}
+use Rattle.lgp_table.specs.After.{after}
 use Rattle.lgp_table.specs.State.{State, opening}
-use Rattle.lgp_machine.specs.Answers.{clock_end}
 use Rattle.lgp_loader.specs.BlockLoading.{longest_load}
-use Rattle.lgp_loader.specs.Loading.{loaded}
+use Rattle.lgp_loader.specs.Loading.{TapeLoad, loaded, loading_stopped}
 use Rattle.lgp_assembler.specs.Image.{faults_of, image_of}
 use Rattle.lgp_assembler.specs.declared.refusal.Fault.{Fault}
 use Rattle.lgp_listing.specs.Listing.{listing_of}
+use Rattle.lgp_debugger.specs.Run.{run_of}
+use Rattle.lgp_debugger.specs.declared.fault.Ran.{Ran}
+use Rattle.lgp_debugger.specs.declared.fault.RunFault.{RunFault}
 use Rattle.lgp_lab.specs.MachineCommands.{panel_text}
 use Rattle.lgp_lab.specs.TapeCommands.{printed_text}
 use Rattle.lgp_lab.specs.Refusal.{refusal_text}
@@ -44,35 +45,47 @@ listed source = record { text = listing_of source; status = 0 }
 unfoldable pub asm_answer : List ℕ → FileAnswer
 asm_answer source = answer_of listed (source_of source)
 
+-- how a source without faults is loaded, in the longest blocks
+abbrev pub load_of_source : List ℕ → TapeLoad
+load_of_source source = longest_load (image_of source)
+
 -- tape: the text of the tape, and a line feed
 abbrev pub taped : List ℕ → FileAnswer
 taped source = record {
-  text = written_tape (longest_load (image_of source)).codes ++ codes "\n";
+  text = written_tape (load_of_source source).codes ++ codes "\n";
   status = 0;
 }
 
 unfoldable pub tape_answer : List ℕ → FileAnswer
 tape_answer source = answer_of taped (source_of source)
 
--- the state after at most so many orders, until at rest; None where the next one would pass the clock's end
-unfoldable pub state_at : ℕ → State → Option State
-state_at zero s = Some s
-state_at (suc left) s =
-    if is_at_rest s.core.panel.status then Some s
-    else (if nat_lt clock_end (s.clock + cost s) then None else state_at left (next s))
+-- run: the source is loaded into a new machine, and a run that no rule stops follows, of at most so
+-- many orders; then what is printed is shown, and the panel. Where the clock's end is met, that alone
+-- is told
+abbrev pub state_answer : State → FileAnswer
+state_answer s = record { text = printed_text s.printed ++ panel_text s; status = 0 }
 
--- run: the source is loaded into a new machine, and at most so many orders more are performed; then what is printed is shown, and
--- the panel. Where the clock's end is met, that alone is told
-abbrev pub ended : Option State → FileAnswer
-ended None = record { text = refusal_text ClockEnd; status = 1 }
-ended (Some s) = record { text = printed_text s.printed ++ panel_text s; status = 0 }
+abbrev pub answer_left : Option State → FileAnswer
+answer_left None = record { text = refusal_text ClockEnd; status = 1 }
+answer_left (Some s) = state_answer s
+
+-- the state behind a run, if the clock's end did not break it off
+abbrev pub state_behind : Result Ran RunFault → State → Option State
+state_behind (Ok ran) s = Some (after s ran.orders)
+state_behind (Err fault) s = None
 
 abbrev pub loaded_new : List ℕ → State
-loaded_new source = loaded (opening blank_words) (longest_load (image_of source))
+loaded_new source = loaded (opening blank_words) (load_of_source source)
+
+-- the same behind a load, by where the clock's end stopped that
+abbrev pub state_behind_load : Option State → ℕ → State → Option State
+state_behind_load None limit s = state_behind (run_of [] limit s) s
+state_behind_load (Some stopped) limit s = None
 
 abbrev pub run_to : ℕ → List ℕ → FileAnswer
 run_to limit source =
-    ended (if nat_lt clock_end (loaded_new source).clock then None else state_at limit (loaded_new source))
+    answer_left (state_behind_load (loading_stopped (opening blank_words) (load_of_source source))
+    limit (loaded_new source))
 
 unfoldable pub run_answer : ℕ → List ℕ → FileAnswer
 run_answer limit source = answer_of (run_to limit) (source_of source)

@@ -1,16 +1,15 @@
 -- Part of the public promise: the script language, what is answered to the commands of rules and of the way back.
-use Rattle.std.specs.Prelude.{ℕ, zero, suc, ◌+◌, ◌==◌, ◌++◌, Bool, if◌then◌else◌, nat_lt, Option, Some, None, option_map, List, [], ◌∷◌, length, remove, slice_get, codes, decimal}
+use Rattle.std.specs.Prelude.{ℕ, ◌==◌, ◌++◌, if◌then◌else◌, nat_lt, Option, Some, None, Result, Ok, Err}
+use Rattle.std.specs.Prelude.{List, [], ◌∷◌, length, remove, slice_get, codes, decimal}
 use Rattle.lgp_history.specs.Hits.{last_hit}
 use Rattle.lgp_history.specs.Steps.{orders_in}
 use Rattle.lgp_history.specs.declared.rule.Rule.{Rule}
-use Rattle.lgp_history.specs.declared.step.Step.TheVariants.{Perform}
-use Rattle.lgp_table.specs.Activity.{cost}
-use Rattle.lgp_table.specs.Console.{is_at_rest}
-use Rattle.lgp_machine.specs.Answers.{clock_end}
-use Rattle.lgp_debugger.specs.Debugging.{Debugging, after_back, after_step, first_stop, rule_limit, run_of}
+use Rattle.lgp_debugger.specs.Debugging.{Debugging, after_back, performed, rule_limit}
+use Rattle.lgp_debugger.specs.Run.{orders_of, run_of}
 use Rattle.lgp_debugger.specs.declared.fault.Ran.{Ran}
 use Rattle.lgp_debugger.specs.declared.fault.Reason.{Reason}
 use Rattle.lgp_debugger.specs.declared.fault.Reason.TheVariants.{Rest, Limit, Rule as ByRule}
+use Rattle.lgp_debugger.specs.declared.fault.RunFault.{RunFault}
 use Rattle.lgp_lab.specs.MachineCommands.{clock_text}
 use Rattle.lgp_lab.specs.Refusal.{refusal_text}
 use Rattle.lgp_lab.specs.Standing.{Answer, Standing, refused, with_debugger}
@@ -35,90 +34,76 @@ reason_text (ByRule number) = codes " rule " ++ (decimal number ++ codes "\n")
 abbrev pub ran_text : Ran → List ℕ
 ran_text ran = codes "ran " ++ (decimal ran.orders ++ reason_text ran.reason)
 
--- something that comes later, unless a rule stopped the run
-abbrev pub unless_hit : Option ℕ → Option ℕ → Option ℕ
-unless_hit None later = later
-unless_hit (Some number) later = None
+abbrev pub with_rules : Debugging → List Rule → Debugging
+with_rules d rules = record { state = d.state; steps = d.steps; capacity = d.capacity; rules = rules }
 
-module _ {A : Type 0} where
-  abbrev pub with_rules : Debugging A → List Rule → Debugging A
-  with_rules d rules = record { state = d.state; steps = d.steps; capacity = d.capacity; rules = rules }
+-- ---- break, watch: one rule more, which has the next number
 
-  -- ---- break, watch: one rule more, which has the next number
+unfoldable pub answer_to_rule : Standing → Rule → Answer
+answer_to_rule standing rule =
+    let rules = standing.debugger.rules in
+    if length rules == rule_limit then refused refusals.Full standing
+    else record {
+      reply = rule_text (length rules);
+      after = with_debugger standing (with_rules standing.debugger (rules ++ rule ∷ []));
+    }
 
-  unfoldable pub answer_to_rule : Standing A → Rule → Answer A
-  answer_to_rule standing rule =
-      let rules = standing.debugger.rules in
-      if length rules == rule_limit then refused refusals.Full standing
-      else record {
-        reply = rule_text (length rules);
-        after = with_debugger standing (with_rules standing.debugger (rules ++ rule ∷ []));
-      }
+-- ---- drop: the rule of a number goes, and later ones move down
 
-  -- ---- drop: the rule of a number goes, and later ones move down
+unfoldable pub answer_to_drop : Standing → ℕ → Answer
+answer_to_drop standing number =
+    let rules = standing.debugger.rules in
+    if nat_lt number rule_limit then record {
+      reply = dropped_text (slice_get rules number);
+      after = with_debugger standing (with_rules standing.debugger (remove rules number));
+    }
+    else refused refusals.NoRule standing
 
-  unfoldable pub answer_to_drop : Standing A → ℕ → Answer A
-  answer_to_drop standing number =
-      let rules = standing.debugger.rules in
-      if nat_lt number rule_limit then record {
-        reply = dropped_text (slice_get rules number);
-        after = with_debugger standing (with_rules standing.debugger (remove rules number));
-      }
-      else refused refusals.NoRule standing
+-- ---- run: a run of the debugger; where its next order would pass the clock's end it is broken off,
+-- and the orders before stand
 
-  -- ---- run: a run of the debugger; where its next order would pass the clock's end it is broken off, and the orders before stand
+-- what the run of at most so many orders comes to
+abbrev pub run_in : Debugging → ℕ → Result Ran RunFault
+run_in d limit = run_of d.rules limit d.state
 
-  abbrev pub passes_end : Debugging A → Bool
-  passes_end d = nat_lt clock_end (d.state.clock + cost d.state)
+abbrev pub outcome_text : Result Ran RunFault → List ℕ
+outcome_text (Ok ran) = ran_text ran
+outcome_text (Err fault) = refusal_text refusals.ClockEnd
 
-  -- after how many orders a run is broken off, if it is
-  unfoldable pub broken_off : ℕ → Debugging A → Option ℕ
-  broken_off zero d = None
-  broken_off (suc more) d =
-      if is_at_rest d.state.core.panel.status then None
-      else (if passes_end d then Some 0
-      else unless_hit (first_stop d.rules d.state) (option_map (λ orders. orders + 1) (broken_off more (after_step d Perform))))
+unfoldable pub answer_to_run : Standing → ℕ → Answer
+answer_to_run standing limit =
+    let outcome = run_in standing.debugger limit in
+    record {
+      reply = outcome_text outcome;
+      after = with_debugger standing (performed standing.debugger (orders_of outcome));
+    }
 
-  abbrev pub run_by : Standing A → ℕ → Option ℕ → Answer A
-  run_by standing limit None = record {
-    reply = ran_text (run_of limit standing.debugger).0;
-    after = with_debugger standing (run_of limit standing.debugger).1;
-  }
-  run_by standing limit (Some orders) = refused refusals.ClockEnd (with_debugger standing (run_of orders standing.debugger).1)
+-- how many orders it performs, broken off or not
+unfoldable pub orders_run : ℕ → Debugging → ℕ
+orders_run limit d = orders_of (run_in d limit)
 
-  unfoldable pub answer_to_run : Standing A → ℕ → Answer A
-  answer_to_run standing limit = run_by standing limit (broken_off limit standing.debugger)
+-- ---- back: so many orders
 
-  -- how many orders it performs, broken off or not
-  abbrev pub orders_by : ℕ → Debugging A → Option ℕ → ℕ
-  orders_by limit d None = (run_of limit d).0.orders
-  orders_by limit d (Some orders) = orders
+abbrev pub after_orders_back : Debugging → ℕ → Debugging
+after_orders_back d orders = if orders == 0 then d else after_back d orders
 
-  unfoldable pub orders_run : ℕ → Debugging A → ℕ
-  orders_run limit d = orders_by limit d (broken_off limit d)
+unfoldable pub answer_to_back : Standing → ℕ → Answer
+answer_to_back standing orders =
+    let d = standing.debugger in
+    if nat_lt (orders_in d.steps) orders then refused (refusals.TooFar (orders_in d.steps)) standing
+    else record {
+      reply = clock_text (after_orders_back d orders).state.clock;
+      after = with_debugger standing (after_orders_back d orders);
+    }
 
-  -- ---- back: so many orders
+-- ---- last: back to the latest kept order that a rule hits
 
-  abbrev pub after_orders_back : Debugging A → ℕ → Debugging A
-  after_orders_back d orders = if orders == 0 then d else after_back d orders
+abbrev pub answer_to_hit : Standing → Option (ℕ × ℕ) → Answer
+answer_to_hit standing None = refused (refusals.NoHit (orders_in standing.debugger.steps)) standing
+answer_to_hit standing (Some hit) = record {
+  reply = hit_text hit;
+  after = with_debugger standing (after_back standing.debugger hit.0);
+}
 
-  unfoldable pub answer_to_back : Standing A → ℕ → Answer A
-  answer_to_back standing orders =
-      let d = standing.debugger in
-      if nat_lt (orders_in d.steps) orders then refused (refusals.TooFar (orders_in d.steps)) standing
-      else record {
-        reply = clock_text (after_orders_back d orders).state.clock;
-        after = with_debugger standing (after_orders_back d orders);
-      }
-
-  -- ---- last: back to the latest kept order that a rule hits
-
-  abbrev pub answer_to_hit : Standing A → Option (ℕ × ℕ) → Answer A
-  answer_to_hit standing None = refused (refusals.NoHit (orders_in standing.debugger.steps)) standing
-  answer_to_hit standing (Some hit) = record {
-    reply = hit_text hit;
-    after = with_debugger standing (after_back standing.debugger hit.0);
-  }
-
-  unfoldable pub answer_to_last : Standing A → Answer A
-  answer_to_last standing = answer_to_hit standing (last_hit standing.debugger.rules standing.debugger.steps)
+unfoldable pub answer_to_last : Standing → Answer
+answer_to_last standing = answer_to_hit standing (last_hit standing.debugger.rules standing.debugger.steps)

@@ -15,7 +15,3 @@ source_limit = 1048576
 -- how many steps are kept for going back
 abbrev pub kept_limit : ℕ
 kept_limit = 4096
-
--- how many words the drum has
-abbrev pub drum_size : ℕ
-drum_size = 4096

@@ -14,26 +14,25 @@ use Rattle.lgp_lab.specs.declared.refusal.Refusal.TheVariants as refusals
 abbrev pub loaded_text : ImageParts → List ℕ
 loaded_text image = codes "loaded " ++ (decimal (longest_load image).orders ++ codes "\n")
 
-module _ {A : Type 0} where
-  -- the machine in another state, with no step kept
-  abbrev pub forgotten_in : State → Debugging A → Debugging A
-  forgotten_in state d = record { state = state; steps = []; capacity = d.capacity; rules = d.rules }
+-- the machine in another state, with no step kept
+abbrev pub forgotten_in : State → Debugging → Debugging
+forgotten_in state d = record { state = state; steps = []; capacity = d.capacity; rules = d.rules }
 
-  -- by where loading meets the clock's end: the machine then stands there; else it stands as loading leaves it
-  abbrev pub load_by : Standing A → ImageParts → Option State → Answer A
-  load_by standing image None = record {
-    reply = loaded_text image;
-    after = with_debugger standing
-        (forgotten_in (loaded standing.debugger.state (longest_load image)) standing.debugger);
-  }
-  load_by standing image (Some state) =
-      refused refusals.ClockEnd (with_debugger standing (forgotten_in state standing.debugger))
+-- by where loading meets the clock's end: the machine then stands there; else it stands as loading leaves it
+abbrev pub load_by : Standing → ImageParts → Option State → Answer
+load_by standing image None = record {
+  reply = loaded_text image;
+  after = with_debugger standing
+      (forgotten_in (loaded standing.debugger.state (longest_load image)) standing.debugger);
+}
+load_by standing image (Some state) =
+    refused refusals.ClockEnd (with_debugger standing (forgotten_in state standing.debugger))
 
-  abbrev pub load_of : Standing A → Option (List ℕ) → Answer A
-  load_of standing None = refused refusals.NoImage standing
-  load_of standing (Some source) =
-      load_by standing (image_of source)
-      (loading_stopped standing.debugger.state (longest_load (image_of source)))
+abbrev pub load_of : Standing → Option (List ℕ) → Answer
+load_of standing None = refused refusals.NoImage standing
+load_of standing (Some source) =
+    load_by standing (image_of source)
+    (loading_stopped standing.debugger.state (longest_load (image_of source)))
 
-  unfoldable pub answer_to_load : Standing A → Answer A
-  answer_to_load standing = load_of standing standing.source
+unfoldable pub answer_to_load : Standing → Answer
+answer_to_load standing = load_of standing standing.source

@@ -34,64 +34,63 @@ only_asks (Some commands.Dump) = true
 only_asks (Some commands.List) = true
 only_asks _ = false
 
-module _ {A : Type 0} where
-  -- the answer to a command; the text is that of mount and type
-  abbrev pub answer_to : Standing A → Command → List ℕ → Answer A
-  answer_to standing (commands.Put address word) text = answer_to_put standing address word
-  answer_to standing commands.Mount text = answer_to_mount standing text
-  answer_to standing (commands.Press action) text = answer_to_press standing action
-  answer_to standing commands.Type text = answer_to_type standing text
-  answer_to standing (commands.Turn times) text = answer_to_turn standing times
-  answer_to standing (commands.Orders limit) text = answer_to_orders standing limit
-  answer_to standing commands.Panel text = answer_to_panel standing
-  answer_to standing (commands.Words range) text = answer_to_words standing range
-  answer_to standing (commands.Show range) text = answer_to_show standing range
-  answer_to standing commands.Printed text = answer_to_printed standing
-  answer_to standing commands.Dump text = answer_to_dump standing
-  answer_to standing commands.Source text = answer_to_source standing
-  answer_to standing commands.List text = answer_to_list standing
-  answer_to standing commands.Load text = answer_to_load standing
-  answer_to standing (commands.Break address) text = answer_to_rule standing (At address)
-  answer_to standing (commands.Watch address) text = answer_to_rule standing (Changed address)
-  answer_to standing (commands.Drop number) text = answer_to_drop standing number
-  answer_to standing (commands.Run limit) text = answer_to_run standing limit
-  answer_to standing (commands.Back orders) text = answer_to_back standing orders
-  answer_to standing commands.Last text = answer_to_last standing
+-- the answer to a command; the text is that of mount and type
+abbrev pub answer_to : Standing → Command → List ℕ → Answer
+answer_to standing (commands.Put address word) text = answer_to_put standing address word
+answer_to standing commands.Mount text = answer_to_mount standing text
+answer_to standing (commands.Press action) text = answer_to_press standing action
+answer_to standing commands.Type text = answer_to_type standing text
+answer_to standing (commands.Turn times) text = answer_to_turn standing times
+answer_to standing (commands.Orders limit) text = answer_to_orders standing limit
+answer_to standing commands.Panel text = answer_to_panel standing
+answer_to standing (commands.Words range) text = answer_to_words standing range
+answer_to standing (commands.Show range) text = answer_to_show standing range
+answer_to standing commands.Printed text = answer_to_printed standing
+answer_to standing commands.Dump text = answer_to_dump standing
+answer_to standing commands.Source text = answer_to_source standing
+answer_to standing commands.List text = answer_to_list standing
+answer_to standing commands.Load text = answer_to_load standing
+answer_to standing (commands.Break address) text = answer_to_rule standing (At address)
+answer_to standing (commands.Watch address) text = answer_to_rule standing (Changed address)
+answer_to standing (commands.Drop number) text = answer_to_drop standing number
+answer_to standing (commands.Run limit) text = answer_to_run standing limit
+answer_to standing (commands.Back orders) text = answer_to_back standing orders
+answer_to standing commands.Last text = answer_to_last standing
 
-  abbrev pub answer_by : Standing A → Option Command → List ℕ → Answer A
-  answer_by standing None text = refused Form standing
-  answer_by standing (Some command) text = answer_to standing command text
+abbrev pub answer_by : Standing → Option Command → List ℕ → Answer
+answer_by standing None text = refused Form standing
+answer_by standing (Some command) text = answer_to standing command text
 
-  -- the answer to a line outside a source
-  unfoldable pub answer_to_command : Standing A → List ℕ → Answer A
-  answer_to_command standing line =
-      if is_passed_over line then silent standing
-      else (if nat_lt line_limit (length line) then refused TooLong standing
-      else answer_by standing (command_of line) (text_behind line))
+-- the answer to a line outside a source
+unfoldable pub answer_to_command : Standing → List ℕ → Answer
+answer_to_command standing line =
+    if is_passed_over line then silent standing
+    else (if nat_lt line_limit (length line) then refused TooLong standing
+    else answer_by standing (command_of line) (text_behind line))
 
-  -- the answer to a line; in an open source each line is the source's
-  abbrev pub answer_in : Option SourceText → Standing A → List ℕ → Answer A
-  answer_in None standing line = answer_to_command standing line
-  answer_in (Some source) standing line = answer_in_source standing source line
+-- the answer to a line; in an open source each line is the source's
+abbrev pub answer_in : Option SourceText → Standing → List ℕ → Answer
+answer_in None standing line = answer_to_command standing line
+answer_in (Some source) standing line = answer_in_source standing source line
 
-  unfoldable pub answer_to_line : Standing A → List ℕ → Answer A
-  answer_to_line standing line = answer_in standing.opened standing line
+unfoldable pub answer_to_line : Standing → List ℕ → Answer
+answer_to_line standing line = answer_in standing.opened standing line
 
-  -- the language of scripts; a script's end closes an open source
-  abbrev pub script_language : Language (Standing A)
-  script_language = record {
-    reply = λ standing line. (answer_to_line standing line).reply;
-    after = λ standing line. (answer_to_line standing line).after;
-    closing = λ standing. (closed standing).reply;
-  }
+-- the language of scripts; a script's end closes an open source
+abbrev pub script_language : Language Standing
+script_language = record {
+  reply = λ standing line. (answer_to_line standing line).reply;
+  after = λ standing line. (answer_to_line standing line).after;
+  closing = λ standing. (closed standing).reply;
+}
 
--- the replies to a script, its text, and how many of them begin with a question mark, as far as 64 bits count; the type is that of
--- Standing
-unfoldable pub script_replies : Type 0 → List ℕ → List (List ℕ)
-script_replies A script = text_replies script_language (opening_standing {A = A}) script
+-- the replies to a script, its text, and how many of them begin with a question mark, as far as 64
+-- bits count
+unfoldable pub script_replies : List ℕ → List (List ℕ)
+script_replies script = text_replies script_language opening_standing script
 
-abbrev pub script_text : Type 0 → List ℕ → List ℕ
-script_text A script = concat (script_replies A script)
+abbrev pub script_text : List ℕ → List ℕ
+script_text script = concat (script_replies script)
 
-abbrev pub script_faults : Type 0 → List ℕ → ℕ
-script_faults A script = question_count (script_replies A script)
+abbrev pub script_faults : List ℕ → ℕ
+script_faults script = question_count (script_replies script)

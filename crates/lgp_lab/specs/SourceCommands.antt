@@ -9,13 +9,13 @@ use Rattle.lgp_assembler.specs.declared.refusal.Fault.{Fault}
 use Rattle.lgp_listing.specs.Listing.{listing_of}
 use Rattle.lgp_lab.specs.Refusal.{refusal_text}
 use Rattle.lgp_lab.specs.SourceText.{SourceText, source_of, with_line}
-use Rattle.lgp_lab.specs.Standing.{Answer, Standing, refused, shown, silent, with_opened}
+use Rattle.lgp_lab.specs.Standing.{Answer, Standing, refused, answer_showing, silent, with_opened}
 use Rattle.lgp_lab.specs.declared.refusal.Refusal.TheVariants as refusals
 
 -- ---- source
 
 -- a source is opened: the lines that follow are its lines
-abbrev pub answer_to_source : {A : Type 0} → Standing A → Answer A
+abbrev pub answer_to_source : Standing → Answer
 answer_to_source standing = silent (with_opened standing (Some (source_of [])))
 
 -- the lines of faults, each with its line's number and its kind
@@ -36,33 +36,32 @@ cells_text image = codes "cells " ++ (decimal (length image.cells) ++ (codes " s
 abbrev pub is_point : List ℕ → Bool
 is_point line = bytes_eq line (codes ".")
 
-module _ {A : Type 0} where
-  -- the answer to a source by its faults; with faults the source from before stays
-  abbrev pub assembled : Standing A → List ℕ → List Fault → Answer A
-  assembled standing text [] = record {
-    reply = cells_text (image_of text);
-    after = record { debugger = standing.debugger; source = Some text; opened = None };
-  }
-  assembled standing text (fault ∷ more) = shown (codes "? 9 Faults\n" ++ faults_text (fault ∷ more)) standing
+-- the answer to a source by its faults; with faults the source from before stays
+abbrev pub assembled : Standing → List ℕ → List Fault → Answer
+assembled standing text [] = record {
+  reply = cells_text (image_of text);
+  after = record { debugger = standing.debugger; source = Some text; opened = None };
+}
+assembled standing text (fault ∷ more) = answer_showing (codes "? 9 Faults\n" ++ faults_text (fault ∷ more)) standing
 
-  -- the answer to a source at its end
-  abbrev pub answer_to_end : Standing A → SourceText → Answer A
-  answer_to_end standing source =
-      if source.too_long then refused refusals.TooLong standing
-      else assembled standing source.text (faults_of source.text)
+-- the answer to a source at its end
+abbrev pub answer_to_end : Standing → SourceText → Answer
+answer_to_end standing source =
+    if source.too_long then refused refusals.TooLong standing
+    else assembled standing source.text (faults_of source.text)
 
-  -- the open source is closed, if there is one
-  abbrev pub closed_by : Standing A → Option SourceText → Answer A
-  closed_by standing None = silent standing
-  closed_by standing (Some source) = answer_to_end (with_opened standing None) source
+-- the open source is closed, if there is one
+abbrev pub closed_by : Standing → Option SourceText → Answer
+closed_by standing None = silent standing
+closed_by standing (Some source) = answer_to_end (with_opened standing None) source
 
-  unfoldable pub closed : Standing A → Answer A
-  closed standing = closed_by standing standing.opened
+unfoldable pub closed : Standing → Answer
+closed standing = closed_by standing standing.opened
 
-  abbrev pub answer_in_source : Standing A → SourceText → List ℕ → Answer A
-  answer_in_source standing source line =
-      if is_point line then answer_to_end (with_opened standing None) source
-      else silent (with_opened standing (Some (with_line source line)))
+abbrev pub answer_in_source : Standing → SourceText → List ℕ → Answer
+answer_in_source standing source line =
+    if is_point line then answer_to_end (with_opened standing None) source
+    else silent (with_opened standing (Some (with_line source line)))
 
 -- ---- list
 
@@ -70,5 +69,5 @@ unfoldable pub list_text : Option (List ℕ) → List ℕ
 list_text None = refusal_text refusals.NoImage
 list_text (Some source) = listing_of source
 
-abbrev pub answer_to_list : {A : Type 0} → Standing A → Answer A
-answer_to_list standing = shown (list_text standing.source) standing
+abbrev pub answer_to_list : Standing → Answer
+answer_to_list standing = answer_showing (list_text standing.source) standing

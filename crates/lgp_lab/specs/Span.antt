@@ -1,6 +1,7 @@
 -- Part of the public promise: a range of words on the drum.
 use Rattle.std.specs.Prelude.{ℕ, ◌+◌, ◌≤◌, ◌&&◌, if◌then◌else◌, nat_le, nat_lt, Option, Some, None}
-use Rattle.lgp_lab.specs.Limits.{drum_size, shown_limit}
+use Rattle.lgp_word.specs.Drum.{drum_size}
+use Rattle.lgp_lab.specs.Limits.{shown_limit}
 
 -- the address of its first word, and how many words it has
 pub record WordRange : Type 0 where

@@ -11,8 +11,8 @@ use Rattle.lgp_lab.specs.SourceText.{SourceText}
 use Rattle.lgp_lab.specs.declared.refusal.Refusal.{Refusal}
 
 -- the machine with its kept steps and its rules, the last source that assembled, and the source whose lines are being taken
-pub record Standing (A : Type 0) : Type 0 where
-  pub debugger : Debugging A
+pub record Standing : Type 0 where
+  pub debugger : Debugging
   pub source : Option (List ℕ)
   pub opened : Option SourceText
 
@@ -27,32 +27,31 @@ opened_text None = []
 opened_text (Some source) = source.text
 
 -- a reply, empty where there is none, and where the laboratory stands after it
-pub record Answer (A : Type 0) : Type 0 where
+pub record Answer : Type 0 where
   pub reply : List ℕ
-  pub after : Standing A
+  pub after : Standing
 
-module _ {A : Type 0} where
-  -- where a script begins
-  unfoldable pub opening_standing : Standing A
-  opening_standing = record {
-    debugger = record { state = opening blank_words; steps = []; capacity = kept_limit; rules = [] };
-    source = None;
-    opened = None;
-  }
+-- where a script begins
+unfoldable pub opening_standing : Standing
+opening_standing = record {
+  debugger = record { state = opening blank_words; steps = []; capacity = kept_limit; rules = [] };
+  source = None;
+  opened = None;
+}
 
-  abbrev pub with_debugger : Standing A → Debugging A → Standing A
-  with_debugger standing debugger = record { debugger = debugger; source = standing.source; opened = standing.opened }
+abbrev pub with_debugger : Standing → Debugging → Standing
+with_debugger standing debugger = record { debugger = debugger; source = standing.source; opened = standing.opened }
 
-  abbrev pub with_opened : Standing A → Option SourceText → Standing A
-  with_opened standing opened = record { debugger = standing.debugger; source = standing.source; opened = opened }
+abbrev pub with_opened : Standing → Option SourceText → Standing
+with_opened standing opened = record { debugger = standing.debugger; source = standing.source; opened = opened }
 
-  -- an answer that shows something and changes nothing
-  abbrev pub shown : List ℕ → Standing A → Answer A
-  shown reply standing = record { reply = reply; after = standing }
+-- an answer that shows something and changes nothing
+abbrev pub answer_showing : List ℕ → Standing → Answer
+answer_showing reply standing = record { reply = reply; after = standing }
 
-  abbrev pub refused : Refusal → Standing A → Answer A
-  refused refusal standing = shown (refusal_text refusal) standing
+abbrev pub refused : Refusal → Standing → Answer
+refused refusal standing = answer_showing (refusal_text refusal) standing
 
-  -- no reply, and nothing changes
-  abbrev pub silent : Standing A → Answer A
-  silent standing = shown [] standing
+-- no reply, and nothing changes
+abbrev pub silent : Standing → Answer
+silent standing = answer_showing [] standing

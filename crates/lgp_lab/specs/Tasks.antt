@@ -59,75 +59,75 @@ was_opened (Err NotOpened) = false
 was_opened _ = true
 
 -- what a job on a text writes for it, and how many replies begin with a question mark, of a source 1 where it has no answer
-abbrev pub text_for : Type 0 → Job → List ℕ → List ℕ
-text_for A jobs.Listing text = (asm_answer text).text
-text_for A jobs.Taping text = (tape_answer text).text
-text_for A (jobs.Running limit) text = (run_answer limit text).text
-text_for A jobs.Answering text = script_text A text
+abbrev pub text_for : Job → List ℕ → List ℕ
+text_for jobs.Listing text = (asm_answer text).text
+text_for jobs.Taping text = (tape_answer text).text
+text_for (jobs.Running limit) text = (run_answer limit text).text
+text_for jobs.Answering text = script_text text
 
-abbrev pub count_for : Type 0 → Job → List ℕ → ℕ
-count_for A jobs.Listing text = (asm_answer text).status
-count_for A jobs.Taping text = (tape_answer text).status
-count_for A (jobs.Running limit) text = (run_answer limit text).status
-count_for A jobs.Answering text = script_faults A text
+abbrev pub count_for : Job → List ℕ → ℕ
+count_for jobs.Listing text = (asm_answer text).status
+count_for jobs.Taping text = (tape_answer text).status
+count_for (jobs.Running limit) text = (run_answer limit text).status
+count_for jobs.Answering text = script_faults text
 
 -- what stands written of a script, behind what is in front of it, where the fault breaks it off; how much was read is not told
-abbrev pub StandsOfScript : Type 0 → List (List ℕ) → StreamFault → List ℕ → Option (List ℕ) → Option (List ℕ) → Type 0
-StandsOfScript A front fault text w₀ w =
-    (left : Option (List ℕ)) × StandsWritten front (script_language {A = A}) opening_standing fault text left w₀ w
+abbrev pub StandsOfScript : List (List ℕ) → StreamFault → List ℕ → Option (List ℕ) → Option (List ℕ) → Type 0
+StandsOfScript front fault text w₀ w =
+    (left : Option (List ℕ)) × StandsWritten front (script_language) opening_standing fault text left w₀ w
 
 -- what stands written where a fault breaks a job off
-abbrev pub StandsFor : Type 0 → Job → StreamFault → List ℕ → Option (List ℕ) → Option (List ℕ) → Type 0
-StandsFor A jobs.Listing fault text w₀ w = StandsOf (asm_answer text).text fault w₀ w
-StandsFor A jobs.Taping fault text w₀ w = StandsOf (tape_answer text).text fault w₀ w
-StandsFor A (jobs.Running limit) fault text w₀ w = StandsOf (run_answer limit text).text fault w₀ w
-StandsFor A jobs.Answering fault text w₀ w = StandsOfScript A [] fault text w₀ w
+abbrev pub StandsFor : Job → StreamFault → List ℕ → Option (List ℕ) → Option (List ℕ) → Type 0
+StandsFor jobs.Listing fault text w₀ w = StandsOf (asm_answer text).text fault w₀ w
+StandsFor jobs.Taping fault text w₀ w = StandsOf (tape_answer text).text fault w₀ w
+StandsFor (jobs.Running limit) fault text w₀ w = StandsOf (run_answer limit text).text fault w₀ w
+StandsFor jobs.Answering fault text w₀ w = StandsOfScript [] fault text w₀ w
 
 -- what became of a job on a file, of which nothing may be known: its text was written, or the file was not opened and nothing was
 -- written, or a fault broke the job off
-abbrev pub HasDone : Type 0 → Job → Option (List ℕ) → Result ℕ FileFault → Option (List ℕ) → Option (List ℕ) → Type 0
-HasDone A job known (Ok count) w₀ w = IfSome known (λ text. Appends w₀ w (text_for A job text) × (count ≡ count_for A job text))
-HasDone A job known (Err NotOpened) w₀ w = w ≡ w₀
-HasDone A job known (Err (Broken fault)) w₀ w = IfSome known (λ text. StandsFor A job fault text w₀ w)
+abbrev pub HasDone : Job → Option (List ℕ) → Result ℕ FileFault → Option (List ℕ) → Option (List ℕ) → Type 0
+HasDone job known (Ok count) w₀ w = IfSome known (λ text. Appends w₀ w (text_for job text) × (count ≡ count_for job text))
+HasDone job known (Err NotOpened) w₀ w = w ≡ w₀
+HasDone job known (Err (Broken fault)) w₀ w = IfSome known (λ text. StandsFor job fault text w₀ w)
 
 -- the same of a script of several, with the line that names it
-abbrev pub HasDonePart : Type 0 → List ℕ → Option (List ℕ) → Result ℕ FileFault → Option (List ℕ) → Option (List ℕ) → Type 0
-HasDonePart A name known (Ok count) w₀ w =
-    IfSome known (λ text. Appends w₀ w (heading name ++ script_text A text) × (count ≡ script_faults A text))
-HasDonePart A name known (Err NotOpened) w₀ w = w ≡ w₀
-HasDonePart A name known (Err (Broken fault)) w₀ w = IfSome known (λ text. StandsOfScript A (heading name ∷ []) fault text w₀ w)
+abbrev pub HasDonePart : List ℕ → Option (List ℕ) → Result ℕ FileFault → Option (List ℕ) → Option (List ℕ) → Type 0
+HasDonePart name known (Ok count) w₀ w =
+    IfSome known (λ text. Appends w₀ w (heading name ++ script_text text) × (count ≡ script_faults text))
+HasDonePart name known (Err NotOpened) w₀ w = w ≡ w₀
+HasDonePart name known (Err (Broken fault)) w₀ w = IfSome known (λ text. StandsOfScript (heading name ∷ []) fault text w₀ w)
 
 -- a file is opened exactly as is known of it
 abbrev pub IsOpenedAs : Option Bool → Result ℕ FileFault → Type 0
 IsOpenedAs known outcome = IfSome known (λ opens. was_opened outcome ≡ opens)
 
 -- a job on the file of a name, with the status for it; of a file is known whether it can be opened, and which bytes it has
-abbrev pub IsWorked : Type 0 → Job → (List ℕ → Option Bool) → (List ℕ → Option (List ℕ)) → List ℕ → ℕ → Option (List ℕ) → Option (List ℕ) → Type 0
-IsWorked A job opens contents name status w₀ w =
-    (outcome : Result ℕ FileFault) × IsOpenedAs (opens name) outcome × HasDone A job (contents name) outcome w₀ w × (status ≡ status_for outcome)
+abbrev pub IsWorked : Job → (List ℕ → Option Bool) → (List ℕ → Option (List ℕ)) → List ℕ → ℕ → Option (List ℕ) → Option (List ℕ) → Type 0
+IsWorked job opens contents name status w₀ w =
+    (outcome : Result ℕ FileFault) × IsOpenedAs (opens name) outcome × HasDone job (contents name) outcome w₀ w × (status ≡ status_for outcome)
 
 -- the scripts of a batch, one after another: each is answered behind the line that names it; behind a status below 2 the next one
 -- follows, and 2 or 3 ends the batch. The status is the greatest, of `worst` before these scripts and of theirs
-unfoldable pub IsBatch : Type 0 → (List ℕ → Option Bool) → (List ℕ → Option (List ℕ)) → ℕ → List (List ℕ) → ℕ → Option (List ℕ) → Option (List ℕ) → Type 0
-IsBatch A opens contents worst [] status w₀ w = (status ≡ worst) × (w ≡ w₀)
-IsBatch A opens contents worst (name ∷ names) status w₀ w =
-    (outcome : Result ℕ FileFault) × (w₁ : Option (List ℕ)) × IsOpenedAs (opens name) outcome × HasDonePart A name (contents name) outcome w₀ w₁
-    × (((status_for outcome < 2) × IsBatch A opens contents (max worst (status_for outcome)) names status w₁ w)
+unfoldable pub IsBatch : (List ℕ → Option Bool) → (List ℕ → Option (List ℕ)) → ℕ → List (List ℕ) → ℕ → Option (List ℕ) → Option (List ℕ) → Type 0
+IsBatch opens contents worst [] status w₀ w = (status ≡ worst) × (w ≡ w₀)
+IsBatch opens contents worst (name ∷ names) status w₀ w =
+    (outcome : Result ℕ FileFault) × (w₁ : Option (List ℕ)) × IsOpenedAs (opens name) outcome × HasDonePart name (contents name) outcome w₀ w₁
+    × (((status_for outcome < 2) × IsBatch opens contents (max worst (status_for outcome)) names status w₁ w)
     ⊎ ((2 ≤ status_for outcome) × (status ≡ max worst (status_for outcome)) × (w ≡ w₁)))
 
 -- a script on standard input, of which nothing may be known, with the status for it
-abbrev pub IsAnswered : Type 0 → Option (List ℕ) → ℕ → Option (List ℕ) → Option (List ℕ) → Type 0
-IsAnswered A known status w₀ w =
-    (outcome : Result ℕ FileFault) × (was_opened outcome ≡ true) × HasDone A jobs.Answering known outcome w₀ w × (status ≡ status_for outcome)
+abbrev pub IsAnswered : Option (List ℕ) → ℕ → Option (List ℕ) → Option (List ℕ) → Type 0
+IsAnswered known status w₀ w =
+    (outcome : Result ℕ FileFault) × (was_opened outcome ≡ true) × HasDone jobs.Answering known outcome w₀ w × (status ≡ status_for outcome)
 
 -- what is written for a task, and the status of the program
-abbrev pub IsPerformed : (A : Type 0) → (List ℕ → Option Bool) → (List ℕ → Option (List ℕ)) → Task A → Option (List ℕ) → ℕ → Option (List ℕ) → Option (List ℕ) → Type 0
-IsPerformed A opens contents Stdin input status w₀ w = IsAnswered A input status w₀ w
-IsPerformed A opens contents (Asm name) input status w₀ w = IsWorked A jobs.Listing opens contents name status w₀ w
-IsPerformed A opens contents (Tape name) input status w₀ w = IsWorked A jobs.Taping opens contents name status w₀ w
-IsPerformed A opens contents (Run name limit) input status w₀ w = IsWorked A (jobs.Running limit) opens contents name status w₀ w
-IsPerformed A opens contents (Script name) input status w₀ w = IsWorked A jobs.Answering opens contents name status w₀ w
-IsPerformed A opens contents (Batch names) input status w₀ w = IsBatch A opens contents 0 names status w₀ w
+abbrev pub IsPerformed : {A : Type 0} → (List ℕ → Option Bool) → (List ℕ → Option (List ℕ)) → Task A → Option (List ℕ) → ℕ → Option (List ℕ) → Option (List ℕ) → Type 0
+IsPerformed opens contents Stdin input status w₀ w = IsAnswered input status w₀ w
+IsPerformed opens contents (Asm name) input status w₀ w = IsWorked jobs.Listing opens contents name status w₀ w
+IsPerformed opens contents (Tape name) input status w₀ w = IsWorked jobs.Taping opens contents name status w₀ w
+IsPerformed opens contents (Run name limit) input status w₀ w = IsWorked (jobs.Running limit) opens contents name status w₀ w
+IsPerformed opens contents (Script name) input status w₀ w = IsWorked jobs.Answering opens contents name status w₀ w
+IsPerformed opens contents (Batch names) input status w₀ w = IsBatch opens contents 0 names status w₀ w
 
 -- a text told: whole, with the status that goes with it; or in part, with that of a write that failed
 abbrev pub IsTold : ℕ → List ℕ → ℕ → Option (List ℕ) → Option (List ℕ) → Type 0
@@ -153,5 +153,5 @@ IsUnread words.Memory status w₀ w m₀ m = (status ≡ memory_status) × ((w �
 -- what the program does for the words of the command line: the task that they hold, without a message; or they are refused
 abbrev pub IsObeyed : (A : Type 0) → (List ℕ → Option Bool) → (List ℕ → Option (List ℕ)) → List (List ℕ) → Option (List ℕ) → ℕ → Option (List ℕ) → Option (List ℕ) → Option (List ℕ) → Option (List ℕ) → Type 0
 IsObeyed A opens contents typed input status w₀ w m₀ m =
-    (IsPerformed A opens contents (task_for typed) input status w₀ w × (m ≡ m₀))
+    (IsPerformed opens contents (task_for typed) input status w₀ w × (m ≡ m₀))
     ⊎ ((fault : TaskFault A) × IsFaultOf typed fault × IsRefused fault status w₀ w m₀ m)

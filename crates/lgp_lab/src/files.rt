@@ -1,8 +1,8 @@
 //! What the program's commands write for a file.
 
-ghost use Rattle.std.specs.Prelude.{◌≡◌, ◌++◌, ℕ, List, None, Some, Ok, true, option_map, IfErr, IfOk, IfSome, OnOk, false};
+ghost use Rattle.std.specs.Prelude.{◌≡◌, ◌++◌, ℕ, List, option_map, IfErr, IfOk, IfSome, OnOk, false};
 ghost use Rattle.std.specs.Io.KnownBytes.{Appends, IsAtEnd};
-ghost use Rattle.lgp_lab.specs.Files.{FileAnswer, answer_of, asm_answer, ended, listed, run_answer, run_to, state_at, tape_answer, taped};
+ghost use Rattle.lgp_lab.specs.Files.{FileAnswer, answer_left, answer_of, asm_answer, listed, run_answer, run_to, state_answer, tape_answer, taped};
 ghost use Rattle.lgp_table.specs.Interleaving.{at_boundary};
 ghost use Rattle.lgp_stream.specs.Language.{HasCause, StandsOf};
 ghost use Rattle.lgp_lab.specs.Refusal.{refusal_text};
@@ -15,8 +15,10 @@ use crate::refusal::{Refusal, push_refusal};
 use crate::source_text::SourceText;
 use lgp_assembler::{AssembleError, Fault};
 use lgp_flexo::write_tape_text;
-use lgp_loader::{LoadFault, load, tape_of};
-use lgp_machine::{Machine, OrderFault};
+use lgp_loader::{LoadFault, tape_of};
+use lgp_debugger::{Debugger, RunRefusal};
+use lgp_history::Records;
+use lgp_machine::Machine;
 use lgp_stream::{CHUNK, Feed, Sink, StreamFault, write_whole};
 use std::alloc::{AllocError, Allocator};
 
@@ -106,51 +108,29 @@ fn tape_text<A: Allocator + Copy>(alloc: A, program: &Program<A>) -> Result<Vec<
     Ok(text)
 }
 
-/// Performs at most so many orders, until the machine is at rest; false where the clock's end stops it.
-#[tactic(auto, using(crate::proofs::FileLemmas::state_step), unfolding(crate::specs::Files::state_at))]
-fn perform<A: Allocator>(machine: &mut Machine<A>, limit: u64) -> Result<bool, AllocError>
-    requires { machine.old ≡ at_boundary machine.old.state }
-    ensures whole { result ≡ Ok true
-        → state_at limit machine.old.state ≡ Some machine.new.state }
-    ensures boundary { machine.new ≡ at_boundary machine.new.state }
-    ensures stopped { result ≡ Ok false → state_at limit machine.old.state ≡ None }
-{
-    let mut left = limit;
-    while left > 0 {
-        match machine.next_order() {
-            Ok(_) => {}
-            Err(OrderFault::AtRest) => return Ok(true),
-            Err(OrderFault::ClockEnd) => return Ok(false),
-            Err(OrderFault::Memory) => return Err(AllocError),
-            Err(OrderFault::Moving) => unreachable!(),
-        }
-        left -= 1;
-    }
-    Ok(true)
-}
-
 /// Loads a program into a new machine and performs at most so many orders more; `None` where the clock's end stops it.
 fn run_program<A: Allocator + Copy>(
     alloc: A,
     program: &Program<A>,
     limit: u64,
-) -> Result<Option<Machine<A>>, AllocError>
-    ensures boundary { IfOk result (λ outcome. IfSome outcome (λ machine.
-        machine ≡ at_boundary machine.state)) }
-    ensures ended { IfOk result (λ outcome. run_to limit program.now
-        ≡ ended (option_map (λ machine. machine.state) outcome)) }
+) -> Result<Option<Debugger<Records<A>, A>>, AllocError>
+    ensures { IfOk result (λ outcome. run_to limit program.now
+        ≡ answer_left (option_map (λ debugger. debugger.state) outcome)) }
 {
-    let mut machine = Machine::new(alloc)?;
-    match load(alloc, &mut machine, program.image()) {
+    let machine = Machine::new(alloc)?;
+    let mut debugger = Debugger::new(machine, Records::new(alloc, 1)?);
+    match debugger.load(alloc, program.image()) {
         Ok(_) => {}
         Err(LoadFault::ClockEnd) => return Ok(None),
         Err(LoadFault::Memory) => return Err(AllocError),
         Err(LoadFault::Moving | LoadFault::BadCut) => unreachable!(),
     }
-    if perform(&mut machine, limit)? {
-        Ok(Some(machine))
-    } else {
-        Ok(None)
+    match debugger.run_freely(limit) {
+        Ok(_) => Ok(Some(debugger)),
+        Err(broken) => match broken.fault {
+            RunRefusal::ClockEnd => Ok(None),
+            RunRefusal::Memory => Err(AllocError),
+        },
     }
 }
 
@@ -162,7 +142,7 @@ fn push_left<A: Allocator + Copy>(
 ) -> Result<(), AllocError>
     requires { machine.now ≡ at_boundary machine.now.state }
     ensures { OnOk result
-        (text.new.items ≡ text.old.items ++ (ended (Some machine.now.state)).text) }
+        (text.new.items ≡ text.old.items ++ (state_answer machine.now.state).text) }
 {
     push_printed(alloc, text, machine.printed())?;
     push_panel(text, machine)
@@ -201,7 +181,7 @@ impl<A: Allocator + Copy> FileReply<A> {
     fn left_by(alloc: A, machine: &Machine<A>) -> Result<FileReply<A>, AllocError>
         requires { machine.now ≡ at_boundary machine.now.state }
         ensures text { IfOk result (λ reply.
-            reply.text.items ≡ (ended (Some machine.now.state)).text) }
+            reply.text.items ≡ (state_answer machine.now.state).text) }
         ensures status { IfOk result (λ reply. reply.status ≡ 0) }
     {
         let mut text = Vec::new(alloc);
@@ -216,7 +196,7 @@ impl<A: Allocator + Copy> FileReply<A> {
         ensures status { IfOk result (λ reply. reply.status ≡ (run_to limit program.now).status) }
     {
         match run_program(alloc, program, limit)? {
-            Some(machine) => FileReply::left_by(alloc, &machine),
+            Some(debugger) => FileReply::left_by(alloc, debugger.machine()),
             None => FileReply::refused(alloc, Refusal::ClockEnd),
         }
     }

@@ -44,7 +44,7 @@ pub struct Laboratory<A: Allocator + Clone> {
 impl<A: Allocator + Clone> Model for Laboratory<A> {
     ghost use Rattle.lgp_lab.specs.Standing.{Standing};
 
-    ghost Value = { Standing A };
+    ghost Value = { Standing };
 
     ghost view = { λ laboratory. record {
       debugger = laboratory.debugger;

@@ -19,13 +19,13 @@ use std::alloc::Allocator;
 /// what all activities of loading cost; where it would pass its end, that is told instead.
 #[tactic(auto, using(crate::proofs::LoadLaws::load_laws))]
 pub fn load_leaves_the_source<A: Allocator>()
-    ensures words { (standing : Standing A) → (source : List ℕ)
+    ensures words { (standing : Standing) → (source : List ℕ)
         → standing.source ≡ Some source → faults_of source ≡ []
         → length standing.debugger.state.core.words ≡ 4096
         → loading_stopped standing.debugger.state (longest_load (image_of source)) ≡ None
         → IsLoadedOver standing.debugger.state.core.words
         (answer_to_load standing).after.debugger.state.core.words (image_of source).cells }
-    ensures time { (standing : Standing A) → (source : List ℕ)
+    ensures time { (standing : Standing) → (source : List ℕ)
         → standing.source ≡ Some source
         → loading_stopped standing.debugger.state (longest_load (image_of source)) ≡ None
         → (answer_to_load standing).after.debugger.state.clock
@@ -46,7 +46,7 @@ pub fn run_begins_with_the_source()
 /// A line of a script that only asks leaves the laboratory where it stood. So a script leads to the same place without such lines.
 #[tactic(auto, using(crate::proofs::AskingLaws::unmoved))]
 pub fn questions_change_nothing<A: Allocator>()
-    ensures { (standing : Standing A) → (line : List ℕ) → standing.opened ≡ None
+    ensures { (standing : Standing) → (line : List ℕ) → standing.opened ≡ None
         → IsTrue (only_asks (command_of line))
         → script_language.after standing line ≡ standing }
 {}

@@ -12,8 +12,5 @@ pub const SOURCE_LIMIT: usize = 1_048_576;
 /// How many steps are kept for going back.
 pub const KEPT_LIMIT: usize = 4096;
 
-/// How many words the drum has.
-pub const DRUM_SIZE: u64 = 4096;
-
 /// How often the program reads a file or standard input at most.
 pub const READS: u64 = 1 << 32;

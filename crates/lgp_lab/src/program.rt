@@ -6,7 +6,7 @@ ghost use Rattle.lgp_assembler.specs.Image.{faults_of, image_of};
 ghost use Rattle.lgp_listing.specs.Listing.{listing_of};
 
 use lgp_assembler::{AssembleError, Image, assemble};
-use lgp_listing::listing;
+use lgp_listing::listing_from_image;
 use std::alloc::{AllocError, Allocator};
 use std::marker::Model;
 
@@ -52,10 +52,6 @@ impl<A: Allocator + Copy> Program<A> {
     pub fn listing(&self, alloc: A) -> Result<Vec<u8, A>, AllocError>
         ensures { IfOk result (λ text. text.items ≡ listing_of self.now) }
     {
-        match listing(alloc, &self.source) {
-            Ok(text) => Ok(text),
-            Err(AssembleError::Faults(_)) => unreachable!(),
-            Err(AssembleError::Memory) => Err(AllocError),
-        }
+        listing_from_image(alloc, &self.source, &self.image)
     }
 }

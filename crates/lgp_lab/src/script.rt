@@ -20,13 +20,13 @@ fn answer_script<A: Allocator + Copy, R: Feed, W: Sink>(
 ) -> Result<u64, StreamFault>
     ensures read { OnOk result (IsAtEnd (R.remaining reader.new)) }
     ensures text { OnOk result (IfSome (R.remaining reader.old) (λ script.
-        Appends (W.contents writer.old) (W.contents writer.new) (script_text A script))) }
+        Appends (W.contents writer.old) (W.contents writer.new) (script_text script))) }
     ensures faults { IfOk result (λ faults. IfSome (R.remaining reader.old) (λ script.
-        faults ≡ script_faults A script)) }
+        faults ≡ script_faults script)) }
     ensures cause { IfErr result (λ fault.
         HasCause fault (R.failed reader.new) (W.failed writer.new)) }
     ensures stands { IfErr result (λ fault. IfSome (R.remaining reader.old) (λ script.
-        StandsWritten [] (script_language {A = A}) opening_standing fault script
+        StandsWritten [] (script_language) opening_standing fault script
         (R.remaining reader.new) (W.contents writer.old) (W.contents writer.new))) }
 {
     let Ok(laboratory) = Laboratory::new(alloc) else {
@@ -47,13 +47,13 @@ pub fn run_script<A: Allocator + Copy, R: Feed, W: Sink>(
     requires writer { W.failed writer.old ≡ false }
     ensures read { OnOk result (IsAtEnd (R.remaining reader.new)) }
     ensures text { OnOk result (IfSome (R.remaining reader.old) (λ script.
-        Appends (W.contents writer.old) (W.contents writer.new) (script_text A script))) }
+        Appends (W.contents writer.old) (W.contents writer.new) (script_text script))) }
     ensures faults { IfOk result (λ faults. IfSome (R.remaining reader.old) (λ script.
-        faults ≡ script_faults A script)) }
+        faults ≡ script_faults script)) }
     ensures cause { IfErr result (λ fault.
         HasCause fault (R.failed reader.new) (W.failed writer.new)) }
     ensures stands { IfErr result (λ fault. IfSome (R.remaining reader.old) (λ script.
-        StandsWritten [] (script_language {A = A}) opening_standing fault script
+        StandsWritten [] (script_language) opening_standing fault script
         (R.remaining reader.new) (W.contents writer.old) (W.contents writer.new))) }
 {
     answer_script(alloc, reader, writer)
@@ -81,13 +81,13 @@ pub(crate) fn answer_part<A: Allocator + Copy, R: Feed, W: Sink>(
     ensures read { OnOk result (IsAtEnd (R.remaining reader.new)) }
     ensures text { OnOk result (IfSome (R.remaining reader.old) (λ script.
         Appends (W.contents writer.old) (W.contents writer.new)
-        (heading name.now ++ script_text A script))) }
+        (heading name.now ++ script_text script))) }
     ensures faults { IfOk result (λ faults. IfSome (R.remaining reader.old) (λ script.
-        faults ≡ script_faults A script)) }
+        faults ≡ script_faults script)) }
     ensures cause { IfErr result (λ fault.
         HasCause fault (R.failed reader.new) (W.failed writer.new)) }
     ensures stands { IfErr result (λ fault. IfSome (R.remaining reader.old) (λ script.
-        StandsWritten (heading name.now ∷ []) (script_language {A = A}) opening_standing fault
+        StandsWritten (heading name.now ∷ []) (script_language) opening_standing fault
         script (R.remaining reader.new) (W.contents writer.old) (W.contents writer.new))) }
 {
     let Ok(heading) = heading(alloc, name) else {
@@ -113,13 +113,13 @@ pub fn batch_part<A: Allocator + Copy, R: Feed, W: Sink>(
     ensures read { OnOk result (IsAtEnd (R.remaining reader.new)) }
     ensures text { OnOk result (IfSome (R.remaining reader.old) (λ script.
         Appends (W.contents writer.old) (W.contents writer.new)
-        (heading name.now ++ script_text A script))) }
+        (heading name.now ++ script_text script))) }
     ensures faults { IfOk result (λ faults. IfSome (R.remaining reader.old) (λ script.
-        faults ≡ script_faults A script)) }
+        faults ≡ script_faults script)) }
     ensures cause { IfErr result (λ fault.
         HasCause fault (R.failed reader.new) (W.failed writer.new)) }
     ensures stands { IfErr result (λ fault. IfSome (R.remaining reader.old) (λ script.
-        StandsWritten (heading name.now ∷ []) (script_language {A = A}) opening_standing fault
+        StandsWritten (heading name.now ∷ []) (script_language) opening_standing fault
         script (R.remaining reader.new) (W.contents writer.old) (W.contents writer.new))) }
 {
     answer_part(alloc, name, reader, writer)

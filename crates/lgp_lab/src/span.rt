@@ -3,7 +3,7 @@
 ghost use Rattle.std.specs.Prelude.{◌≡◌, ◌+◌, ◌<◌};
 ghost use Rattle.lgp_lab.specs.Span.{range_of};
 
-use crate::limits::{DRUM_SIZE, SHOWN_LIMIT};
+use crate::limits::SHOWN_LIMIT;
 use lgp_word::Address;
 use std::marker::Model;
 
@@ -33,7 +33,7 @@ impl Span {
     pub fn new(first: Address, count: u64) -> Option<Span>
         ensures { result ≡ range_of first count }
     {
-        if count > 0 && count <= SHOWN_LIMIT && u64::from(first.number()) + count <= DRUM_SIZE {
+        if count > 0 && count <= SHOWN_LIMIT && u64::from(first.number()) + count <= Address::COUNT as u64 {
             Some(Span { first, count })
         } else {
             None

@@ -101,13 +101,13 @@ pub fn work<A: Allocator + Copy, R: Feed, W: Sink>(
     requires reader { R.failed reader.old ≡ false }
     requires writer { W.failed writer.old ≡ false }
     ensures text { IfOk result (λ count. IfSome (R.remaining reader.old) (λ text.
-        Appends (W.contents writer.old) (W.contents writer.new) (text_for A job text))) }
+        Appends (W.contents writer.old) (W.contents writer.new) (text_for job text))) }
     ensures count { IfOk result (λ count. IfSome (R.remaining reader.old) (λ text.
-        count ≡ count_for A job text)) }
+        count ≡ count_for job text)) }
     ensures cause { IfErr result (λ fault.
         HasCause fault (R.failed reader.new) (W.failed writer.new)) }
     ensures stands { IfErr result (λ fault. IfSome (R.remaining reader.old) (λ text.
-        StandsFor A job fault text (W.contents writer.old) (W.contents writer.new))) }
+        StandsFor job fault text (W.contents writer.old) (W.contents writer.new))) }
 {
     match job {
         Job::Listing => asm_file(alloc, reader, writer),
@@ -127,7 +127,7 @@ pub fn work_on_file<A: Allocator + Copy, F: Folder, W: Sink>(
 ) -> Result<u64, FileFault>
     requires writer { W.failed writer.old ≡ false }
     ensures opened { IsOpenedAs (F.opens folder.now name.now) result }
-    ensures done { HasDone A job (F.contents folder.now name.now) result
+    ensures done { HasDone job (F.contents folder.now name.now) result
         (W.contents writer.old) (W.contents writer.new) }
 {
     let Ok(mut reader) = folder.open(name) else {
@@ -147,7 +147,7 @@ fn part<A: Allocator + Copy, F: Folder, W: Sink>(
     writer: &mut W,
 ) -> Result<u64, FileFault>
     ensures opened { IsOpenedAs (F.opens folder.now name.now) result }
-    ensures done { HasDonePart A name.now (F.contents folder.now name.now) result
+    ensures done { HasDonePart name.now (F.contents folder.now name.now) result
         (W.contents writer.old) (W.contents writer.new) }
 {
     let Ok(mut reader) = folder.open(name) else {
@@ -168,7 +168,7 @@ pub fn run_batch<A: Allocator + Copy, F: Folder, W: Sink>(
     writer: &mut W,
 ) -> u8
     requires writer { W.failed writer.old ≡ false }
-    ensures { IsBatch A (F.opens folder.now) (F.contents folder.now) 0 names.now result
+    ensures { IsBatch (F.opens folder.now) (F.contents folder.now) 0 names.now result
         (W.contents writer.old) (W.contents writer.new) }
 {
     let mut worst = 0;
@@ -191,7 +191,7 @@ fn status_on_file<A: Allocator + Copy, F: Folder, W: Sink>(
     writer: &mut W,
 ) -> u8
     requires writer { W.failed writer.old ≡ false }
-    ensures { IsWorked A job (F.opens folder.now) (F.contents folder.now) name.now result
+    ensures { IsWorked job (F.opens folder.now) (F.contents folder.now) name.now result
         (W.contents writer.old) (W.contents writer.new) }
 {
     status_of(work_on_file(alloc, job, folder, name, writer))
@@ -206,7 +206,7 @@ fn work_on_input<A: Allocator + Copy, R: Feed, W: Sink>(
     requires input { R.failed input.old ≡ false }
     requires writer { W.failed writer.old ≡ false }
     ensures opened { was_opened result ≡ true }
-    ensures done { HasDone A Answering (R.remaining input.old) result
+    ensures done { HasDone Answering (R.remaining input.old) result
         (W.contents writer.old) (W.contents writer.new) }
 {
     match work(alloc, Job::Answering, input, writer) {
@@ -223,7 +223,7 @@ fn status_on_input<A: Allocator + Copy, R: Feed, W: Sink>(
 ) -> u8
     requires input { R.failed input.old ≡ false }
     requires writer { W.failed writer.old ≡ false }
-    ensures { IsAnswered A (R.remaining input.old) result
+    ensures { IsAnswered (R.remaining input.old) result
         (W.contents writer.old) (W.contents writer.new) }
 {
     status_of(work_on_input(alloc, input, writer))
@@ -240,7 +240,7 @@ pub fn perform<A: Allocator + Copy, F: Folder, R: Feed, W: Sink>(
     requires reads { R.reads input.old ≡ read_limit }
     requires input { R.failed input.old ≡ false }
     requires output { W.failed output.old ≡ false }
-    ensures { IsPerformed A (F.opens folder.now) (F.contents folder.now) task.now
+    ensures { IsPerformed (F.opens folder.now) (F.contents folder.now) task.now
         (R.remaining input.old) result (W.contents output.old) (W.contents output.new) }
 {
     match task {

@@ -1,14 +1,13 @@
 //! Runs that are told.
 
-ghost use Rattle.std.specs.Prelude.{◌≡◌, ◌+◌, ◌++◌, ◌<◌, ℕ, List, Option, IfErr, IfOk};
-ghost use Rattle.lgp_table.specs.Activity.{cost};
+ghost use Rattle.std.specs.Prelude.{◌≡◌, ◌++◌, ℕ, List, Option};
 ghost use Rattle.lgp_table.specs.State.{State};
-ghost use Rattle.lgp_machine.specs.Answers.{clock_end};
-ghost use Rattle.lgp_debugger.specs.Debugging.{order_origins, run_of};
+ghost use Rattle.lgp_debugger.specs.Debugging.{order_origins, performed};
+ghost use Rattle.lgp_debugger.specs.Run.{UnlessMemory, orders_of, run_of};
 ghost use Rattle.lgp_history.specs.declared.origin.Origin.{Origin};
 
 use lgp_assembler::Name;
-use lgp_debugger::{Debugger, Ran, Reason, RunFault, RunRefusal};
+use lgp_debugger::{Debugger, Ran, RunFault};
 use lgp_history::Records;
 use std::alloc::Allocator;
 
@@ -27,19 +26,11 @@ pub trait Teller {
         names: &[(Name, u16)],
         text: &mut Vec<u8, A>,
     ) -> Result<Ran, RunFault>
-        ensures ran { IfOk result (λ ran. run_of limit debugger.old ≡ (ran, debugger.new)) }
-        ensures told { IfOk result (λ ran. text.new.items ≡ text.old.items
+        ensures ran { UnlessMemory result
+            (run_of debugger.old.rules limit debugger.old.state ≡ result) }
+        ensures performed { UnlessMemory result
+            (debugger.new ≡ performed debugger.old (orders_of result)) }
+        ensures told { UnlessMemory result (text.new.items ≡ text.old.items
             ++ told self.now names.now debugger.old.state (order_origins debugger.old)
-            ran.orders) }
-        ensures broken_off { IfErr result (λ fault. fault.fault ≡ RunRefusal.ClockEnd
-            → run_of fault.orders debugger.old
-            ≡ (record { orders = fault.orders; reason = Reason.Limit }, debugger.new)) }
-        ensures within_limit { IfErr result (λ fault. fault.fault ≡ RunRefusal.ClockEnd
-            → fault.orders < limit) }
-        ensures clock_end { IfErr result (λ fault. fault.fault ≡ RunRefusal.ClockEnd
-            → clock_end < debugger.new.state.clock + cost debugger.new.state) }
-        ensures told_to_end { IfErr result (λ fault. fault.fault ≡ RunRefusal.ClockEnd
-            → text.new.items ≡ text.old.items
-            ++ told self.now names.now debugger.old.state (order_origins debugger.old)
-            fault.orders) };
+            (orders_of result)) };
 }

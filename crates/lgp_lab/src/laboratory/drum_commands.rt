@@ -1,16 +1,14 @@
 //! The drum.
 
-ghost use Rattle.std.specs.Prelude.{◌≡◌, ◌++◌, ◌+◌, ◌<◌, if◌then◌else◌, IfOk, OnOk, codes, count_by, decimal};
-ghost use Rattle.lgp_listing.specs.Dump.{dump_of, word_line};
-ghost use Rattle.lgp_lab.specs.DrumCommands.{answer_to_dump, answer_to_put, answer_to_show, answer_to_words, digits_line, dump_text, is_used, lines_text, order_line};
-ghost use Rattle.lgp_lab.specs.Limits.{drum_size};
+ghost use Rattle.std.specs.Prelude.{◌≡◌, ◌++◌, OnOk, codes, decimal};
+ghost use Rattle.lgp_listing.specs.Dump.{cell_line, dump_of};
+ghost use Rattle.lgp_lab.specs.DrumCommands.{answer_to_dump, answer_to_put, answer_to_show, answer_to_words, dump_text, lines_text, order_line};
 
 use super::Laboratory;
-use crate::limits::DRUM_SIZE;
 use crate::refusal::{Refusal, push_counted, push_refusal};
 use crate::span::Span;
 use lgp_debugger::PutFault;
-use lgp_listing::disassemble;
+use lgp_listing::{DrumWords, disassemble, push_cell_line};
 use lgp_machine::Machine;
 use lgp_text::{Piece, push_pieces};
 use lgp_word::{Address, Word};
@@ -60,26 +58,6 @@ impl<A: Allocator + Copy> Laboratory<A> {
     }
 }
 
-/// Appends a word's line.
-#[tactic(auto, unfolding(crate::specs::DrumCommands::digits_line))]
-fn push_word<A: Allocator>(
-    text: &mut Vec<u8, A>,
-    address: Address,
-    word: Word,
-) -> Result<(), AllocError>
-    ensures { OnOk result (text.new.items ≡ text.old.items ++ digits_line address word) }
-{
-    push_pieces(
-        text,
-        &[
-            Piece::Place(address),
-            Piece::Text(b" "),
-            Piece::Digits(word.get()),
-            Piece::Text(b"\n"),
-        ],
-    )
-}
-
 /// Appends a word's line by its disassembly.
 #[tactic(auto, unfolding(crate::specs::DrumCommands::order_line))]
 fn push_order<A: Allocator>(
@@ -108,11 +86,11 @@ fn push_words<A: Allocator>(
     span: &Span,
 ) -> Result<(), AllocError>
     ensures { OnOk result (text.new.items ≡ text.old.items
-        ++ lines_text digits_line machine.now.state span.now.first span.now.count) }
+        ++ lines_text cell_line machine.now.state span.now.first span.now.count) }
 {
     for place in 0..span.count() {
         let address = span.address(place);
-        push_word(text, address, machine.word(address))?;
+        push_cell_line(text, address, machine.word(address))?;
     }
     Ok(())
 }
@@ -133,49 +111,18 @@ fn push_orders<A: Allocator>(
     Ok(())
 }
 
-/// Lines of words, and how many.
+/// A machine as who lends the words of its drum.
 #[derive(Drop)]
-struct WordLines<A: Allocator> {
-    count: u64,
-    text: Vec<u8, A>,
+struct LentDrum<'a, A: Allocator> {
+    machine: &'a Machine<A>,
 }
 
-impl<A: Allocator> WordLines<A> {
-    /// Adds a word's line, if the word is not zero.
-    #[tactic(auto, unfolding(crate::specs::DrumCommands::digits_line))]
-    fn add(&mut self, address: Address, word: Word) -> Result<(), AllocError>
-        requires { self.old.count < drum_size }
-        ensures text { OnOk result (self.new.text.items
-            ≡ self.old.text.items ++ word_line address word) }
-        ensures count { OnOk result (self.new.count
-            ≡ self.old.count + (if is_used word then 1 else 0)) }
-    {
-        if word.get() != 0 {
-            push_word(&mut self.text, address, word)?;
-            self.count += 1;
-        }
-        Ok(())
-    }
-}
+impl<A: Allocator> DrumWords for LentDrum<'_, A> {
+    ghost words = { λ lent. lent.machine.now.state.core.words };
 
-/// The lines of all words that are not zero.
-fn used_words<A: Allocator>(alloc: A, machine: &Machine<A>) -> Result<WordLines<A>, AllocError>
-    ensures count { IfOk result (λ lines. lines.count
-        ≡ count_by is_used machine.now.state.core.words) }
-    ensures text { IfOk result (λ lines.
-        lines.text.items ≡ dump_of machine.now.state.core.words) }
-{
-    let mut lines = WordLines {
-        count: 0,
-        text: Vec::new(alloc),
-    };
-    for number in 0..DRUM_SIZE {
-        let Some(address) = Address::new(number as u16) else {
-            unreachable!();
-        };
-        lines.add(address, machine.word(address))?;
+    fn word_at(&self, address: Address) -> Word {
+        self.machine.word(address)
     }
-    Ok(lines)
 }
 
 /// Appends how many words are not zero, and their lines.
@@ -202,6 +149,7 @@ fn push_dump<A: Allocator + Copy>(
     ensures { OnOk result (text.new.items
         ≡ text.old.items ++ dump_text machine.now.state.core.words) }
 {
-    let lines = used_words(alloc, machine)?;
-    push_lines(text, lines.count, &lines.text)
+    let mut lines = Vec::new(alloc);
+    let count = lgp_listing::push_dump(&mut lines, &LentDrum { machine })?;
+    push_lines(text, count, &lines)
 }

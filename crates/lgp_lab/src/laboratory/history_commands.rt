@@ -1,17 +1,17 @@
 //! Rules and the way back.
 
-ghost use Rattle.std.specs.Prelude.{◌≡◌, ◌++◌, ℕ, IfOk, IfSome, OnOk, None, Some};
-ghost use Rattle.lgp_debugger.specs.Debugging.{order_origins, run_of};
-ghost use Rattle.lgp_lab.specs.HistoryCommands.{answer_to_back, answer_to_drop, answer_to_last, answer_to_rule, answer_to_run, broken_off, hit_text, orders_run, ran_text, reason_text};
+ghost use Rattle.std.specs.Prelude.{◌≡◌, ◌++◌, OnOk};
+ghost use Rattle.lgp_debugger.specs.Debugging.{order_origins};
+ghost use Rattle.lgp_lab.specs.HistoryCommands.{answer_to_back, answer_to_drop, answer_to_last, answer_to_rule, answer_to_run, hit_text, orders_run, ran_text, reason_text};
+ghost use Rattle.lgp_lab.specs.Refusal.{refusal_text};
 ghost use Rattle.lgp_lab.specs.Standing.{labels_of};
 
 use super::machine_commands::push_clock;
 use super::{Laboratory, labels_in};
 use crate::refusal::{Refusal, push_counted, push_refusal};
 use crate::teller::Teller;
-use lgp_assembler::Name;
-use lgp_debugger::{Debugger, HitFault, Ran, Reason, RuleFault, RunRefusal};
-use lgp_history::{BackFault, History, Records, Rule};
+use lgp_debugger::{HitFault, Ran, Reason, RuleFault, RunFault, RunRefusal};
+use lgp_history::{BackFault, Rule};
 use lgp_text::{Piece, push_pieces};
 use std::alloc::{AllocError, Allocator};
 
@@ -53,21 +53,21 @@ impl<A: Allocator + Copy> Laboratory<A> {
     }
 
     /// Performs orders until a rule stops them.
+    #[tactic(auto, unfolding(crate::specs::HistoryCommands::answer_to_run))]
     pub(super) fn run(&mut self, limit: u64, reply: &mut Vec<u8, A>) -> Result<(), AllocError>
         ensures reply { OnOk result (reply.new.items
             ≡ reply.old.items ++ (answer_to_run self.old limit).reply) }
         ensures after { OnOk result (self.new ≡ (answer_to_run self.old limit).after) }
     {
-        let Some(ran) = run_within(&mut self.debugger, limit)? else {
-            push_refusal(reply, Refusal::ClockEnd)?;
-            return Ok(());
-        };
-        push_ran(reply, &ran)?;
-        Ok(())
+        match self.debugger.run(limit) {
+            Ok(ran) => push_ran(reply, &ran),
+            Err(broken) => push_broken_off(reply, broken),
+        }
     }
 
     /// Does what the command `run` does by a teller, whose text stands in front of the reply. A refused growth leaves open what
     /// was done.
+    #[tactic(auto, unfolding(crate::specs::HistoryCommands::answer_to_run, crate::specs::HistoryCommands::orders_run))]
     pub fn run_told<T: Teller>(
         &mut self,
         teller: &T,
@@ -81,13 +81,10 @@ impl<A: Allocator + Copy> Laboratory<A> {
         ensures after { OnOk result (self.new ≡ (answer_to_run self.old limit).after) }
     {
         let names = labels_in(&self.program);
-        let told = tell_within(self.alloc, &mut self.debugger, teller, limit, names, reply)?;
-        let Some(ran) = told else {
-            push_refusal(reply, Refusal::ClockEnd)?;
-            return Ok(());
-        };
-        push_ran(reply, &ran)?;
-        Ok(())
+        match teller.run(self.alloc, &mut self.debugger, limit, names, reply) {
+            Ok(ran) => push_ran(reply, &ran),
+            Err(broken) => push_broken_off(reply, broken),
+        }
     }
 
     /// Goes so many orders back.
@@ -125,58 +122,15 @@ impl<A: Allocator + Copy> Laboratory<A> {
     }
 }
 
-/// Runs the debugger; `None` where the clock's end broke the run off.
-fn run_within<H: History<A>, A: Allocator>(
-    debugger: &mut Debugger<H, A>,
-    limit: u64,
-) -> Result<Option<Ran>, AllocError>
-    ensures ran { IfOk result (λ outcome. IfSome outcome (λ ran.
-        (broken_off limit debugger.old ≡ None)
-        × (run_of limit debugger.old ≡ (ran, debugger.new)))) }
-    ensures broken { IfOk result (λ outcome. outcome ≡ None → (orders : ℕ)
-        × (broken_off limit debugger.old ≡ Some orders)
-        × (debugger.new ≡ (run_of orders debugger.old).1)) }
+/// Appends that the clock's end broke a run off; where it was memory, that is a refused growth.
+pub(super) fn push_broken_off<A: Allocator>(text: &mut Vec<u8, A>, broken: RunFault) -> Result<(), AllocError>
+    ensures text { OnOk result
+        (text.new.items ≡ text.old.items ++ refusal_text Refusal.ClockEnd) }
+    ensures cause { OnOk result (broken.fault ≡ RunRefusal.ClockEnd) }
 {
-    let outcome = debugger.run(limit);
-    // That the clock is within its end is what the mark's clause says.
-    let _ = debugger.machine().mark();
-    match outcome {
-        Ok(ran) => Ok(Some(ran)),
-        Err(broken) => match broken.fault {
-            RunRefusal::ClockEnd => Ok(None),
-            RunRefusal::Memory => Err(AllocError),
-        },
-    }
-}
-
-/// Runs the debugger by a teller; `None` where the clock's end broke the run off.
-fn tell_within<T: Teller, A: Allocator + Copy>(
-    alloc: A,
-    debugger: &mut Debugger<Records<A>, A>,
-    teller: &T,
-    limit: u64,
-    names: &[(Name, u16)],
-    text: &mut Vec<u8, A>,
-) -> Result<Option<Ran>, AllocError>
-    ensures ran { IfOk result (λ outcome. IfSome outcome (λ ran.
-        (broken_off limit debugger.old ≡ None)
-        × (run_of limit debugger.old ≡ (ran, debugger.new)))) }
-    ensures broken { IfOk result (λ outcome. outcome ≡ None → (orders : ℕ)
-        × (broken_off limit debugger.old ≡ Some orders)
-        × (debugger.new ≡ (run_of orders debugger.old).1)) }
-    ensures told { OnOk result (text.new.items ≡ text.old.items
-        ++ T.told teller.now names.now debugger.old.state (order_origins debugger.old)
-        (orders_run limit debugger.old)) }
-{
-    let outcome = teller.run(alloc, debugger, limit, names, text);
-    // That the clock is within its end is what the mark's clause says.
-    let _ = debugger.machine().mark();
-    match outcome {
-        Ok(ran) => Ok(Some(ran)),
-        Err(broken) => match broken.fault {
-            RunRefusal::ClockEnd => Ok(None),
-            RunRefusal::Memory => Err(AllocError),
-        },
+    match broken.fault {
+        RunRefusal::ClockEnd => push_refusal(text, Refusal::ClockEnd),
+        RunRefusal::Memory => Err(AllocError),
     }
 }
 

@@ -3,13 +3,14 @@
 ghost use Rattle.std.specs.Prelude.{◌≡◌, ◌++◌, ◌≤◌, IfOk, IsTrue, OnOk, length};
 ghost use Rattle.lgp_table.specs.Interleaving.{is_boundary};
 ghost use Rattle.lgp_stream.specs.KeptLine.{line_limit};
-ghost use Rattle.lgp_lab.specs.MachineCommands.{answer_to_orders, answer_to_panel, answer_to_press, answer_to_turn, answer_to_type, clock_text, orders_text, panel_text, performed, reader_text, registers_text, typed, typed_text};
+ghost use Rattle.lgp_lab.specs.MachineCommands.{answer_to_orders, answer_to_panel, answer_to_press, answer_to_turn, answer_to_type, clock_text, orders_text, panel_text, reader_text, registers_text, typed, typed_text};
 ghost use Rattle.lgp_text.specs.PanelWords.{mode_text, on_text, status_text, switches_text};
 
 use super::Laboratory;
+use super::history_commands::push_broken_off;
 use super::tape_commands::read_codes;
 use crate::refusal::{Refusal, push_counted, push_refusal};
-use lgp_debugger::{Debugger, IdleFault, StepFault};
+use lgp_debugger::{Debugger, IdleFault};
 use lgp_flexo::Code;
 use lgp_history::History;
 use lgp_machine::{Look, Machine};
@@ -74,11 +75,10 @@ impl<A: Allocator + Copy> Laboratory<A> {
             ≡ reply.old.items ++ (answer_to_orders self.old limit).reply) }
         ensures after { OnOk result (self.new ≡ (answer_to_orders self.old limit).after) }
     {
-        let run = perform(&mut self.debugger, limit)?;
-        if run.stopped {
-            return push_refusal(reply, Refusal::ClockEnd);
+        match self.debugger.run_freely(limit) {
+            Ok(ran) => push_orders(reply, ran.orders, self.debugger.look().status),
+            Err(broken) => push_broken_off(reply, broken),
         }
-        push_orders(reply, run.done, self.debugger.look().status)
     }
 
     /// Shows the panel.
@@ -140,47 +140,6 @@ pub(super) fn push_clock<A: Allocator>(text: &mut Vec<u8, A>, clock: u64) -> Res
     ensures { OnOk result (text.new.items ≡ text.old.items ++ clock_text clock) }
 {
     push_counted(text, b"clock ", clock)
-}
-
-/// How many orders were performed, and whether the end of the clock stopped them.
-#[derive(Clone, Copy)]
-struct Performed {
-    done: u64,
-    stopped: bool,
-}
-
-/// Performs at most so many orders, until the machine is at rest.
-#[tactic(auto, using(crate::proofs::AnswerLemmas::performed_step), unfolding(crate::specs::MachineCommands::performed_on))]
-fn perform<H: History<A>, A: Allocator>(
-    debugger: &mut Debugger<H, A>,
-    limit: u64,
-) -> Result<Performed, AllocError>
-    ensures done { IfOk result (λ run. run.done ≡ (performed limit debugger.old).done) }
-    ensures stopped { IfOk result (λ run. run.stopped ≡ (performed limit debugger.old).stopped) }
-    ensures after { OnOk result (debugger.new ≡ (performed limit debugger.old).after) }
-{
-    let mut done = 0;
-    let mut left = limit;
-    while left > 0 {
-        match debugger.step() {
-            Ok(_) => {}
-            Err(StepFault::AtRest) => return Ok(Performed {
-                done,
-                stopped: false,
-            }),
-            Err(StepFault::ClockEnd) => return Ok(Performed {
-                done,
-                stopped: true,
-            }),
-            Err(StepFault::Memory) => return Err(AllocError),
-        }
-        done += 1;
-        left -= 1;
-    }
-    Ok(Performed {
-        done,
-        stopped: false,
-    })
 }
 
 /// Appends how many orders were performed, and the status after them.

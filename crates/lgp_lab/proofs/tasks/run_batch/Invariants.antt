@@ -4,5 +4,5 @@ use Rattle.lgp_lab.proofs.tasks.run_batch.Given as goal
 
 abbrev pub invariant-loop-name : goal.invariant-loop-name
 invariant-loop-name g l = (status : ℕ) (w : Option (List ℕ))
-    → IsBatch g.row.A.Denot (g.F.Folder.opens l.folder) (g.F.Folder.contents l.folder) l.worst (drop l.name-index l.names) status (g.W.Sink.contents l.writer) w
-    → IsBatch g.row.A.Denot (g.F.Folder.opens l.folder) (g.F.Folder.contents l.folder) 0 l.names status (g.W.Sink.contents l.fn.writer) w
+    → IsBatch (g.F.Folder.opens l.folder) (g.F.Folder.contents l.folder) l.worst (drop l.name-index l.names) status (g.W.Sink.contents l.writer) w
+    → IsBatch (g.F.Folder.opens l.folder) (g.F.Folder.contents l.folder) 0 l.names status (g.W.Sink.contents l.fn.writer) w

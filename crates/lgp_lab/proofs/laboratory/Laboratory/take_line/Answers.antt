@@ -9,12 +9,12 @@ pub returns-then-is_word-clause-reply : goal.returns-then-is_word-clause-reply
 returns-then-is_word-clause-reply g c = λ text kept.
     let point : is_point text ≡ true = sym (c.is_word.ensures text kept) ∙ c.if-is_word.true in
     on_ok_weaker c.close_source.result
-    (λ is. is ∙ ap (λ (a : Answer g.row.A.Denot). c.args.reply.now.items ++ a.reply) (point_ends c.args.self.now c.args.source text point))
+    (λ is. is ∙ ap (λ (a : Answer). c.args.reply.now.items ++ a.reply) (point_ends c.args.self.now c.args.source text point))
     c.close_source.ensures.reply
 
 pub returns-then-is_word-clause-after : goal.returns-then-is_word-clause-after
 returns-then-is_word-clause-after g c = λ text kept.
     let point : is_point text ≡ true = sym (c.is_word.ensures text kept) ∙ c.if-is_word.true in
     on_ok_weaker c.close_source.result
-    (λ is. is ∙ ap (λ (a : Answer g.row.A.Denot). a.after) (point_ends c.args.self.now c.args.source text point))
+    (λ is. is ∙ ap (λ (a : Answer). a.after) (point_ends c.args.self.now c.args.source text point))
     c.close_source.ensures.after

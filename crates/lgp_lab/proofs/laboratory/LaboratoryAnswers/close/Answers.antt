@@ -8,17 +8,17 @@ use Rattle.lgp_lab.proofs.laboratory.LaboratoryAnswers.close.Goals as goal
 
 pub returns-in-Some : goal.returns-in-Some
 returns-in-Some g c =
-    let opened : c.args.self.now.opened ≡ Some c.in-Some.source = sym (ap (λ (s : Standing g.row.A.Denot). s.opened) c.self.view_is) ∙ search rules in
+    let opened : c.args.self.now.opened ≡ Some c.in-Some.source = sym (ap (λ (s : Standing). s.opened) c.self.view_is) ∙ search rules in
     record {
       reply = on_ok_weaker c.close_source.result
-          (λ is. is ∙ ap (λ (a : Answer g.row.A.Denot). c.args.reply.now.items ++ a.reply)
-          (ap (λ (s : Standing g.row.A.Denot). answer_to_end (with_opened s None) c.in-Some.source) c.self.view_is ∙ sym (closed_some c.args.self.now c.in-Some.source opened)))
+          (λ is. is ∙ ap (λ (a : Answer). c.args.reply.now.items ++ a.reply)
+          (ap (λ (s : Standing). answer_to_end (with_opened s None) c.in-Some.source) c.self.view_is ∙ sym (closed_some c.args.self.now c.in-Some.source opened)))
           c.close_source.ensures.reply;
     }
 
 pub returns-in-None : goal.returns-in-None
 returns-in-None g c =
-    let opened : c.args.self.now.opened ≡ None = sym (ap (λ (s : Standing g.row.A.Denot). s.opened) c.self.view_is) ∙ search rules in
+    let opened : c.args.self.now.opened ≡ None = sym (ap (λ (s : Standing). s.opened) c.self.view_is) ∙ search rules in
     record {
-      reply = sym (append-nil c.args.reply.now.items) ∙ ap (λ (a : Answer g.row.A.Denot). c.args.reply.now.items ++ a.reply) (sym (closed_none c.args.self.now opened));
+      reply = sym (append-nil c.args.reply.now.items) ∙ ap (λ (a : Answer). c.args.reply.now.items ++ a.reply) (sym (closed_none c.args.self.now opened));
     }
