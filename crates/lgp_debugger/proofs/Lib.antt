@@ -1,5 +1,6 @@
 pub mod HitLemmas
 pub mod WatchLemmas
+pub mod PerformedLemmas
 pub mod RunLemmas
 pub mod LoadLemmas
 pub mod ClockLemmas
