@@ -1,4 +1,5 @@
 pub mod HitLemmas
 pub mod WatchLemmas
+pub mod PerformedLemmas
 pub mod RunLemmas
 pub mod ClockLemmas

@@ -8,15 +8,16 @@ use Rattle.lgp_machine.specs.Answers.{clock_end, passes_clock_end}
 use Rattle.lgp_history.specs.Step.{Perform}
 use Rattle.lgp_history.specs.Steps.{CanStep}
 use Rattle.lgp_history.specs.declared.rule.Rule.{Rule}
-use Rattle.lgp_debugger.specs.Debugging.{Debugging, after_step, performed}
-use Rattle.lgp_debugger.specs.Run.{IsOrderOfRun, broken_off, ended_for, first_stop, one_order_more, run_of, unless_stopped}
-use Rattle.lgp_debugger.specs.RunInside.{IsRun, rules_in_force}
+use Rattle.lgp_debugger.specs.Debugging.{Debugging, performed}
+use Rattle.lgp_debugger.specs.Run.{IsOrderOfRun, IsRun, at_clock_end, ended_for, first_stop, one_order_more, run_of, unless_stopped}
+use Rattle.lgp_debugger.specs.RunInside.{rules_in_force}
 use Rattle.lgp_debugger.specs.declared.fault.Ran.{Ran}
 use Rattle.lgp_debugger.specs.declared.fault.Reason.TheVariants as reasons
 use Rattle.lgp_debugger.specs.declared.fault.RunFault.{RunFault}
 use Rattle.lgp_debugger.specs.declared.fault.RunRefusal.TheVariants as refusals
 use Rattle.lgp_debugger.specs.declared.fault.StepFault.{StepFault}
 use Rattle.lgp_debugger.specs.declared.fault.StepFault.TheVariants.{AtRest, ClockEnd, Memory}
+use Rattle.lgp_debugger.proofs.PerformedLemmas.{performed_more, performed_none}
 
 abbrev pub rests : State → Bool
 rests s = is_at_rest s.core.panel.status
@@ -48,22 +49,13 @@ module _ (rules : List Rule) where
   unfolding run_of
   no_order s e = rw e refl
 
-  at_clock_end : (n : ℕ) (s : State) → rests s ≡ false → passes_clock_end s ≡ true → run_of rules (suc n) s ≡ broken_off
+  passing : (n : ℕ) (s : State) → rests s ≡ false → passes_clock_end s ≡ true → run_of rules (suc n) s ≡ at_clock_end
   unfolding run_of
-  at_clock_end n s e f = rw (e, f) refl
+  passing n s e f = rw (e, f) refl
 
   an_order : (n : ℕ) (s : State) → CanStep Perform s → run_of rules (suc n) s ≡ one_order_more (unless_stopped (first_stop rules s) (run_of rules n (next s)))
   unfolding run_of
   an_order n s can = rw (can.0, le-ltb clock_end (s.clock + cost s) can.1) refl
-
--- after one order more
-performed_more : (d : Debugging) (count : ℕ) → after_step (performed d count) Perform ≡ performed d (count + 1)
-unfolding performed
-performed_more d count = let e : count + 1 ≡ suc count = omega arith in sym (ap (λ (n : ℕ). performed d n) e)
-
-performed_none : (d : Debugging) → d ≡ performed d 0
-unfolding performed
-performed_none d = refl
 
 -- so many orders were done without an end, and from here the run goes on
 pub record HasRun (by_rules : Bool) (first now : Debugging) (done : ℕ) : Type 0 where
@@ -90,8 +82,12 @@ module _ (by_rules : Bool) (first now new : Debugging) (done limit : ℕ) (h : H
   by_these answer told is order =
       subst (λ (rs : List Rule). IsOrderOfRun (rules_in_force by_rules rs) now new told) h.same_rules (subst IsOrder is order)
 
-  one_further : new ≡ after_step now Perform → new ≡ performed first (done + 1)
-  one_further after = after ∙ ap (λ (d : Debugging). after_step d Perform) h.reached ∙ performed_more first done
+  -- this run, told by what is left of it
+  from_here : (n : ℕ) → limit ≡ done + n → run_of rules limit first.state ≡ more done (run_of rules n now.state)
+  from_here n is = ap (λ (k : ℕ). run_of rules k first.state) is ∙ h.goes_on n
+
+  ended : (ran : Ran) → run_of rules limit first.state ≡ Ok ran → new ≡ performed first ran.orders → IsRun rules limit first new (Ok ran)
+  ended ran is reached = record { ran = is; broken_off = tt; stands = tt; within = tt; clock_end = tt; performed = reached }
 
   an_order_on : (n : ℕ) (stop : Option ℕ) → IsOrderOfRun rules now new (Ok stop)
       → run_of rules (done + suc n) first.state ≡ more done (one_order_more (unless_stopped stop (run_of rules n new.state)))
@@ -107,7 +103,7 @@ module _ (by_rules : Bool) (first now new : Debugging) (done limit : ℕ) (h : H
         goes_on = λ n.
             let shift : done + 1 + n ≡ done + suc n = omega arith in
             ap (λ (k : ℕ). run_of rules k first.state) shift ∙ an_order_on n None here ∙ more_one done (run_of rules n new.state);
-        reached = one_further here.2;
+        reached = performed_more first now new done h.reached here.2;
         same_rules = ap (λ (d : Debugging). d.rules) here.2 ∙ h.same_rules;
       }
 
@@ -117,76 +113,57 @@ module _ (by_rules : Bool) (first now new : Debugging) (done limit : ℕ) (h : H
       let here = by_these answer (Ok (Some number)) is order in
       let shift : limit ≡ done + suc (limit - done - 1) = omega arith in
       let count : 0 + 1 + done ≡ done + 1 = omega arith in
-      record {
-        ran = ap (λ (k : ℕ). run_of rules k first.state) shift ∙ an_order_on (limit - done - 1) (Some number) here
-            ∙ ap (λ (k : ℕ). Ok (record { orders = k; reason = reasons.Rule number })) count;
-        cut = tt;
-        stands = tt;
-        clock = tt;
-        within = tt;
-        reached = one_further here.2;
-      }
+      ended _ (ap (λ (k : ℕ). run_of rules k first.state) shift ∙ an_order_on (limit - done - 1) (Some number) here
+      ∙ ap (λ (k : ℕ). Ok (record { orders = k; reason = reasons.Rule number })) count)
+      (performed_more first now new done h.reached here.2)
 
   pub run_rested : done ≤ limit → rests now.state ≡ true → new ≡ now → IsRun rules limit first new (Ok (record { orders = done; reason = reasons.Rest }))
   run_rested within rest same =
-      let shift : limit ≡ done + (limit - done) = omega arith in
-      record {
-        ran = ap (λ (k : ℕ). run_of rules k first.state) shift ∙ h.goes_on (limit - done) ∙ ap (more done) (at_rest rules (limit - done) now.state rest)
-            ∙ ap (λ (k : ℕ). Ok (record { orders = k; reason = reasons.Rest })) (zero-add done);
-        cut = tt;
-        stands = tt;
-        clock = tt;
-        within = tt;
-        reached = same ∙ h.reached;
-      }
+      ended _ (from_here (limit - done) (omega arith) ∙ ap (more done) (at_rest rules (limit - done) now.state rest)
+      ∙ ap (λ (k : ℕ). Ok (record { orders = k; reason = reasons.Rest })) (zero-add done))
+      (same ∙ h.reached)
 
-  -- an order refused for rest
-  pub run_found_at_rest : (answer : Result (Option ℕ) StepFault) → answer ≡ Err AtRest → IsOrder answer → done < limit
+  -- at rest no order is performed
+  pub run_refused_at_rest : (answer : Result (Option ℕ) StepFault) → answer ≡ Err AtRest → IsOrder answer → done < limit
       → IsRun rules limit first new (Ok (record { orders = done; reason = reasons.Rest }))
-  run_found_at_rest answer is order below = let here = by_these answer (Err AtRest) is order in run_rested (omega arith) here.0 here.1
+  run_refused_at_rest answer is order below = let here = by_these answer (Err AtRest) is order in run_rested (omega arith) here.0 here.1
 
   done_all : rests now.state ≡ false → run_of rules done first.state ≡ Ok (record { orders = done; reason = reasons.Limit })
   done_all busy =
       ap (λ (k : ℕ). run_of rules k first.state) (sym (add-zero done)) ∙ h.goes_on 0 ∙ ap (more done) (no_order rules now.state busy)
       ∙ ap (λ (k : ℕ). Ok (record { orders = k; reason = reasons.Limit })) (zero-add done)
 
-  pub run_limited : rests now.state ≡ false → new ≡ now → IsRun rules done first new (Ok (record { orders = done; reason = reasons.Limit }))
-  run_limited busy same = record {
-    ran = done_all busy;
-    cut = tt;
-    stands = tt;
-    clock = tt;
-    within = tt;
-    reached = same ∙ h.reached;
-  }
+  pub run_limited : limit ≡ done → rests now.state ≡ false → new ≡ now → IsRun rules limit first new (Ok (record { orders = limit; reason = reasons.Limit }))
+  run_limited all busy same =
+      ended _ (subst (λ (k : ℕ). run_of rules k first.state ≡ Ok (record { orders = k; reason = reasons.Limit })) (sym all) (done_all busy))
+      (same ∙ h.reached ∙ ap (performed first) (sym all))
 
-  pub run_cut : (answer : Result (Option ℕ) StepFault) → answer ≡ Err ClockEnd → IsOrder answer → done < limit
+  pub run_refused_at_clock_end : (answer : Result (Option ℕ) StepFault) → answer ≡ Err ClockEnd → IsOrder answer → done < limit
       → IsRun rules limit first new (Err (record { orders = done; fault = refusals.ClockEnd }))
-  run_cut answer is order below =
+  run_refused_at_clock_end answer is order below =
       let here = by_these answer (Err ClockEnd) is order in
-      let shift : limit ≡ done + suc (limit - done - 1) = omega arith in
       let past : clock_end < new.state.clock + cost new.state = subst (λ (d : Debugging). clock_end < d.state.clock + cost d.state) (sym here.2) here.1 in
       record {
         ran = tt;
-        cut = λ _. ap (λ (k : ℕ). run_of rules k first.state) shift ∙ h.goes_on (suc (limit - done - 1))
-            ∙ ap (more done) (at_clock_end rules (limit - done - 1) now.state here.0 (lt-ltb clock_end (now.state.clock + cost now.state) here.1))
+        broken_off = λ _. from_here (suc (limit - done - 1)) (omega arith)
+            ∙ ap (more done) (passing rules (limit - done - 1) now.state here.0 (lt-ltb clock_end (now.state.clock + cost now.state) here.1))
             ∙ ap (λ (k : ℕ). Err (record { orders = k; fault = refusals.ClockEnd })) (zero-add done);
         stands = done_all here.0;
-        clock = (λ _. past, λ _. refl);
         within = below;
-        reached = here.2 ∙ h.reached;
+        clock_end = (λ _. past, λ _. refl);
+        performed = here.2 ∙ h.reached;
       }
 
-  pub run_refused : (answer : Result (Option ℕ) StepFault) → answer ≡ Err Memory → IsOrder answer → done < limit
+  pub run_refused_memory : (answer : Result (Option ℕ) StepFault) → answer ≡ Err Memory → IsOrder answer → done < limit
       → IsRun rules limit first new (Err (record { orders = done; fault = refusals.Memory }))
-  run_refused answer is order below =
+  run_refused_memory answer is order below =
       let here = by_these answer (Err Memory) is order in
-      let within : new.state.clock + cost new.state ≤ clock_end = subst (λ (d : Debugging). d.state.clock + cost d.state ≤ clock_end) (sym here.1) here.0.1 in
+      let room : new.state.clock + cost new.state ≤ clock_end = subst (λ (d : Debugging). d.state.clock + cost d.state ≤ clock_end) (sym here.1) here.0.1 in
       record {
         ran = tt;
-        cut = λ e. cc;
+        broken_off = λ e. cc;
         stands = done_all here.0.0;
-        clock = (λ e. cc, λ past. absurd (omega arith));
         within = below;
-        reached = here.1 ∙ h.reached;
+        clock_end = (λ e. cc, λ past. absurd (omega arith));
+        performed = here.1 ∙ h.reached;
       }

@@ -1,6 +1,6 @@
--- Part of the public promise: what a run comes to. That depends on the state in which it begins alone;
--- the debugger behind it is the one after as many orders, each of them kept.
-use Rattle.std.specs.Prelude.{◌≡◌, ℕ, zero, suc, ◌+◌, ◌<◌, Bool, false, List, Option, Some, None, Result, Ok, Err, IsTrue, if◌then◌else◌, position}
+-- Part of the public promise: runs, and what one comes to. That depends alone on the rules and on
+-- the state in which it begins.
+use Rattle.std.specs.Prelude.{◌≡◌, ◌↔◌, ℕ, zero, suc, ◌+◌, ◌<◌, Bool, false, List, Option, Some, None, Result, Ok, Err, IfErr, IfOk, IsTrue, if◌then◌else◌, position}
 use Rattle.lgp_table.specs.State.{State}
 use Rattle.lgp_table.specs.Activity.{cost, next}
 use Rattle.lgp_table.specs.Console.{is_at_rest}
@@ -10,7 +10,7 @@ use Rattle.lgp_history.specs.Steps.{CanStep}
 use Rattle.lgp_history.specs.Hits.{changes, goes_at}
 use Rattle.lgp_history.specs.declared.rule.Rule.{Rule}
 use Rattle.lgp_history.specs.declared.rule.Rule.TheVariants.{At, Changed}
-use Rattle.lgp_debugger.specs.Debugging.{Debugging, after_step}
+use Rattle.lgp_debugger.specs.Debugging.{Debugging, after_step, performed}
 use Rattle.lgp_debugger.specs.declared.fault.Ran.{Ran}
 use Rattle.lgp_debugger.specs.declared.fault.Reason.{Reason}
 use Rattle.lgp_debugger.specs.declared.fault.Reason.TheVariants as reasons
@@ -20,7 +20,8 @@ use Rattle.lgp_debugger.specs.declared.fault.StepFault.{StepFault}
 use Rattle.lgp_debugger.specs.declared.fault.StepFault.TheVariants.{AtRest, ClockEnd, Memory}
 
 -- whether a rule stops a run after the order that begins in a state: `At` where the machine then is
--- going with this address at its counter, `Changed` where the order left another word at this address
+-- going with this address at its counter, `Changed` where the order left another word at this
+-- address
 abbrev pub stops_run : State → Rule → Bool
 stops_run before (At address) = goes_at (next before) address
 stops_run before (Changed address) = changes before address
@@ -29,12 +30,12 @@ stops_run before (Changed address) = changes before address
 abbrev pub first_stop : List Rule → State → Option ℕ
 first_stop rules before = position (stops_run before) rules
 
--- a run that ends before any order, and one that is broken off there
+-- a run that ends before any order, and one whose first order would pass the clock's end
 abbrev pub ended_for : Reason → Result Ran RunFault
 ended_for reason = Ok (record { orders = 0; reason = reason })
 
-abbrev pub broken_off : Result Ran RunFault
-broken_off = Err (record { orders = 0; fault = refusals.ClockEnd })
+abbrev pub at_clock_end : Result Ran RunFault
+at_clock_end = Err (record { orders = 0; fault = refusals.ClockEnd })
 
 -- a run with one order before it
 abbrev pub one_order_more : Result Ran RunFault → Result Ran RunFault
@@ -46,15 +47,15 @@ abbrev pub unless_stopped : Option ℕ → Result Ran RunFault → Result Ran Ru
 unless_stopped None rest = rest
 unless_stopped (Some number) rest = ended_for (reasons.Rule number)
 
--- a run of at most so many orders: again and again, at rest it ends; when as many orders as the limit
--- are done it ends; where the next order would pass the clock's end it is broken off; else that order
--- is performed, and then the first rule that stops there ends it
+-- a run of at most so many orders: again and again, at rest it ends; when as many orders as the
+-- limit are done it ends; where the next one would pass the clock's end it is broken off; else that
+-- one is performed, and then the first rule that stops there ends it
 unfoldable pub run_of : List Rule → ℕ → State → Result Ran RunFault
 run_of rules zero s =
     if is_at_rest s.core.panel.status then ended_for reasons.Rest else ended_for reasons.Limit
 run_of rules (suc more) s =
     if is_at_rest s.core.panel.status then ended_for reasons.Rest
-    else (if passes_clock_end s then broken_off
+    else (if passes_clock_end s then at_clock_end
     else one_order_more (unless_stopped (first_stop rules s) (run_of rules more (next s))))
 
 -- how many orders a run performed
@@ -79,3 +80,18 @@ IsOrderOfRun rules old new (Err ClockEnd) =
     (is_at_rest old.state.core.panel.status ≡ false)
     × (clock_end < old.state.clock + cost old.state) × (new ≡ old)
 IsOrderOfRun rules old new (Err Memory) = CanStep Perform old.state × (new ≡ old)
+
+-- what a run answers, and where it leaves the debugger: what it comes to, and each order performed
+-- is kept. Where an order is refused, those before it stand; it is refused for the clock's end where
+-- it would pass that, and else for memory
+pub record IsRun (rules : List Rule) (limit : ℕ) (old new : Debugging)
+    (answer : Result Ran RunFault) : Type 0 where
+  pub ran : IfOk answer (λ ran. run_of rules limit old.state ≡ Ok ran)
+  pub broken_off : IfErr answer (λ fault.
+      fault.fault ≡ refusals.ClockEnd → run_of rules limit old.state ≡ Err fault)
+  pub stands : IfErr answer (λ fault. run_of rules fault.orders old.state
+      ≡ Ok (record { orders = fault.orders; reason = reasons.Limit }))
+  pub within : IfErr answer (λ fault. fault.orders < limit)
+  pub clock_end : IfErr answer (λ fault. (fault.fault ≡ refusals.ClockEnd)
+      ↔ (clock_end < new.state.clock + cost new.state))
+  pub performed : new ≡ performed old (orders_of answer)

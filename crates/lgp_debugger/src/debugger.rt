@@ -12,9 +12,9 @@ ghost use Rattle.lgp_history.specs.Origins.{latest_change};
 ghost use Rattle.lgp_history.specs.Steps.{Leads, orders_in};
 ghost use Rattle.lgp_flexo.specs.TapeText.{tape_limit};
 ghost use Rattle.lgp_debugger.specs.WatchInside.{watches_of};
-ghost use Rattle.lgp_debugger.specs.Debugging.{after_back, after_step, performed, rule_limit};
-ghost use Rattle.lgp_debugger.specs.Run.{IsOrderOfRun, orders_of, run_of};
-ghost use Rattle.lgp_debugger.specs.RunInside.{IsRun, rules_in_force};
+ghost use Rattle.lgp_debugger.specs.Debugging.{after_back, after_step, rule_limit};
+ghost use Rattle.lgp_debugger.specs.Run.{IsOrderOfRun, IsRun};
+ghost use Rattle.lgp_debugger.specs.RunInside.{rules_in_force};
 ghost use Rattle.lgp_loader.specs.BlockLoading.{longest_load};
 ghost use Rattle.lgp_loader.specs.LoadedOver.{IsLoadedOver};
 ghost use Rattle.lgp_loader.specs.Loading.{loaded, loading_cost, loading_stopped};
@@ -217,19 +217,13 @@ impl<H: History<A>, A: Allocator> Debugger<H, A> {
     /// is refused, those before it stand: for the clock's end where that order would pass it, and else for memory. Each order that is
     /// performed is kept, and ends within the clock's end.
     pub fn run(&mut self, limit: u64) -> Result<Ran, RunFault>
-        ensures ran { IfOk result (λ ran. run_of self.old.rules limit self.old.state ≡ Ok ran) }
-        ensures broken_off { IfErr result (λ fault. fault.fault ≡ RunRefusal.ClockEnd
-            → run_of self.old.rules limit self.old.state ≡ Err fault) }
-        ensures stands { IfErr result (λ fault. run_of self.old.rules fault.orders self.old.state
-            ≡ Ok (record { orders = fault.orders; reason = Reason.Limit })) }
-        ensures within { IfErr result (λ fault. fault.orders < limit) }
-        ensures clock_end { IfErr result (λ fault. (fault.fault ≡ RunRefusal.ClockEnd)
-            ↔ (clock_end < self.new.state.clock + cost self.new.state)) }
-        ensures performed { self.new ≡ performed self.old (orders_of result) }
+        ensures run { IsRun self.old.rules limit self.old self.new result }
         ensures within_clock { self.new.state.clock ≤ clock_end }
     {
-        let by_rules = self.has_rules();
-        let outcome = self.run_orders(limit, by_rules);
+        if !self.has_rules() {
+            return self.run_freely(limit);
+        }
+        let outcome = self.run_orders(limit, true);
         // That the clock is within its end is what the mark's clause says.
         let Some(_) = self.machine.mark() else {
             unreachable!()
@@ -239,15 +233,7 @@ impl<H: History<A>, A: Allocator> Debugger<H, A> {
 
     /// The same, but no rule stops it.
     pub fn run_freely(&mut self, limit: u64) -> Result<Ran, RunFault>
-        ensures ran { IfOk result (λ ran. run_of [] limit self.old.state ≡ Ok ran) }
-        ensures broken_off { IfErr result (λ fault. fault.fault ≡ RunRefusal.ClockEnd
-            → run_of [] limit self.old.state ≡ Err fault) }
-        ensures stands { IfErr result (λ fault. run_of [] fault.orders self.old.state
-            ≡ Ok (record { orders = fault.orders; reason = Reason.Limit })) }
-        ensures within { IfErr result (λ fault. fault.orders < limit) }
-        ensures clock_end { IfErr result (λ fault. (fault.fault ≡ RunRefusal.ClockEnd)
-            ↔ (clock_end < self.new.state.clock + cost self.new.state)) }
-        ensures performed { self.new ≡ performed self.old (orders_of result) }
+        ensures run { IsRun [] limit self.old self.new result }
         ensures within_clock { self.new.state.clock ≤ clock_end }
     {
         let outcome = self.run_orders(limit, false);
@@ -259,6 +245,7 @@ impl<H: History<A>, A: Allocator> Debugger<H, A> {
     }
 
     /// The orders of a run by the rules or without them.
+    #[inline(always)]
     fn run_orders(&mut self, limit: u64, by_rules: bool) -> Result<Ran, RunFault>
         ensures { IsRun (rules_in_force by_rules self.old.rules) limit self.old self.new result }
     {

@@ -51,7 +51,8 @@ latest_change address (k ∷ later) =
     (if changed_at address k then Some (origin_of address k (orders_in (k ∷ later))) else None)
 
 -- an origin: the step that it names left the word as it stands now, and no later step changed it
-pub record IsOrigin (address : ℕ) (kept : List KeptStep) (now : State) (origin : Origin) : Type 0 where
+pub record IsOrigin (address : ℕ) (kept : List KeptStep) (now : State) (origin : Origin)
+    : Type 0 where
   pub earlier : List KeptStep
   pub change : KeptStep
   pub later : List KeptStep

@@ -153,5 +153,5 @@ IsUnread words.Memory status w₀ w m₀ m = (status ≡ memory_status) × ((w �
 -- what the program does for the words of the command line: the task that they hold, without a message; or they are refused
 abbrev pub IsObeyed : (A : Type 0) → (List ℕ → Option Bool) → (List ℕ → Option (List ℕ)) → List (List ℕ) → Option (List ℕ) → ℕ → Option (List ℕ) → Option (List ℕ) → Option (List ℕ) → Option (List ℕ) → Type 0
 IsObeyed A opens contents typed input status w₀ w m₀ m =
-    (IsPerformed opens contents (task_for typed) input status w₀ w × (m ≡ m₀))
+    (IsPerformed {A = A} opens contents (task_for typed) input status w₀ w × (m ≡ m₀))
     ⊎ ((fault : TaskFault A) × IsFaultOf typed fault × IsRefused fault status w₀ w m₀ m)

@@ -47,6 +47,10 @@ pub enum Call {
     AddRules(Named, u64),
     RemoveRule(u8),
     Run(u64),
+    /// A run that no rule stops.
+    RunFreely(u64),
+    /// One order of a run.
+    GoOn,
     LastHit,
     /// A program by its source.
     Load(&'static [u8]),
@@ -92,6 +96,7 @@ pub enum Answer {
     AddRule(Result<u8, RuleFault>),
     RemoveRule(Option<Named>),
     Run(Result<Ran, RunFault>),
+    GoOn(Result<Option<u8>, StepFault>),
     LastHit(Result<(u64, u8), HitFault>),
     /// How many orders a load took. `None` where the source does not assemble.
     Load(Option<Result<u64, LoadFault>>),
@@ -253,6 +258,19 @@ pub fn run<H: History<A>, A: Allocator>(
     lab.run(limit)
 }
 
+/// Performs at most so many orders, and no rule stops them.
+pub fn run_freely<H: History<A>, A: Allocator>(
+    lab: &mut Debugger<H, A>,
+    limit: u64,
+) -> Result<Ran, RunFault> {
+    lab.run_freely(limit)
+}
+
+/// One order of a run, and the number of the rule that stops it there.
+fn go_on<H: History<A>, A: Allocator>(lab: &mut Debugger<H, A>) -> Result<Option<u8>, StepFault> {
+    lab.go_on()
+}
+
 /// Goes back to the latest order that a rule hits.
 pub fn last_hit<H: History<A>, A: Allocator>(
     lab: &mut Debugger<H, A>,
@@ -355,6 +373,8 @@ pub fn answer_to<H: History<A>, A: Allocator + Copy>(
         Call::AddRules(named, count) => Answer::Done(add_rules(lab, named, count)),
         Call::RemoveRule(number) => Answer::RemoveRule(remove_rule(lab, number)),
         Call::Run(limit) => Answer::Run(run(lab, limit)),
+        Call::RunFreely(limit) => Answer::Run(run_freely(lab, limit)),
+        Call::GoOn => Answer::GoOn(go_on(lab)),
         Call::LastHit => Answer::LastHit(last_hit(lab)),
         Call::Load(source) => Answer::Load(load_source(lab, alloc, source)),
         Call::See(sight) => seen(lab, sight),

@@ -2,11 +2,11 @@
 
 use super::calls::{
     Button, Named, add_rule, back, clock, idle, kept, last_hit, load, look, press_button, put,
-    remove_rule, run, step, with_order, word_at,
+    remove_rule, run, run_freely, step, with_order, word_at,
 };
 use lgp_assembler::{Image, assemble};
 use lgp_debugger::{
-    Debugger, HitFault, IdleFault, MountFault, PutFault, RunFault, RunRefusal, StepFault,
+    Debugger, HitFault, IdleFault, MountFault, PutFault, Ran, RunFault, RunRefusal, StepFault,
 };
 use lgp_flexo::{Code, read_tape_text};
 use lgp_history::{BackFault, Checkpoints, History, Records};
@@ -432,18 +432,39 @@ fn stands<H: History<A>, A: Allocator>(
     there && kept_there && back(lab, orders) == Ok(()) && log.first() == Some(&state(lab))
 }
 
+/// By the rules, of which there are none, or freely, past one that would stop it.
+#[derive(Clone, Copy)]
+enum Way {
+    ByRules,
+    Freely,
+}
+
+/// A run of 80 orders.
+fn run_so<H: History<A>, A: Allocator>(
+    lab: &mut Debugger<H, A>,
+    way: Way,
+) -> Result<Ran, RunFault> {
+    match way {
+        Way::ByRules => run(lab, 80),
+        Way::Freely => {
+            let _ = add_rule(lab, Named::At(1));
+            run_freely(lab, 80)
+        }
+    }
+}
+
 /// Runs so, and goes back to the start.
 fn run_refused<H: History<A>, A: Allocator>(
     scarce: &Scarce<Global>,
     lab: &mut Debugger<H, A>,
     log: &[State],
-    nth: u64,
+    (way, nth): (Way, u64),
 ) -> RunEnd {
     if !start(lab) {
         return RunEnd::Otherwise;
     }
     scarce.refuse(nth);
-    let answer = run(lab, 80);
+    let answer = run_so(lab, way);
     let refused = scarce.was_refused();
     scarce.refuse(0);
     match answer {
@@ -491,13 +512,13 @@ impl Runs {
 
 /// Runs so over a history.
 fn run_over<H: History<A>, A: Allocator + Copy>(
-    (scarce, nth): (&Scarce<Global>, u64),
+    (scarce, way, nth): (&Scarce<Global>, Way, u64),
     alloc: A,
     history: H,
     log: &[State],
 ) -> Result<RunEnd, AllocError> {
     let mut lab = with_order(alloc, history, PRINT)?;
-    Ok(run_refused(scarce, &mut lab, log, nth))
+    Ok(run_refused(scarce, &mut lab, log, (way, nth)))
 }
 
 /// A kind of history.
@@ -509,24 +530,25 @@ enum Kind {
 
 fn run_of_kind(
     scarce: &Scarce<Global>,
-    kind: Kind,
+    (kind, way): (Kind, Way),
     log: &[State],
     nth: u64,
 ) -> Result<RunEnd, AllocError> {
     scarce.refuse(0);
+    let so = (scarce, way, nth);
     match kind {
-        Kind::Records => run_over((scarce, nth), scarce, Records::new(scarce, 130)?, log),
-        Kind::Checkpoints => run_over((scarce, nth), scarce, Checkpoints::new(scarce, 130)?, log),
+        Kind::Records => run_over(so, scarce, Records::new(scarce, 130)?, log),
+        Kind::Checkpoints => run_over(so, scarce, Checkpoints::new(scarce, 130)?, log),
     }
 }
 
 /// Runs over a history with each growth refused in turn.
-fn all_runs(scarce: &Scarce<Global>, global: Global, kind: Kind) -> Result<Runs, AllocError> {
+fn all_runs(scarce: &Scarce<Global>, global: Global, so: (Kind, Way)) -> Result<Runs, AllocError> {
     let log = log_over(global, global, Records::new(global, 130)?)?;
     let mut runs = Runs::none();
     let mut latest = 0;
     for nth in 1..MOST {
-        match run_of_kind(scarce, kind, &log, nth)? {
+        match run_of_kind(scarce, so, &log, nth)? {
             RunEnd::After(orders) => {
                 runs = runs.after(latest, orders);
                 latest = orders;
@@ -555,7 +577,19 @@ fn a_run_over_records_says_behind_how_many_orders_it_is_refused(
 ) -> Result<(), Fail> {
     let scarce = Scarce::new(rt.alloc());
     assert_eq!(rt;
-        all_runs(&scarce, rt.alloc(), Kind::Records)?,
+        all_runs(&scarce, rt.alloc(), (Kind::Records, Way::ByRules))?,
+        runs_expected(false)
+    );
+    Ok(())
+}
+
+#[test]
+fn a_free_run_over_records_says_behind_how_many_orders_it_is_refused(
+    rt: HostRuntime,
+) -> Result<(), Fail> {
+    let scarce = Scarce::new(rt.alloc());
+    assert_eq!(rt;
+        all_runs(&scarce, rt.alloc(), (Kind::Records, Way::Freely))?,
         runs_expected(false)
     );
     Ok(())
@@ -567,7 +601,19 @@ fn a_run_over_checkpoints_says_behind_how_many_orders_it_is_refused(
 ) -> Result<(), Fail> {
     let scarce = Scarce::new(rt.alloc());
     assert_eq!(rt;
-        all_runs(&scarce, rt.alloc(), Kind::Checkpoints)?,
+        all_runs(&scarce, rt.alloc(), (Kind::Checkpoints, Way::ByRules))?,
+        runs_expected(true)
+    );
+    Ok(())
+}
+
+#[test]
+fn a_free_run_over_checkpoints_says_behind_how_many_orders_it_is_refused(
+    rt: HostRuntime,
+) -> Result<(), Fail> {
+    let scarce = Scarce::new(rt.alloc());
+    assert_eq!(rt;
+        all_runs(&scarce, rt.alloc(), (Kind::Checkpoints, Way::Freely))?,
         runs_expected(true)
     );
     Ok(())

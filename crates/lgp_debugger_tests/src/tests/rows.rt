@@ -119,6 +119,46 @@ const RULES: Example = Example {
     ],
 };
 
+/// No rule stops a free run; an order of a run tells of the rule that does. The program is the same.
+const FREE_RUN: Example = Example {
+    name: "a free run",
+    capacity: 4096,
+    first: 0x0001_00c8,
+    rows: &[
+        (Call::Put(1, 0x000e_00cc), Answer::Put(Ok(()))),
+        (Call::Put(2, 0x000c_00c8), Answer::Put(Ok(()))),
+        (Call::Put(3, TRANSFER), Answer::Put(Ok(()))),
+        (Call::Put(51, 2), Answer::Put(Ok(()))),
+        (Call::GoOn, Answer::GoOn(Err(StepFault::AtRest))),
+        (Call::Press(Button::Start), Answer::Press(Ok(true))),
+        (Call::AddRule(Named::Changed(50)), Answer::AddRule(Ok(0))),
+        (Call::AddRule(Named::At(2)), Answer::AddRule(Ok(1))),
+        (
+            Call::RunFreely(5),
+            Answer::Run(Ok(Ran {
+                orders: 5,
+                reason: Reason::Limit,
+            })),
+        ),
+        (Call::See(Sight::WordAt(50)), Answer::WordAt(2)),
+        (Call::GoOn, Answer::GoOn(Ok(Some(1)))),
+        (Call::GoOn, Answer::GoOn(Ok(Some(0)))),
+        (Call::See(Sight::WordAt(50)), Answer::WordAt(4)),
+        (Call::GoOn, Answer::GoOn(Ok(None))),
+        (Call::See(Sight::Kept), Answer::Kept((13, 8))),
+        (Call::Press(Button::Manual), Answer::Press(Ok(true))),
+        (
+            Call::RunFreely(5),
+            Answer::Run(Ok(Ran {
+                orders: 0,
+                reason: Reason::Rest,
+            })),
+        ),
+        (Call::Back(3), Answer::Back(Ok(()))),
+        (Call::See(Sight::WordAt(50)), Answer::WordAt(2)),
+    ],
+};
+
 /// A hundred steps, and back to the first order.
 const HUNDRED_STEPS: Example = Example {
     name: "a hundred steps",
@@ -297,6 +337,7 @@ const CLOCK_END: Example = Example {
             })),
         ),
         (Call::Step, Answer::Step(Err(StepFault::ClockEnd))),
+        (Call::GoOn, Answer::GoOn(Err(StepFault::ClockEnd))),
         (Call::See(Sight::Clock), Answer::Clock((1 << 62) - 61)),
         (Call::See(Sight::Kept), Answer::Kept((5, 3))),
         (
@@ -306,6 +347,17 @@ const CLOCK_END: Example = Example {
         (Call::Put(0, 4), Answer::Put(Err(PutFault::Moving))),
         (Call::Back(3), Answer::Back(Ok(()))),
         (Call::See(Sight::Clock), Answer::Clock((1 << 62) - 200)),
+        (Call::AddRule(Named::At(0)), Answer::AddRule(Ok(0))),
+        (
+            Call::RunFreely(10),
+            Answer::Run(Err(RunFault {
+                orders: 3,
+                fault: RunRefusal::ClockEnd,
+            })),
+        ),
+        (Call::RemoveRule(0), Answer::RemoveRule(Some(Named::At(0)))),
+        (Call::See(Sight::Kept), Answer::Kept((5, 3))),
+        (Call::Back(3), Answer::Back(Ok(()))),
         (
             Call::Run(3),
             Answer::Run(Ok(Ran {
@@ -368,10 +420,11 @@ const MANY_RULES: Example = Example {
 };
 
 /// Over each history.
-const EXAMPLES: [Example; 12] = [
+const EXAMPLES: [Example; 13] = [
     PRINT_GOES_BACK,
     LATEST_STEPS,
     RULES,
+    FREE_RUN,
     HUNDRED_STEPS,
     INPUT_GOES_BACK,
     PUTS_AND_MOUNTS,

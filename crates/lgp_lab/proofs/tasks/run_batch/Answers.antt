@@ -15,7 +15,7 @@ loop-name-preserved g c = λ status w rest.
     let named : c.text.result.now ≡ get_or names i c.text.result.now = rw c.text.ensures item in
     let small : status_for c.part.result < 2 = search (rules, arith) in
     let greatest : c.max-worst.result ≡ max c.loop-name.worst (status_for c.part.result) = search rules in
-    c.loop-name.invariant status w (batch_goes_on _ _ _ _ _ names i c.text.result.now c.part.result status _ _ w
+    c.loop-name.invariant status w (batch_goes_on _ _ _ _ names i c.text.result.now c.part.result status _ _ w
     within named c.part.ensures.opened c.part.ensures.done small greatest rest)
 
 pub returns-then-status-ge-FAILED : goal.returns-then-status-ge-FAILED
@@ -27,7 +27,7 @@ returns-then-status-ge-FAILED g c =
     let named : c.text.result.now ≡ get_or names i c.text.result.now = rw c.text.ensures item in
     let great : 2 ≤ status_for c.part.result = search (rules, arith) in
     let greatest : c.max-worst.result ≡ max c.loop-name.worst (status_for c.part.result) = search rules in
-    c.loop-name.invariant _ _ (batch_ends _ _ _ _ _ names i c.text.result.now c.part.result _ _
+    c.loop-name.invariant _ _ (batch_ends _ _ _ _ names i c.text.result.now c.part.result _ _
     within named c.part.ensures.opened c.part.ensures.done great greatest)
 
 pub returns : goal.returns
@@ -35,4 +35,4 @@ returns g c =
     let names = c.args.names.now in
     let i = c.loop-name.name-index in
     let beyond : length names ≤ i = search (rules, arith) in
-    c.loop-name.invariant _ _ (batch_done _ _ _ _ names i _ beyond)
+    c.loop-name.invariant _ _ (batch_done _ _ _ names i _ beyond)
