@@ -33,7 +33,10 @@ impl Span {
     pub fn new(first: Address, count: u64) -> Option<Span>
         ensures { result ≡ range_of first count }
     {
-        if count > 0 && count <= SHOWN_LIMIT && u64::from(first.number()) + count <= Address::COUNT as u64 {
+        if count > 0
+            && count <= SHOWN_LIMIT
+            && u64::from(first.number()) + count <= Address::COUNT as u64
+        {
             Some(Span { first, count })
         } else {
             None

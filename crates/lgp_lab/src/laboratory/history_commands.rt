@@ -123,7 +123,10 @@ impl<A: Allocator + Copy> Laboratory<A> {
 }
 
 /// Appends that the clock's end broke a run off; where it was memory, that is a refused growth.
-pub(super) fn push_broken_off<A: Allocator>(text: &mut Vec<u8, A>, broken: RunFault) -> Result<(), AllocError>
+pub(super) fn push_broken_off<A: Allocator>(
+    text: &mut Vec<u8, A>,
+    broken: RunFault,
+) -> Result<(), AllocError>
     ensures text { OnOk result
         (text.new.items ≡ text.old.items ++ refusal_text Refusal.ClockEnd) }
     ensures cause { OnOk result (broken.fault ≡ RunRefusal.ClockEnd) }
