@@ -86,67 +86,66 @@ changed_all cells whole olds news i past e =
 
 -- ---- words put one after another
 
-module _ {A : Type 0} where
-  pub put_more : (now next whole : Recorded (Standing A)) (line : List ℕ) (cells : List (ℕ × ℕ)) (i : ℕ) (d : ℕ × ℕ) → i < length cells
-      → line ≡ put_cell (get_or cells i d) → next ≡ after_lines script_language now (line ∷ [])
-      → after_lines script_language now (map put_cell (drop i cells)) ≡ whole
-      → after_lines script_language next (map put_cell (drop (i + 1) cells)) ≡ whole
-  put_more now next whole line cells i d within is_line is_next e =
-      let cell = get_or cells i d in
-      let more = map put_cell (drop (i + 1) cells) in
-      ap (λ (r : Recorded (Standing A)). after_lines script_language r more)
-      (is_next ∙ ap (λ (l : List ℕ). after_lines script_language now (l ∷ [])) is_line)
-      ∙ after-append script_language now (put_cell cell ∷ []) more
-      ∙ ap (λ (cs : List (ℕ × ℕ)). after_lines script_language now (map put_cell cs)) (sym (drop_more cells i d within))
-      ∙ e
+pub put_more : (now next whole : Recorded Standing) (line : List ℕ) (cells : List (ℕ × ℕ)) (i : ℕ) (d : ℕ × ℕ) → i < length cells
+    → line ≡ put_cell (get_or cells i d) → next ≡ after_lines script_language now (line ∷ [])
+    → after_lines script_language now (map put_cell (drop i cells)) ≡ whole
+    → after_lines script_language next (map put_cell (drop (i + 1) cells)) ≡ whole
+put_more now next whole line cells i d within is_line is_next e =
+    let cell = get_or cells i d in
+    let more = map put_cell (drop (i + 1) cells) in
+    ap (λ (r : Recorded Standing). after_lines script_language r more)
+    (is_next ∙ ap (λ (l : List ℕ). after_lines script_language now (l ∷ [])) is_line)
+    ∙ after-append script_language now (put_cell cell ∷ []) more
+    ∙ ap (λ (cs : List (ℕ × ℕ)). after_lines script_language now (map put_cell cs)) (sym (drop_more cells i d within))
+    ∙ e
 
-  pub put_all : (now whole : Recorded (Standing A)) (cells : List (ℕ × ℕ)) (i : ℕ) → length cells ≤ i
-      → after_lines script_language now (map put_cell (drop i cells)) ≡ whole → now ≡ whole
-  put_all now whole cells i past e =
-      sym (ap (λ (cs : List (ℕ × ℕ)). after_lines script_language now (map put_cell cs)) (drop_all i cells past)
-      ∙ after-none script_language now) ∙ e
+pub put_all : (now whole : Recorded Standing) (cells : List (ℕ × ℕ)) (i : ℕ) → length cells ≤ i
+    → after_lines script_language now (map put_cell (drop i cells)) ≡ whole → now ≡ whole
+put_all now whole cells i past e =
+    sym (ap (λ (cs : List (ℕ × ℕ)). after_lines script_language now (map put_cell cs)) (drop_all i cells past)
+    ∙ after-none script_language now) ∙ e
 
-  pub not_put : (recorded : Recorded (Standing A)) (rests : Bool) (cells : List (ℕ × ℕ)) → rests ≡ false
-      → recorded ≡ after_lines script_language recorded (restoring_lines None rests cells)
-  not_put recorded rests cells e =
-      sym (ap (λ (b : Bool). after_lines script_language recorded (restoring_lines None b cells)) e
-      ∙ after-none script_language recorded)
+pub not_put : (recorded : Recorded Standing) (rests : Bool) (cells : List (ℕ × ℕ)) → rests ≡ false
+    → recorded ≡ after_lines script_language recorded (restoring_lines None rests cells)
+not_put recorded rests cells e =
+    sym (ap (λ (b : Bool). after_lines script_language recorded (restoring_lines None b cells)) e
+    ∙ after-none script_language recorded)
 
-  -- ---- a text that is a drum's dump, and one that is none
+-- ---- a text that is a drum's dump, and one that is none
 
-  abbrev words_at : Recorded (Standing A) → List ℕ
-  words_at recorded = recorded.standing.debugger.state.core.words
+abbrev words_at : Recorded Standing → List ℕ
+words_at recorded = recorded.standing.debugger.state.core.words
 
-  pub restored_reply : (recorded : Recorded (Standing A)) (drum dump : List ℕ) → IsDrum drum → dump_of drum ≡ dump
-      → restored_text None (rests_at recorded) (changed_cells 0 (words_at recorded) drum) ≡ restore_reply recorded dump
-  unfolding restore_reply
-  restored_reply recorded drum dump is_drum is =
-      ap (λ (fault : Option DumpFault). restored_text fault (rests_at recorded) (changed_cells 0 (words_at recorded) drum))
-      (sym (dump_faultless drum dump is_drum (sym is)))
-      ∙ ap (λ (words : List ℕ). restored_text (first_fault dump) (rests_at recorded) (changed_cells 0 (words_at recorded) words))
-      (drum_is_dumped drum dump is_drum is)
+pub restored_reply : (recorded : Recorded Standing) (drum dump : List ℕ) → IsDrum drum → dump_of drum ≡ dump
+    → restored_text None (rests_at recorded) (changed_cells 0 (words_at recorded) drum) ≡ restore_reply recorded dump
+unfolding restore_reply
+restored_reply recorded drum dump is_drum is =
+    ap (λ (fault : Option DumpFault). restored_text fault (rests_at recorded) (changed_cells 0 (words_at recorded) drum))
+    (sym (dump_faultless drum dump is_drum (sym is)))
+    ∙ ap (λ (words : List ℕ). restored_text (first_fault dump) (rests_at recorded) (changed_cells 0 (words_at recorded) words))
+    (drum_is_dumped drum dump is_drum is)
 
-  pub restored_lines : (recorded : Recorded (Standing A)) (drum dump : List ℕ) → IsDrum drum → dump_of drum ≡ dump
-      → restoring_lines None (rests_at recorded) (changed_cells 0 (words_at recorded) drum) ≡ restore_lines recorded dump
-  unfolding restore_lines
-  restored_lines recorded drum dump is_drum is =
-      ap (λ (fault : Option DumpFault). restoring_lines fault (rests_at recorded) (changed_cells 0 (words_at recorded) drum))
-      (sym (dump_faultless drum dump is_drum (sym is)))
-      ∙ ap (λ (words : List ℕ). restoring_lines (first_fault dump) (rests_at recorded) (changed_cells 0 (words_at recorded) words))
-      (drum_is_dumped drum dump is_drum is)
+pub restored_lines : (recorded : Recorded Standing) (drum dump : List ℕ) → IsDrum drum → dump_of drum ≡ dump
+    → restoring_lines None (rests_at recorded) (changed_cells 0 (words_at recorded) drum) ≡ restore_lines recorded dump
+unfolding restore_lines
+restored_lines recorded drum dump is_drum is =
+    ap (λ (fault : Option DumpFault). restoring_lines fault (rests_at recorded) (changed_cells 0 (words_at recorded) drum))
+    (sym (dump_faultless drum dump is_drum (sym is)))
+    ∙ ap (λ (words : List ℕ). restoring_lines (first_fault dump) (rests_at recorded) (changed_cells 0 (words_at recorded) words))
+    (drum_is_dumped drum dump is_drum is)
 
-  pub faulty_reply : (recorded : Recorded (Standing A)) (dump : List ℕ) (fault : DumpFault) → first_fault dump ≡ Some fault
-      → dump_fault_text fault ≡ restore_reply recorded dump
-  unfolding restore_reply
-  faulty_reply recorded dump fault is =
-      sym (ap (λ (found : Option DumpFault). restored_text found (rests_at recorded) (cells_changed recorded dump)) is)
+pub faulty_reply : (recorded : Recorded Standing) (dump : List ℕ) (fault : DumpFault) → first_fault dump ≡ Some fault
+    → dump_fault_text fault ≡ restore_reply recorded dump
+unfolding restore_reply
+faulty_reply recorded dump fault is =
+    sym (ap (λ (found : Option DumpFault). restored_text found (rests_at recorded) (cells_changed recorded dump)) is)
 
-  pub faulty_after : (recorded : Recorded (Standing A)) (dump : List ℕ) (fault : DumpFault) → first_fault dump ≡ Some fault
-      → recorded ≡ after_lines script_language recorded (restore_lines recorded dump)
-  unfolding restore_lines
-  faulty_after recorded dump fault is =
-      sym (ap (λ (found : Option DumpFault). after_lines script_language recorded (restoring_lines found (rests_at recorded) (cells_changed recorded dump))) is
-      ∙ after-none script_language recorded)
+pub faulty_after : (recorded : Recorded Standing) (dump : List ℕ) (fault : DumpFault) → first_fault dump ≡ Some fault
+    → recorded ≡ after_lines script_language recorded (restore_lines recorded dump)
+unfolding restore_lines
+faulty_after recorded dump fault is =
+    sym (ap (λ (found : Option DumpFault). after_lines script_language recorded (restoring_lines found (rests_at recorded) (cells_changed recorded dump))) is
+    ∙ after-none script_language recorded)
 
 -- the fault that is told is the first one, where it is not want of memory
 pub fault_is : {T : Type 0} (result : Result T DumpFault) (fault : DumpFault) (found : Option DumpFault) → result ≡ Err fault → (fault ≡ Memory → ⊥)
@@ -173,65 +172,64 @@ free-restoring None true cells = free-cells cells
 free-restoring None false cells = tt
 
 free-block : (A : Type 0) (block : Option Block) (behind : List Handed) → AllByRecursion IsHandedLine behind
-    → AllByRecursion IsHandedLine (handed_block (monitor_language {A = A}) takes_commands_at prompt_at monitor_blocks block behind)
+    → AllByRecursion IsHandedLine (handed_block (monitor_language) takes_commands_at prompt_at monitor_blocks block behind)
 free-block A None behind rest = rest
 free-block A (Some block) behind rest = (tt, rest)
 
-module _ {A : Type 0} where
-  free-role : (role : Role) (seat : Seat (Recorded (Standing A))) (line : List ℕ) (behind : List Handed) → IsLine line → AllByRecursion IsHandedLine behind
-      → AllByRecursion IsHandedLine (handed_by monitor_language takes_commands_at prompt_at monitor_blocks role seat line behind)
-  free-role Leaving seat line behind free rest = tt
-  free-role Closing seat line behind free rest = free-block A seat.block behind rest
-  free-role Plain seat line behind free rest = (free, rest)
-  free-role Unheard seat line behind free rest = rest
-  free-role Note seat line behind free rest = rest
-  free-role NoteEnd seat line behind free rest = rest
-  free-role Given seat line behind free rest = rest
-  free-role Opening seat line behind free rest = rest
-  free-role Within seat line behind free rest = rest
+free-role : (role : Role) (seat : Seat (Recorded Standing)) (line : List ℕ) (behind : List Handed) → IsLine line → AllByRecursion IsHandedLine behind
+    → AllByRecursion IsHandedLine (handed_by monitor_language takes_commands_at prompt_at monitor_blocks role seat line behind)
+free-role Leaving seat line behind free rest = tt
+free-role Closing seat line behind free rest = free-block A seat.block behind rest
+free-role Plain seat line behind free rest = (free, rest)
+free-role Unheard seat line behind free rest = rest
+free-role Note seat line behind free rest = rest
+free-role NoteEnd seat line behind free rest = rest
+free-role Given seat line behind free rest = rest
+free-role Opening seat line behind free rest = rest
+free-role Within seat line behind free rest = rest
 
-  free-handed : (seat : Seat (Recorded (Standing A))) (lines : List (List ℕ)) → AllByRecursion IsLine lines
-      → AllByRecursion IsHandedLine (handed monitor_language takes_commands_at prompt_at monitor_blocks seat lines)
-  free-handed seat [] free = tt
-  free-handed seat (line ∷ more) free =
-      let next : Seat (Recorded (Standing A)) = seat_after monitor_language takes_commands_at prompt_at monitor_blocks seat line in
-      free-role (role_at takes_commands_at seat (kept_of line)) seat line
-      (handed monitor_language takes_commands_at prompt_at monitor_blocks next more)
-      free.0 (free-handed next more free.1)
+free-handed : (seat : Seat (Recorded Standing)) (lines : List (List ℕ)) → AllByRecursion IsLine lines
+    → AllByRecursion IsHandedLine (handed monitor_language takes_commands_at prompt_at monitor_blocks seat lines)
+free-handed seat [] free = tt
+free-handed seat (line ∷ more) free =
+    let next : Seat (Recorded Standing) = seat_after monitor_language takes_commands_at prompt_at monitor_blocks seat line in
+    free-role (role_at takes_commands_at seat (kept_of line)) seat line
+    (handed monitor_language takes_commands_at prompt_at monitor_blocks next more)
+    free.0 (free-handed next more free.1)
 
-  abbrev IsTold-at : Recorded (Standing A) → Type 0
-  IsTold-at recorded = IsTold (script_language {A = A}) opening_standing recorded.standing recorded.transcript
+abbrev IsTold-at : Recorded Standing → Type 0
+IsTold-at recorded = IsTold (script_language) opening_standing recorded.standing recorded.transcript
 
-  told_block : (recorded : Recorded (Standing A)) (kind text : List ℕ) → IsTold-at recorded → is_tape kind ≡ false
-      → IsTold-at (behind_block recorded kind text)
-  unfolding behind_block restore_lines after_lines
-  told_block recorded kind text told none = by_kind (is_restore kind) (is_tape kind) none where
-    by_kind : (restores tapes : Bool) → tapes ≡ false
-        → IsTold-at (cond restores (after_lines script_language recorded (restore_lines recorded text)) (cond tapes (behind_tape recorded kind text) recorded))
-    by_kind true tapes e =
-        IsTold-lines script_language opening_standing recorded.standing recorded.transcript (restore_lines recorded text) told
-        (free-restoring (first_fault text) (rests_at recorded) (cells_changed recorded text))
-    by_kind false false e = told
-    by_kind false true e = cc (e)
+told_block : (recorded : Recorded Standing) (kind text : List ℕ) → IsTold-at recorded → is_tape kind ≡ false
+    → IsTold-at (behind_block recorded kind text)
+unfolding behind_block restore_lines after_lines
+told_block recorded kind text told none = by_kind (is_restore kind) (is_tape kind) none where
+  by_kind : (restores tapes : Bool) → tapes ≡ false
+      → IsTold-at (cond restores (after_lines script_language recorded (restore_lines recorded text)) (cond tapes (behind_tape recorded kind text) recorded))
+  by_kind true tapes e =
+      IsTold-lines script_language opening_standing recorded.standing recorded.transcript (restore_lines recorded text) told
+      (free-restoring (first_fault text) (rests_at recorded) (cells_changed recorded text))
+  by_kind false false e = told
+  by_kind false true e = cc (e)
 
-  told_on : (recorded : Recorded (Standing A)) (items : List Handed) → IsTold-at recorded → AllByRecursion IsHandedLine items → AllByRecursion IsSayable items
-      → IsTold-at (behind_handed monitor_language takes_commands_at prompt_at monitor_blocks recorded items)
-  told_on recorded [] told free sayable = told
-  told_on recorded (Line line ∷ more) told free sayable =
-      told_on (monitor_language.after recorded line) more
-      (IsTold-meaning script_language opening_standing recorded (meaning_at recorded line) told (free-at recorded line free.0))
-      free.1 sayable.1
-  told_on recorded (Whole block ∷ more) told free sayable =
-      told_on (monitor_blocks.after recorded block) more (told_block recorded block.kind block.text told sayable.0) free.1 sayable.1
+told_on : (recorded : Recorded Standing) (items : List Handed) → IsTold-at recorded → AllByRecursion IsHandedLine items → AllByRecursion IsSayable items
+    → IsTold-at (behind_handed monitor_language takes_commands_at prompt_at monitor_blocks recorded items)
+told_on recorded [] told free sayable = told
+told_on recorded (Line line ∷ more) told free sayable =
+    told_on (monitor_language.after recorded line) more
+    (IsTold-meaning script_language opening_standing recorded (meaning_at recorded line) told (free-at recorded line free.0))
+    free.1 sayable.1
+told_on recorded (Whole block ∷ more) told free sayable =
+    told_on (monitor_blocks.after recorded block) more (told_block recorded block.kind block.text told sayable.0) free.1 sayable.1
 
-  pub told_at_desk : (manner : Manner) (typed : List ℕ) → AllByRecursion IsSayable (handed_over A manner typed)
-      → IsToldByTranscript (script_language {A = A}) opening_standing
-      (state_after attended_language (taken_seat manner (untouched opening_standing)) (lines typed)).standing
-  told_at_desk manner typed sayable =
-      let seat : Seat (Recorded (Standing A)) = taken_seat manner (untouched opening_standing) in
-      let handed_items = handed_over A manner typed in
-      let recorded = behind_handed monitor_language takes_commands_at prompt_at monitor_blocks (untouched opening_standing) handed_items in
-      subst (λ (r : Recorded (Standing A)). IsToldByTranscript script_language opening_standing r)
-      (sym (lines_before_quit monitor_language takes_commands_at prompt_at monitor_blocks seat (lines typed)))
-      (IsTold-all script_language opening_standing recorded
-      (told_on (untouched opening_standing) handed_items (IsTold-none script_language opening_standing) (free-handed seat (lines typed) (lines_are_lines typed)) sayable))
+pub told_at_desk : (manner : Manner) (typed : List ℕ) → AllByRecursion IsSayable (handed_over A manner typed)
+    → IsToldByTranscript (script_language) opening_standing
+    (state_after attended_language (taken_seat manner (untouched opening_standing)) (lines typed)).standing
+told_at_desk manner typed sayable =
+    let seat : Seat (Recorded Standing) = taken_seat manner (untouched opening_standing) in
+    let handed_items = handed_over A manner typed in
+    let recorded = behind_handed monitor_language takes_commands_at prompt_at monitor_blocks (untouched opening_standing) handed_items in
+    subst (λ (r : Recorded Standing). IsToldByTranscript script_language opening_standing r)
+    (sym (lines_before_quit monitor_language takes_commands_at prompt_at monitor_blocks seat (lines typed)))
+    (IsTold-all script_language opening_standing recorded
+    (told_on (untouched opening_standing) handed_items (IsTold-none script_language opening_standing) (free-handed seat (lines typed) (lines_are_lines typed)) sayable))

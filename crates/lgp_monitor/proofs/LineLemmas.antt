@@ -136,9 +136,9 @@ free-meaning typed.New line free = tt
 free-meaning typed.Help line free = tt
 free-meaning (typed.HelpOf verb) line free = tt
 
-pub free-at : {A : Type 0} (recorded : Recorded (Standing A)) (line : List ℕ) → IsLine line → AreLines (meaning_at recorded line)
+pub free-at : (recorded : Recorded Standing) (line : List ℕ) → IsLine line → AreLines (meaning_at recorded line)
 unfolding meaning_at
 free-at recorded line free = free-meaning (typed_at recorded line) line free
 
-pub told_by_script : {A : Type 0} (text : List ℕ) → IsToldByTranscript (script_language {A = A}) opening_standing (state_after monitor_language (untouched opening_standing) (lines text))
-told_by_script {A} text = told_by_transcript script_language opening_standing (meaning_at {A = A}) monitor_language (λ recorded line. refl) (λ recorded line free. free-at recorded line free) text
+pub told_by_script : (text : List ℕ) → IsToldByTranscript (script_language) opening_standing (state_after monitor_language (untouched opening_standing) (lines text))
+told_by_script {A} text = told_by_transcript script_language opening_standing (meaning_at) monitor_language (λ recorded line. refl) (λ recorded line free. free-at recorded line free) text

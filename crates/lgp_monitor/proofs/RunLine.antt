@@ -63,7 +63,7 @@ command_run : (operands : List ℕ) (limit : ℕ) → IsSpaced operands → lone
 unfolding command_of
 command_run operands limit spaced number = rw (run_first operands spaced, run_behind operands spaced, number) refl
 
-command_answer : {A : Type 0} (s : Standing A) (operands : List ℕ) (limit : ℕ) → IsSpaced operands → lone_number operands ≡ Some limit → 3 + length operands ≤ line_limit
+command_answer : (s : Standing) (operands : List ℕ) (limit : ℕ) → IsSpaced operands → lone_number operands ≡ Some limit → 3 + length operands ≤ line_limit
     → answer_to_command s (codes "run" ++ operands) ≡ answer_to_run s limit
 unfolding answer_to_command has_no_word
 command_answer s operands limit spaced number short =
@@ -313,11 +313,11 @@ none_opened (Some source) e = absurd (clash e) where
   clash : true ≡ false → ⊥
   clash e = cc
 
-closed_answer : {A : Type 0} (s : Standing A) (line : List ℕ) → s.opened ≡ None → answer_to_line s line ≡ answer_to_command s line
+closed_answer : (s : Standing) (line : List ℕ) → s.opened ≡ None → answer_to_line s line ≡ answer_to_command s line
 unfolding answer_to_line
 closed_answer s line closed = ap (λ (o : Option SourceText). answer_in o s line) closed
 
-run_answer : {A : Type 0} (s : Standing A) (names : List (List ℕ × ℕ)) (counter : ℕ) (text : List ℕ) (telling : Telling) (limit : ℕ) → typed.Told telling limit ≡ typed_of (is_some s.opened) names counter (kept_of text) → answer_to_line s (run_line (kept_of text).front) ≡ answer_to_run s limit
+run_answer : (s : Standing) (names : List (List ℕ × ℕ)) (counter : ℕ) (text : List ℕ) (telling : Telling) (limit : ℕ) → typed.Told telling limit ≡ typed_of (is_some s.opened) names counter (kept_of text) → answer_to_line s (run_line (kept_of text).front) ≡ answer_to_run s limit
 unfolding run_line
 run_answer s names counter text telling limit e =
     let front : List ℕ = (kept_of text).front in
@@ -331,29 +331,28 @@ run_answer s names counter text telling limit e =
 
 -- ---- what is kept and what is answered
 
-module _ {A : Type 0} where
-  pub told_after : (r₀ r₁ r₂ : Recorded (Standing A)) (s₁ s₂ : Standing A) (kept : Kept) (text : List ℕ) (telling : Telling) (limit : ℕ) (run : List ℕ) → kept ≡ kept_of text → typed.Told telling limit ≡ typed_at r₀ text
-      → run ≡ run_line kept.front → r₁ ≡ with_line r₀ run → s₁ ≡ r₁.standing → s₂ ≡ (answer_to_run s₁ limit).after → r₂ ≡ with_standing r₁ s₂
-      → r₂ ≡ after_lines script_language r₀ (run_line kept.front ∷ [])
-  unfolding typed_at after_lines text_of
-  told_after r₀ r₁ r₂ s₁ s₂ kept text telling limit run is asked line kept_line lent done after =
-      let lines : run ≡ run_line (kept_of text).front = line ∙ ap (λ (k : Kept). run_line k.front) is in
-      let stood : s₁ ≡ r₀.standing = lent ∙ ap (λ (r : Recorded (Standing A)). r.standing) kept_line in
-      let stands : s₂ ≡ (answer_to_line r₀.standing (run_line (kept_of text).front)).after =
-      done ∙ (ap (λ (s : Standing A). (answer_to_run s limit).after) stood ∙ ap (λ (a : Answer A). a.after) (sym (run_answer r₀.standing (names_at r₀) (counter_at r₀) text telling limit asked))) in
-      after ∙ (ap (λ (r : Recorded (Standing A)). with_standing r s₂) kept_line
-      ∙ (ap (λ (l : List ℕ). record { standing = s₂; transcript = r₀.transcript ++ ended l }) lines
-      ∙ (ap (λ (t : List ℕ). record { standing = s₂; transcript = r₀.transcript ++ t }) (sym (append-nil (ended (run_line (kept_of text).front))))
-      ∙ (ap (λ (s : Standing A). record { standing = s; transcript = r₀.transcript ++ (ended (run_line (kept_of text).front) ++ []) }) stands
-      ∙ ap (λ (k : Kept). after_lines script_language r₀ (run_line k.front ∷ [])) (sym is)))))
+pub told_after : (r₀ r₁ r₂ : Recorded Standing) (s₁ s₂ : Standing) (kept : Kept) (text : List ℕ) (telling : Telling) (limit : ℕ) (run : List ℕ) → kept ≡ kept_of text → typed.Told telling limit ≡ typed_at r₀ text
+    → run ≡ run_line kept.front → r₁ ≡ with_line r₀ run → s₁ ≡ r₁.standing → s₂ ≡ (answer_to_run s₁ limit).after → r₂ ≡ with_standing r₁ s₂
+    → r₂ ≡ after_lines script_language r₀ (run_line kept.front ∷ [])
+unfolding typed_at after_lines text_of
+told_after r₀ r₁ r₂ s₁ s₂ kept text telling limit run is asked line kept_line lent done after =
+    let lines : run ≡ run_line (kept_of text).front = line ∙ ap (λ (k : Kept). run_line k.front) is in
+    let stood : s₁ ≡ r₀.standing = lent ∙ ap (λ (r : Recorded Standing). r.standing) kept_line in
+    let stands : s₂ ≡ (answer_to_line r₀.standing (run_line (kept_of text).front)).after =
+    done ∙ (ap (λ (s : Standing). (answer_to_run s limit).after) stood ∙ ap (λ (a : Answer). a.after) (sym (run_answer r₀.standing (names_at r₀) (counter_at r₀) text telling limit asked))) in
+    after ∙ (ap (λ (r : Recorded Standing). with_standing r s₂) kept_line
+    ∙ (ap (λ (l : List ℕ). record { standing = s₂; transcript = r₀.transcript ++ ended l }) lines
+    ∙ (ap (λ (t : List ℕ). record { standing = s₂; transcript = r₀.transcript ++ t }) (sym (append-nil (ended (run_line (kept_of text).front))))
+    ∙ (ap (λ (s : Standing). record { standing = s; transcript = r₀.transcript ++ (ended (run_line (kept_of text).front) ++ []) }) stands
+    ∙ ap (λ (k : Kept). after_lines script_language r₀ (run_line k.front ∷ [])) (sym is)))))
 
-  pub told_replies : (r₀ r₁ : Recorded (Standing A)) (s₁ : Standing A) (kept : Kept) (text : List ℕ) (telling : Telling) (limit : ℕ) (run before after : List ℕ) → kept ≡ kept_of text → typed.Told telling limit ≡ typed_at r₀ text
-      → r₁ ≡ with_line r₀ run → s₁ ≡ r₁.standing → after ≡ before ++ (told_of s₁ telling limit ++ (answer_to_run s₁ limit).reply)
-      → after ≡ before ++ told_reply r₀ telling limit kept.front
-  unfolding typed_at replies_text
-  told_replies r₀ r₁ s₁ kept text telling limit run before after is asked kept_line lent replied =
-      let stood : s₁ ≡ r₀.standing = lent ∙ ap (λ (r : Recorded (Standing A)). r.standing) kept_line in
-      replied ∙ (ap (λ (s : Standing A). before ++ (told_of s telling limit ++ (answer_to_run s limit).reply)) stood
-      ∙ (ap (λ (a : Answer A). before ++ (told_of r₀.standing telling limit ++ a.reply)) (sym (run_answer r₀.standing (names_at r₀) (counter_at r₀) text telling limit asked))
-      ∙ (ap (λ (t : List ℕ). before ++ (told_of r₀.standing telling limit ++ t)) (sym (append-nil (answer_to_line r₀.standing (run_line (kept_of text).front)).reply))
-      ∙ ap (λ (k : Kept). before ++ told_reply r₀ telling limit k.front) (sym is))))
+pub told_replies : (r₀ r₁ : Recorded Standing) (s₁ : Standing) (kept : Kept) (text : List ℕ) (telling : Telling) (limit : ℕ) (run before after : List ℕ) → kept ≡ kept_of text → typed.Told telling limit ≡ typed_at r₀ text
+    → r₁ ≡ with_line r₀ run → s₁ ≡ r₁.standing → after ≡ before ++ (told_of s₁ telling limit ++ (answer_to_run s₁ limit).reply)
+    → after ≡ before ++ told_reply r₀ telling limit kept.front
+unfolding typed_at replies_text
+told_replies r₀ r₁ s₁ kept text telling limit run before after is asked kept_line lent replied =
+    let stood : s₁ ≡ r₀.standing = lent ∙ ap (λ (r : Recorded Standing). r.standing) kept_line in
+    replied ∙ (ap (λ (s : Standing). before ++ (told_of s telling limit ++ (answer_to_run s limit).reply)) stood
+    ∙ (ap (λ (a : Answer). before ++ (told_of r₀.standing telling limit ++ a.reply)) (sym (run_answer r₀.standing (names_at r₀) (counter_at r₀) text telling limit asked))
+    ∙ (ap (λ (t : List ℕ). before ++ (told_of r₀.standing telling limit ++ t)) (sym (append-nil (answer_to_line r₀.standing (run_line (kept_of text).front)).reply))
+    ∙ ap (λ (k : Kept). before ++ told_reply r₀ telling limit k.front) (sym is))))

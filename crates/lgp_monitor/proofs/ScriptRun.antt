@@ -19,37 +19,36 @@ record AsksForRun (line : List ℕ) (limit : ℕ) : Type 0 where
   answered : is_passed_over line ≡ false
   short : length line ≤ line_limit
 
-module _ {A : Type 0} where
-  run_answer : (s : Standing A) (line : List ℕ) (limit : ℕ) → AsksForRun line limit → s.opened ≡ None → answer_to_line s line ≡ answer_to_run s limit
-  unfolding answer_to_line answer_to_command
-  run_answer s line limit asks closed =
-      let short = asks.short in
-      let within : nat_lt line_limit (length line) ≡ false = grind (arith, nat_tests) in
-      ap (λ (o : Option SourceText). answer_in o s line) closed
-      ∙ ap (λ (b : Bool). cond b (silent s) (cond (nat_lt line_limit (length line)) (refused TooLong s) (answer_by s (command_of line) (text_behind line)))) asks.answered
-      ∙ ap (λ (b : Bool). cond b (refused TooLong s) (answer_by s (command_of line) (text_behind line))) within
-      ∙ ap (λ (c : Option Command). answer_by s c (text_behind line)) asks.command
+run_answer : (s : Standing) (line : List ℕ) (limit : ℕ) → AsksForRun line limit → s.opened ≡ None → answer_to_line s line ≡ answer_to_run s limit
+unfolding answer_to_line answer_to_command
+run_answer s line limit asks closed =
+    let short = asks.short in
+    let within : nat_lt line_limit (length line) ≡ false = grind (arith, nat_tests) in
+    ap (λ (o : Option SourceText). answer_in o s line) closed
+    ∙ ap (λ (b : Bool). cond b (silent s) (cond (nat_lt line_limit (length line)) (refused TooLong s) (answer_by s (command_of line) (text_behind line)))) asks.answered
+    ∙ ap (λ (b : Bool). cond b (refused TooLong s) (answer_by s (command_of line) (text_behind line))) within
+    ∙ ap (λ (c : Option Command). answer_by s c (text_behind line)) asks.command
 
-  pub run_after : (r₀ r₁ r₂ : Recorded (Standing A)) (s₁ s₂ : Standing A) (line : List ℕ) (limit : ℕ) → command_of line ≡ Some (commands.Run limit) → is_passed_over line ≡ false → length line ≤ line_limit → r₀.standing.opened ≡ None
-      → r₁ ≡ with_line r₀ line → s₁ ≡ r₁.standing → s₂ ≡ (answer_to_run s₁ limit).after → r₂ ≡ with_standing r₁ s₂
-      → r₂ ≡ after_lines script_language r₀ (line ∷ [])
-  unfolding after_lines text_of
-  run_after r₀ r₁ r₂ s₁ s₂ line limit command answered short closed kept_line lent done after =
-      let asks : AsksForRun line limit = record { command = command; answered = answered; short = short } in
-      let stood : s₁ ≡ r₀.standing = lent ∙ ap (λ (r : Recorded (Standing A)). r.standing) kept_line in
-      let stands : s₂ ≡ (answer_to_line r₀.standing line).after =
-      done ∙ (ap (λ (s : Standing A). (answer_to_run s limit).after) stood ∙ ap (λ (a : Answer A). a.after) (sym (run_answer r₀.standing line limit asks closed))) in
-      after ∙ (ap (λ (r : Recorded (Standing A)). with_standing r s₂) kept_line
-      ∙ (ap (λ (t : List ℕ). record { standing = s₂; transcript = r₀.transcript ++ t }) (sym (append-nil (ended line)))
-      ∙ ap (λ (s : Standing A). record { standing = s; transcript = r₀.transcript ++ (ended line ++ []) }) stands))
+pub run_after : (r₀ r₁ r₂ : Recorded Standing) (s₁ s₂ : Standing) (line : List ℕ) (limit : ℕ) → command_of line ≡ Some (commands.Run limit) → is_passed_over line ≡ false → length line ≤ line_limit → r₀.standing.opened ≡ None
+    → r₁ ≡ with_line r₀ line → s₁ ≡ r₁.standing → s₂ ≡ (answer_to_run s₁ limit).after → r₂ ≡ with_standing r₁ s₂
+    → r₂ ≡ after_lines script_language r₀ (line ∷ [])
+unfolding after_lines text_of
+run_after r₀ r₁ r₂ s₁ s₂ line limit command answered short closed kept_line lent done after =
+    let asks : AsksForRun line limit = record { command = command; answered = answered; short = short } in
+    let stood : s₁ ≡ r₀.standing = lent ∙ ap (λ (r : Recorded Standing). r.standing) kept_line in
+    let stands : s₂ ≡ (answer_to_line r₀.standing line).after =
+    done ∙ (ap (λ (s : Standing). (answer_to_run s limit).after) stood ∙ ap (λ (a : Answer). a.after) (sym (run_answer r₀.standing line limit asks closed))) in
+    after ∙ (ap (λ (r : Recorded Standing). with_standing r s₂) kept_line
+    ∙ (ap (λ (t : List ℕ). record { standing = s₂; transcript = r₀.transcript ++ t }) (sym (append-nil (ended line)))
+    ∙ ap (λ (s : Standing). record { standing = s; transcript = r₀.transcript ++ (ended line ++ []) }) stands))
 
-  pub run_replies : (r₀ r₁ : Recorded (Standing A)) (s₁ : Standing A) (line : List ℕ) (limit : ℕ) (before after : List ℕ) → command_of line ≡ Some (commands.Run limit) → is_passed_over line ≡ false → length line ≤ line_limit → r₀.standing.opened ≡ None
-      → r₁ ≡ with_line r₀ line → s₁ ≡ r₁.standing → after ≡ before ++ (answer_to_run s₁ limit).reply
-      → after ≡ before ++ replies_text script_language r₀ (line ∷ [])
-  unfolding replies_text
-  run_replies r₀ r₁ s₁ line limit before after command answered short closed kept_line lent replied =
-      let asks : AsksForRun line limit = record { command = command; answered = answered; short = short } in
-      let stood : s₁ ≡ r₀.standing = lent ∙ ap (λ (r : Recorded (Standing A)). r.standing) kept_line in
-      replied ∙ (ap (λ (s : Standing A). before ++ (answer_to_run s limit).reply) stood
-      ∙ (ap (λ (a : Answer A). before ++ a.reply) (sym (run_answer r₀.standing line limit asks closed))
-      ∙ ap (λ (t : List ℕ). before ++ t) (sym (append-nil (answer_to_line r₀.standing line).reply))))
+pub run_replies : (r₀ r₁ : Recorded Standing) (s₁ : Standing) (line : List ℕ) (limit : ℕ) (before after : List ℕ) → command_of line ≡ Some (commands.Run limit) → is_passed_over line ≡ false → length line ≤ line_limit → r₀.standing.opened ≡ None
+    → r₁ ≡ with_line r₀ line → s₁ ≡ r₁.standing → after ≡ before ++ (answer_to_run s₁ limit).reply
+    → after ≡ before ++ replies_text script_language r₀ (line ∷ [])
+unfolding replies_text
+run_replies r₀ r₁ s₁ line limit before after command answered short closed kept_line lent replied =
+    let asks : AsksForRun line limit = record { command = command; answered = answered; short = short } in
+    let stood : s₁ ≡ r₀.standing = lent ∙ ap (λ (r : Recorded Standing). r.standing) kept_line in
+    replied ∙ (ap (λ (s : Standing). before ++ (answer_to_run s limit).reply) stood
+    ∙ (ap (λ (a : Answer). before ++ a.reply) (sym (run_answer r₀.standing line limit asks closed))
+    ∙ ap (λ (t : List ℕ). before ++ t) (sym (append-nil (answer_to_line r₀.standing line).reply))))

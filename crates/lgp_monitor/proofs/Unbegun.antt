@@ -15,6 +15,6 @@ pub nothing_answered : (A : Type 0) (manner : Manner) (known w : Option (List â„
 nothing_answered A manner None w = tt
 nothing_answered A manner (Some typed) w = (
   Some typed,
-  StandsWritten-unnamed (attended_language {A = A}) (taken_seat manner (untouched opening_standing))
-      (opening_text manner (prompt_at (untouched (opening_standing {A = A})))) (Some typed) (Some typed) w,
+  StandsWritten-unnamed (attended_language) (taken_seat manner (untouched opening_standing))
+      (opening_text manner (prompt_at (untouched (opening_standing)))) (Some typed) (Some typed) w,
 )

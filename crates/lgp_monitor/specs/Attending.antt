@@ -19,31 +19,30 @@ abbrev pub stand_prompt : Panel → List ℕ
 stand_prompt panel =
     address_digits panel.counter ++ (codes " " ++ (status_text panel.status ++ codes "> "))
 
-module _ {A : Type 0} where
-  -- a line is a command where no source is open
-  abbrev pub takes_commands_at : Recorded (Standing A) → Bool
-  takes_commands_at recorded = is_none recorded.standing.opened
+-- a line is a command where no source is open
+abbrev pub takes_commands_at : Recorded Standing → Bool
+takes_commands_at recorded = is_none recorded.standing.opened
 
-  -- the prompt, or that the line is a source's
-  unfoldable pub prompt_at : Recorded (Standing A) → List ℕ
-  prompt_at recorded =
-      if is_some recorded.standing.opened then codes "source> "
-      else stand_prompt (panel_at recorded.standing)
+-- the prompt, or that the line is a source's
+unfoldable pub prompt_at : Recorded Standing → List ℕ
+prompt_at recorded =
+    if is_some recorded.standing.opened then codes "source> "
+    else stand_prompt (panel_at recorded.standing)
 
-  -- the answers to blocks
-  abbrev pub monitor_blocks : BlockAnswers (Recorded (Standing A))
-  monitor_blocks = record {
-    reply = λ recorded block. block_reply recorded block.kind block.text;
-    after = λ recorded block. behind_block recorded block.kind block.text;
-  }
+-- the answers to blocks
+abbrev pub monitor_blocks : BlockAnswers (Recorded Standing)
+monitor_blocks = record {
+  reply = λ recorded block. block_reply recorded block.kind block.text;
+  after = λ recorded block. behind_block recorded block.kind block.text;
+}
 
-  abbrev pub attended_language : Language (Seat (Recorded (Standing A)))
-  attended_language = desk_language monitor_language takes_commands_at prompt_at monitor_blocks
+abbrev pub attended_language : Language (Seat (Recorded Standing))
+attended_language = desk_language monitor_language takes_commands_at prompt_at monitor_blocks
 
 -- what a typed text hands to the monitor before `quit`: lines, and blocks; the type is that of Standing
 abbrev pub handed_over : Type 0 → Manner → List ℕ → List Handed
 handed_over A manner typed =
-    handed (monitor_language {A = A}) takes_commands_at prompt_at monitor_blocks
+    handed (monitor_language) takes_commands_at prompt_at monitor_blocks
     (taken_seat manner (untouched opening_standing)) (lines typed)
 
 -- what a script can say: each line, and each block but a tape
@@ -53,7 +52,7 @@ IsSayable (Whole block) = is_tape block.kind ≡ false
 
 -- what is written for a typed text, and how many replies begin with a question mark
 abbrev pub attended_text : Type 0 → Manner → List ℕ → List ℕ
-attended_text A manner typed = desk_text (monitor_language {A = A}) takes_commands_at prompt_at monitor_blocks manner (untouched opening_standing) typed
+attended_text A manner typed = desk_text (monitor_language) takes_commands_at prompt_at monitor_blocks manner (untouched opening_standing) typed
 
 abbrev pub attended_faults : Type 0 → Manner → List ℕ → ℕ
-attended_faults A manner typed = desk_faults (monitor_language {A = A}) takes_commands_at prompt_at monitor_blocks manner (untouched opening_standing) typed
+attended_faults A manner typed = desk_faults (monitor_language) takes_commands_at prompt_at monitor_blocks manner (untouched opening_standing) typed

@@ -63,41 +63,40 @@ abbrev pub restoring_lines : Option DumpFault → Bool → List (ℕ × ℕ) →
 restoring_lines (Some fault) rests cells = []
 restoring_lines None rests cells = if rests then map put_cell cells else []
 
-module _ {A : Type 0} where
-  -- the words that a dump changes
-  abbrev pub cells_changed : Recorded (Standing A) → List ℕ → List (ℕ × ℕ)
-  cells_changed recorded dump =
-      changed_cells 0 recorded.standing.debugger.state.core.words (dumped_words dump)
+-- the words that a dump changes
+abbrev pub cells_changed : Recorded Standing → List ℕ → List (ℕ × ℕ)
+cells_changed recorded dump =
+    changed_cells 0 recorded.standing.debugger.state.core.words (dumped_words dump)
 
-  abbrev pub rests_at : Recorded (Standing A) → Bool
-  rests_at recorded = is_at_rest (panel_at recorded.standing).status
+abbrev pub rests_at : Recorded Standing → Bool
+rests_at recorded = is_at_rest (panel_at recorded.standing).status
 
-  unfoldable pub restore_reply : Recorded (Standing A) → List ℕ → List ℕ
-  restore_reply recorded dump =
-      restored_text (first_fault dump) (rests_at recorded) (cells_changed recorded dump)
+unfoldable pub restore_reply : Recorded Standing → List ℕ → List ℕ
+restore_reply recorded dump =
+    restored_text (first_fault dump) (rests_at recorded) (cells_changed recorded dump)
 
-  -- the lines of a script that it stands for
-  unfoldable pub restore_lines : Recorded (Standing A) → List ℕ → List (List ℕ)
-  restore_lines recorded dump =
-      restoring_lines (first_fault dump) (rests_at recorded) (cells_changed recorded dump)
+-- the lines of a script that it stands for
+unfoldable pub restore_lines : Recorded Standing → List ℕ → List (List ℕ)
+restore_lines recorded dump =
+    restoring_lines (first_fault dump) (rests_at recorded) (cells_changed recorded dump)
 
-  -- ---- tape: no line of a script says which it is, so its name stands in the transcript
+-- ---- tape: no line of a script says which it is, so its name stands in the transcript
 
-  unfoldable pub behind_tape : Recorded (Standing A) → List ℕ → List ℕ → Recorded (Standing A)
-  behind_tape recorded kind text = record {
-    standing = (answer_to_tape_text recorded.standing text).after;
-    transcript = recorded.transcript ++ ended kind;
-  }
+unfoldable pub behind_tape : Recorded Standing → List ℕ → List ℕ → Recorded Standing
+behind_tape recorded kind text = record {
+  standing = (answer_to_tape_text recorded.standing text).after;
+  transcript = recorded.transcript ++ ended kind;
+}
 
-  -- ---- the reply to a block, and where the monitor stands behind it
+-- ---- the reply to a block, and where the monitor stands behind it
 
-  unfoldable pub block_reply : Recorded (Standing A) → List ℕ → List ℕ → List ℕ
-  block_reply recorded kind text =
-      if is_restore kind then restore_reply recorded text
-      else (if is_tape kind then reasoned (answer_to_tape_text recorded.standing text).reply
-      else codes "? 1 Form: there is no such block\n")
+unfoldable pub block_reply : Recorded Standing → List ℕ → List ℕ → List ℕ
+block_reply recorded kind text =
+    if is_restore kind then restore_reply recorded text
+    else (if is_tape kind then reasoned (answer_to_tape_text recorded.standing text).reply
+    else codes "? 1 Form: there is no such block\n")
 
-  unfoldable pub behind_block : Recorded (Standing A) → List ℕ → List ℕ → Recorded (Standing A)
-  behind_block recorded kind text =
-      if is_restore kind then after_lines script_language recorded (restore_lines recorded text)
-      else (if is_tape kind then behind_tape recorded kind text else recorded)
+unfoldable pub behind_block : Recorded Standing → List ℕ → List ℕ → Recorded Standing
+behind_block recorded kind text =
+    if is_restore kind then after_lines script_language recorded (restore_lines recorded text)
+    else (if is_tape kind then behind_tape recorded kind text else recorded)

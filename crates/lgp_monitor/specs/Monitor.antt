@@ -123,72 +123,71 @@ abbrev pub marked_or : Option (List ℕ) → List ℕ → List ℕ
 marked_or (Some marked) other = marked
 marked_or None other = other
 
-module _ {A : Type 0} where
-  -- what is written about the orders of a run
-  abbrev pub told_of : Standing A → Telling → ℕ → List ℕ
-  told_of standing telling limit =
-      told_text telling (labels_of standing.source) standing.debugger.state (order_origins standing.debugger)
-      (orders_run limit standing.debugger)
+-- what is written about the orders of a run
+abbrev pub told_of : Standing → Telling → ℕ → List ℕ
+told_of standing telling limit =
+    told_text telling (labels_of standing.source) standing.debugger.state (order_origins standing.debugger)
+    (orders_run limit standing.debugger)
 
-  -- the names of the last source that assembled, and the counter
-  abbrev pub names_at : Recorded (Standing A) → List (List ℕ × ℕ)
-  names_at recorded = labels_of recorded.standing.source
+-- the names of the last source that assembled, and the counter
+abbrev pub names_at : Recorded Standing → List (List ℕ × ℕ)
+names_at recorded = labels_of recorded.standing.source
 
-  abbrev pub counter_at : Recorded (Standing A) → ℕ
-  counter_at recorded = recorded.standing.debugger.state.core.panel.counter
+abbrev pub counter_at : Recorded Standing → ℕ
+counter_at recorded = recorded.standing.debugger.state.core.panel.counter
 
-  abbrev pub panel_at : Standing A → Panel
-  panel_at standing = standing.debugger.state.core.panel
+abbrev pub panel_at : Standing → Panel
+panel_at standing = standing.debugger.state.core.panel
 
-  -- the reply to a script's line, a refusal with its reason
-  abbrev pub explained_reply : Recorded (Standing A) → List ℕ → List ℕ
-  explained_reply recorded line = reasoned (replies_text script_language recorded (line ∷ []))
+-- the reply to a script's line, a refusal with its reason
+abbrev pub explained_reply : Recorded Standing → List ℕ → List ℕ
+explained_reply recorded line = reasoned (replies_text script_language recorded (line ∷ []))
 
-  -- the reply to a script's line of which this is kept
-  abbrev pub itself_reply : Recorded (Standing A) → Kept → List ℕ
-  itself_reply recorded kept =
-      marked_or (closing_reply recorded.standing.opened kept) (explained_reply recorded (stand_in kept))
+-- the reply to a script's line of which this is kept
+abbrev pub itself_reply : Recorded Standing → Kept → List ℕ
+itself_reply recorded kept =
+    marked_or (closing_reply recorded.standing.opened kept) (explained_reply recorded (stand_in kept))
 
-  -- what is written about the orders of a run, and the reply to its script's line
-  abbrev pub told_reply : Recorded (Standing A) → Telling → ℕ → List ℕ → List ℕ
-  told_reply recorded telling limit line =
-      told_of recorded.standing telling limit ++ replies_text script_language recorded (run_line line ∷ [])
+-- what is written about the orders of a run, and the reply to its script's line
+abbrev pub told_reply : Recorded Standing → Telling → ℕ → List ℕ → List ℕ
+told_reply recorded telling limit line =
+    told_of recorded.standing telling limit ++ replies_text script_language recorded (run_line line ∷ [])
 
-  -- the same with what is said behind it, where its script's line leaves the machine
-  abbrev pub explained_run : Recorded (Standing A) → Telling → ℕ → List ℕ → List ℕ
-  explained_run recorded telling limit line =
-      let panel = panel_at (after_lines script_language recorded (run_line line ∷ [])).standing in
-      explained panel.status panel.mode (told_reply recorded telling limit line)
+-- the same with what is said behind it, where its script's line leaves the machine
+abbrev pub explained_run : Recorded Standing → Telling → ℕ → List ℕ → List ℕ
+explained_run recorded telling limit line =
+    let panel = panel_at (after_lines script_language recorded (run_line line ∷ [])).standing in
+    explained panel.status panel.mode (told_reply recorded telling limit line)
 
-  abbrev pub reply_of : Recorded (Standing A) → Typed → Kept → List ℕ
-  reply_of recorded typed.Itself kept = itself_reply recorded kept
-  reply_of recorded typed.Misformed kept = misformed_text (names_at recorded) (counter_at recorded) kept.front
-  reply_of recorded (typed.Placed address) kept = explained_reply recorded (placed_line address kept.front)
-  reply_of recorded (typed.Go address) kept = replies_text script_language recorded (go_lines address)
-  reply_of recorded (typed.Put address word) kept = explained_reply recorded (put_line address word)
-  reply_of recorded (typed.Told telling limit) kept = explained_run recorded telling limit kept.front
-  reply_of recorded (typed.Asked question) kept = answer_to question recorded.standing
-  reply_of recorded typed.Transcript kept = recorded.transcript
-  reply_of recorded typed.New kept = codes "new\n"
-  reply_of recorded typed.Help kept = help_text
-  reply_of recorded (typed.HelpOf verb) kept = form_line verb
+abbrev pub reply_of : Recorded Standing → Typed → Kept → List ℕ
+reply_of recorded typed.Itself kept = itself_reply recorded kept
+reply_of recorded typed.Misformed kept = misformed_text (names_at recorded) (counter_at recorded) kept.front
+reply_of recorded (typed.Placed address) kept = explained_reply recorded (placed_line address kept.front)
+reply_of recorded (typed.Go address) kept = replies_text script_language recorded (go_lines address)
+reply_of recorded (typed.Put address word) kept = explained_reply recorded (put_line address word)
+reply_of recorded (typed.Told telling limit) kept = explained_run recorded telling limit kept.front
+reply_of recorded (typed.Asked question) kept = answer_to question recorded.standing
+reply_of recorded typed.Transcript kept = recorded.transcript
+reply_of recorded typed.New kept = codes "new\n"
+reply_of recorded typed.Help kept = help_text
+reply_of recorded (typed.HelpOf verb) kept = form_line verb
 
-  -- ---- the language
+-- ---- the language
 
-  -- what a line asks for; in an open source each line is the source's
-  unfoldable pub typed_at : Recorded (Standing A) → List ℕ → Typed
-  typed_at recorded line =
-      typed_of (is_some recorded.standing.opened) (names_at recorded) (counter_at recorded) (kept_of line)
+-- what a line asks for; in an open source each line is the source's
+unfoldable pub typed_at : Recorded Standing → List ℕ → Typed
+typed_at recorded line =
+    typed_of (is_some recorded.standing.opened) (names_at recorded) (counter_at recorded) (kept_of line)
 
-  unfoldable pub meaning_at : Recorded (Standing A) → List ℕ → Meaning
-  meaning_at recorded line = meaning_of (typed_at recorded line) (kept_of line)
+unfoldable pub meaning_at : Recorded Standing → List ℕ → Meaning
+meaning_at recorded line = meaning_of (typed_at recorded line) (kept_of line)
 
-  unfoldable pub reply_at : Recorded (Standing A) → List ℕ → List ℕ
-  reply_at recorded line = reply_of recorded (typed_at recorded line) (kept_of line)
+unfoldable pub reply_at : Recorded Standing → List ℕ → List ℕ
+reply_at recorded line = reply_of recorded (typed_at recorded line) (kept_of line)
 
-  abbrev pub monitor_language : Language (Recorded (Standing A))
-  monitor_language = record {
-    reply = reply_at;
-    after = λ recorded line. after_meaning script_language opening_standing recorded (meaning_at recorded line);
-    closing = λ recorded. script_language.closing recorded.standing;
-  }
+abbrev pub monitor_language : Language (Recorded Standing)
+monitor_language = record {
+  reply = reply_at;
+  after = λ recorded line. after_meaning script_language opening_standing recorded (meaning_at recorded line);
+  closing = λ recorded. script_language.closing recorded.standing;
+}

@@ -51,7 +51,7 @@ unfoldable pub rule_lines : List (List ℕ × ℕ) → ℕ → List Rule → Lis
 rule_lines names number [] = []
 rule_lines names number (rule ∷ more) = rule_line names number rule ++ rule_lines names (number + 1) more
 
-unfoldable pub answer_to : {A : Type 0} → Question → Standing A → List ℕ
+unfoldable pub answer_to : Question → Standing → List ℕ
 answer_to (questions.Numbers range) standing = lines_text number_line standing.debugger.state range.first range.count
 answer_to (questions.Why address) standing = why_text (label_of (labels_of standing.source)) standing.debugger address
 answer_to questions.Labels standing = label_lines (labels_of standing.source)

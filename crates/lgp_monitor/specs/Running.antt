@@ -8,7 +8,7 @@ use Rattle.lgp_lab.specs.Standing.{opening_standing}
 use Rattle.lgp_monitor.specs.Monitor.{monitor_language}
 
 unfoldable pub monitor_replies : Type 0 → List ℕ → List (List ℕ)
-monitor_replies A typed = text_replies monitor_language (untouched (opening_standing {A = A})) typed
+monitor_replies A typed = text_replies monitor_language (untouched (opening_standing)) typed
 
 abbrev pub monitor_text : Type 0 → List ℕ → List ℕ
 monitor_text A typed = concat (monitor_replies A typed)

@@ -20,7 +20,7 @@ abbrev pub HasAnswered : Type 0 → Manner → Option (List ℕ) → Result ℕ 
 HasAnswered A manner known (Ok count) w₀ w =
     IfSome known (λ typed. Appends w₀ w (attended_text A manner typed) × (count ≡ attended_faults A manner typed))
 HasAnswered A manner known (Err fault) w₀ w = IfSome known (λ typed. (left : Option (List ℕ))
-    × StandsWritten (opening_text manner (prompt_at (untouched (opening_standing {A = A}))) ∷ []) (attended_language {A = A})
+    × StandsWritten (opening_text manner (prompt_at (untouched (opening_standing))) ∷ []) (attended_language)
     (taken_seat manner (untouched opening_standing)) fault typed left w₀ w)
 
 -- the status for what became of typed lines

@@ -73,8 +73,8 @@ pub fn attend<A: Allocator + Copy, B: Bell, P: Progress, R: Feed, W: Sink>(
     ensures cause { IfErr result (λ fault.
         HasCause fault (R.failed reader.new) (W.failed writer.new)) }
     ensures stands { IfErr result (λ fault. IfSome (R.remaining reader.old) (λ typed.
-        StandsWritten (opening_text manner (prompt_at (untouched (opening_standing {A = A}))) ∷ [])
-        (attended_language {A = A}) (taken_seat manner (untouched opening_standing)) fault typed
+        StandsWritten (opening_text manner (prompt_at (untouched (opening_standing))) ∷ [])
+        (attended_language) (taken_seat manner (untouched opening_standing)) fault typed
         (R.remaining reader.new) (W.contents writer.old) (W.contents writer.new))) }
 {
     let Ok(monitor) = Monitor::telling(alloc, progress) else {

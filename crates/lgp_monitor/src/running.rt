@@ -27,7 +27,7 @@ pub fn run_monitor<A: Allocator + Copy, R: Feed, W: Sink>(
     ensures cause { IfErr result (λ fault.
         HasCause fault (R.failed reader.new) (W.failed writer.new)) }
     ensures stands { IfErr result (λ fault. IfSome (R.remaining reader.old) (λ typed.
-        StandsWritten [] (monitor_language {A = A}) (untouched opening_standing) fault typed
+        StandsWritten [] (monitor_language) (untouched opening_standing) fault typed
         (R.remaining reader.new) (W.contents writer.old) (W.contents writer.new))) }
 {
     let Ok(monitor) = Monitor::new(alloc) else {

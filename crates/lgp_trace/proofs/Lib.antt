@@ -7,6 +7,5 @@ pub mod Signs
 pub mod Dearest
 pub mod DrumLemmas
 pub mod PlaceLines
-pub mod RunSteps
 pub mod Noting
 pub mod Telling

@@ -3,6 +3,13 @@ use Rattle.std.proofs.Common.{◌≡◌, ◌∙◌, ℕ, suc, ◌+◌, ◌≤◌
 use Rattle.lgp_table.specs.Activity.{next}
 use Rattle.lgp_table.specs.After.{after}
 use Rattle.lgp_table.specs.State.{State}
+use Rattle.std.specs.Prelude.{List, Result}
+use Rattle.lgp_history.specs.declared.rule.Rule.{Rule}
+use Rattle.lgp_debugger.specs.Debugging.{Debugging}
+use Rattle.lgp_debugger.specs.Run.{IsRun, orders_of}
+use Rattle.lgp_debugger.specs.declared.fault.Ran.{Ran}
+use Rattle.lgp_debugger.specs.declared.fault.RunFault.{RunFault}
+use Rattle.lgp_debugger.proofs.PerformedLemmas.{performed_state}
 use Rattle.lgp_trace.specs.Account.{account_of}
 use Rattle.lgp_trace.specs.Phases.{all_phases}
 use Rattle.lgp_trace.specs.Profile.{Profiled, empty_profile, profile_of, with_account}
@@ -27,10 +34,6 @@ notes_more first now then profile more done h moved noted =
       noted = rw count (noted ∙ ap (λ (p : Profiled). with_account p (account_of now)) h.noted ∙ ap (λ (s : State). with_account (profile_of first done) (account_of s)) h.stands);
     }
 
--- nothing has moved and nothing was noted
-pub noted_stays : (first now then : State) (profile more : Profiled) (done : ℕ) → HasNoted first now profile done → then ≡ now → more ≡ profile → HasNoted first then more done
-noted_stays first now then profile more done h stays same = record { stands = stays ∙ h.stands; noted = same ∙ h.noted }
-
 -- the clock has gone on by what was noted
 pub noted_clock : (first now : State) (profile : Profiled) (done : ℕ) → HasNoted first now profile done → now.clock ≡ first.clock + all_phases profile.phases
 noted_clock first now profile done h =
@@ -38,3 +41,11 @@ noted_clock first now profile done h =
 
 pub noted_within : (first now : State) (profile : Profiled) (done : ℕ) → HasNoted first now profile done → all_phases profile.phases ≤ now.clock
 noted_within first now profile done h = omega (arith, noted_clock first now profile done h)
+
+-- so behind a run whose orders were noted
+pub run_clock : (rules : List Rule) (limit : ℕ) (first new : Debugging) (answer : Result Ran RunFault) (profile : Profiled)
+    → IsRun rules limit first new answer → profile ≡ profile_of first.state (orders_of answer)
+    → new.state.clock ≡ first.state.clock + all_phases profile.phases
+run_clock rules limit first new answer profile run noted =
+    noted_clock first.state new.state profile (orders_of answer)
+    (record { stands = ap (λ (d : Debugging). d.state) run.performed ∙ performed_state first (orders_of answer); noted = noted })

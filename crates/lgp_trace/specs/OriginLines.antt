@@ -72,5 +72,5 @@ why_line label address word origin =
     place_text label address ++ (codes ": " ++ (word_text label word ++ (codes ", " ++ reason_text label origin)))
 
 -- the same of a debugger's drum and kept steps
-abbrev pub why_text : {A : Type 0} → (ℕ → List ℕ) → Debugging A → ℕ → List ℕ
+abbrev pub why_text : (ℕ → List ℕ) → Debugging → ℕ → List ℕ
 why_text label d address = why_line label address (word_at d.state.core address) (latest_change address d.steps)

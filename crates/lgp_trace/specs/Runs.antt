@@ -1,18 +1,11 @@
 -- Part of the public promise. Runs that are told: so many orders of a debugger, and what is written of them.
-use Rattle.std.specs.Prelude.{ℕ, zero, suc, ◌++◌, List, [], Option, None, Some}
+use Rattle.std.specs.Prelude.{ℕ, zero, suc, ◌++◌, List, [], Option}
 use Rattle.lgp_table.specs.After.{after}
 use Rattle.lgp_table.specs.State.{State}
 use Rattle.lgp_history.specs.declared.origin.Origin.{Origin}
-use Rattle.lgp_debugger.specs.declared.fault.Reason.{Reason}
-use Rattle.lgp_debugger.specs.declared.fault.Reason.TheVariants as reasons
 use Rattle.lgp_trace.specs.Account.{account_of}
 use Rattle.lgp_trace.specs.OriginLines.{told_account}
 use Rattle.lgp_trace.specs.DrumRows.{signs_in_rows, signs_of}
-
--- the rule that ended a run, if one did
-abbrev pub rule_of : Reason → Option ℕ
-rule_of (reasons.Rule number) = Some number
-rule_of _ = None
 
 -- the accounts of so many orders from a state on, one after another, each with the origin of its order
 unfoldable pub told : (ℕ → List ℕ) → State → (ℕ → Option Origin) → ℕ → List ℕ

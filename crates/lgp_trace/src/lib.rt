@@ -24,6 +24,7 @@ pub use account_lines::{
 pub use draw::draw_run;
 pub use drum_rows::{push_drum, push_rows_begun, push_rows_ended};
 pub use labels::{Labels, NoLabels};
+pub use lgp_table::{seeks, stores};
 pub use origin_lines::{order_origin, push_origin_lines, push_told, push_why, push_why_line};
 pub use phases::Phases;
 pub use profile::Profile;
@@ -32,4 +33,3 @@ pub use runs::profile_run;
 pub use stepping::step_account;
 pub use take::take_account;
 pub use trace::trace_run;
-pub use lgp_table::{seeks, stores};

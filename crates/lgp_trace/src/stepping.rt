@@ -3,7 +3,7 @@
 ghost use Rattle.std.specs.Prelude.{◌≡◌, ◌+◌, ◌<◌, ◌≤◌, ◌↔◌, false, Err, IsTrue, OnErr, OnOk};
 ghost use Rattle.lgp_table.specs.Activity.{cost};
 ghost use Rattle.lgp_table.specs.Console.{is_at_rest};
-ghost use Rattle.lgp_history.specs.declared.step.Step.{Step};
+ghost use Rattle.lgp_history.specs.Step.{Perform};
 ghost use Rattle.lgp_debugger.specs.Debugging.{after_step};
 ghost use Rattle.lgp_machine.specs.Answers.{clock_end};
 ghost use Rattle.lgp_trace.specs.Account.{account_of};
@@ -26,7 +26,7 @@ pub fn step_account<H: History<A>, A: Allocator>(
     account: &mut Account,
 ) -> Result<(), StepFault>
     ensures account { OnOk result (account.new ≡ account_of debugger.old.state) }
-    ensures performed { OnOk result (debugger.new ≡ after_step debugger.old Step.Perform) }
+    ensures performed { OnOk result (debugger.new ≡ after_step debugger.old Perform) }
     ensures at_rest { (result ≡ Err StepFault.AtRest)
         ↔ IsTrue (is_at_rest debugger.old.state.core.panel.status) }
     ensures clock_end { (result ≡ Err StepFault.ClockEnd)
@@ -51,7 +51,7 @@ fn going_account<H: History<A>, A: Allocator>(
 ) -> Result<(), StepFault>
     requires { debugger.old.state.core.panel.status ≡ Status.Going }
     ensures account { OnOk result (account.new ≡ account_of debugger.old.state) }
-    ensures performed { OnOk result (debugger.new ≡ after_step debugger.old Step.Perform) }
+    ensures performed { OnOk result (debugger.new ≡ after_step debugger.old Perform) }
     ensures at_rest { (result ≡ Err StepFault.AtRest)
         ↔ IsTrue (is_at_rest debugger.old.state.core.panel.status) }
     ensures clock_end { (result ≡ Err StepFault.ClockEnd)
@@ -160,7 +160,7 @@ fn other_account<H: History<A>, A: Allocator>(
     account: &mut Account,
 ) -> Result<(), StepFault>
     ensures account { OnOk result (account.new ≡ account_of debugger.old.state) }
-    ensures performed { OnOk result (debugger.new ≡ after_step debugger.old Step.Perform) }
+    ensures performed { OnOk result (debugger.new ≡ after_step debugger.old Perform) }
     ensures at_rest { (result ≡ Err StepFault.AtRest)
         ↔ IsTrue (is_at_rest debugger.old.state.core.panel.status) }
     ensures clock_end { (result ≡ Err StepFault.ClockEnd)

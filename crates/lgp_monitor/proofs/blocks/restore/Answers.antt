@@ -23,13 +23,13 @@ not_order line e = cc (e)
 pub returns-in-Ok-clause-reply : goal.returns-in-Ok-clause-reply
 returns-in-Ok-clause-reply g c = on_ok_weaker c.restore_drum.result
     (λ is. is ∙ ap (λ (text : List ℕ). c.args.reply.now.items ++ text)
-    (restored_reply {A = g.row.A.Denot} c.args.recorder.now c.in-Ok.drum c.args.dump.now c.in-Ok.ensures.words c.in-Ok.ensures.drum))
+    (restored_reply c.args.recorder.now c.in-Ok.drum c.args.dump.now c.in-Ok.ensures.words c.in-Ok.ensures.drum))
     c.restore_drum.ensures.reply
 
 pub returns-in-Ok-clause-after : goal.returns-in-Ok-clause-after
 returns-in-Ok-clause-after g c = on_ok_weaker c.restore_drum.result
     (λ is. is ∙ ap (λ (lines : List (List ℕ)). after_lines script_language c.args.recorder.now lines)
-    (restored_lines {A = g.row.A.Denot} c.args.recorder.now c.in-Ok.drum c.args.dump.now c.in-Ok.ensures.words c.in-Ok.ensures.drum))
+    (restored_lines c.args.recorder.now c.in-Ok.drum c.args.dump.now c.in-Ok.ensures.words c.in-Ok.ensures.drum))
     c.restore_drum.ensures.after
 
 pub returns-in-Err-Form-clause-reply : goal.returns-in-Err-Form-clause-reply
@@ -40,7 +40,7 @@ returns-in-Err-Form-clause-reply g c =
     c.read_dump.ensures.faulty c.read_dump.ensures.faultless in
     on_ok_weaker c.push_dump_fault.result
     (λ is. is ∙ ap (λ (line : ℕ). c.args.reply.now.items ++ dump_fault_text (Form line)) c.in-Err-Form.line-is
-    ∙ ap (λ (text : List ℕ). c.args.reply.now.items ++ text) (faulty_reply {A = g.row.A.Denot} c.args.recorder.now c.args.dump.now fault found))
+    ∙ ap (λ (text : List ℕ). c.args.reply.now.items ++ text) (faulty_reply c.args.recorder.now c.args.dump.now fault found))
     c.push_dump_fault.ensures
 
 pub returns-in-Err-Form-clause-after : goal.returns-in-Err-Form-clause-after
@@ -49,7 +49,7 @@ returns-in-Err-Form-clause-after g c =
     let found : first_fault c.args.dump.now ≡ Some fault =
     fault_is c.read_dump.result fault (first_fault c.args.dump.now) (c.in-Err-Form.is ∙ ap Err c.in-Err-Form.field-0-is) (not_form c.in-Err-Form.line)
     c.read_dump.ensures.faulty c.read_dump.ensures.faultless in
-    on_ok_always c.push_dump_fault.result (faulty_after {A = g.row.A.Denot} c.args.recorder.now c.args.dump.now fault found)
+    on_ok_always c.push_dump_fault.result (faulty_after c.args.recorder.now c.args.dump.now fault found)
 
 pub returns-in-Err-Order-clause-reply : goal.returns-in-Err-Order-clause-reply
 returns-in-Err-Order-clause-reply g c =
@@ -59,7 +59,7 @@ returns-in-Err-Order-clause-reply g c =
     c.read_dump.ensures.faulty c.read_dump.ensures.faultless in
     on_ok_weaker c.push_dump_fault-in-Err-Order.result
     (λ is. is ∙ ap (λ (line : ℕ). c.args.reply.now.items ++ dump_fault_text (Order line)) c.in-Err-Order.line-is
-    ∙ ap (λ (text : List ℕ). c.args.reply.now.items ++ text) (faulty_reply {A = g.row.A.Denot} c.args.recorder.now c.args.dump.now fault found))
+    ∙ ap (λ (text : List ℕ). c.args.reply.now.items ++ text) (faulty_reply c.args.recorder.now c.args.dump.now fault found))
     c.push_dump_fault-in-Err-Order.ensures
 
 pub returns-in-Err-Order-clause-after : goal.returns-in-Err-Order-clause-after
@@ -68,4 +68,4 @@ returns-in-Err-Order-clause-after g c =
     let found : first_fault c.args.dump.now ≡ Some fault =
     fault_is c.read_dump.result fault (first_fault c.args.dump.now) (c.in-Err-Order.is ∙ ap Err c.in-Err-Order.field-0-is) (not_order c.in-Err-Order.line)
     c.read_dump.ensures.faulty c.read_dump.ensures.faultless in
-    on_ok_always c.push_dump_fault-in-Err-Order.result (faulty_after {A = g.row.A.Denot} c.args.recorder.now c.args.dump.now fault found)
+    on_ok_always c.push_dump_fault-in-Err-Order.result (faulty_after c.args.recorder.now c.args.dump.now fault found)

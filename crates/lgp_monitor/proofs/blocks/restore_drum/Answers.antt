@@ -10,7 +10,7 @@ on_ok_always (Err e) p = tt
 
 pub returns-then-not-is_at_rest-clause-after : goal.returns-then-not-is_at_rest-clause-after
 returns-then-not-is_at_rest-clause-after g c =
-    let works : rests_at {A = g.row.A.Denot} c.args.recorder.now ≡ false = search rules in
+    let works : rests_at c.args.recorder.now ≡ false = search rules in
     on_ok_always c.push_reasoned.result
-    (not_put {A = g.row.A.Denot} c.args.recorder.now (rests_at c.args.recorder.now)
+    (not_put c.args.recorder.now (rests_at c.args.recorder.now)
     (changed_cells 0 c.args.recorder.now.standing.debugger.state.core.words c.args.drum.now) works)

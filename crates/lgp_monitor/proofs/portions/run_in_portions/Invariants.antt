@@ -6,7 +6,7 @@ abbrev pub invariant-loop-done : goal.invariant-loop-done
 invariant-loop-done g l = record {
   within : l.done ≤ l.limit;
   positive : 0 < l.portion;
-  runs : HasRun {A = g.row.A.Denot} l.initial.debugger l.debugger l.done;
+  runs : HasRun l.initial.debugger l.debugger l.done;
 }
 
 abbrev pub decreases-loop-done : goal.decreases-loop-done

@@ -1,90 +1,75 @@
 -- Where the loop ends, the run has ended so, and the text tells its orders.
-use Rattle.std.proofs.Common.{◌≡◌, ◌∙◌, ◌+◌, ℕ, ap, arith, rules, subst, sym}
-use Rattle.lgp_debugger.specs.Debugging.{Debugging}
-use Rattle.lgp_debugger.specs.declared.fault.Ran.{Ran}
-use Rattle.lgp_debugger.specs.declared.fault.Reason.TheVariants as reasons
-use Rattle.lgp_debugger.proofs.RunLemmas.{HasRun, run_begun, run_limited, run_rested, run_step, run_stopped}
-use Rattle.lgp_table.specs.After.{after}
-use Rattle.lgp_debugger.specs.Debugging.{performed}
-use Rattle.lgp_trace.proofs.Telling.{performed_begun, performed_more, performed_state, drawn_begun, drawn_more}
+use Rattle.std.proofs.Common.{◌≡◌, ◌+◌, ℕ, None, Some, arith, refl, rules, subst, true, Err, Ok}
+use Rattle.lgp_debugger.specs.Run.{IsRun}
+use Rattle.lgp_debugger.specs.declared.fault.Reason.TheVariants.{Rest, Rule}
+use Rattle.lgp_debugger.specs.declared.fault.StepFault.TheVariants.{AtRest, ClockEnd}
+use Rattle.lgp_debugger.proofs.PerformedLemmas.{performed_more}
+use Rattle.lgp_debugger.proofs.RunLemmas.{run_begun, run_limited, run_refused_at_clock_end, run_refused_at_rest, run_rested, run_step, run_stopped}
+use Rattle.lgp_trace.proofs.Telling.{at_ok, drawn_begun, drawn_more, untold_performed}
 use Rattle.lgp_trace.proofs.draw.draw_run.Goals as goal
 
--- what a run came to, with an equal debugger
-same : {A : Type 0} {d e : Debugging A} → (with_it : Debugging A → Ran × Debugging A) → d ≡ e → with_it d ≡ with_it e
-same with_it e = ap with_it e
-
--- where a debugger stands after so many orders
-state_after : {A : Type 0} (d e : Debugging A) (orders : ℕ) → e ≡ performed d orders → e.state ≡ after d.state orders
-state_after {A} d e orders stands = ap (λ (x : Debugging A). x.state) stands ∙ performed_state d orders
-
 pub loop-orders-init : goal.loop-orders-init
-loop-orders-init g c =
-    record { run = run_begun {A = g.row.A.Denot} c.args.debugger.now; stands = performed_begun {A = g.row.A.Denot} c.args.debugger.now; so_far = drawn_begun c.args.debugger.now.state c.args.text.now.items }
+loop-orders-init g c = record {
+  run = run_begun true c.args.debugger.now;
+  so_far = drawn_begun c.args.debugger.now.state c.args.text.now.items;
+}
 
 pub loop-orders-preserved : goal.loop-orders-preserved
 loop-orders-preserved g c =
-    let Goes : Debugging g.row.A.Denot → Type 0 = λ d. HasRun c.args.debugger.now d (c.loop-orders.orders + 1) in
+    let first = c.args.debugger.now in
+    let now = c.loop-orders.debugger in
+    let answer = c.draw_order-outcome.result.0 in
+    let done = c.loop-orders.orders in
+    let is : answer ≡ Ok None = search rules in
     record {
-      run = subst Goes (sym c.in-Ok-None-true.ensures.performed) (run_step {A = g.row.A.Denot} c.args.debugger.now c.loop-orders.debugger c.loop-orders.orders c.loop-orders.invariant.run (search rules) (search rules));
-      stands = performed_more {A = g.row.A.Denot} c.args.debugger.now c.loop-orders.debugger c.draw_order.new.debugger c.loop-orders.orders c.loop-orders.invariant.stands c.in-Ok-None-true.ensures.performed;
-      so_far = drawn_more {A = g.row.A.Denot} c.args.debugger.now c.loop-orders.debugger c.args.text.now.items c.loop-orders.text.items c.draw_order.new.text.items c.loop-orders.orders
-          c.loop-orders.invariant.stands c.loop-orders.invariant.so_far (c.in-Ok-None-true.ensures.told (search rules));
+      run = run_step true first now c.draw_order-outcome.new.debugger done c.args.limit c.loop-orders.invariant.run answer is c.draw_order-outcome.ensures.order;
+      so_far = drawn_more first now c.args.text.now.items c.loop-orders.text.items c.draw_order-outcome.new.text.items done
+          c.loop-orders.invariant.run.reached c.loop-orders.invariant.so_far (at_ok answer _ is c.draw_order-outcome.ensures.told c.if-not-told.false);
     }
 
-pub returns-in-Ok-Some-true-clause-ran : goal.returns-in-Ok-Some-true-clause-ran
-returns-in-Ok-Some-true-clause-ran g c =
-    run_stopped {A = g.row.A.Denot} c.args.debugger.now c.loop-orders.debugger c.loop-orders.orders c.args.limit c.in-Ok-Some-true.rule
-    c.loop-orders.invariant.run (omega arith) (search rules) (search rules) ∙ same (λ d. (record { orders = c.loop-orders.orders + 1; reason = reasons.Rule c.in-Ok-Some-true.rule }, d)) (sym c.in-Ok-Some-true.ensures.performed)
+pub returns-then-not-told-clause-performed : goal.returns-then-not-told-clause-performed
+returns-then-not-told-clause-performed g c =
+    let now = c.loop-orders.debugger in
+    performed_more c.args.debugger.now now c.draw_order-outcome.new.debugger c.loop-orders.orders c.loop-orders.invariant.run.reached
+    (untold_performed _ now.rules now c.draw_order-outcome.new.debugger c.draw_order-outcome.result.0 c.draw_order-outcome.result.1 c.draw_order-outcome.ensures.order c.draw_order-outcome.ensures.refused c.if-not-told.true)
 
-pub returns-in-Ok-Some-true-clause-told : goal.returns-in-Ok-Some-true-clause-told
-returns-in-Ok-Some-true-clause-told g c =
-    drawn_more {A = g.row.A.Denot} c.args.debugger.now c.loop-orders.debugger c.args.text.now.items c.loop-orders.text.items c.draw_order.new.text.items c.loop-orders.orders
-    c.loop-orders.invariant.stands c.loop-orders.invariant.so_far (c.in-Ok-Some-true.ensures.told (search rules))
+-- a rule has stopped it
+stopped : (g : _) (c : goal.In-Ok-Some g) → IsRun c.args.debugger.now.rules c.args.limit c.args.debugger.now c.draw_order-outcome.new.debugger
+    (Ok (record { orders = c.loop-orders.orders + 1; reason = Rule c.in-Ok-Some.rule }))
+stopped g c =
+    let is : c.draw_order-outcome.result.0 ≡ Ok (Some c.in-Ok-Some.rule) = search rules in
+    run_stopped true c.args.debugger.now c.loop-orders.debugger c.draw_order-outcome.new.debugger c.loop-orders.orders c.args.limit c.loop-orders.invariant.run
+    c.draw_order-outcome.result.0 c.in-Ok-Some.rule is c.draw_order-outcome.ensures.order c.loop-orders-test.true
 
-pub returns-in-Ok-default-false-clause-stands : goal.returns-in-Ok-default-false-clause-stands
-returns-in-Ok-default-false-clause-stands g c =
-    performed_more {A = g.row.A.Denot} c.args.debugger.now c.loop-orders.debugger c.draw_order.new.debugger c.loop-orders.orders c.loop-orders.invariant.stands (search rules)
+pub returns-in-Ok-Some-clause-ran : goal.returns-in-Ok-Some-clause-ran
+returns-in-Ok-Some-clause-ran g c = (stopped g c).ran
+
+pub returns-in-Ok-Some-clause-performed : goal.returns-in-Ok-Some-clause-performed
+returns-in-Ok-Some-clause-performed g c = (stopped g c).performed
+
+pub returns-in-Ok-Some-clause-told : goal.returns-in-Ok-Some-clause-told
+returns-in-Ok-Some-clause-told g c =
+    drawn_more c.args.debugger.now c.loop-orders.debugger c.args.text.now.items c.loop-orders.text.items c.draw_order-outcome.new.text.items c.loop-orders.orders
+    c.loop-orders.invariant.run.reached c.loop-orders.invariant.so_far (at_ok c.draw_order-outcome.result.0 _ c.in-Ok-Some.is c.draw_order-outcome.ensures.told c.if-not-told.false)
 
 pub returns-in-Err-AtRest-clause-ran : goal.returns-in-Err-AtRest-clause-ran
 returns-in-Err-AtRest-clause-ran g c =
-    run_rested {A = g.row.A.Denot} c.args.debugger.now c.loop-orders.debugger c.loop-orders.orders c.args.limit
-    c.loop-orders.invariant.run (omega arith) (search rules) ∙ same (λ d. (record { orders = c.loop-orders.orders; reason = reasons.Rest }, d)) (sym c.in-Err-AtRest.ensures.unchanged)
+    let is : c.draw_order-outcome.result.0 ≡ Err AtRest = search rules in
+    (run_refused_at_rest true c.args.debugger.now c.loop-orders.debugger c.draw_order-outcome.new.debugger c.loop-orders.orders c.args.limit c.loop-orders.invariant.run
+    c.draw_order-outcome.result.0 is c.draw_order-outcome.ensures.order c.loop-orders-test.true).ran
 
-pub returns-in-Err-ClockEnd-clause-broken_off : goal.returns-in-Err-ClockEnd-clause-broken_off
-returns-in-Err-ClockEnd-clause-broken_off g c = λ ended.
-    run_limited {A = g.row.A.Denot} c.args.debugger.now c.loop-orders.debugger c.loop-orders.orders c.loop-orders.invariant.run (search rules)
-    ∙ same (λ d. (record { orders = c.loop-orders.orders; reason = reasons.Limit }, d)) (sym c.in-Err-ClockEnd.ensures.unchanged)
+pub returns-in-Err-ClockEnd-clause-ran : goal.returns-in-Err-ClockEnd-clause-ran
+returns-in-Err-ClockEnd-clause-ran g c =
+    let is : c.draw_order-outcome.result.0 ≡ Err ClockEnd = search rules in
+    (run_refused_at_clock_end true c.args.debugger.now c.loop-orders.debugger c.draw_order-outcome.new.debugger c.loop-orders.orders c.args.limit c.loop-orders.invariant.run
+    c.draw_order-outcome.result.0 is c.draw_order-outcome.ensures.order c.loop-orders-test.true).broken_off
 
 pub returns-then-is_at_rest-clause-ran : goal.returns-then-is_at_rest-clause-ran
 returns-then-is_at_rest-clause-ran g c =
     let all : c.loop-orders.orders ≡ c.args.limit = omega arith in
-    run_rested {A = g.row.A.Denot} c.args.debugger.now c.loop-orders.debugger c.args.limit c.args.limit
-    (subst (λ (n : ℕ). HasRun {A = g.row.A.Denot} c.args.debugger.now c.loop-orders.debugger n) all c.loop-orders.invariant.run) (omega arith) (search rules)
+    (subst (λ (n : ℕ). IsRun c.args.debugger.now.rules c.args.limit c.args.debugger.now c.loop-orders.debugger (Ok (record { orders = n; reason = Rest }))) all
+    (run_rested true c.args.debugger.now c.loop-orders.debugger c.loop-orders.debugger c.loop-orders.orders c.args.limit c.loop-orders.invariant.run (omega arith) (search rules) refl)).ran
 
 pub returns-else-is_at_rest-clause-ran : goal.returns-else-is_at_rest-clause-ran
 returns-else-is_at_rest-clause-ran g c =
-    let all : c.loop-orders.orders ≡ c.args.limit = omega arith in
-    run_limited {A = g.row.A.Denot} c.args.debugger.now c.loop-orders.debugger c.args.limit
-    (subst (λ (n : ℕ). HasRun {A = g.row.A.Denot} c.args.debugger.now c.loop-orders.debugger n) all c.loop-orders.invariant.run) (search rules)
-
-pub returns-in-Ok-Some-true-clause-state : goal.returns-in-Ok-Some-true-clause-state
-returns-in-Ok-Some-true-clause-state g c =
-    state_after {A = g.row.A.Denot} c.args.debugger.now c.draw_order.new.debugger (c.loop-orders.orders + 1)
-    (performed_more {A = g.row.A.Denot} c.args.debugger.now c.loop-orders.debugger c.draw_order.new.debugger c.loop-orders.orders c.loop-orders.invariant.stands c.in-Ok-Some-true.ensures.performed)
-
-pub returns-in-Err-AtRest-clause-state : goal.returns-in-Err-AtRest-clause-state
-returns-in-Err-AtRest-clause-state g c =
-    state_after {A = g.row.A.Denot} c.args.debugger.now c.draw_order.new.debugger c.loop-orders.orders
-    (c.in-Err-AtRest.ensures.unchanged ∙ c.loop-orders.invariant.stands)
-
-pub returns-then-is_at_rest-clause-state : goal.returns-then-is_at_rest-clause-state
-returns-then-is_at_rest-clause-state g c =
-    let all : c.loop-orders.orders ≡ c.args.limit = omega arith in
-    state_after {A = g.row.A.Denot} c.args.debugger.now c.loop-orders.debugger c.args.limit
-    (subst (λ (n : ℕ). c.loop-orders.debugger ≡ performed c.args.debugger.now n) all c.loop-orders.invariant.stands)
-
-pub returns-else-is_at_rest-clause-state : goal.returns-else-is_at_rest-clause-state
-returns-else-is_at_rest-clause-state g c =
-    let all : c.loop-orders.orders ≡ c.args.limit = omega arith in
-    state_after {A = g.row.A.Denot} c.args.debugger.now c.loop-orders.debugger c.args.limit
-    (subst (λ (n : ℕ). c.loop-orders.debugger ≡ performed c.args.debugger.now n) all c.loop-orders.invariant.stands)
+    (run_limited true c.args.debugger.now c.loop-orders.debugger c.loop-orders.debugger c.loop-orders.orders c.args.limit c.loop-orders.invariant.run (omega arith) (search rules) refl).ran

@@ -10,11 +10,11 @@ use Rattle.lgp_monitor.specs.declared.typed.Typed.{Typed}
 use Rattle.lgp_monitor.proofs.monitor.MonitorLaboratoryAnswers.answer.Goals as goal
 
 -- what is asked by a line of which this was kept
-asked : {A : Type 0} (inside self : Recorded (Standing A)) (stands : Standing A) (kept : Kept) (text : List ℕ) (typed : Typed) → inside ≡ self → kept ≡ kept_of text → stands ≡ inside.standing
+asked : (inside self : Recorded Standing) (stands : Standing) (kept : Kept) (text : List ℕ) (typed : Typed) → inside ≡ self → kept ≡ kept_of text → stands ≡ inside.standing
     → typed ≡ typed_of (is_some stands.opened) (labels_of stands.source) stands.debugger.state.core.panel.counter kept → typed ≡ typed_at self text
 unfolding typed_at
 asked {A} inside self stands kept text typed same is_kept standing is =
-    is ∙ (ap (λ (s : Standing A). typed_of (is_some s.opened) (labels_of s.source) s.debugger.state.core.panel.counter kept) (standing ∙ ap (λ (r : Recorded (Standing A)). r.standing) same)
+    is ∙ (ap (λ (s : Standing). typed_of (is_some s.opened) (labels_of s.source) s.debugger.state.core.panel.counter kept) (standing ∙ ap (λ (r : Recorded Standing). r.standing) same)
     ∙ ap (λ (k : Kept). typed_of (is_some self.standing.opened) (labels_of self.standing.source) self.standing.debugger.state.core.panel.counter k) is_kept)
 
 pub returns-clause-reply : goal.returns-clause-reply
@@ -23,7 +23,7 @@ returns-clause-reply g c = λ text kept.
     let typed : c.typed_at-typed.result ≡ typed_at c.args.self.now text = asked c.self.inside.recorder c.args.self.now c.answers.result.now c.args.line.now text c.typed_at-typed.result c.self.view_is kept c.answers.ensures c.typed_at-typed.ensures in
     let inside : c.typed_at-typed.result ≡ typed_at c.self.inside.recorder text = asked c.self.inside.recorder c.self.inside.recorder c.answers.result.now c.args.line.now text c.typed_at-typed.result refl kept c.answers.ensures c.typed_at-typed.ensures in
     on_ok_weaker c.perform.result
-    (λ is. is ∙ (ap (λ (r : Recorded (Standing g.row.A.Denot)). c.args.reply.now.items ++ reply_of r c.typed_at-typed.result c.args.line.now) c.self.view_is
+    (λ is. is ∙ (ap (λ (r : Recorded Standing). c.args.reply.now.items ++ reply_of r c.typed_at-typed.result c.args.line.now) c.self.view_is
     ∙ (ap (λ (t : Typed). c.args.reply.now.items ++ reply_of c.args.self.now t c.args.line.now) typed
     ∙ ap (λ (k : Kept). c.args.reply.now.items ++ reply_of c.args.self.now (typed_at c.args.self.now text) k) kept)))
     (c.perform.ensures.reply text kept inside)
@@ -34,7 +34,7 @@ returns-clause-after g c = λ text kept.
     let typed : c.typed_at-typed.result ≡ typed_at c.args.self.now text = asked c.self.inside.recorder c.args.self.now c.answers.result.now c.args.line.now text c.typed_at-typed.result c.self.view_is kept c.answers.ensures c.typed_at-typed.ensures in
     let inside : c.typed_at-typed.result ≡ typed_at c.self.inside.recorder text = asked c.self.inside.recorder c.self.inside.recorder c.answers.result.now c.args.line.now text c.typed_at-typed.result refl kept c.answers.ensures c.typed_at-typed.ensures in
     on_ok_weaker c.perform.result
-    (λ is. is ∙ (ap (λ (r : Recorded (Standing g.row.A.Denot)). after_meaning script_language opening_standing r (meaning_of c.typed_at-typed.result c.args.line.now)) c.self.view_is
+    (λ is. is ∙ (ap (λ (r : Recorded Standing). after_meaning script_language opening_standing r (meaning_of c.typed_at-typed.result c.args.line.now)) c.self.view_is
     ∙ (ap (λ (t : Typed). after_meaning script_language opening_standing c.args.self.now (meaning_of t c.args.line.now)) typed
     ∙ ap (λ (k : Kept). after_meaning script_language opening_standing c.args.self.now (meaning_of (typed_at c.args.self.now text) k)) kept)))
     (c.perform.ensures.after text kept inside)

@@ -22,5 +22,5 @@ returns-clause-told_to_end g c =
     both_err c.draw_run-outcome.result _ _ _
     (λ fault told stands clock. pictured_all c.args._names.now c.look.result.clock c.look-2.result.clock c.args.debugger.now.state c.draw_run-outcome.new.debugger.state fault.orders c.args.text.now.items c.push_rows_begun.new.text.items
     c.draw_run-outcome.new.text.items c.push_rows_ended.new.text.items (ap (λ (l : Look). l.clock) c.look.ensures) (ap (λ (l : Look). l.clock) c.look-2.ensures) begun (told clock)
-    (ap (λ (d : Debugging g.row.A.Denot). d.state) stands ∙ performed_state {A = g.row.A.Denot} c.args.debugger.now fault.orders) ended)
+    (ap (λ (d : Debugging). d.state) stands ∙ performed_state c.args.debugger.now fault.orders) ended)
     c.draw_run-outcome.ensures.told_to_end c.draw_run-outcome.ensures.stands
