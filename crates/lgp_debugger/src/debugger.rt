@@ -6,7 +6,7 @@ ghost use Rattle.lgp_table.specs.Console.{is_at_rest, is_live};
 ghost use Rattle.lgp_table.specs.Interleaving.{at_boundary};
 ghost use Rattle.lgp_machine.specs.Answers.{clock_end};
 ghost use Rattle.lgp_machine.specs.Look.{look_of};
-ghost use Rattle.lgp_history.specs.Step.{Idle, Mount, Perform, Press, Put, plain};
+ghost use Rattle.lgp_history.specs.Step.{Idle, Mount, Perform, Press, Put};
 ghost use Rattle.lgp_history.specs.Hits.{last_hit};
 ghost use Rattle.lgp_history.specs.Origins.{latest_change};
 ghost use Rattle.lgp_history.specs.Steps.{Leads, orders_in};

@@ -2,6 +2,7 @@
 
 ghost use Rattle.std.specs.Prelude.{◌≡◌, ◌≤◌, IsTrue, IfOk, OnOk, OnErr};
 ghost use Rattle.lgp_table.specs.Interleaving.{at_boundary};
+ghost use Rattle.lgp_history.specs.Step.{plain};
 ghost use Rattle.lgp_history.specs.Steps.{CanStep, stepped};
 
 mod growths;
@@ -97,7 +98,7 @@ fn checkpointing<A: Allocator + Copy>(
 /// Whether a step can be taken.
 fn can_step<A: Allocator>(machine: &Machine<A>, step: &Step<A>) -> bool
     requires { machine.now ≡ at_boundary machine.now.state }
-    ensures { IsTrue result → CanStep step.now machine.now.state }
+    ensures { IsTrue result → CanStep (plain step.now) machine.now.state }
 {
     let (Some(ahead), Some(look)) = (machine.ahead(), machine.look()) else {
         return false;
@@ -120,8 +121,9 @@ fn can_step<A: Allocator>(machine: &Machine<A>, step: &Step<A>) -> bool
 /// Takes a step that can be taken, without keeping it.
 fn do_step<A: Allocator + Clone>(machine: &mut Machine<A>, step: &Step<A>) -> Result<(), AllocError>
     requires boundary { machine.old ≡ at_boundary machine.old.state }
-    requires possible { CanStep step.now machine.old.state }
-    ensures done { OnOk result (machine.new ≡ at_boundary (stepped step.now machine.old.state)) }
+    requires possible { CanStep (plain step.now) machine.old.state }
+    ensures done { OnOk result
+        (machine.new ≡ at_boundary (stepped (plain step.now) machine.old.state)) }
     ensures unchanged { OnErr result (machine.new ≡ machine.old) }
 {
     let done = match step {
