@@ -18,7 +18,8 @@ use Rattle.lgp_assembler.specs.declared.refusal.FaultKind.TheVariants.{BadOperan
 use Rattle.lgp_assembler.specs.declared.refusal.FaultKind.TheVariants.{OutOfRange, PastEnd}
 use Rattle.lgp_assembler.specs.declared.refusal.FaultKind.TheVariants.{InLoader, PlaceTaken, NoEnd}
 use Rattle.lgp_assembler.specs.Operations.{least_operands, most_operands}
-use Rattle.lgp_assembler.specs.Operands.{is_name, meaning_under}
+use Rattle.lgp_assembler.specs.AddressOperands.{is_name}
+use Rattle.lgp_assembler.specs.Operands.{meaning_under}
 use Rattle.lgp_assembler.specs.Fields.{LineFields}
 use Rattle.lgp_assembler.specs.Parts.{drum_size, is_loaders}
 use Rattle.lgp_assembler.specs.Places.{has_word, place_of, has_ended, names_of, is_taken}

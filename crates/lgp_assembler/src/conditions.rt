@@ -7,9 +7,10 @@ ghost use Rattle.lgp_assembler.specs.Parts.{is_loaders};
 ghost use Rattle.lgp_assembler.specs.FieldsSeenInside.{fields_seen};
 ghost use Rattle.lgp_assembler.specs.ScanInside.{rows};
 
+use crate::address_operands::is_name;
 use crate::line_fields::Fields;
 use crate::name_table::{NameValues, Names};
-use crate::operands::{Meaning, OperandFault, is_name, meaning_of};
+use crate::operands::{Meaning, OperandFault, meaning_of};
 use crate::operations::Operation;
 use crate::output::LOADER_PLACES;
 use crate::passes::Scan;

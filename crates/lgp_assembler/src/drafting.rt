@@ -10,10 +10,11 @@ ghost use Rattle.lgp_assembler.specs.Image.{all_lines};
 ghost use Rattle.lgp_assembler.specs.Places.{has_word};
 ghost use Rattle.lgp_assembler.specs.ScanInside.{ArePlacesTaken, coming_fault, CellFits, IfCell, SymbolFits, symbol_at, IsDraftOf};
 
+use crate::address_operands::in_range;
 use crate::conditions::{fault_of, line_meaning};
 use crate::line_fields::{Fields, fields_of};
 use crate::name_table::Names;
-use crate::operands::{Meaning, OperandFault, in_range};
+use crate::operands::{Meaning, OperandFault};
 use crate::operations::Operation;
 use crate::output::{Name, Parts};
 use crate::passes::Scan;

@@ -7,6 +7,7 @@ ghost use Rattle.lgp_assembler.specs.Faults.{end_fault};
 ghost use Rattle.lgp_assembler.specs.Image.{faults_of, image_of};
 ghost use Rattle.lgp_assembler.specs.Parts.{AreProgramCells, HaveOwnPlaces};
 
+pub use address_operands::address_operand;
 use drafting::{Draft, draft_source};
 pub use laws::{
     cells_have_own_places, faults_follow_lines, lines_have_cells, names_are_first_places,
@@ -14,18 +15,20 @@ pub use laws::{
 };
 pub use line_fields::has_word;
 pub use name_table::NameValues;
-pub use operands::{OperandFault, address_operand};
+pub use operands::OperandFault;
 pub use output::{Image, LOADER_PLACES, Name};
 use passes::scan_source;
 pub use patch::{Symbols, operation_word};
 pub use refusal::{AssembleError, Fault, FaultKind, FaultList};
 use std::alloc::{AllocError, Allocator};
 
+mod address_operands;
 mod conditions;
 mod drafting;
 mod laws;
 mod line_fields;
 mod name_table;
+mod numbers;
 mod operands;
 mod operations;
 mod output;
