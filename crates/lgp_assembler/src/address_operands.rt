@@ -6,7 +6,7 @@ ghost use Rattle.lgp_assembler.specs.AddressOperands as spec;
 
 use crate::name_table::NameValues;
 use crate::operands::OperandFault;
-use crate::output::NAME_LIMIT;
+use crate::output::{DRUM_SIZE, NAME_LIMIT};
 use lgp_word::{Address, read_decimal};
 
 /// What stands behind the base of an address operand.
@@ -88,7 +88,7 @@ fn base_number<N: NameValues>(names: &N, place: u64, base: &[u8]) -> Result<u64,
 pub fn in_range(number: u64) -> Result<Address, OperandFault>
     ensures { result ≡ spec.in_range number }
 {
-    if number >= 4096 {
+    if number >= DRUM_SIZE {
         return Err(OperandFault::Outside);
     }
     Address::new(number as u16).ok_or(OperandFault::Outside)

@@ -16,7 +16,7 @@ use crate::line_fields::{Fields, fields_of};
 use crate::name_table::Names;
 use crate::operands::{Meaning, OperandFault};
 use crate::operations::Operation;
-use crate::output::{Name, Parts};
+use crate::output::{DRUM_SIZE, Name, Parts};
 use crate::passes::Scan;
 use crate::refusal::{Fault, FaultKind};
 use crate::taken_places::{is_taken, none_taken, take_place};
@@ -85,7 +85,7 @@ fn add_symbol<A: Allocator>(
     let Some(label) = label else {
         return Ok(());
     };
-    if place > 4096 {
+    if place > DRUM_SIZE {
         return Ok(());
     }
     let Some(name) = Name::new(label) else {
