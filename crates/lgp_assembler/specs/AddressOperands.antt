@@ -1,5 +1,7 @@
--- Part of the public promise: names, and what address operands stand for. This project's own choice.
-use Rattle.std.specs.Prelude.{ℕ, ◌+◌, ◌-◌, ◌==◌, ◌&&◌, ◌||◌, nat_le, nat_lt, Bool, false, if◌then◌else◌}
+-- Part of the public promise: names, and what address operands stand for. This project's own
+-- choice.
+use Rattle.std.specs.Prelude.{ℕ, ◌+◌, ◌-◌, ◌==◌, ◌&&◌, ◌||◌, nat_le, nat_lt, Bool, false}
+use Rattle.std.specs.Prelude.{if◌then◌else◌}
 use Rattle.std.specs.Prelude.{List, length, take, drop, codes, slice_index}
 use Rattle.std.specs.Prelude.{Option, None, Some, option_map, Result, Ok, Err, ok_or}
 use Rattle.std.specs.Str.{bytes_eq}
@@ -11,7 +13,8 @@ use Rattle.lgp_word.specs.Digits.{address_text}
 use Rattle.lgp_assembler.specs.Parts.{drum_size}
 use Rattle.lgp_assembler.specs.declared.address_operands.Offset.{Offset}
 use Rattle.lgp_assembler.specs.declared.operands.OperandFault.{OperandFault}
-use Rattle.lgp_assembler.specs.declared.operands.OperandFault.TheVariants.{Misformed, Unknown, Outside}
+use Rattle.lgp_assembler.specs.declared.operands.OperandFault.TheVariants.{Misformed, Unknown}
+use Rattle.lgp_assembler.specs.declared.operands.OperandFault.TheVariants.{Outside}
 
 -- ---- names
 

@@ -32,9 +32,9 @@ rows line meaning place ended names taken = fault_rows (record {
   line = line;
   place = place;
   meaning = meaning;
-  ended = ended;
+  is_behind_end = ended;
   names = names;
-  taken = taken;
+  is_place_taken = taken;
 })
 
 -- the fault of the line that comes, by the places that are taken
