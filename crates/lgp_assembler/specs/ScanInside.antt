@@ -13,6 +13,8 @@ use Rattle.lgp_assembler.specs.Faults.{fault_rows, first_kind, faults_in}
 use Rattle.lgp_assembler.specs.Image.{cells_in, start_in}
 use Rattle.lgp_assembler.specs.Places.{next_place, has_ended, names_of, is_taken}
 
+-- what is kept of some lines: how many they are, the place that they lead to, whether an end line
+-- is among them, and their names
 pub record Stands (lines place : ℕ) (ended : Bool) (names : List (List ℕ × ℕ))
     (earlier : List LineFields) : Type 0 where
   pub lines_are : lines ≡ length earlier
