@@ -210,8 +210,8 @@ pub fn draft_source<'a, A: Allocator + Copy>(
         IfOk result (λ draft. IsDraftOf names.now draft.faults.items
         draft.parts.cells.items draft.parts.start draft.parts.symbols.items lines) }
 {
-    let mut scan = Scan::new(alloc);
     let mut draft = Draft::new(alloc)?;
+    let mut scan = Scan::new(alloc);
     for line in Lines::new(source) {
         let fields = fields_of(&line);
         let place = scan.place_of(&fields);
