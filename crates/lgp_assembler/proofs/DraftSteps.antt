@@ -16,7 +16,8 @@ use Rattle.lgp_assembler.specs.declared.operands.OperandFault.{OperandFault}
 use Rattle.lgp_assembler.specs.declared.refusal.Fault.{Fault}
 use Rattle.lgp_assembler.specs.declared.refusal.FaultKind.{FaultKind}
 use Rattle.lgp_word.specs.Word.{IsWord}
-use Rattle.lgp_assembler.specs.Parts.{drum_size, is_loaders, AreProgramCells}
+use Rattle.lgp_word.specs.Drum.{drum_size}
+use Rattle.lgp_assembler.specs.Parts.{is_loaders, AreProgramCells}
 use Rattle.lgp_assembler.specs.Operations.{makes_word}
 use Rattle.lgp_assembler.specs.AddressOperands.{is_name}
 use Rattle.lgp_assembler.specs.Operands.{meaning_under, meaning_of, place_meaning}

@@ -10,7 +10,7 @@ use Rattle.std.specs.List.{list_all, position_or_len}
 use Rattle.std.specs.Map.{lookup}
 use Rattle.lgp_word.specs.Decimal.{decimal_number}
 use Rattle.lgp_word.specs.Digits.{address_text}
-use Rattle.lgp_assembler.specs.Parts.{drum_size}
+use Rattle.lgp_word.specs.Drum.{drum_size}
 use Rattle.lgp_assembler.specs.declared.address_operands.Offset.{Offset}
 use Rattle.lgp_assembler.specs.declared.operands.OperandFault.{OperandFault}
 use Rattle.lgp_assembler.specs.declared.operands.OperandFault.TheVariants.{Misformed, Unknown}

@@ -21,7 +21,8 @@ use Rattle.lgp_assembler.specs.Operations.{least_operands, most_operands}
 use Rattle.lgp_assembler.specs.AddressOperands.{is_name}
 use Rattle.lgp_assembler.specs.Operands.{meaning_under}
 use Rattle.lgp_assembler.specs.Fields.{LineFields}
-use Rattle.lgp_assembler.specs.Parts.{drum_size, is_loaders}
+use Rattle.lgp_word.specs.Drum.{drum_size}
+use Rattle.lgp_assembler.specs.Parts.{is_loaders}
 use Rattle.lgp_assembler.specs.Places.{has_word, place_of, has_ended, names_of, is_taken}
 
 -- ---- the conditions of the table

@@ -5,6 +5,7 @@ use Rattle.std.specs.Prelude.{slice_index, Option, None, Some, Result, Ok, Err, 
 use Rattle.std.specs.Prelude.{ℤ, pos, ◌*ℤ◌}
 use Rattle.lgp_word.specs.declared.order.Op.{Op}
 use Rattle.lgp_word.specs.declared.order.Op.TheVariants.{P, T}
+use Rattle.lgp_word.specs.Drum.{track_size}
 use Rattle.lgp_word.specs.Order.{order_word}
 use Rattle.lgp_word.specs.Decimal.{decimal_number}
 use Rattle.lgp_word.specs.Digits.{address_text, word_of_digits}
@@ -34,7 +35,7 @@ cell_of_order minus op (Err fault) = Err fault
 -- `=` and one sign: the p that prints the sign's code, which is its track
 abbrev pub cell_of_sign : Option ℕ → Result Meaning OperandFault
 cell_of_sign (Some code) =
-    Ok (Cell (order_word (record { minus = false; op = P; address = 64 * code })))
+    Ok (Cell (order_word (record { minus = false; op = P; address = track_size * code })))
 cell_of_sign None = Err Misformed
 
 abbrev pub sign_operand : Op → List ℕ → Result Meaning OperandFault

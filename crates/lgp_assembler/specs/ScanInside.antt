@@ -8,7 +8,8 @@ use Rattle.lgp_assembler.specs.declared.operands.OperandFault.{OperandFault}
 use Rattle.lgp_assembler.specs.declared.refusal.Fault.{Fault}
 use Rattle.lgp_assembler.specs.declared.refusal.FaultKind.{FaultKind}
 use Rattle.lgp_assembler.specs.Fields.{LineFields}
-use Rattle.lgp_assembler.specs.Parts.{AreProgramCells, drum_size}
+use Rattle.lgp_word.specs.Drum.{drum_size}
+use Rattle.lgp_assembler.specs.Parts.{AreProgramCells}
 use Rattle.lgp_assembler.specs.Faults.{fault_rows, first_kind, faults_in}
 use Rattle.lgp_assembler.specs.Image.{cells_in, start_in}
 use Rattle.lgp_assembler.specs.Places.{next_place, has_ended, names_of, is_taken}

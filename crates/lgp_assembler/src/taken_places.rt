@@ -1,7 +1,7 @@
 //! The places of the drum that are taken: words of the lines so far lie there.
 
 ghost use Rattle.std.specs.Prelude.{◌≡◌, ℕ, false, true, slice_index_or, slice_set, IfOk, length};
-ghost use Rattle.lgp_assembler.specs.Parts.{drum_size};
+ghost use Rattle.lgp_word.specs.Drum.{drum_size};
 
 use crate::output::DRUM_SIZE;
 use std::alloc::{AllocError, Allocator};
