@@ -25,10 +25,11 @@ use Rattle.lgp_assembler.specs.declared.operations.Operation.{Operation}
 use Rattle.lgp_assembler.specs.declared.operations.Operation.TheVariants.{Order, MinusT, Org, Word, Frac, Int, End}
 use Rattle.lgp_assembler.specs.declared.operands.Meaning.{Meaning}
 use Rattle.lgp_assembler.specs.declared.operands.Meaning.TheVariants.{Cell, Place, Nothing}
-use Rattle.lgp_assembler.specs.declared.operands.Offset.{Offset}
+use Rattle.lgp_assembler.specs.declared.address_operands.Offset.{Offset}
 use Rattle.lgp_assembler.specs.declared.operands.OperandFault.{OperandFault}
 use Rattle.lgp_assembler.specs.declared.operands.OperandFault.TheVariants.{Misformed, Outside}
-use Rattle.lgp_assembler.specs.Operands.{meaning_under, address_operand, base_number, cell_of_fraction, cell_of_order, cell_of_digits, in_range, integer_word, is_sign, meaning_of, address_of_parts, offset_of, order_operand, place_meaning, cell_of_sign, scaled_word, sign_operand, unsigned_part, word_of_parts}
+use Rattle.lgp_assembler.specs.AddressOperands.{address_operand, base_number, in_range, is_sign, address_of_parts, offset_of}
+use Rattle.lgp_assembler.specs.Operands.{meaning_under, cell_of_fraction, cell_of_order, cell_of_digits, integer_word, meaning_of, order_operand, place_meaning, cell_of_sign, scaled_word, sign_operand, unsigned_part, word_of_parts}
 use Rattle.lgp_assembler.specs.Fields.{LineFields}
 use Rattle.lgp_assembler.specs.Faults.{line_meaning}
 use Rattle.lgp_assembler.specs.Image.{cell_at, cells_in, start_at, start_in}

@@ -16,9 +16,11 @@ use Rattle.lgp_assembler.specs.declared.operands.OperandFault.{OperandFault}
 use Rattle.lgp_assembler.specs.declared.refusal.Fault.{Fault}
 use Rattle.lgp_assembler.specs.declared.refusal.FaultKind.{FaultKind}
 use Rattle.lgp_word.specs.Word.{IsWord}
-use Rattle.lgp_assembler.specs.Parts.{drum_size, is_loaders, AreProgramCells}
+use Rattle.lgp_word.specs.Drum.{drum_size}
+use Rattle.lgp_assembler.specs.Parts.{is_loaders, AreProgramCells}
 use Rattle.lgp_assembler.specs.Operations.{makes_word}
-use Rattle.lgp_assembler.specs.Operands.{meaning_under, is_name, meaning_of, place_meaning}
+use Rattle.lgp_assembler.specs.AddressOperands.{is_name}
+use Rattle.lgp_assembler.specs.Operands.{meaning_under, meaning_of, place_meaning}
 use Rattle.lgp_assembler.specs.Fields.{LineFields}
 use Rattle.lgp_assembler.specs.Places.{option_makes_word, has_word, word_count, org_address, next_place, place_reached, place_of, has_ended, new_label, names_of}
 use Rattle.lgp_assembler.specs.Faults.{says_something, is_bad_label, is_label_again, line_meaning, first_kind, numbered_fault, faults_in}

@@ -1,40 +1,13 @@
 -- The law on the faults of a source.
-use Rattle.std.proofs.Common.{◌≡◌, ◌⊎◌, ◌++◌, ◌&&◌, ◌||◌, ◌==◌, ℕ, true, List, [], ◌∷◌, refl, sym, ap, ◌∙◌, inl, inr, ⊎_elim}
+use Rattle.std.proofs.Common.{◌≡◌, ◌⊎◌, ◌++◌, ◌&&◌, ◌||◌, ◌==◌, ℕ, true, List, [], ◌∷◌, length, arith, refl, sym, ap, ◌∙◌, inl, inr, ⊎_elim}
 use Rattle.std.proofs.Math.Bool.{or-true}
 use Rattle.std.proofs.lemmas.Bool.{and_from, and_parts, eq-eqb, eqb-true, or_cases, true≢false}
 use Rattle.lgp_assembler.specs.Fields.{LineFields}
-use Rattle.lgp_assembler.specs.Places.{has_ended, has_word, is_end, is_taken, place_of}
-use Rattle.lgp_assembler.specs.Faults.{fault_of, faults_in}
+use Rattle.lgp_assembler.specs.Places.{has_ended, has_word, is_taken, place_of}
+use Rattle.lgp_assembler.specs.Faults.{end_fault, fault_of, faults_in}
 use Rattle.lgp_assembler.specs.Image.{all_lines, image_of, passed_lines}
-use Rattle.lgp_assembler.specs.Laws.{FaultsFollowLines, HasEndLine, HasWordAt}
-use Rattle.lgp_assembler.proofs.PlaceLaws.{passed-append}
-
--- ---- an end line among some lines behind others
-
-ended_from : (earlier lines : List LineFields) → has_ended (passed_lines earlier lines) ≡ true → (has_ended earlier ≡ true) ⊎ HasEndLine lines
-unfolding has_ended
-ended_from earlier [] ended = inl ended
-ended_from earlier (line ∷ lines) ended = ⊎_elim
-    (λ so_far. ⊎_elim
-    (λ own. inr (inl own))
-    (λ before. inl before)
-    (or_cases (is_end line.operation) (has_ended earlier) so_far))
-    (λ behind. inr (inr behind))
-    (ended_from (line ∷ earlier) lines ended)
-
-ended_stays : (earlier lines : List LineFields) → has_ended earlier ≡ true → has_ended (passed_lines earlier lines) ≡ true
-unfolding has_ended
-ended_stays earlier [] ended = ended
-ended_stays earlier (line ∷ lines) ended =
-    ended_stays (line ∷ earlier) lines (ap (λ b. is_end line.operation || b) ended ∙ or-true (is_end line.operation))
-
-ended_to : (earlier lines : List LineFields) → HasEndLine lines → has_ended (passed_lines earlier lines) ≡ true
-unfolding has_ended
-ended_to earlier [] none = absurd none
-ended_to earlier (line ∷ lines) among = ⊎_elim
-    (λ own. ended_stays (line ∷ earlier) lines (ap (λ b. b || has_ended earlier) own))
-    (λ behind. ended_to (line ∷ earlier) lines behind)
-    among
+use Rattle.lgp_assembler.specs.Laws.{first_faults, lines_in, FaultsFollowLines, HasWordAt}
+use Rattle.lgp_assembler.proofs.PlaceLaws.{has_ended-in_order, length-passed, passed-append}
 
 -- ---- a line with a word at a place, among some lines behind others
 
@@ -100,18 +73,16 @@ taken_by place lines among =
 -- ---- the law
 
 pub faults_law : FaultsFollowLines
-unfolding faults_in fault_of all_lines has_ended
+unfolding faults_in fault_of all_lines
 faults_law = record {
   none = λ source. refl;
   more = λ source before line. ap (faults_in (image_of source).symbols) (passed-append [] before (line ∷ []));
-  all = λ source. refl;
+  all = λ source.
+      let lines = lines_in source in
+      let told = first_faults source lines in
+      ap (λ ended. told ++ end_fault ended (length (passed_lines [] lines))) (has_ended-in_order lines)
+      ∙ ap (λ count. told ++ end_fault (has_ended lines) count) (length-passed [] lines ∙ omega arith);
   first_row = λ source before line. refl;
-  ended = λ source before line. (
-    λ ended. ⊎_elim (λ none. absurd (true≢false (sym none))) (λ among. among) (ended_from [] before ended),
-    λ among. ended_to [] before among,
-  );
-  taken = λ source before line. (
-    λ taken. word_among _ before taken,
-    λ among. taken_by _ before among,
-  );
+  behind_end = λ source before line. has_ended-in_order before;
+  place_taken = λ source before line. (λ taken. word_among _ before taken, λ among. taken_by _ before among);
 }

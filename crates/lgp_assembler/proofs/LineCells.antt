@@ -17,7 +17,8 @@ use Rattle.lgp_assembler.specs.declared.operands.Meaning.TheVariants.{Cell, Plac
 use Rattle.lgp_assembler.specs.declared.operands.OperandFault.{OperandFault}
 use Rattle.lgp_assembler.specs.declared.operands.OperandFault.TheVariants.{Misformed, Unknown, Outside}
 use Rattle.lgp_assembler.specs.Operations.{makes_word}
-use Rattle.lgp_assembler.specs.Operands.{meaning_under, cell_of_order, cell_of_sign, sign_operand, order_operand, address_operand, scaled_word, word_of_parts, integer_word, unsigned_part, cell_of_fraction, cell_of_digits, place_meaning, meaning_of}
+use Rattle.lgp_assembler.specs.AddressOperands.{address_operand}
+use Rattle.lgp_assembler.specs.Operands.{meaning_under, cell_of_order, cell_of_sign, sign_operand, order_operand, scaled_word, word_of_parts, integer_word, unsigned_part, cell_of_fraction, cell_of_digits, place_meaning, meaning_of}
 use Rattle.lgp_assembler.specs.Fields.{LineFields}
 use Rattle.lgp_assembler.specs.Places.{option_makes_word, has_word, place_of, has_ended, names_of, is_taken}
 use Rattle.lgp_assembler.specs.ScanInside.{rows}

@@ -1,10 +1,11 @@
 -- The laws on places and names.
-use Rattle.std.proofs.Common.{◌≡◌, ◌+◌, ◌++◌, ◌||◌, ℕ, Bool, true, false, cond, List, [], ◌∷◌, Option, None, Some, refl, sym, ap, ◌∙◌, arith, ⊎_elim, is_some, unwrap_or, option_to_list}
+use Rattle.std.proofs.Common.{◌≡◌, ◌≢◌, length, ◌+◌, ◌++◌, ◌||◌, ℕ, Bool, true, false, cond, List, [], ◌∷◌, Option, None, Some, refl, sym, ap, ◌∙◌, arith, ⊎_elim, is_some, unwrap_or, option_to_list}
 use Rattle.std.specs.Option.{option_or}
 use Rattle.std.specs.Str.{bytes_eq}
 use Rattle.std.specs.Map.{lookup}
 use Rattle.std.proofs.lemmas.Bool.{cond-true, cond-false, false_from_ne_true}
 use Rattle.std.proofs.lemmas.List.{append-nil}
+use Rattle.std.proofs.lemmas.List.Elements.{All-head, All-tail}
 use Rattle.std.proofs.lemmas.List.Sums.{fold-append}
 use Rattle.std.proofs.lemmas.Option.{none-some}
 use Rattle.std.proofs.lemmas.Slice.Eq.{bytes_eq-Decides}
@@ -20,14 +21,39 @@ use Rattle.lgp_assembler.specs.Laws.{org_of, HasNoOrg, word_total, PlacesCountFr
 pub passed-append : (earlier one other : List LineFields) → passed_lines earlier (one ++ other) ≡ passed_lines (passed_lines earlier one) other
 passed-append earlier one other = fold-append (λ before line. line ∷ before) earlier one other
 
+-- whether an end line is among some lines does not depend on their order
+ended-swapped : (a b c : Bool) → ((a || b) || c) ≡ (b || (a || c))
+ended-swapped true true c = refl
+ended-swapped true false c = refl
+ended-swapped false true c = refl
+ended-swapped false false c = refl
+
+or_none : (b : Bool) → b ≡ (b || false)
+or_none true = refl
+or_none false = refl
+
+has_ended-passed : (earlier lines : List LineFields) → has_ended (passed_lines earlier lines) ≡ (has_ended earlier || has_ended lines)
+unfolding has_ended
+has_ended-passed earlier [] = or_none (has_ended earlier)
+has_ended-passed earlier (line ∷ lines) =
+    has_ended-passed (line ∷ earlier) lines ∙ ended-swapped (is_end line.operation) (has_ended earlier) (has_ended lines)
+
+pub has_ended-in_order : (lines : List LineFields) → has_ended (passed_lines [] lines) ≡ has_ended lines
+unfolding has_ended
+has_ended-in_order lines = has_ended-passed [] lines
+
+pub length-passed : (earlier lines : List LineFields) → length (passed_lines earlier lines) ≡ length earlier + length lines
+length-passed earlier [] = omega arith
+length-passed earlier (line ∷ lines) = length-passed (line ∷ earlier) lines ∙ omega arith
+
 -- ---- places
 
 run : (earlier between : List LineFields) → HasNoOrg between → next_place (passed_lines earlier between) ≡ next_place earlier + word_total between
 unfolding next_place
 run earlier [] none = omega arith
 run earlier (line ∷ lines) none =
-    let here : next_place (line ∷ earlier) ≡ next_place earlier + word_count line = ap (λ a. unwrap_or a (next_place earlier) + word_count line) none.0 in
-    run (line ∷ earlier) lines none.1 ∙ omega arith
+    let here : next_place (line ∷ earlier) ≡ next_place earlier + word_count line = ap (λ a. unwrap_or a (next_place earlier) + word_count line) (All-head (λ l. org_of l ≡ None) line lines none) in
+    run (line ∷ earlier) lines (All-tail (λ l. org_of l ≡ None) line lines none) ∙ omega arith
 
 no_word : (operation : Option Operation) (first : Option (List ℕ)) (address : ℕ) → org_address operation first ≡ Some address → option_makes_word operation ≡ false
 no_word (Some Org) first address e = refl
@@ -92,8 +118,8 @@ not_there name earlier [] apart none = none
 not_there name earlier (line ∷ lines) apart none =
     let added = option_to_list (new_label line.label (place_of line earlier) (has_ended earlier) (names_of earlier)) in
     let step : lookup (bytes_eq name) (names_of (line ∷ earlier)) ≡ None =
-    lookup-append name (names_of earlier) added ∙ ap (λ o. option_or o (lookup (bytes_eq name) added)) none ∙ adds_no name line.label (place_of line earlier) (has_ended earlier) (names_of earlier) apart.0 in
-    not_there name (line ∷ earlier) lines apart.1 step
+    lookup-append name (names_of earlier) added ∙ ap (λ o. option_or o (lookup (bytes_eq name) added)) none ∙ adds_no name line.label (place_of line earlier) (has_ended earlier) (names_of earlier) (All-head (λ l. l.label ≢ Some name) line lines apart) in
+    not_there name (line ∷ earlier) lines (All-tail (λ l. l.label ≢ Some name) line lines apart) step
 
 stays : (name : List ℕ) (value : ℕ) (earlier lines : List LineFields) → lookup (bytes_eq name) (names_of earlier) ≡ Some value → lookup (bytes_eq name) (names_of (passed_lines earlier lines)) ≡ Some value
 unfolding names_of
@@ -139,13 +165,13 @@ names_law = record {
       let earlier = passed_lines [] before in
       let absent = not_there name [] before apart (none_at_all name) in
       ap (λ ls. lookup (bytes_eq name) (names_of ls)) (passed-append [] before (line ∷ after))
-      ∙ stays name (place_of line earlier) (line ∷ earlier) after (itself name (place_of line earlier) (names_of earlier) line.label (has_ended earlier) is live absent);
+      ∙ stays name (place_of line earlier) (line ∷ earlier) after (itself name (place_of line earlier) (names_of earlier) line.label (has_ended earlier) is (has_ended-in_order before ∙ live) absent);
   none = λ name before after apart over.
       let earlier = passed_lines [] before in
       let absent = not_there name [] before apart (none_at_all name) in
       ap (λ ls. lookup (bytes_eq name) (names_of ls)) (passed-append [] before after)
       ∙ ⊎_elim
-      (λ ended. ap (lookup (bytes_eq name)) (after_end earlier after ended) ∙ absent)
+      (λ ended. ap (lookup (bytes_eq name)) (after_end earlier after (has_ended-in_order before ∙ ended)) ∙ absent)
       (λ empty. ap (λ ls. lookup (bytes_eq name) (names_of (passed_lines earlier ls))) empty ∙ absent)
       over;
 }

@@ -7,7 +7,8 @@ use Rattle.lgp_assembler.specs.declared.refusal.FaultKind.{FaultKind}
 use Rattle.lgp_assembler.specs.declared.refusal.FaultKind.TheVariants.{BadByte, AfterEnd, Extra, BadLabel, LabelTwice, UnknownOrder, MissingOperand, BadOperand, UnknownName, OutOfRange, PastEnd, InLoader, PlaceTaken}
 use Rattle.lgp_assembler.specs.Fields.{LineFields}
 use Rattle.lgp_assembler.specs.Places.{has_word, place_reached, place_of, has_ended, names_of, is_taken}
-use Rattle.lgp_assembler.specs.Parts.{drum_size, is_loaders}
+use Rattle.lgp_word.specs.Drum.{drum_size}
+use Rattle.lgp_assembler.specs.Parts.{is_loaders}
 use Rattle.lgp_assembler.specs.Faults.{says_something, most_allowed, least_needed, is_bad_label, is_label_again, is_misformed, is_unknown, is_out_of_range, line_meaning, first_kind, fault_of}
 use Rattle.lgp_assembler.specs.ScanInside.{rows, Stands, ArePlacesTaken, coming_fault}
 

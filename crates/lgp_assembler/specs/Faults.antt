@@ -18,9 +18,11 @@ use Rattle.lgp_assembler.specs.declared.refusal.FaultKind.TheVariants.{BadOperan
 use Rattle.lgp_assembler.specs.declared.refusal.FaultKind.TheVariants.{OutOfRange, PastEnd}
 use Rattle.lgp_assembler.specs.declared.refusal.FaultKind.TheVariants.{InLoader, PlaceTaken, NoEnd}
 use Rattle.lgp_assembler.specs.Operations.{least_operands, most_operands}
-use Rattle.lgp_assembler.specs.Operands.{is_name, meaning_under}
+use Rattle.lgp_assembler.specs.AddressOperands.{is_name}
+use Rattle.lgp_assembler.specs.Operands.{meaning_under}
 use Rattle.lgp_assembler.specs.Fields.{LineFields}
-use Rattle.lgp_assembler.specs.Parts.{drum_size, is_loaders}
+use Rattle.lgp_word.specs.Drum.{drum_size}
+use Rattle.lgp_assembler.specs.Parts.{is_loaders}
 use Rattle.lgp_assembler.specs.Places.{has_word, place_of, has_ended, names_of, is_taken}
 
 -- ---- the conditions of the table
@@ -74,17 +76,17 @@ pub record LineFacts : Type 0 where
   -- what its operands stand for there
   pub meaning : Result Meaning OperandFault
   -- whether the end line stands before it
-  pub ended : Bool
+  pub is_behind_end : Bool
   -- the names of the lines before it
   pub names : List (List ℕ × ℕ)
   -- whether a word of theirs lies at its place
-  pub taken : Bool
+  pub is_place_taken : Bool
 
 -- the conditions in order, each with its kind
 abbrev pub fault_rows : LineFacts → List (Bool × FaultKind)
 fault_rows known =
     (known.line.is_bad, BadByte)
-    ∷ (known.ended && says_something known.line, AfterEnd)
+    ∷ (known.is_behind_end && says_something known.line, AfterEnd)
     ∷ (nat_lt (most_allowed known.line.operation) known.line.count, Extra)
     ∷ (is_bad_label known.line.label, BadLabel)
     ∷ (is_label_again known.line.label known.names, LabelTwice)
@@ -95,7 +97,7 @@ fault_rows known =
     ∷ (is_out_of_range known.meaning, OutOfRange)
     ∷ (has_word known.line && nat_le drum_size known.place, PastEnd)
     ∷ (has_word known.line && is_loaders known.place, InLoader)
-    ∷ (has_word known.line && known.taken, PlaceTaken)
+    ∷ (has_word known.line && known.is_place_taken, PlaceTaken)
     ∷ []
 
 -- the kind of the first row whose condition holds
@@ -108,9 +110,9 @@ facts_of names line earlier = let place = place_of line earlier in record {
   line = line;
   place = place;
   meaning = line_meaning names place line;
-  ended = has_ended earlier;
+  is_behind_end = has_ended earlier;
   names = names_of earlier;
-  taken = is_taken place earlier;
+  is_place_taken = is_taken place earlier;
 }
 
 -- the fault of a line after those before it: the kind of the first row that holds

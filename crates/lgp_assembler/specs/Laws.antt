@@ -1,13 +1,13 @@
 -- Part of the public promise: what places, names and cells are, in the words of the source
 -- language. The lines are here in the order of the source.
-use Rattle.std.specs.Prelude.{◌≡◌, ◌⊎◌, ◌↔◌, ℕ, ◌+◌, true, false, List, [], ◌∷◌, ◌++◌, length, map}
-use Rattle.std.specs.Prelude.{Option, None, Some, option_map, option_to_list}
+use Rattle.std.specs.Prelude.{◌≡◌, ◌≢◌, ◌⊎◌, ◌↔◌, ℕ, ◌+◌, true, false, List, [], ◌∷◌, ◌++◌, length}
+use Rattle.std.specs.Prelude.{map, Option, None, Some, option_map, option_to_list}
+use Rattle.std.specs.List.{All}
 use Rattle.std.specs.Str.{bytes_eq}
 use Rattle.std.specs.Map.{lookup}
 use Rattle.lgp_source.specs.Source.{lines_of}
 use Rattle.lgp_assembler.specs.Fields.{LineFields, fields_of}
-use Rattle.lgp_assembler.specs.Places.{is_end, org_address, has_word, word_count, place_of}
-use Rattle.lgp_assembler.specs.Places.{has_ended}
+use Rattle.lgp_assembler.specs.Places.{org_address, has_word, word_count, place_of, has_ended}
 use Rattle.lgp_assembler.specs.Places.{names_of}
 use Rattle.lgp_assembler.specs.declared.refusal.Fault.{Fault}
 use Rattle.lgp_assembler.specs.declared.refusal.FaultKind.{FaultKind}
@@ -20,8 +20,7 @@ abbrev pub org_of : LineFields → Option ℕ
 org_of line = org_address line.operation line.first
 
 abbrev pub HasNoOrg : List LineFields → Type 0
-HasNoOrg [] = Unit {0}
-HasNoOrg (line ∷ lines) = (org_of line ≡ None) × HasNoOrg lines
+HasNoOrg lines = All (λ line. org_of line ≡ None) lines
 
 -- the words of some lines
 abbrev pub word_total : List LineFields → ℕ
@@ -45,26 +44,21 @@ pub record PlacesCountFromOrgs : Type 0 where
       → HasNoOrg before → org_of line ≡ None → place_after before line ≡ word_total before
 
 abbrev pub HasNotLabel : List ℕ → List LineFields → Type 0
-HasNotLabel name [] = Unit {0}
-HasNotLabel name (line ∷ lines) = (line.label ≡ Some name → ⊥) × HasNotLabel name lines
+HasNotLabel name lines = All (λ line. line.label ≢ Some name) lines
 
 -- the value of a name in some lines
 abbrev pub value_in : List LineFields → List ℕ → Option ℕ
 value_in lines name = lookup (bytes_eq name) (names_of (passed_lines [] lines))
 
--- whether the end line is among some lines
-abbrev pub HasEnd : List LineFields → Type 0
-HasEnd lines = has_ended (passed_lines [] lines) ≡ true
-
 -- a name's value is the place of the first line with that label that is not after the end line;
 -- with no such line it has none
 pub record NamesAreFirstPlaces : Type 0 where
   pub first : (name : List ℕ) (before after : List LineFields) (line : LineFields)
-      → has_ended (passed_lines [] before) ≡ false → HasNotLabel name before
+      → has_ended before ≡ false → HasNotLabel name before
       → line.label ≡ Some name
       → value_in (before ++ line ∷ after) name ≡ Some (place_after before line)
   pub none : (name : List ℕ) (before after : List LineFields)
-      → HasNotLabel name before → HasEnd before ⊎ (after ≡ [])
+      → HasNotLabel name before → (has_ended before ≡ true) ⊎ (after ≡ [])
       → value_in (before ++ after) name ≡ None
 
 -- the lines of a source
@@ -82,11 +76,6 @@ fault_behind source before line = fault_of (image_of source).symbols line (passe
 abbrev pub first_faults : List ℕ → List LineFields → List Fault
 first_faults source before = faults_in (image_of source).symbols (passed_lines [] before)
 
--- an end line is among some lines
-abbrev pub HasEndLine : List LineFields → Type 0
-HasEndLine [] = ⊥
-HasEndLine (line ∷ lines) = (is_end line.operation ≡ true) ⊎ HasEndLine lines
-
 -- one of some lines has a word, at this place
 pub record HasWordAt (lines : List LineFields) (place : ℕ) : Type 0 where
   pub before : List LineFields
@@ -99,21 +88,21 @@ pub record HasWordAt (lines : List LineFields) (place : ℕ) : Type 0 where
 -- the faults of a source, line by line: no lines have none; a line behind some others adds its own
 -- fault to theirs, if it has one; and the faults of the source are those of all its lines, and
 -- behind them that of a missing end line. The fault of a line is that of the first row of the table
--- that holds; an end line stands before it where one is among the lines before it, and its place is
--- taken where one of them has a word there
+-- that holds; whether an end line stands before it is asked of the lines before it, and its place
+-- is taken where one of them has a word there
 pub record FaultsFollowLines : Type 0 where
   pub none : (source : List ℕ) → first_faults source [] ≡ []
   pub more : (source : List ℕ) (before : List LineFields) (line : LineFields)
       → first_faults source (before ++ line ∷ []) ≡ first_faults source before
       ++ option_to_list (option_map (numbered_fault line.number) (fault_behind source before line))
   pub all : (source : List ℕ) → faults_of source ≡ first_faults source (lines_in source)
-      ++ missing_end (passed_lines [] (lines_in source))
+      ++ missing_end (lines_in source)
   pub first_row : (source : List ℕ) (before : List LineFields) (line : LineFields)
       → fault_behind source before line ≡ first_kind (fault_rows (facts_behind source before line))
-  pub ended : (source : List ℕ) (before : List LineFields) (line : LineFields)
-      → ((facts_behind source before line).ended ≡ true) ↔ HasEndLine before
-  pub taken : (source : List ℕ) (before : List LineFields) (line : LineFields)
-      → ((facts_behind source before line).taken ≡ true)
+  pub behind_end : (source : List ℕ) (before : List LineFields) (line : LineFields)
+      → (facts_behind source before line).is_behind_end ≡ has_ended before
+  pub place_taken : (source : List ℕ) (before : List LineFields) (line : LineFields)
+      → ((facts_behind source before line).is_place_taken ≡ true)
       ↔ HasWordAt before (place_after before line)
 
 -- among some cells, behind so many others, the cell of a place

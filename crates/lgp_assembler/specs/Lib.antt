@@ -1,5 +1,6 @@
 pub mod Parts
 pub mod Operations
+pub mod AddressOperands
 pub mod Operands
 pub mod NameTableInside
 pub mod Fields

@@ -1,14 +1,11 @@
 -- Part of the public promise: what operands stand for. This project's own choice.
-use Rattle.std.specs.Prelude.{ℕ, ◌+◌, ◌-◌, ◌*◌, ◌%◌, ◌^◌, ◌==◌, ◌&&◌, ◌||◌, nat_le, nat_lt, Bool}
-use Rattle.std.specs.Prelude.{true, false, if◌then◌else◌, List, length, take, drop, codes}
-use Rattle.std.specs.Prelude.{slice_index, Option, None, Some, option_map, Result, Ok, Err, ok_or}
+use Rattle.std.specs.Prelude.{ℕ, ◌-◌, ◌*◌, ◌%◌, ◌^◌, ◌==◌, nat_le, nat_lt, Bool}
+use Rattle.std.specs.Prelude.{true, false, if◌then◌else◌, List, length, drop}
+use Rattle.std.specs.Prelude.{slice_index, Option, None, Some, Result, Ok, Err, ok_or}
 use Rattle.std.specs.Prelude.{ℤ, pos, ◌*ℤ◌}
-use Rattle.std.specs.Str.{bytes_eq}
-use Rattle.std.specs.Char.{is_ascii_digit, is_ascii_lowercase}
-use Rattle.std.specs.List.{list_all, position_or_len}
-use Rattle.std.specs.Map.{lookup}
 use Rattle.lgp_word.specs.declared.order.Op.{Op}
 use Rattle.lgp_word.specs.declared.order.Op.TheVariants.{P, T}
+use Rattle.lgp_word.specs.Drum.{track_size}
 use Rattle.lgp_word.specs.Order.{order_word}
 use Rattle.lgp_word.specs.Decimal.{decimal_number}
 use Rattle.lgp_word.specs.Digits.{address_text, word_of_digits}
@@ -17,68 +14,15 @@ use Rattle.lgp_fraction.specs.declared.fraction.FractionFault.TheVariants.{Form,
 use Rattle.lgp_fraction.specs.Arithmetic.{low_bits}
 use Rattle.lgp_fraction.specs.Decimal.{decimal_fraction}
 use Rattle.lgp_flexo.specs.Code.{code_at}
-use Rattle.lgp_assembler.specs.Parts.{drum_size}
+use Rattle.lgp_assembler.specs.AddressOperands.{address_operand}
 use Rattle.lgp_assembler.specs.declared.operations.Operation.{Operation}
 use Rattle.lgp_assembler.specs.declared.operations.Operation.TheVariants.{Order, MinusT, Org, Word}
 use Rattle.lgp_assembler.specs.declared.operations.Operation.TheVariants.{Frac, Int, End}
 use Rattle.lgp_assembler.specs.declared.operands.OperandFault.{OperandFault}
-use Rattle.lgp_assembler.specs.declared.operands.OperandFault.TheVariants.{Misformed, Unknown}
+use Rattle.lgp_assembler.specs.declared.operands.OperandFault.TheVariants.{Misformed}
 use Rattle.lgp_assembler.specs.declared.operands.OperandFault.TheVariants.{Outside}
-use Rattle.lgp_assembler.specs.declared.operands.Offset.{Offset}
 use Rattle.lgp_assembler.specs.declared.operands.Meaning.{Meaning}
 use Rattle.lgp_assembler.specs.declared.operands.Meaning.TheVariants.{Cell, Place, Nothing}
-
--- a letter from a to z, or a digit
-abbrev pub is_name_byte : ℕ → Bool
-is_name_byte b = is_ascii_lowercase b || is_ascii_digit b
-
--- a name: a letter from a to z, then at most seven letters or digits
-unfoldable pub is_name : List ℕ → Bool
-is_name text =
-    is_ascii_lowercase (slice_index text 0) && list_all is_name_byte text && nat_le (length text) 8
-
--- ---- address operands
-
--- `+` or `-`
-abbrev pub is_sign : ℕ → Bool
-is_sign b = b == 43 || b == 45
-
--- what stands behind the base: nothing, or a sign and one to four digits
-unfoldable pub offset_of : List ℕ → Option Offset
-offset_of text =
-    if length text == 0 then Some (record { minus = false; number = 0 })
-    else option_map (λ number. record { minus = slice_index text 0 == 45; number = number })
-    (decimal_number 4 (drop 1 text))
-
--- the number of a base: the place of the line, that of a name, or an address
-unfoldable pub base_number : List (List ℕ × ℕ) → ℕ → List ℕ → Result ℕ OperandFault
-base_number names place base =
-    if bytes_eq base (codes "*") then Ok place
-    else (if is_name base then ok_or (lookup (bytes_eq base) names) Unknown
-    else ok_or (address_text base) Misformed)
-
--- the number of a place on the drum
-abbrev pub in_range : ℕ → Result ℕ OperandFault
-in_range number = if nat_lt number drum_size then Ok number else Err Outside
-
--- the address that lies an offset from a number
-abbrev pub address_beside : Offset → ℕ → Result ℕ OperandFault
-address_beside offset number =
-    if offset.minus
-    then (if nat_le offset.number number then in_range (number - offset.number) else Err Outside)
-    else in_range (number + offset.number)
-
--- the address of an offset and a base, where both are there
-abbrev pub address_of_parts : Option Offset → Result ℕ OperandFault → Result ℕ OperandFault
-address_of_parts None base = Err Misformed
-address_of_parts (Some offset) (Err fault) = Err fault
-address_of_parts (Some offset) (Ok number) = address_beside offset number
-
--- the value of an address operand: a base, then optionally a sign and a number
-unfoldable pub address_operand : List (List ℕ × ℕ) → ℕ → List ℕ → Result ℕ OperandFault
-address_operand names place text =
-    let base = position_or_len is_sign text in
-    address_of_parts (offset_of (drop base text)) (base_number names place (take base text))
 
 -- ---- words
 
@@ -91,7 +35,7 @@ cell_of_order minus op (Err fault) = Err fault
 -- `=` and one sign: the p that prints the sign's code, which is its track
 abbrev pub cell_of_sign : Option ℕ → Result Meaning OperandFault
 cell_of_sign (Some code) =
-    Ok (Cell (order_word (record { minus = false; op = P; address = 64 * code })))
+    Ok (Cell (order_word (record { minus = false; op = P; address = track_size * code })))
 cell_of_sign None = Err Misformed
 
 abbrev pub sign_operand : Op → List ℕ → Result Meaning OperandFault

@@ -13,10 +13,6 @@ pub record ImageParts : Type 0 where
   pub start : Option ℕ
   pub symbols : List (List ℕ × ℕ)
 
--- the places of the drum are the numbers below this
-abbrev pub drum_size : ℕ
-drum_size = 4096
-
 -- the loader's 22 places, 6300 to 6321: the first of them, and the one behind the last
 abbrev pub loader_base : ℕ
 loader_base = 4032

@@ -3,6 +3,7 @@
 use Rattle.std.specs.Prelude.{ℕ, ◌+◌, ◌==◌, ◌&&◌, ◌||◌, Bool, true, false, if◌then◌else◌, List, []}
 use Rattle.std.specs.Prelude.{◌∷◌, ◌++◌, Option, None, Some, is_some, unwrap_or, option_and_then}
 use Rattle.std.specs.Prelude.{option_to_list}
+use Rattle.std.specs.List.{list_any}
 use Rattle.std.specs.Str.{bytes_eq}
 use Rattle.std.specs.Map.{lookup}
 use Rattle.lgp_word.specs.Digits.{address_text}
@@ -50,8 +51,7 @@ is_end _ = false
 
 -- whether the end line is among some lines: lines after it do not count
 unfoldable pub has_ended : List LineFields → Bool
-has_ended [] = false
-has_ended (line ∷ earlier) = is_end line.operation || has_ended earlier
+has_ended lines = list_any (λ line. is_end line.operation) lines
 
 -- a label with its place, where no line before it that counts has the same label
 abbrev pub new_label : Option (List ℕ) → ℕ → Bool → List (List ℕ × ℕ) → Option (List ℕ × ℕ)

@@ -8,11 +8,14 @@ use Rattle.lgp_assembler.specs.declared.operands.OperandFault.{OperandFault}
 use Rattle.lgp_assembler.specs.declared.refusal.Fault.{Fault}
 use Rattle.lgp_assembler.specs.declared.refusal.FaultKind.{FaultKind}
 use Rattle.lgp_assembler.specs.Fields.{LineFields}
-use Rattle.lgp_assembler.specs.Parts.{AreProgramCells, drum_size}
+use Rattle.lgp_word.specs.Drum.{drum_size}
+use Rattle.lgp_assembler.specs.Parts.{AreProgramCells}
 use Rattle.lgp_assembler.specs.Faults.{fault_rows, first_kind, faults_in}
 use Rattle.lgp_assembler.specs.Image.{cells_in, start_in}
 use Rattle.lgp_assembler.specs.Places.{next_place, has_ended, names_of, is_taken}
 
+-- what is kept of some lines: how many they are, the place that they lead to, whether an end line
+-- is among them, and their names
 pub record Stands (lines place : ℕ) (ended : Bool) (names : List (List ℕ × ℕ))
     (earlier : List LineFields) : Type 0 where
   pub lines_are : lines ≡ length earlier
@@ -32,9 +35,9 @@ rows line meaning place ended names taken = fault_rows (record {
   line = line;
   place = place;
   meaning = meaning;
-  ended = ended;
+  is_behind_end = ended;
   names = names;
-  taken = taken;
+  is_place_taken = taken;
 })
 
 -- the fault of the line that comes, by the places that are taken

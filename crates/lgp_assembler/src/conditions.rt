@@ -7,11 +7,12 @@ ghost use Rattle.lgp_assembler.specs.Parts.{is_loaders};
 ghost use Rattle.lgp_assembler.specs.FieldsSeenInside.{fields_seen};
 ghost use Rattle.lgp_assembler.specs.ScanInside.{rows};
 
+use crate::address_operands::is_name;
 use crate::line_fields::Fields;
 use crate::name_table::{NameValues, Names};
-use crate::operands::{Meaning, OperandFault, is_name, meaning_of};
+use crate::operands::{Meaning, OperandFault, meaning_of};
 use crate::operations::Operation;
-use crate::output::LOADER_PLACES;
+use crate::output::{DRUM_SIZE, LOADER_PLACES};
 use crate::passes::Scan;
 use crate::refusal::FaultKind;
 use std::alloc::Allocator;
@@ -149,7 +150,7 @@ pub fn fault_of<'a, A: Allocator>(
         (is_misformed(meaning), FaultKind::BadOperand),
         (is_unknown(meaning), FaultKind::UnknownName),
         (is_out_of_range(meaning), FaultKind::OutOfRange),
-        (has_word && place > 4095, FaultKind::PastEnd),
+        (has_word && place >= DRUM_SIZE, FaultKind::PastEnd),
         (has_word && is_loaders(place), FaultKind::InLoader),
         (has_word && is_taken, FaultKind::PlaceTaken),
     ])

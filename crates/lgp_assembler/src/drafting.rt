@@ -10,12 +10,13 @@ ghost use Rattle.lgp_assembler.specs.Image.{all_lines};
 ghost use Rattle.lgp_assembler.specs.Places.{has_word};
 ghost use Rattle.lgp_assembler.specs.ScanInside.{ArePlacesTaken, coming_fault, CellFits, IfCell, SymbolFits, symbol_at, IsDraftOf};
 
+use crate::address_operands::in_range;
 use crate::conditions::{fault_of, line_meaning};
 use crate::line_fields::{Fields, fields_of};
 use crate::name_table::Names;
-use crate::operands::{Meaning, OperandFault, in_range};
+use crate::operands::{Meaning, OperandFault};
 use crate::operations::Operation;
-use crate::output::{Name, Parts};
+use crate::output::{DRUM_SIZE, Name, Parts};
 use crate::passes::Scan;
 use crate::refusal::{Fault, FaultKind};
 use crate::taken_places::{is_taken, none_taken, take_place};
@@ -84,7 +85,7 @@ fn add_symbol<A: Allocator>(
     let Some(label) = label else {
         return Ok(());
     };
-    if place > 4096 {
+    if place > DRUM_SIZE {
         return Ok(());
     }
     let Some(name) = Name::new(label) else {
@@ -209,8 +210,8 @@ pub fn draft_source<'a, A: Allocator + Copy>(
         IfOk result (λ draft. IsDraftOf names.now draft.faults.items
         draft.parts.cells.items draft.parts.start draft.parts.symbols.items lines) }
 {
-    let mut scan = Scan::new(alloc);
     let mut draft = Draft::new(alloc)?;
+    let mut scan = Scan::new(alloc);
     for line in Lines::new(source) {
         let fields = fields_of(&line);
         let place = scan.place_of(&fields);

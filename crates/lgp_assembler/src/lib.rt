@@ -7,6 +7,7 @@ ghost use Rattle.lgp_assembler.specs.Faults.{end_fault};
 ghost use Rattle.lgp_assembler.specs.Image.{faults_of, image_of};
 ghost use Rattle.lgp_assembler.specs.Parts.{AreProgramCells, HaveOwnPlaces};
 
+pub use address_operands::address_operand;
 use drafting::{Draft, draft_source};
 pub use laws::{
     cells_have_own_places, faults_follow_lines, lines_have_cells, names_are_first_places,
@@ -14,18 +15,20 @@ pub use laws::{
 };
 pub use line_fields::has_word;
 pub use name_table::NameValues;
-pub use operands::{OperandFault, address_operand};
+pub use operands::OperandFault;
 pub use output::{Image, LOADER_PLACES, Name};
 use passes::scan_source;
 pub use patch::{Symbols, operation_word};
 pub use refusal::{AssembleError, Fault, FaultKind, FaultList};
 use std::alloc::{AllocError, Allocator};
 
+mod address_operands;
 mod conditions;
 mod drafting;
 mod laws;
 mod line_fields;
 mod name_table;
+mod numbers;
 mod operands;
 mod operations;
 mod output;
@@ -52,21 +55,34 @@ fn add_missing_end<A: Allocator>(
     Ok(())
 }
 
-/// The image of a draft without faults, or else its faults.
-fn image_or_faults<A: Allocator>(draft: Draft<A>) -> Result<Image<A>, AssembleError<A>>
-    requires program { draft.faults.items ≡ [] → AreProgramCells draft.parts.cells.items }
-    requires places { draft.faults.items ≡ [] → HaveOwnPlaces draft.parts.cells.items }
+/// The image that the draft of all lines gives, so many, or else its faults and that of a source that
+/// has not ended.
+fn image_or_faults<A: Allocator>(
+    draft: Draft<A>,
+    ended: bool,
+    lines: u64,
+) -> Result<Image<A>, AssembleError<A>>
+    requires lines { lines + 1 < 2 ^ 64 }
+    requires program { draft.faults.items ++ end_fault ended lines ≡ []
+        → AreProgramCells draft.parts.cells.items }
+    requires places { draft.faults.items ++ end_fault ended lines ≡ []
+        → HaveOwnPlaces draft.parts.cells.items }
     ensures image { IfOk result (λ image. image ≡ record {
       cells = draft.parts.cells.items;
       start = draft.parts.start;
       symbols = draft.parts.symbols.items;
     }) }
-    ensures faultless { OnOk result (draft.faults.items ≡ []) }
+    ensures faultless { OnOk result (draft.faults.items ++ end_fault ended lines ≡ []) }
     ensures faults { IfErr result (λ error.
-        IfFaults error (λ faults. faults ≡ draft.faults.items)) }
+        IfFaults error (λ faults. faults ≡ draft.faults.items ++ end_fault ended lines)) }
     ensures faulty { IfErr result (λ error. IfFaults error (λ faults. faults ≢ [])) }
 {
-    let Draft { faults, parts, .. } = draft;
+    let Draft {
+        mut faults,
+        parts,
+        ..
+    } = draft;
+    add_missing_end(&mut faults, ended, lines)?;
     if !faults.is_empty() {
         return Err(AssembleError::Faults(FaultList::new(faults)));
     }
@@ -83,7 +99,6 @@ pub fn assemble<A: Allocator + Copy>(alloc: A, source: &[u8]) -> Result<Image<A>
     ensures faulty { IfErr result (λ error. IfFaults error (λ faults. faults ≢ [])) }
 {
     let scan = scan_source(alloc, source)?;
-    let mut draft = draft_source(alloc, source, &scan.names)?;
-    add_missing_end(&mut draft.faults, scan.ended, scan.lines)?;
-    image_or_faults(draft)
+    let draft = draft_source(alloc, source, &scan.names)?;
+    image_or_faults(draft, scan.ended, scan.lines)
 }

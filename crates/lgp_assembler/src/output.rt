@@ -10,6 +10,9 @@ use std::alloc::{Allocator, Global};
 use std::marker::Model;
 use std::ops::Range;
 
+/// How many places the drum has.
+pub const DRUM_SIZE: u64 = 4096;
+
 /// The places of the loader, 6300 to 6321, which no program may take.
 pub const LOADER_PLACES: Range<u64> = 4032..4054;
 

@@ -1,8 +1,9 @@
 //! The places of the drum that are taken: words of the lines so far lie there.
 
 ghost use Rattle.std.specs.Prelude.{◌≡◌, ℕ, false, true, slice_index_or, slice_set, IfOk, length};
-ghost use Rattle.lgp_assembler.specs.Parts.{drum_size};
+ghost use Rattle.lgp_word.specs.Drum.{drum_size};
 
+use crate::output::DRUM_SIZE;
 use std::alloc::{AllocError, Allocator};
 
 /// For each place of the drum whether it is taken: none is.
@@ -11,7 +12,7 @@ pub fn none_taken<A: Allocator>(alloc: A) -> Result<Vec<bool, A>, AllocError>
     ensures clear { IfOk result (λ taken.
         (p : ℕ) → slice_index_or taken.items p false ≡ false) }
 {
-    vec![in alloc; false; 4096]
+    vec![in alloc; false; DRUM_SIZE as usize]
 }
 
 /// Whether a place is taken.

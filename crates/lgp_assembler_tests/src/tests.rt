@@ -1,8 +1,8 @@
 //! Sources with the words, names and faults that they have.
 
 use lgp_assembler::{
-    AssembleError, Fault, FaultKind, Image, LOADER_PLACES, Name, assemble, has_word,
-    names_are_first_places, places_count_from_orgs,
+    AssembleError, Fault, FaultKind, Image, LOADER_PLACES, Name, assemble, faults_follow_lines,
+    has_word, names_are_first_places, places_count_from_orgs,
 };
 use lgp_source::Lines;
 use lgp_word::{Address, Word, read_digits};
@@ -152,18 +152,30 @@ const BEHIND_LOADER: Wanted = Wanted {
     symbols: &[],
 };
 
+const SOURCES: &[(&[u8], Wanted)] = &[
+    (FIRST_PROGRAM, FIRST_IMAGE),
+    (OPERATIONS, OPERATION_IMAGE),
+    (b" end", EMPTY_IMAGE),
+    (b" org 6363\n z\npast end past-1\n; nothing\n\n", PAST_IMAGE),
+    (b" org 6263\n z\n end\n", BEFORE_LOADER),
+    (b" org 6322\n z\n end\n", BEHIND_LOADER),
+];
+
+/// The first of some sources that does not assemble to what stands beside it, and which of its
+/// cells, its start and its names are right.
+fn first_wrong(alloc: Global, sources: &[(&[u8], Wanted)]) -> Option<(usize, [bool; 3])> {
+    for (index, (source, wanted)) in sources.iter().enumerate() {
+        let right = assembles_to(alloc, source, *wanted);
+        if right != [true; 3] {
+            return Some((index, right));
+        }
+    }
+    None
+}
+
 #[test]
 fn sources_without_faults(rt: HostRuntime) {
-    for (source, wanted) in [
-        (FIRST_PROGRAM, FIRST_IMAGE),
-        (OPERATIONS, OPERATION_IMAGE),
-        (b" end", EMPTY_IMAGE),
-        (b" org 6363\n z\npast end past-1\n; nothing\n\n", PAST_IMAGE),
-        (b" org 6263\n z\n end\n", BEFORE_LOADER),
-        (b" org 6322\n z\n end\n", BEHIND_LOADER),
-    ] {
-        assert_eq!(rt; assembles_to(rt.alloc(), source, wanted), [true; 3]);
-    }
+    assert_eq!(rt; first_wrong(rt.alloc(), SOURCES), None);
 }
 
 const FAULTS_IN_ORDER: &[(u64, FaultKind)] = &[
@@ -262,4 +274,5 @@ fn kinds_print_their_names(rt: HostRuntime) -> Result<(), Fail> {
 fn laws_do_nothing(_rt: HostRuntime) {
     places_count_from_orgs();
     names_are_first_places();
+    faults_follow_lines();
 }

@@ -16,9 +16,10 @@ use Rattle.lgp_word.proofs.TextLemmas.{address_text-address_digits}
 use Rattle.lgp_assembler.specs.declared.operations.Operation.TheVariants.{Order, MinusT, Word, End}
 use Rattle.lgp_assembler.specs.declared.operands.Meaning.TheVariants.{Cell, Nothing}
 use Rattle.lgp_assembler.specs.declared.operands.OperandFault.TheVariants.{Misformed, Unknown, Outside}
-use Rattle.lgp_assembler.specs.declared.operands.Offset.{Offset}
+use Rattle.lgp_assembler.specs.declared.address_operands.Offset.{Offset}
 use Rattle.lgp_assembler.specs.Operations.{operation_of}
-use Rattle.lgp_assembler.specs.Operands.{is_name_byte, is_name, is_sign, offset_of, base_number, in_range, address_of_parts, address_operand, cell_of_order, sign_operand, order_operand, cell_of_digits, meaning_of}
+use Rattle.lgp_assembler.specs.AddressOperands.{is_name_byte, is_name, is_sign, offset_of, base_number, in_range, address_of_parts, address_operand}
+use Rattle.lgp_assembler.specs.Operands.{cell_of_order, sign_operand, order_operand, cell_of_digits, meaning_of}
 
 -- ---- operations
 

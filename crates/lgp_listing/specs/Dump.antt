@@ -7,12 +7,13 @@ use Rattle.std.specs.Option.{option_or}
 use Rattle.bstr.specs.Text.{lines_of}
 use Rattle.lgp_word.specs.Digits.{digits_of, address_digits, address_text, word_of_digits}
 use Rattle.lgp_word.specs.Word.{IsWord}
+use Rattle.lgp_word.specs.Drum.{drum_size}
 use Rattle.lgp_listing.specs.declared.reading.DumpFault.{DumpFault}
 use Rattle.lgp_listing.specs.declared.reading.DumpFault.TheVariants.{Form, Order}
 
 -- what the words of a drum are
 pub record IsDrum (words : List ℕ) : Type 0 where
-  pub size : length words ≡ 4096
+  pub size : length words ≡ drum_size
   pub words_are : All IsWord words
 
 -- ---- the dump of some words

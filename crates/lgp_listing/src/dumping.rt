@@ -2,6 +2,7 @@
 
 ghost use Rattle.std.specs.Prelude.{◌≡◌, ◌++◌, ◌≤◌, ◌<◌, ◌+◌, ℕ, List, IfOk, OnOk, slice_index, length, count_by};
 ghost use Rattle.lgp_word.specs.Word.{IsWord};
+ghost use Rattle.lgp_word.specs.Drum.{drum_size};
 ghost use Rattle.lgp_listing.specs.Dump as spec;
 
 use lgp_drum::Drum;
@@ -16,7 +17,7 @@ pub trait DrumWords {
     /// The word at an address.
     fn word_at(&self, address: Address) -> Word
         ensures word { result ≡ slice_index (words self.now) address }
-        ensures drum { length (words self.now) ≡ 4096 };
+        ensures drum { length (words self.now) ≡ drum_size };
 }
 
 impl<A: Allocator> DrumWords for Drum<A> {

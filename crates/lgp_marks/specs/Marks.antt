@@ -42,11 +42,11 @@ part_of kinds.NoEnd line = None
 
 -- ---- what is shown: a line's first 200 bytes
 
-abbrev pub shown_limit : ℕ
-shown_limit = 200
+abbrev pub most_shown : ℕ
+most_shown = 200
 
 abbrev pub shown_part : List ℕ → List ℕ
-shown_part text = take shown_limit text
+shown_part text = take most_shown text
 
 -- a byte that no line may have is shown as a question mark
 abbrev pub shown_byte : ℕ → ℕ
@@ -57,20 +57,20 @@ shown_byte b = if is_bad b then byte "?" else b
 abbrev pub byte_below : Bool → ℕ → ℕ
 byte_below marked b = if marked then byte "^" else (if b == 9 then 9 else 32)
 
-abbrev pub margin : List ℕ
-margin = codes "        "
+abbrev pub indent : List ℕ
+indent = codes "        "
 
 -- the line, and ` ..` behind it where not all of it is shown
 abbrev pub shown_line : List ℕ → List ℕ
 shown_line text =
-    margin ++ (map shown_byte (shown_part text)
-    ++ (if nat_lt shown_limit (length text) then codes " ..\n" else codes "\n"))
+    indent ++ (map shown_byte (shown_part text)
+    ++ (if nat_lt most_shown (length text) then codes " ..\n" else codes "\n"))
 
 -- the line of the mark, where a byte of the part is shown
 abbrev pub mark_line : List ℕ → List ℕ → List ℕ
 mark_line front [] = []
 mark_line front (first ∷ part) =
-    margin ++ (map (byte_below false) front ++ (map (byte_below true) (first ∷ part) ++ codes "\n"))
+    indent ++ (map (byte_below false) front ++ (map (byte_below true) (first ∷ part) ++ codes "\n"))
 
 abbrev pub shown_mark : Option (ℕ × ℕ) → List ℕ → List ℕ
 shown_mark None shown = []

@@ -9,10 +9,10 @@ use lgp_source::{Line, Lines, Token};
 use std::alloc::{AllocError, Allocator};
 
 /// How many bytes of a line are shown.
-const SHOWN_LIMIT: usize = 200;
+const MOST_SHOWN: usize = 200;
 
 /// What stands in front of a line and of its mark.
-const MARGIN: &[u8] = b"        ";
+const INDENT: &[u8] = b"        ";
 
 /// The place and length of a token.
 fn token_part(token: Option<Token>) -> Option<(usize, usize)>
@@ -127,9 +127,9 @@ fn push_below<A: Allocator>(
 fn push_line<A: Allocator>(text: &mut Vec<u8, A>, line: &[u8]) -> Result<(), AllocError>
     ensures { OnOk result (text.new.items ≡ text.old.items ++ shown_line line.now) }
 {
-    text.extend_from_slice(MARGIN)?;
-    push_shown(text, front_of(line, SHOWN_LIMIT))?;
-    let end: &[u8] = if SHOWN_LIMIT < line.len() {
+    text.extend_from_slice(INDENT)?;
+    push_shown(text, front_of(line, MOST_SHOWN))?;
+    let end: &[u8] = if MOST_SHOWN < line.len() {
         b" ..\n"
     } else {
         b"\n"
@@ -148,7 +148,7 @@ fn push_mark_line<A: Allocator>(
     if part.is_empty() {
         return Ok(());
     }
-    text.extend_from_slice(MARGIN)?;
+    text.extend_from_slice(INDENT)?;
     push_below(text, false, front)?;
     push_below(text, true, part)?;
     text.extend_from_slice(b"\n")
@@ -182,7 +182,7 @@ fn push_marked_line<A: Allocator>(
         ≡ text.old.items ++ marked_line kind (line_seen line.now)) }
 {
     push_line(text, line.text)?;
-    push_mark(text, part_of(kind, line), front_of(line.text, SHOWN_LIMIT))
+    push_mark(text, part_of(kind, line), front_of(line.text, MOST_SHOWN))
 }
 
 /// Appends a faulty line of a source, and below it a mark under the part that this kind of fault

@@ -6,7 +6,7 @@ use Rattle.lgp_word.specs.Digits.{word_of_digits}
 use Rattle.lgp_fraction.specs.Arithmetic.{low_bits}
 use Rattle.lgp_fraction.specs.Decimal.{decimal_fraction}
 use Rattle.lgp_fraction.specs.declared.fraction.FractionFault.{FractionFault}
-use Rattle.lgp_assembler.specs.Operands.{address_operand}
+use Rattle.lgp_assembler.specs.AddressOperands.{address_operand}
 use Rattle.lgp_assembler.specs.Patch.{operation_word}
 use Rattle.lgp_assembler.specs.declared.operands.OperandFault.{OperandFault}
 use Rattle.lgp_stream.specs.KeptLine.{Kept}

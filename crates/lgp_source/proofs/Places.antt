@@ -139,3 +139,5 @@ module _ (body : List ℕ) (place : ℕ) where
       let by_size : token_at start run ∷ tokens_from (start + position_or_len is_blank run) true (drop (position_or_len is_blank run) run) ≡ token_by run start (position_or_len is_blank run) size ∷ tokens_from (start + size) true (drop size run) =
       ap (λ n. token_by run start (position_or_len is_blank run) n ∷ tokens_from (start + n) true (drop n run)) (sym is) in
       (omega arith, skipped ∙ taken ∙ by_size ∙ ap (λ n. token_by run start n size ∷ tokens_from (start + size) true (drop size run)) (sym size_is) ∙ ap (λ t. token_by run start (start + size - start) size ∷ tokens_from (start + size) true t) after)
+
+pub ruleset run_lengths = (unwrap_position, place_within)

@@ -97,7 +97,7 @@ fn bad_place(text: &[u8]) -> Option<usize>
 }
 
 /// How many bytes stand before the first blank.
-#[tactic(auto, using(crate::proofs::Places::unwrap_position, crate::proofs::Places::place_within))]
+#[tactic(auto, using(crate::proofs::Places::run_lengths))]
 fn run(body: &[u8]) -> usize
     ensures value { result ≡ position_or_len source.is_blank body.now }
     ensures within { result ≤ length body.now }

@@ -14,7 +14,7 @@ type Patch = (
 );
 
 /// In the place 0102, which is 66; `start` is 0 and `one` is 3.
-const PATCHES: [Patch; 21] = [
+const PATCHES: &[Patch] = &[
     (b"b", Some(b"one"), None, Ok(0x0001_000c)),
     (b"h", Some(b"one+2"), None, Ok(0x000c_0014)),
     (b"u", Some(b"*-1"), None, Ok(0x000a_0104)),
@@ -49,7 +49,7 @@ const PATCHES: [Patch; 21] = [
 ];
 
 /// What addresses of operands are, in the same place.
-const ADDRESSES: [(&[u8], Result<u16, OperandFault>); 8] = [
+const ADDRESSES: &[(&[u8], Result<u16, OperandFault>)] = &[
     (b"one", Ok(3)),
     (b"one+0010", Ok(13)),
     (b"*", Ok(66)),
@@ -69,23 +69,27 @@ fn bits(names: &Symbols, patch: &Patch) -> Result<u32, OperandFault> {
 }
 
 /// How many of the operations have the word or the fault that stands beside them.
-fn right_patches(names: &Symbols) -> usize {
+fn right_patches(names: &Symbols, patches: &[Patch]) -> usize {
     let mut right = 0_usize;
-    for patch in &PATCHES {
+    for patch in patches {
         right = right.saturating_add(usize::from(bits(names, patch) == patch.3));
     }
     right
 }
 
+/// The number of the address of an operand.
+fn number(names: &Symbols, text: &[u8]) -> Result<u16, OperandFault> {
+    match address_operand(names, 66, text) {
+        Ok(address) => Ok(address.number()),
+        Err(fault) => Err(fault),
+    }
+}
+
 /// How many of the operands have the address or the fault that stands beside them.
-fn right_addresses(names: &Symbols) -> usize {
+fn right_addresses(names: &Symbols, addresses: &[(&[u8], Result<u16, OperandFault>)]) -> usize {
     let mut right = 0_usize;
-    for (text, wanted) in ADDRESSES {
-        let address = match address_operand(names, 66, text) {
-            Ok(address) => Ok(address.number()),
-            Err(fault) => Err(fault),
-        };
-        right = right.saturating_add(usize::from(address == wanted));
+    for (text, wanted) in addresses {
+        right = right.saturating_add(usize::from(number(names, text) == *wanted));
     }
     right
 }
@@ -105,7 +109,10 @@ fn operations_stand_alone(rt: HostRuntime) {
             let names = Symbols {
                 names: image.symbols(),
             };
-            (right_patches(&names), right_addresses(&names))
+            (
+                right_patches(&names, PATCHES),
+                right_addresses(&names, ADDRESSES),
+            )
         }
         None => (0, 0),
     };
