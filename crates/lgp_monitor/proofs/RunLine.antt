@@ -171,9 +171,11 @@ other_why : (address : Option ℕ) → IsOther (why_by address)
 other_why (Some address) = λ telling limit e. cc
 other_why None = misformed
 
-other_numbers : (range : Option WordRange) → IsOther (numbers_by range)
-other_numbers (Some range) = λ telling limit e. cc
-other_numbers None = misformed
+other_numbers : (range : Option WordRange) (point : Option ℕ) → IsOther (numbers_by range point)
+other_numbers (Some range) (Some point) = λ telling limit e. cc
+other_numbers (Some range) None = misformed
+other_numbers None (Some point) = misformed
+other_numbers None None = misformed
 
 other_go : (address : Option ℕ) → IsOther (go_by address)
 other_go (Some address) = λ telling limit e. cc
@@ -208,7 +210,7 @@ whys names counter operands = other_if _ _ _ (other_why _) misformed
 
 numbers : (names : List (List ℕ × ℕ)) (counter : ℕ) (operands : List ℕ) → IsOther (numbers_typed names counter operands)
 unfolding numbers_typed
-numbers names counter operands = other_numbers (range_at names counter operands)
+numbers names counter operands = other_if _ _ _ (other_numbers _ _) misformed
 
 helps : (operands : List ℕ) → IsOther (help_typed operands)
 unfolding help_typed

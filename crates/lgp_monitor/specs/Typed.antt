@@ -14,6 +14,7 @@ use Rattle.lgp_stream.specs.LineWords.{behind_word, first_word, has_no_word}
 use Rattle.lgp_text.specs.NamedValues.{named}
 use Rattle.lgp_lab.specs.Command.{command_of, lone_number}
 use Rattle.lgp_lab.specs.Span.{WordRange, range_of}
+use Rattle.lgp_monitor.specs.Scaled.{point_of}
 use Rattle.lgp_monitor.specs.Verbs.{verb_names}
 use Rattle.lgp_monitor.specs.declared.question.Question.TheVariants as questions
 use Rattle.lgp_monitor.specs.declared.telling.Telling.{Telling}
@@ -126,12 +127,20 @@ placed_range_by None = typed.Misformed
 unfoldable pub placed_range : List (List ℕ × ℕ) → ℕ → List ℕ → Typed
 placed_range names counter operands = placed_range_by (range_at names counter operands)
 
-abbrev pub numbers_by : Option WordRange → Typed
-numbers_by (Some range) = typed.Asked (questions.Numbers range)
-numbers_by None = typed.Misformed
+-- a range of words as numbers, and the place behind which their point is, 30 where none is given
+abbrev pub numbers_by : Option WordRange → Option ℕ → Typed
+numbers_by (Some range) (Some point) = typed.Asked (questions.Numbers range point)
+numbers_by _ _ = typed.Misformed
+
+abbrev pub first_range : List (List ℕ × ℕ) → ℕ → List ℕ → Option WordRange
+first_range names counter operands =
+    range_by (address_at names counter (first_word operands)) (lone_number (first_word (behind_word operands)))
 
 unfoldable pub numbers_typed : List (List ℕ × ℕ) → ℕ → List ℕ → Typed
-numbers_typed names counter operands = numbers_by (range_at names counter operands)
+numbers_typed names counter operands =
+    if has_no_word (behind_word (behind_word (behind_word operands)))
+    then numbers_by (first_range names counter operands) (point_of (point_at (behind_word (behind_word operands))))
+    else typed.Misformed
 
 abbrev pub why_by : Option ℕ → Typed
 why_by (Some address) = typed.Asked (questions.Why address)

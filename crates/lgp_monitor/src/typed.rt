@@ -3,9 +3,11 @@
 ghost use Rattle.std.specs.Prelude.{◌≡◌, ◌==◌, slice_index};
 ghost use Rattle.std.specs.Option.{option_copied};
 ghost use Rattle.std.specs.Str.{byte};
-ghost use Rattle.lgp_monitor.specs.Typed.{address_at, digits_or_fraction, fraction_at, go_typed, help_typed, lone, numbers_typed, operand_at, operation_at, placed_range, placed_typed, point_at, put_by, put_typed, range_at, stands_for_itself, told_typed, typed_by, typed_line, typed_of, value_at, whole_at, why_typed, word_by};
+ghost use Rattle.lgp_monitor.specs.Scaled.{point_of};
+ghost use Rattle.lgp_monitor.specs.Typed.{address_at, digits_or_fraction, first_range, fraction_at, go_typed, help_typed, lone, numbers_by, numbers_typed, operand_at, operation_at, placed_range, placed_typed, point_at, put_by, put_typed, range_at, range_by, stands_for_itself, told_typed, typed_by, typed_line, typed_of, value_at, whole_at, why_typed, word_by};
 
 use crate::question::Question;
+use crate::scaled::Point;
 use crate::telling::Telling;
 use crate::verb::{Verb, verb_named};
 use lgp_assembler::{Name, OperandFault, Symbols, address_operand, operation_word};
@@ -213,16 +215,23 @@ fn placed_typed(names: &[(Name, u16)], counter: Address, operands: &[u8]) -> Typ
     }
 }
 
+/// So many words from an address on.
+fn range_by(address: Option<Address>, count: Option<u64>) -> Option<Span>
+    ensures { result ≡ range_by address count }
+{
+    match (address, count) {
+        (Some(address), Some(count)) => Span::new(address, count),
+        _ => None,
+    }
+}
+
 /// A range of words.
 #[tactic(auto, unfolding(crate::specs::Typed::range_at))]
 fn range_at(names: &[(Name, u16)], counter: Address, operands: &[u8]) -> Option<Span>
     ensures { result ≡ range_at names.now counter operands.now }
 {
     let Split { word, behind } = split_word(operands);
-    match (address_at(names, counter, word), lone_number(behind)) {
-        (Some(address), Some(count)) => Span::new(address, count),
-        _ => None,
-    }
+    range_by(address_at(names, counter, word), lone_number(behind))
 }
 
 /// The operands of a script's command that takes a range of words.
@@ -236,15 +245,42 @@ fn placed_range(names: &[(Name, u16)], counter: Address, operands: &[u8]) -> Typ
     }
 }
 
+/// The range of words of the first two operands.
+fn first_range(names: &[(Name, u16)], counter: Address, operands: &[u8]) -> Option<Span>
+    ensures { result ≡ first_range names.now counter operands.now }
+{
+    let Split { word, behind } = split_word(operands);
+    range_by(
+        address_at(names, counter, word),
+        lone_number(split_word(behind).word),
+    )
+}
+
+/// A range of words as numbers with this point.
+fn numbers_by(range: Option<Span>, point: Option<Point>) -> Typed
+    ensures { result ≡ numbers_by range point }
+{
+    match (range, point) {
+        (Some(range), Some(point)) => Typed::Asked(Question::Numbers(range, point)),
+        _ => Typed::Misformed,
+    }
+}
+
 /// The operands of `numbers`.
 #[tactic(auto, unfolding(crate::specs::Typed::numbers_typed))]
 fn numbers_typed(names: &[(Name, u16)], counter: Address, operands: &[u8]) -> Typed
     ensures { result ≡ numbers_typed names.now counter operands.now }
 {
-    match range_at(names, counter, operands) {
-        Some(range) => Typed::Asked(Question::Numbers(range)),
-        None => Typed::Misformed,
+    let address = split_word(operands);
+    let count = split_word(address.behind);
+    let point = split_word(count.behind);
+    if !has_no_word(point.behind) {
+        return Typed::Misformed;
     }
+    numbers_by(
+        first_range(names, counter, operands),
+        Point::read(point_at(count.behind)),
+    )
 }
 
 /// The operand of `why`.

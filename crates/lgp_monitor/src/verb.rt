@@ -234,7 +234,7 @@ pub fn form_of(verb: Verb) -> &'static [u8]
         Verb::Panel => b"panel",
         Verb::Words => b"words ttss NUMBER, at most 64",
         Verb::Show => b"show ttss NUMBER, at most 64",
-        Verb::Numbers => b"numbers ttss NUMBER, at most 64",
+        Verb::Numbers => b"numbers ttss NUMBER, at most 64, or numbers ttss NUMBER POINT",
         Verb::Printed => b"printed",
         Verb::Dump => b"dump",
         Verb::Source => {
