@@ -10,7 +10,7 @@ pub use scaled::Point;
 pub use session::{FilesFirst, hold_session, obey_session};
 pub use telling::Telling;
 pub use typed::Typed;
-pub use verb::Verb;
+pub use verb::{AddressCommand, LoneCommand, NumberCommand, Verb};
 
 mod attending;
 mod blocks;
