@@ -6,12 +6,15 @@ use lgp_lab::{FeedOf, READS, SinkOf, WordFault};
 use lgp_monitor::{Progress, obey_session};
 use lgp_typist::{Board, DeskBell, Filing, Paper, Typist};
 use std::fs::File;
-use std::io::IsTerminal;
+use std::io::{IsTerminal, Write};
 use std::process::ExitCode;
 use std::{env, fs, io};
 
 /// The status for want of memory.
 const MEMORY: u8 = 3;
+
+/// What stands behind a name in those that are tried for a new file beside it.
+const ENDINGS: [&str; 4] = [".new", ".new1", ".new2", ".new3"];
 
 /// The files of the system, by their paths.
 #[derive(Clone, Copy, Drop)]
@@ -19,11 +22,39 @@ struct HostFiling<'a> {
     rt: &'a HostRuntime,
 }
 
-/// Writes a text to a file beside the one of a name, and then puts that in its place.
+/// A new file beside the one of a name, with its own name. Where there is one of that name, further names are tried.
+fn file_beside(rt: &HostRuntime, name: &str) -> io::Result<(File, String)> {
+    for ending in &ENDINGS {
+        let beside = format!(in rt.alloc(); "{name}{ending}")?;
+        match File::create_new(rt, beside.as_str()) {
+            Ok(file) => return Ok((file, beside)),
+            Err(error) if error.kind() == io::ErrorKind::AlreadyExists => {}
+            Err(error) => return Err(error),
+        }
+    }
+    Err(io::Error::from(io::ErrorKind::AlreadyExists))
+}
+
+/// Writes a text to a new file, and then puts that in the place of another one.
+fn write_and_rename(
+    rt: &HostRuntime,
+    file: &mut File,
+    beside: &str,
+    name: &str,
+    text: &[u8],
+) -> io::Result<()> {
+    file.write_all(text)?;
+    fs::rename(rt, beside, name)
+}
+
+/// Writes a text to a new file beside the one of a name, and then puts that in its place. Where this fails, the new file is taken away.
 fn replace_file(rt: &HostRuntime, name: &str, text: &[u8]) -> io::Result<()> {
-    let beside = format!(in rt.alloc(); "{name}.new")?;
-    fs::write(rt, beside.as_str(), text)?;
-    fs::rename(rt, beside.as_str(), name)
+    let (mut file, beside) = file_beside(rt, name)?;
+    let replaced = write_and_rename(rt, &mut file, beside.as_str(), name, text);
+    if replaced.is_err() {
+        fs::remove_file(rt, beside.as_str())?;
+    }
+    replaced
 }
 
 impl Filing for HostFiling<'_> {

@@ -7,3 +7,5 @@ pub mod Pictures
 pub mod LastLine
 pub mod Unbegun
 pub mod BlockLemmas
+pub mod Decimals
+pub mod ScaleLaws

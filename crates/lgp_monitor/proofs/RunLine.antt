@@ -18,13 +18,17 @@ use Rattle.lgp_lab.specs.Standing.{Answer, Standing}
 use Rattle.lgp_transcript.specs.Transcript.{Recorded, after_lines, ended, replies_text, text_of, with_line, with_standing}
 use Rattle.lgp_monitor.specs.Monitor.{counter_at, names_at, run_line, told_of, told_reply, typed_at}
 use Rattle.lgp_lab.specs.Span.{WordRange}
-use Rattle.lgp_monitor.specs.declared.question.Question.TheVariants as questions
-use Rattle.lgp_monitor.specs.Typed.{go_by, go_typed, help_by, help_typed, lone, numbers_by, numbers_typed, placed_by, placed_range, placed_range_by, placed_typed, put_by, put_typed, put_word, range_at, told_by, told_typed, typed_by, typed_line, typed_of, value_at, why_by, why_typed}
+use Rattle.lgp_monitor.specs.Typed.{address_typed, asked_alone, asked_at, asked_by, help_by, help_typed, number_by, number_typed, numbers_by, numbers_typed, placed_range, placed_range_by, put_by, put_typed, put_word, range_at, typed_by, typed_line, typed_of, value_at}
 use Rattle.lgp_monitor.specs.Verbs.{verb_names}
 use Rattle.lgp_monitor.specs.declared.telling.Telling.{Telling}
-use Rattle.lgp_monitor.specs.declared.telling.Telling.TheVariants as tellings
 use Rattle.lgp_monitor.specs.declared.typed.Typed.{Typed}
 use Rattle.lgp_monitor.specs.declared.typed.Typed.TheVariants as typed
+use Rattle.lgp_monitor.specs.declared.verb.AddressCommand.{AddressCommand}
+use Rattle.lgp_monitor.specs.declared.verb.AddressCommand.TheVariants as address_commands
+use Rattle.lgp_monitor.specs.declared.verb.LoneCommand.{LoneCommand}
+use Rattle.lgp_monitor.specs.declared.verb.LoneCommand.TheVariants as lone_commands
+use Rattle.lgp_monitor.specs.declared.verb.NumberCommand.{NumberCommand}
+use Rattle.lgp_monitor.specs.declared.verb.NumberCommand.TheVariants as number_commands
 use Rattle.lgp_monitor.specs.declared.verb.Verb.{Verb}
 use Rattle.lgp_monitor.specs.declared.verb.Verb.TheVariants as verbs
 
@@ -98,9 +102,7 @@ front_short text = take_short line_limit text
 
 -- the commands that tell a run have longer names than `run`
 abbrev tells : Verb → Bool
-tells verbs.Trace = true
-tells verbs.Profile = true
-tells verbs.Drum = true
+tells (verbs.Number (number_commands.Told telling)) = true
 tells _ = false
 
 abbrev is_long : List ℕ → Verb → Bool
@@ -159,56 +161,51 @@ other_put : (names : List (List ℕ × ℕ)) (address : Option ℕ) (operands : 
 other_put names (Some address) operands = other_word address (value_at names address operands)
 other_put names None operands = misformed
 
-other_placed : (address : Option ℕ) → IsOther (placed_by address)
-other_placed (Some address) = λ telling limit e. cc
-other_placed None = misformed
+other_at : (command : AddressCommand) (address : ℕ) → IsOther (asked_at command address)
+other_at address_commands.Script address = λ telling limit e. cc
+other_at address_commands.Go address = λ telling limit e. cc
+other_at address_commands.Why address = λ telling limit e. cc
+
+other_address : (command : AddressCommand) (address : Option ℕ) → IsOther (asked_by command address)
+other_address command (Some address) = other_at command address
+other_address command None = misformed
 
 other_range : (range : Option WordRange) → IsOther (placed_range_by range)
 other_range (Some range) = λ telling limit e. cc
 other_range None = misformed
 
-other_why : (address : Option ℕ) → IsOther (why_by address)
-other_why (Some address) = λ telling limit e. cc
-other_why None = misformed
-
-other_numbers : (range : Option WordRange) → IsOther (numbers_by range)
-other_numbers (Some range) = λ telling limit e. cc
-other_numbers None = misformed
-
-other_go : (address : Option ℕ) → IsOther (go_by address)
-other_go (Some address) = λ telling limit e. cc
-other_go None = misformed
+other_numbers : (range : Option WordRange) (point : Option ℕ) → IsOther (numbers_by range point)
+other_numbers (Some range) (Some point) = λ telling limit e. cc
+other_numbers (Some range) None = misformed
+other_numbers None (Some point) = misformed
+other_numbers None None = misformed
 
 other_help : (verb : Option Verb) → IsOther (help_by verb)
 other_help (Some verb) = λ telling limit e. cc
 other_help None = misformed
 
-other_alone : (asked : Typed) (operands : List ℕ) → IsOther asked → IsOther (lone asked operands)
-other_alone asked operands other = other_if (has_no_word operands) asked typed.Misformed other misformed
+alone : (command : LoneCommand) → IsOther (asked_alone command)
+alone lone_commands.Script = itself
+alone lone_commands.Rules = λ telling limit e. cc
+alone lone_commands.Labels = λ telling limit e. cc
+alone lone_commands.Transcript = λ telling limit e. cc
+alone lone_commands.New = λ telling limit e. cc
 
 puts : (names : List (List ℕ × ℕ)) (counter : ℕ) (operands : List ℕ) → IsOther (put_typed names counter operands)
 unfolding put_typed
 puts names counter operands = other_put names _ _
 
-goes : (names : List (List ℕ × ℕ)) (counter : ℕ) (operands : List ℕ) → IsOther (go_typed names counter operands)
-unfolding go_typed
-goes names counter operands = other_if _ _ _ (other_go _) misformed
-
-places : (names : List (List ℕ × ℕ)) (counter : ℕ) (operands : List ℕ) → IsOther (placed_typed names counter operands)
-unfolding placed_typed
-places names counter operands = other_if _ _ _ (other_placed _) misformed
+addresses : (names : List (List ℕ × ℕ)) (counter : ℕ) (command : AddressCommand) (operands : List ℕ) → IsOther (address_typed names counter command operands)
+unfolding address_typed
+addresses names counter command operands = other_if _ _ _ (other_address command _) misformed
 
 ranges : (names : List (List ℕ × ℕ)) (counter : ℕ) (operands : List ℕ) → IsOther (placed_range names counter operands)
 unfolding placed_range
 ranges names counter operands = other_range (range_at names counter operands)
 
-whys : (names : List (List ℕ × ℕ)) (counter : ℕ) (operands : List ℕ) → IsOther (why_typed names counter operands)
-unfolding why_typed
-whys names counter operands = other_if _ _ _ (other_why _) misformed
-
 numbers : (names : List (List ℕ × ℕ)) (counter : ℕ) (operands : List ℕ) → IsOther (numbers_typed names counter operands)
 unfolding numbers_typed
-numbers names counter operands = other_numbers (range_at names counter operands)
+numbers names counter operands = other_if _ _ _ (other_numbers _ _) misformed
 
 helps : (operands : List ℕ) → IsOther (help_typed operands)
 unfolding help_typed
@@ -221,53 +218,31 @@ record IsTold (verb : Option Verb) (operands : List ℕ) (limit : ℕ) : Type 0 
   operand : lone_number operands ≡ Some limit
   name : option_map tells verb ≡ Some true
 
-number_told : (how telling : Telling) (number : Option ℕ) (limit : ℕ) → told_by how number ≡ typed.Told telling limit → number ≡ Some limit
-number_told how telling None limit e = absurd (misformed telling limit e)
-number_told how telling (Some n) limit e = let same : n ≡ limit = cc in ap Some same
+told_by : (command : NumberCommand) (number : Option ℕ) (operands : List ℕ) (telling : Telling) (limit : ℕ) → lone_number operands ≡ number → number_by command number ≡ typed.Told telling limit → IsTold (Some (verbs.Number command)) operands limit
+told_by command None operands telling limit is e = absurd (misformed telling limit e)
+told_by number_commands.Script (Some number) operands telling limit is e = absurd (itself telling limit e)
+told_by (number_commands.Told how) (Some number) operands telling limit is e =
+    let same : number ≡ limit = cc in
+    record { operand = is ∙ ap Some same; name = refl }
 
-operand_told : (how telling : Telling) (operands : List ℕ) (limit : ℕ) → told_typed how operands ≡ typed.Told telling limit → lone_number operands ≡ Some limit
-unfolding told_typed
-operand_told how telling operands limit e = number_told how telling (lone_number operands) limit e
+number_told : (command : NumberCommand) (operands : List ℕ) (telling : Telling) (limit : ℕ) → number_typed command operands ≡ typed.Told telling limit → IsTold (Some (verbs.Number command)) operands limit
+unfolding number_typed
+number_told command operands telling limit e = told_by command (lone_number operands) operands telling limit refl e
 
 told_only : (names : List (List ℕ × ℕ)) (counter : ℕ) (verb : Option Verb) (operands : List ℕ) (telling : Telling) (limit : ℕ) → typed_by names counter verb operands ≡ typed.Told telling limit → IsTold verb operands limit
 told_only names counter None operands telling limit e = absurd (misformed telling limit e)
-told_only names counter (Some verbs.Trace) operands telling limit e = record { operand = operand_told tellings.Trace telling operands limit e; name = refl }
-told_only names counter (Some verbs.Profile) operands telling limit e = record { operand = operand_told tellings.Profile telling operands limit e; name = refl }
-told_only names counter (Some verbs.Drum) operands telling limit e = record { operand = operand_told tellings.Drum telling operands limit e; name = refl }
-told_only names counter (Some verbs.Put) operands telling limit e = absurd (puts names counter operands telling limit e)
-told_only names counter (Some verbs.Go) operands telling limit e = absurd (goes names counter operands telling limit e)
-told_only names counter (Some verbs.Numbers) operands telling limit e = absurd (numbers names counter operands telling limit e)
-told_only names counter (Some verbs.Why) operands telling limit e = absurd (whys names counter operands telling limit e)
-told_only names counter (Some verbs.Labels) operands telling limit e = absurd (other_alone (typed.Asked questions.Labels) operands (λ telling limit e. cc) telling limit e)
-told_only names counter (Some verbs.Rules) operands telling limit e = absurd (other_alone (typed.Asked questions.Rules) operands (λ telling limit e. cc) telling limit e)
-told_only names counter (Some verbs.Transcript) operands telling limit e = absurd (other_alone typed.Transcript operands (λ telling limit e. cc) telling limit e)
-told_only names counter (Some verbs.New) operands telling limit e = absurd (other_alone typed.New operands (λ telling limit e. cc) telling limit e)
-told_only names counter (Some verbs.Help) operands telling limit e = absurd (helps operands telling limit e)
-told_only names counter (Some verbs.Mount) operands telling limit e = absurd (misformed telling limit e)
-told_only names counter (Some verbs.Press) operands telling limit e = absurd (misformed telling limit e)
-told_only names counter (Some verbs.Type) operands telling limit e = absurd (misformed telling limit e)
-told_only names counter (Some verbs.Turn) operands telling limit e = absurd (misformed telling limit e)
-told_only names counter (Some verbs.Orders) operands telling limit e = absurd (misformed telling limit e)
-told_only names counter (Some verbs.Run) operands telling limit e = absurd (misformed telling limit e)
-told_only names counter (Some verbs.Back) operands telling limit e = absurd (misformed telling limit e)
-told_only names counter (Some verbs.Last) operands telling limit e = absurd (misformed telling limit e)
-told_only names counter (Some verbs.Panel) operands telling limit e = absurd (misformed telling limit e)
-told_only names counter (Some verbs.Words) operands telling limit e = absurd (ranges names counter operands telling limit e)
-told_only names counter (Some verbs.Show) operands telling limit e = absurd (ranges names counter operands telling limit e)
-told_only names counter (Some verbs.Printed) operands telling limit e = absurd (misformed telling limit e)
-told_only names counter (Some verbs.Dump) operands telling limit e = absurd (misformed telling limit e)
+told_only names counter (Some (verbs.Lone command)) operands telling limit e = absurd (other_if _ _ _ (alone command) misformed telling limit e)
+told_only names counter (Some (verbs.Address command)) operands telling limit e = absurd (addresses names counter command operands telling limit e)
+told_only names counter (Some (verbs.Number command)) operands telling limit e = number_told command operands telling limit e
+told_only names counter (Some verbs.Range) operands telling limit e = absurd (ranges names counter operands telling limit e)
+told_only names counter (Some verbs.ScaledRange) operands telling limit e = absurd (numbers names counter operands telling limit e)
+told_only names counter (Some verbs.Word) operands telling limit e = absurd (puts names counter operands telling limit e)
+told_only names counter (Some verbs.Command) operands telling limit e = absurd (helps operands telling limit e)
+told_only names counter (Some verbs.Text) operands telling limit e = absurd (misformed telling limit e)
+told_only names counter (Some verbs.Key) operands telling limit e = absurd (misformed telling limit e)
 told_only names counter (Some verbs.Source) operands telling limit e = absurd (misformed telling limit e)
-told_only names counter (Some verbs.Do) operands telling limit e = absurd (misformed telling limit e)
-told_only names counter (Some verbs.Tape) operands telling limit e = absurd (misformed telling limit e)
-told_only names counter (Some verbs.Archive) operands telling limit e = absurd (misformed telling limit e)
-told_only names counter (Some verbs.Save) operands telling limit e = absurd (misformed telling limit e)
-told_only names counter (Some verbs.Restore) operands telling limit e = absurd (misformed telling limit e)
-told_only names counter (Some verbs.List) operands telling limit e = absurd (misformed telling limit e)
-told_only names counter (Some verbs.Load) operands telling limit e = absurd (misformed telling limit e)
-told_only names counter (Some verbs.Break) operands telling limit e = absurd (places names counter operands telling limit e)
-told_only names counter (Some verbs.Watch) operands telling limit e = absurd (places names counter operands telling limit e)
-told_only names counter (Some verbs.Drop) operands telling limit e = absurd (misformed telling limit e)
-told_only names counter (Some verbs.Quit) operands telling limit e = absurd (misformed telling limit e)
+told_only names counter (Some verbs.File) operands telling limit e = absurd (misformed telling limit e)
+told_only names counter (Some verbs.End) operands telling limit e = absurd (misformed telling limit e)
 
 -- what such a line is: outside a source, kept whole, a name longer than `run` and the operand of one
 record IsToldLine (is_open : Bool) (kept : Kept) (limit : ℕ) : Type 0 where

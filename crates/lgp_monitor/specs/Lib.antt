@@ -2,6 +2,7 @@ pub mod Verbs
 pub mod RunEnds
 pub mod Reasons
 pub mod Telling
+pub mod Scaled
 pub mod Questions
 pub mod Typed
 pub mod Closing

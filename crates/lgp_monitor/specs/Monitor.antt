@@ -1,5 +1,5 @@
 -- Part of the public promise: the monitor, a language in which a typed line stands for lines of a script.
-use Rattle.std.specs.Prelude.{ℕ, Bool, true, false, if◌then◌else◌, is_some, Option, Some, None, Result, Ok, Err, List, [], ◌∷◌, ◌++◌, codes}
+use Rattle.std.specs.Prelude.{ℕ, false, if◌then◌else◌, is_some, Option, Some, None, Result, Ok, Err, List, [], ◌∷◌, ◌++◌, codes}
 use Rattle.lgp_word.specs.Digits.{address_digits, digits_of}
 use Rattle.lgp_word.specs.Order.{order_word}
 use Rattle.lgp_word.specs.declared.order.Op.TheVariants.{U}
@@ -21,10 +21,9 @@ use Rattle.lgp_monitor.specs.Questions.{answer_to}
 use Rattle.lgp_monitor.specs.Reasons.{explained, reasoned}
 use Rattle.lgp_monitor.specs.Telling.{told_text}
 use Rattle.lgp_monitor.specs.Typed.{typed_of}
-use Rattle.lgp_monitor.specs.Verbs.{form_of, verb_names}
+use Rattle.lgp_monitor.specs.Verbs.{form_of, operands_form, takes_address, verb_names}
 use Rattle.lgp_monitor.specs.declared.telling.Telling.{Telling}
 use Rattle.lgp_monitor.specs.declared.verb.Verb.{Verb}
-use Rattle.lgp_monitor.specs.declared.verb.Verb.TheVariants as verbs
 use Rattle.lgp_monitor.specs.declared.typed.Typed.{Typed}
 use Rattle.lgp_monitor.specs.declared.typed.Typed.TheVariants as typed
 
@@ -71,28 +70,16 @@ meaning_of (typed.HelpOf verb) kept = Lines []
 
 -- ---- replies
 
-unfoldable pub form_line : Verb → List ℕ
-form_line verb = form_of verb ++ codes "\n"
+unfoldable pub form_line : List ℕ → Verb → List ℕ
+form_line name verb = name ++ (operands_form verb ++ codes "\n")
 
 -- the forms of commands, a line each
 unfoldable pub form_lines : List (List ℕ × Verb) → List ℕ
 form_lines [] = []
-form_lines (name ∷ more) = form_line name.1 ++ form_lines more
+form_lines (name ∷ more) = form_line name.0 name.1 ++ form_lines more
 
 abbrev pub help_text : List ℕ
 help_text = form_lines verb_names
-
--- the commands whose first operand is an address
-abbrev pub takes_address : Verb → Bool
-takes_address verbs.Put = true
-takes_address verbs.Go = true
-takes_address verbs.Words = true
-takes_address verbs.Show = true
-takes_address verbs.Numbers = true
-takes_address verbs.Why = true
-takes_address verbs.Break = true
-takes_address verbs.Watch = true
-takes_address verb = false
 
 -- why a line is in no command's form: its first operand is no address, or it is not written so
 abbrev pub fault_reason : OperandFault → List ℕ
@@ -100,23 +87,29 @@ fault_reason Misformed = codes " is no address: a track and a sector, each 00 to
 fault_reason Unknown = codes " names no label of the last source"
 fault_reason Outside = codes " is not on the drum"
 
-abbrev pub address_reason : Result ℕ OperandFault → List ℕ → Verb → List ℕ
-address_reason (Ok address) operand verb = form_of verb
-address_reason (Err fault) operand verb = operand ++ fault_reason fault
+abbrev pub address_reason : Result ℕ OperandFault → List ℕ → List ℕ → List ℕ
+address_reason (Ok address) operand form = form
+address_reason (Err fault) operand form = operand ++ fault_reason fault
 
-unfoldable pub operand_reason : List (List ℕ × ℕ) → ℕ → Verb → List ℕ → List ℕ
-operand_reason names counter verb operands =
-    if has_no_word operands then form_of verb
-    else address_reason (address_operand names counter (first_word operands)) (first_word operands) verb
+unfoldable pub operand_reason : List (List ℕ × ℕ) → ℕ → List ℕ → List ℕ → List ℕ
+operand_reason names counter operands form =
+    if has_no_word operands then form
+    else address_reason (address_operand names counter (first_word operands)) (first_word operands)
+    form
 
 abbrev pub reason_by : List (List ℕ × ℕ) → ℕ → Option Verb → List ℕ → List ℕ
-reason_by names counter None operands = codes "there is no such command, help lists them"
-reason_by names counter (Some verb) operands =
-    if takes_address verb then operand_reason names counter verb operands else form_of verb
+reason_by names counter None line = codes "there is no such command, help lists them"
+reason_by names counter (Some verb) line =
+    let form = form_of (first_word line) verb in
+    if takes_address verb then operand_reason names counter (behind_word line) form else form
 
 unfoldable pub misformed_text : List (List ℕ × ℕ) → ℕ → List ℕ → List ℕ
 misformed_text names counter line =
-    codes "? 1 Form: " ++ (reason_by names counter (named verb_names (first_word line)) (behind_word line) ++ codes "\n")
+    codes "? 1 Form: " ++ (reason_by names counter (named verb_names (first_word line)) line ++ codes "\n")
+
+-- the form of the command that stands behind another
+abbrev pub form_behind : List ℕ → Verb → List ℕ
+form_behind line verb = form_line (first_word (behind_word line)) verb
 
 -- the reply to the line that closes a source with faults, if it does, else another one
 abbrev pub marked_or : Option (List ℕ) → List ℕ → List ℕ
@@ -170,7 +163,7 @@ reply_of recorded (typed.Asked question) kept = answer_to question recorded.stan
 reply_of recorded typed.Transcript kept = recorded.transcript
 reply_of recorded typed.New kept = codes "new\n"
 reply_of recorded typed.Help kept = help_text
-reply_of recorded (typed.HelpOf verb) kept = form_line verb
+reply_of recorded (typed.HelpOf verb) kept = form_behind kept.front verb
 
 -- ---- the language
 

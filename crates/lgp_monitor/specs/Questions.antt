@@ -8,17 +8,17 @@ use Rattle.lgp_history.specs.declared.rule.Rule.{Rule}
 use Rattle.lgp_history.specs.declared.rule.Rule.TheVariants.{At, Changed}
 use Rattle.lgp_lab.specs.DrumCommands.{lines_text}
 use Rattle.lgp_lab.specs.Standing.{Standing, labels_of}
-use Rattle.lgp_trace.specs.AccountLines.{number_text}
 use Rattle.lgp_trace.specs.OriginLines.{why_text}
+use Rattle.lgp_monitor.specs.Scaled.{scaled_text}
 use Rattle.lgp_monitor.specs.Telling.{label_of}
 use Rattle.lgp_monitor.specs.declared.question.Question.{Question}
 use Rattle.lgp_monitor.specs.declared.question.Question.TheVariants as questions
 
--- a word by its digits, as a fraction, and as the whole number whose point is behind place 30
-unfoldable pub number_line : ℕ → ℕ → List ℕ
-number_line address word =
+-- a word by its digits, as a fraction, and as the number whose point is behind a place
+unfoldable pub number_line : ℕ → ℕ → ℕ → List ℕ
+number_line point address word =
     address_digits address ++ (codes " " ++ (digits_of word ++ (codes "  " ++ (decimal_text (half word) ++ (codes "  "
-    ++ (number_text word ++ codes "\n"))))))
+    ++ (scaled_text point word ++ codes "\n"))))))
 
 -- the value of a name: an address, or the place behind the drum's last
 abbrev pub value_text : ℕ → List ℕ
@@ -52,7 +52,8 @@ rule_lines names number [] = []
 rule_lines names number (rule ∷ more) = rule_line names number rule ++ rule_lines names (number + 1) more
 
 unfoldable pub answer_to : Question → Standing → List ℕ
-answer_to (questions.Numbers range) standing = lines_text number_line standing.debugger.state range.first range.count
+answer_to (questions.Numbers range point) standing =
+    lines_text (number_line point) standing.debugger.state range.first range.count
 answer_to (questions.Why address) standing = why_text (label_of (labels_of standing.source)) standing.debugger address
 answer_to questions.Labels standing = label_lines (labels_of standing.source)
 answer_to questions.Rules standing = rule_lines (labels_of standing.source) 0 standing.debugger.rules

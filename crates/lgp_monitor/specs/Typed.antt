@@ -14,10 +14,15 @@ use Rattle.lgp_stream.specs.LineWords.{behind_word, first_word, has_no_word}
 use Rattle.lgp_text.specs.NamedValues.{named}
 use Rattle.lgp_lab.specs.Command.{command_of, lone_number}
 use Rattle.lgp_lab.specs.Span.{WordRange, range_of}
+use Rattle.lgp_monitor.specs.Scaled.{point_of}
 use Rattle.lgp_monitor.specs.Verbs.{verb_names}
 use Rattle.lgp_monitor.specs.declared.question.Question.TheVariants as questions
-use Rattle.lgp_monitor.specs.declared.telling.Telling.{Telling}
-use Rattle.lgp_monitor.specs.declared.telling.Telling.TheVariants as tellings
+use Rattle.lgp_monitor.specs.declared.verb.AddressCommand.{AddressCommand}
+use Rattle.lgp_monitor.specs.declared.verb.AddressCommand.TheVariants as address_commands
+use Rattle.lgp_monitor.specs.declared.verb.LoneCommand.{LoneCommand}
+use Rattle.lgp_monitor.specs.declared.verb.LoneCommand.TheVariants as lone_commands
+use Rattle.lgp_monitor.specs.declared.verb.NumberCommand.{NumberCommand}
+use Rattle.lgp_monitor.specs.declared.verb.NumberCommand.TheVariants as number_commands
 use Rattle.lgp_monitor.specs.declared.verb.Verb.{Verb}
 use Rattle.lgp_monitor.specs.declared.verb.Verb.TheVariants as verbs
 use Rattle.lgp_monitor.specs.declared.typed.Typed.{Typed}
@@ -93,22 +98,20 @@ put_by names None operands = typed.Misformed
 unfoldable pub put_typed : List (List ℕ × ℕ) → ℕ → List ℕ → Typed
 put_typed names counter operands = put_by names (address_at names counter (first_word operands)) (behind_word operands)
 
-abbrev pub go_by : Option ℕ → Typed
-go_by (Some address) = typed.Go address
-go_by None = typed.Misformed
+-- what a command asks for with an address; one of scripts has there its `ttss`
+abbrev pub asked_at : AddressCommand → ℕ → Typed
+asked_at address_commands.Script address = typed.Placed address
+asked_at address_commands.Go address = typed.Go address
+asked_at address_commands.Why address = typed.Asked (questions.Why address)
 
-unfoldable pub go_typed : List (List ℕ × ℕ) → ℕ → List ℕ → Typed
-go_typed names counter operands =
-    if has_no_word (behind_word operands) then go_by (address_at names counter (first_word operands)) else typed.Misformed
+abbrev pub asked_by : AddressCommand → Option ℕ → Typed
+asked_by command (Some address) = asked_at command address
+asked_by command None = typed.Misformed
 
--- a command of scripts whose address is written otherwise than there
-abbrev pub placed_by : Option ℕ → Typed
-placed_by (Some address) = typed.Placed address
-placed_by None = typed.Misformed
-
-unfoldable pub placed_typed : List (List ℕ × ℕ) → ℕ → List ℕ → Typed
-placed_typed names counter operands =
-    if has_no_word (behind_word operands) then placed_by (address_at names counter (first_word operands)) else typed.Misformed
+unfoldable pub address_typed : List (List ℕ × ℕ) → ℕ → AddressCommand → List ℕ → Typed
+address_typed names counter command operands =
+    if has_no_word (behind_word operands)
+    then asked_by command (address_at names counter (first_word operands)) else typed.Misformed
 
 -- a range of words, by an address and a number
 abbrev pub range_by : Option ℕ → Option ℕ → Option WordRange
@@ -126,28 +129,34 @@ placed_range_by None = typed.Misformed
 unfoldable pub placed_range : List (List ℕ × ℕ) → ℕ → List ℕ → Typed
 placed_range names counter operands = placed_range_by (range_at names counter operands)
 
-abbrev pub numbers_by : Option WordRange → Typed
-numbers_by (Some range) = typed.Asked (questions.Numbers range)
-numbers_by None = typed.Misformed
+-- a range of words as numbers, and the place behind which their point is, 30 where none is given
+abbrev pub numbers_by : Option WordRange → Option ℕ → Typed
+numbers_by (Some range) (Some point) = typed.Asked (questions.Numbers range point)
+numbers_by _ _ = typed.Misformed
+
+abbrev pub first_range : List (List ℕ × ℕ) → ℕ → List ℕ → Option WordRange
+first_range names counter operands =
+    range_by (address_at names counter (first_word operands))
+    (lone_number (first_word (behind_word operands)))
 
 unfoldable pub numbers_typed : List (List ℕ × ℕ) → ℕ → List ℕ → Typed
-numbers_typed names counter operands = numbers_by (range_at names counter operands)
+numbers_typed names counter operands =
+    if has_no_word (behind_word (behind_word (behind_word operands)))
+    then numbers_by (first_range names counter operands)
+    (point_of (point_at (behind_word (behind_word operands))))
+    else typed.Misformed
 
-abbrev pub why_by : Option ℕ → Typed
-why_by (Some address) = typed.Asked (questions.Why address)
-why_by None = typed.Misformed
+-- what a command asks for with a number; one of scripts as it stands
+abbrev pub asked_with : NumberCommand → ℕ → Typed
+asked_with number_commands.Script number = typed.Itself
+asked_with (number_commands.Told telling) limit = typed.Told telling limit
 
-unfoldable pub why_typed : List (List ℕ × ℕ) → ℕ → List ℕ → Typed
-why_typed names counter operands =
-    if has_no_word (behind_word operands) then why_by (address_at names counter (first_word operands)) else typed.Misformed
+abbrev pub number_by : NumberCommand → Option ℕ → Typed
+number_by command (Some number) = asked_with command number
+number_by command None = typed.Misformed
 
--- a run that is told: its operand is that of `run`
-abbrev pub told_by : Telling → Option ℕ → Typed
-told_by telling (Some limit) = typed.Told telling limit
-told_by telling None = typed.Misformed
-
-unfoldable pub told_typed : Telling → List ℕ → Typed
-told_typed telling operands = told_by telling (lone_number operands)
+unfoldable pub number_typed : NumberCommand → List ℕ → Typed
+number_typed command operands = number_by command (lone_number operands)
 
 abbrev pub help_by : Option Verb → Typed
 help_by (Some verb) = typed.HelpOf verb
@@ -158,27 +167,27 @@ help_typed operands =
     if has_no_word operands then typed.Help
     else (if has_no_word (behind_word operands) then help_by (named verb_names (first_word operands)) else typed.Misformed)
 
--- a command that takes no operand
-abbrev pub lone : Typed → List ℕ → Typed
-lone asked operands = if has_no_word operands then asked else typed.Misformed
+-- what a command asks for by itself; one of scripts as it stands
+abbrev pub asked_alone : LoneCommand → Typed
+asked_alone lone_commands.Script = typed.Itself
+asked_alone lone_commands.Rules = typed.Asked questions.Rules
+asked_alone lone_commands.Labels = typed.Asked questions.Labels
+asked_alone lone_commands.Transcript = typed.Transcript
+asked_alone lone_commands.New = typed.New
 
+abbrev pub lone_typed : LoneCommand → List ℕ → Typed
+lone_typed command operands = if has_no_word operands then asked_alone command else typed.Misformed
+
+-- a command with its operands, by what stands behind its name; of some the script's own form is the only one
 abbrev pub typed_by : List (List ℕ × ℕ) → ℕ → Option Verb → List ℕ → Typed
-typed_by names counter (Some verbs.Put) operands = put_typed names counter operands
-typed_by names counter (Some verbs.Go) operands = go_typed names counter operands
-typed_by names counter (Some verbs.Words) operands = placed_range names counter operands
-typed_by names counter (Some verbs.Show) operands = placed_range names counter operands
-typed_by names counter (Some verbs.Break) operands = placed_typed names counter operands
-typed_by names counter (Some verbs.Watch) operands = placed_typed names counter operands
-typed_by names counter (Some verbs.Numbers) operands = numbers_typed names counter operands
-typed_by names counter (Some verbs.Why) operands = why_typed names counter operands
-typed_by names counter (Some verbs.Labels) operands = lone (typed.Asked questions.Labels) operands
-typed_by names counter (Some verbs.Rules) operands = lone (typed.Asked questions.Rules) operands
-typed_by names counter (Some verbs.Trace) operands = told_typed tellings.Trace operands
-typed_by names counter (Some verbs.Profile) operands = told_typed tellings.Profile operands
-typed_by names counter (Some verbs.Drum) operands = told_typed tellings.Drum operands
-typed_by names counter (Some verbs.Transcript) operands = lone typed.Transcript operands
-typed_by names counter (Some verbs.New) operands = lone typed.New operands
-typed_by names counter (Some verbs.Help) operands = help_typed operands
+typed_by names counter (Some (verbs.Lone command)) operands = lone_typed command operands
+typed_by names counter (Some (verbs.Address command)) operands =
+    address_typed names counter command operands
+typed_by names counter (Some (verbs.Number command)) operands = number_typed command operands
+typed_by names counter (Some verbs.Range) operands = placed_range names counter operands
+typed_by names counter (Some verbs.ScaledRange) operands = numbers_typed names counter operands
+typed_by names counter (Some verbs.Word) operands = put_typed names counter operands
+typed_by names counter (Some verbs.Command) operands = help_typed operands
 typed_by names counter _ operands = typed.Misformed
 
 -- a line in the form of a script's command asks for that

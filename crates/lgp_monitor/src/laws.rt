@@ -1,6 +1,6 @@
 //! What follows from the definitions, each law as the contract of a function that does nothing.
 
-ghost use Rattle.std.specs.Prelude.{◌≡◌, List, ℕ};
+ghost use Rattle.std.specs.Prelude.{◌≡◌, ◌-◌, ◌*◌, ◌^◌, ◌≤◌, List, ℕ};
 ghost use Rattle.std.specs.List.{AllByRecursion};
 ghost use Rattle.std.specs.Str.Lines.{lines};
 ghost use Rattle.lgp_stream.specs.Language.{state_after};
@@ -13,6 +13,8 @@ ghost use Rattle.lgp_lab.specs.Standing.{opening_standing};
 ghost use Rattle.lgp_monitor.specs.Attending.{IsSayable, attended_language, handed_over};
 ghost use Rattle.lgp_monitor.specs.Blocks.{dumped_words};
 ghost use Rattle.lgp_monitor.specs.Monitor.{monitor_language};
+ghost use Rattle.lgp_monitor.specs.Scaled.{scaled_text, units_at};
+ghost use Rattle.lgp_trace.specs.AccountLines.{number_text};
 
 use std::alloc::Allocator;
 
@@ -37,4 +39,17 @@ pub fn transcript_at_a_desk_is_the_script<A: Allocator>()
 pub fn restored_words_have_the_dump()
     ensures { (words dump : List ℕ) → IsDrum words → dump_of words ≡ dump
         → words ≡ dumped_words dump }
+{}
+
+/// A number whose point is behind place 30 is the whole number that traces show of a word.
+pub fn numbers_behind_place_30_are_whole()
+    ensures { (word : ℕ) → scaled_text 30 word ≡ number_text word }
+{}
+
+/// A number for which ten decimals are enough is shown exactly; they are where its point is behind place 20 or a later one.
+pub fn short_numbers_are_exact()
+    ensures short { (point size units : ℕ) → size * 10 ^ 10 ≡ units * 2 ^ (30 - point)
+        → units_at point size ≡ units }
+    ensures late_point { (point size : ℕ) → 20 ≤ point
+        → size * 10 ^ 10 ≡ units_at point size * 2 ^ (30 - point) }
 {}

@@ -8,8 +8,9 @@ ghost use Rattle.lgp_lab.specs.Script.{script_language};
 ghost use Rattle.lgp_lab.specs.Standing.{labels_of, opening_standing};
 ghost use Rattle.lgp_monitor.specs.Blocks.{behind_block, block_reply};
 ghost use Rattle.lgp_monitor.specs.Typed.{typed_of};
-ghost use Rattle.lgp_monitor.specs.Monitor.{address_reason, counter_at, explained_reply, explained_run, fault_reason, form_line, form_lines, go_lines, help_text, itself_reply, jump_line, meaning_of, misformed_text, monitor_language, names_at, operand_reason, panel_at, placed_line, put_line, reason_by, reply_of, run_line, takes_address, told_reply, typed_at};
+ghost use Rattle.lgp_monitor.specs.Monitor.{address_reason, counter_at, explained_reply, explained_run, fault_reason, form_behind, form_line, form_lines, go_lines, help_text, itself_reply, jump_line, meaning_of, misformed_text, monitor_language, names_at, operand_reason, panel_at, placed_line, put_line, reason_by, reply_of, run_line, told_reply, typed_at};
 ghost use Rattle.lgp_monitor.specs.Reasons.{explained};
+ghost use Rattle.lgp_monitor.specs.Verbs.{form_of};
 
 use crate::blocks::answer_block;
 use crate::closing::closing_reply;
@@ -19,10 +20,10 @@ use crate::reason::{push_explained, push_reasoned};
 use crate::script_line::answer_kept;
 use crate::telling::{Telling, run_told};
 use crate::typed::{Typed, typed_of};
-use crate::verb::{VERBS, Verb, form_of, verb_named};
+use crate::verb::{VERBS, Verb, operands_form, takes_address, verb_named};
 use lgp_assembler::{Name, OperandFault, Symbols, address_operand};
 use lgp_lab::Laboratory;
-use lgp_stream::{Answers, LineBytes, has_no_word, split_word};
+use lgp_stream::{Answers, LineBytes, Split, has_no_word, split_word};
 use lgp_text::{Named, Piece, push_pieces};
 use lgp_transcript::Recorder;
 use lgp_word::{Address, Op, Order, Word, encode};
@@ -279,11 +280,39 @@ fn explain_told<A: Allocator + Copy>(
 }
 
 /// Appends the form of a command.
-#[tactic(auto, unfolding(crate::specs::Monitor::form_line))]
-fn push_form<A: Allocator>(text: &mut Vec<u8, A>, verb: Verb) -> Result<(), AllocError>
-    ensures { OnOk result (text.new.items ≡ text.old.items ++ form_line verb) }
+fn push_form<A: Allocator>(text: &mut Vec<u8, A>, name: &[u8], verb: Verb) -> Result<(), AllocError>
+    ensures { OnOk result (text.new.items ≡ text.old.items ++ form_of name.now verb) }
 {
-    push_pieces(text, &[Piece::Text(form_of(verb)), Piece::Text(b"\n")])
+    text.extend_from_slice(name)?;
+    text.extend_from_slice(operands_form(verb))
+}
+
+/// Appends the line of a command's form.
+#[tactic(auto, unfolding(crate::specs::Monitor::form_line))]
+fn push_form_line<A: Allocator>(
+    text: &mut Vec<u8, A>,
+    name: &[u8],
+    verb: Verb,
+) -> Result<(), AllocError>
+    ensures { OnOk result (text.new.items ≡ text.old.items ++ form_line name.now verb) }
+{
+    text.extend_from_slice(name)?;
+    push_pieces(
+        text,
+        &[Piece::Text(operands_form(verb)), Piece::Text(b"\n")],
+    )
+}
+
+/// Appends the form of the command that stands behind another.
+fn push_form_behind<A: Allocator>(
+    text: &mut Vec<u8, A>,
+    line: &[u8],
+    verb: Verb,
+) -> Result<(), AllocError>
+    ensures { OnOk result (text.new.items ≡ text.old.items ++ form_behind line.now verb) }
+{
+    let command = split_word(line);
+    push_form_line(text, split_word(command.behind).word, verb)
 }
 
 /// Appends the forms of commands.
@@ -292,7 +321,7 @@ fn push_forms<A: Allocator>(text: &mut Vec<u8, A>, names: &[Named<Verb>]) -> Res
     ensures { OnOk result (text.new.items ≡ text.old.items ++ form_lines (pairs_of names.now)) }
 {
     for name in names {
-        push_form(text, name.value)?;
+        push_form_line(text, name.name, name.value)?;
     }
     Ok(())
 }
@@ -344,23 +373,6 @@ fn place<A: Allocator + Copy>(
     explain(alloc, recorder, &line, reply)
 }
 
-/// Whether a command's first operand is an address.
-fn takes_address(verb: Verb) -> bool
-    ensures { result ≡ takes_address verb }
-{
-    matches!(
-        verb,
-        Verb::Put
-            | Verb::Go
-            | Verb::Words
-            | Verb::Show
-            | Verb::Numbers
-            | Verb::Why
-            | Verb::Break
-            | Verb::Watch
-    )
-}
-
 /// What is wrong with an operand that is no address.
 fn fault_reason(fault: OperandFault) -> &'static [u8]
     ensures { result.now ≡ fault_reason fault }
@@ -379,13 +391,14 @@ fn push_address_reason<A: Allocator>(
     text: &mut Vec<u8, A>,
     address: Result<Address, OperandFault>,
     operand: &[u8],
+    name: &[u8],
     verb: Verb,
 ) -> Result<(), AllocError>
     ensures { OnOk result (text.new.items
-        ≡ text.old.items ++ address_reason address operand.now verb) }
+        ≡ text.old.items ++ address_reason address operand.now (form_of name.now verb)) }
 {
     match address {
-        Ok(_) => text.extend_from_slice(form_of(verb)),
+        Ok(_) => push_form(text, name, verb),
         Err(fault) => push_pieces(
             text,
             &[Piece::Text(operand), Piece::Text(fault_reason(fault))],
@@ -399,18 +412,19 @@ fn push_operand_reason<A: Allocator>(
     text: &mut Vec<u8, A>,
     names: &[(Name, u16)],
     counter: Address,
+    name: &[u8],
     verb: Verb,
     operands: &[u8],
 ) -> Result<(), AllocError>
-    ensures { OnOk result (text.new.items
-        ≡ text.old.items ++ operand_reason names.now counter verb operands.now) }
+    ensures { OnOk result (text.new.items ≡ text.old.items
+        ++ operand_reason names.now counter operands.now (form_of name.now verb)) }
 {
     if has_no_word(operands) {
-        return text.extend_from_slice(form_of(verb));
+        return push_form(text, name, verb);
     }
     let operand = split_word(operands).word;
     let address = address_operand(&Symbols { names }, u64::from(counter.number()), operand);
-    push_address_reason(text, address, operand, verb)
+    push_address_reason(text, address, operand, name, verb)
 }
 
 /// Appends why a line is in no command's form.
@@ -419,17 +433,18 @@ fn push_reason<A: Allocator>(
     names: &[(Name, u16)],
     counter: Address,
     verb: Option<Verb>,
-    operands: &[u8],
+    line: &[u8],
 ) -> Result<(), AllocError>
     ensures { OnOk result (text.new.items
-        ≡ text.old.items ++ reason_by names.now counter verb operands.now) }
+        ≡ text.old.items ++ reason_by names.now counter verb line.now) }
 {
+    let Split { word, behind } = split_word(line);
     match verb {
         None => text.extend_from_slice(b"there is no such command, help lists them"),
         Some(verb) if takes_address(verb) => {
-            push_operand_reason(text, names, counter, verb, operands)
+            push_operand_reason(text, names, counter, word, verb, behind)
         }
-        Some(verb) => text.extend_from_slice(form_of(verb)),
+        Some(verb) => push_form(text, word, verb),
     }
 }
 
@@ -444,15 +459,9 @@ fn push_misformed<A: Allocator>(
     ensures { OnOk result (text.new.items
         ≡ text.old.items ++ misformed_text names.now counter line.now) }
 {
-    let command = split_word(line);
+    let command = split_word(line).word;
     text.extend_from_slice(b"? 1 Form: ")?;
-    push_reason(
-        text,
-        names,
-        counter,
-        verb_named(command.word),
-        command.behind,
-    )?;
+    push_reason(text, names, counter, verb_named(command), line)?;
     text.push(b'\n')?;
     Ok(())
 }
@@ -537,7 +546,7 @@ fn perform<A: Allocator + Copy, P: Progress>(
         Typed::Transcript => reply.extend_from_slice(recorder.transcript()),
         Typed::New => begin_anew(alloc, recorder, reply),
         Typed::Help => push_help(reply),
-        Typed::HelpOf(verb) => push_form(reply, verb),
+        Typed::HelpOf(verb) => push_form_behind(reply, line.front(), verb),
     }
 }
 

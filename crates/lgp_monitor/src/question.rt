@@ -8,21 +8,22 @@ ghost use Rattle.lgp_monitor.specs.Telling.{label_of};
 ghost use Rattle.lgp_monitor.specs.Questions.{answer_to, label_line, label_lines, number_line, rule_address, rule_command, rule_line, rule_lines, value_text};
 
 use crate::labels::{NamedAddresses, push_name};
+use crate::scaled::{Point, push_scaled};
 use lgp_assembler::Name;
 use lgp_fraction::Fraction;
 use lgp_history::Rule;
 use lgp_lab::{Laboratory, Span};
 use lgp_machine::Machine;
 use lgp_text::{Piece, push_pieces};
-use lgp_trace::{push_number, push_why};
+use lgp_trace::push_why;
 use lgp_word::{Address, Word};
 use std::alloc::{AllocError, Allocator};
 
 /// What is shown and changes nothing.
 #[derive(Clone, Copy)]
 pub enum Question {
-    /// Words by their digits, as fractions and as whole numbers.
-    Numbers(Span),
+    /// Words by their digits, as fractions and as numbers whose point is behind a place.
+    Numbers(Span, Point),
     /// Where the word at an address came from.
     Why(Address),
     /// The names of the last source with their values.
@@ -31,14 +32,15 @@ pub enum Question {
     Rules,
 }
 
-/// Appends a word by its digits, as a fraction and as a whole number.
+/// Appends a word by its digits, as a fraction and as a number whose point is behind a place.
 #[tactic(auto, unfolding(crate::specs::Questions::number_line))]
 fn push_number_line<A: Allocator>(
     text: &mut Vec<u8, A>,
+    point: Point,
     address: Address,
     word: Word,
 ) -> Result<(), AllocError>
-    ensures { OnOk result (text.new.items ≡ text.old.items ++ number_line address word) }
+    ensures { OnOk result (text.new.items ≡ text.old.items ++ number_line point address word) }
 {
     let fraction = Fraction::of_word(word).to_decimal();
     push_pieces(
@@ -52,7 +54,7 @@ fn push_number_line<A: Allocator>(
             Piece::Text(b"  "),
         ],
     )?;
-    push_number(text, word)?;
+    push_scaled(text, point, word)?;
     text.push(b'\n')?;
     Ok(())
 }
@@ -62,13 +64,14 @@ fn push_numbers<A: Allocator>(
     text: &mut Vec<u8, A>,
     machine: &Machine<A>,
     range: &Span,
+    point: Point,
 ) -> Result<(), AllocError>
     ensures { OnOk result (text.new.items ≡ text.old.items
-        ++ lines_text number_line machine.now.state range.now.first range.now.count) }
+        ++ lines_text (number_line point) machine.now.state range.now.first range.now.count) }
 {
     for place in 0..range.count() {
         let address = range.address(place);
-        push_number_line(text, address, machine.word(address))?;
+        push_number_line(text, point, address, machine.word(address))?;
     }
     Ok(())
 }
@@ -197,7 +200,9 @@ pub fn push_answer<A: Allocator + Copy>(
         ≡ text.old.items ++ answer_to question.now laboratory.now) }
 {
     match question {
-        Question::Numbers(range) => push_numbers(text, laboratory.debugger().machine(), range),
+        Question::Numbers(range, point) => {
+            push_numbers(text, laboratory.debugger().machine(), range, *point)
+        }
         Question::Why(address) => push_why_at(text, *address, laboratory),
         Question::Labels => push_label_lines(text, laboratory.labels()),
         Question::Rules => {

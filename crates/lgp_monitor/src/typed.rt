@@ -3,11 +3,13 @@
 ghost use Rattle.std.specs.Prelude.{◌≡◌, ◌==◌, slice_index};
 ghost use Rattle.std.specs.Option.{option_copied};
 ghost use Rattle.std.specs.Str.{byte};
-ghost use Rattle.lgp_monitor.specs.Typed.{address_at, digits_or_fraction, fraction_at, go_typed, help_typed, lone, numbers_typed, operand_at, operation_at, placed_range, placed_typed, point_at, put_by, put_typed, range_at, stands_for_itself, told_typed, typed_by, typed_line, typed_of, value_at, whole_at, why_typed, word_by};
+ghost use Rattle.lgp_monitor.specs.Scaled.{point_of};
+ghost use Rattle.lgp_monitor.specs.Typed.{address_at, address_typed, asked_alone, asked_at, asked_with, digits_or_fraction, first_range, fraction_at, help_typed, lone_typed, number_typed, numbers_by, numbers_typed, operand_at, operation_at, placed_range, point_at, put_by, put_typed, range_at, range_by, stands_for_itself, typed_by, typed_line, typed_of, value_at, whole_at, word_by};
 
 use crate::question::Question;
+use crate::scaled::Point;
 use crate::telling::Telling;
-use crate::verb::{Verb, verb_named};
+use crate::verb::{AddressCommand, LoneCommand, NumberCommand, Verb, verb_named};
 use lgp_assembler::{Name, OperandFault, Symbols, address_operand, operation_word};
 use lgp_fraction::Fraction;
 use lgp_lab::{Span, is_command, lone_number};
@@ -183,33 +185,44 @@ fn put_typed(names: &[(Name, u16)], counter: Address, operands: &[u8]) -> Typed
     put_by(names, address_at(names, counter, word), behind)
 }
 
-/// The operand of `go`.
-#[tactic(auto, unfolding(crate::specs::Typed::go_typed))]
-fn go_typed(names: &[(Name, u16)], counter: Address, operands: &[u8]) -> Typed
-    ensures { result ≡ go_typed names.now counter operands.now }
+/// What a command asks for with an address.
+fn asked_at(command: AddressCommand, address: Address) -> Typed
+    ensures { result ≡ asked_at command address }
+{
+    match command {
+        AddressCommand::Script => Typed::Placed(address),
+        AddressCommand::Go => Typed::Go(address),
+        AddressCommand::Why => Typed::Asked(Question::Why(address)),
+    }
+}
+
+/// The operand of a command that takes an address.
+#[tactic(auto, unfolding(crate::specs::Typed::address_typed))]
+fn address_typed(
+    names: &[(Name, u16)],
+    counter: Address,
+    command: AddressCommand,
+    operands: &[u8],
+) -> Typed
+    ensures { result ≡ address_typed names.now counter command operands.now }
 {
     let Split { word, behind } = split_word(operands);
     if !has_no_word(behind) {
         return Typed::Misformed;
     }
     match address_at(names, counter, word) {
-        Some(address) => Typed::Go(address),
+        Some(address) => asked_at(command, address),
         None => Typed::Misformed,
     }
 }
 
-/// The operand of a script's command that takes an address.
-#[tactic(auto, unfolding(crate::specs::Typed::placed_typed))]
-fn placed_typed(names: &[(Name, u16)], counter: Address, operands: &[u8]) -> Typed
-    ensures { result ≡ placed_typed names.now counter operands.now }
+/// So many words from an address on.
+fn range_by(address: Option<Address>, count: Option<u64>) -> Option<Span>
+    ensures { result ≡ range_by address count }
 {
-    let Split { word, behind } = split_word(operands);
-    if !has_no_word(behind) {
-        return Typed::Misformed;
-    }
-    match address_at(names, counter, word) {
-        Some(address) => Typed::Placed(address),
-        None => Typed::Misformed,
+    match (address, count) {
+        (Some(address), Some(count)) => Span::new(address, count),
+        _ => None,
     }
 }
 
@@ -219,10 +232,7 @@ fn range_at(names: &[(Name, u16)], counter: Address, operands: &[u8]) -> Option<
     ensures { result ≡ range_at names.now counter operands.now }
 {
     let Split { word, behind } = split_word(operands);
-    match (address_at(names, counter, word), lone_number(behind)) {
-        (Some(address), Some(count)) => Span::new(address, count),
-        _ => None,
-    }
+    range_by(address_at(names, counter, word), lone_number(behind))
 }
 
 /// The operands of a script's command that takes a range of words.
@@ -236,39 +246,61 @@ fn placed_range(names: &[(Name, u16)], counter: Address, operands: &[u8]) -> Typ
     }
 }
 
+/// The range of words of the first two operands.
+fn first_range(names: &[(Name, u16)], counter: Address, operands: &[u8]) -> Option<Span>
+    ensures { result ≡ first_range names.now counter operands.now }
+{
+    let Split { word, behind } = split_word(operands);
+    range_by(
+        address_at(names, counter, word),
+        lone_number(split_word(behind).word),
+    )
+}
+
+/// A range of words as numbers with this point.
+fn numbers_by(range: Option<Span>, point: Option<Point>) -> Typed
+    ensures { result ≡ numbers_by range point }
+{
+    match (range, point) {
+        (Some(range), Some(point)) => Typed::Asked(Question::Numbers(range, point)),
+        _ => Typed::Misformed,
+    }
+}
+
 /// The operands of `numbers`.
 #[tactic(auto, unfolding(crate::specs::Typed::numbers_typed))]
 fn numbers_typed(names: &[(Name, u16)], counter: Address, operands: &[u8]) -> Typed
     ensures { result ≡ numbers_typed names.now counter operands.now }
 {
-    match range_at(names, counter, operands) {
-        Some(range) => Typed::Asked(Question::Numbers(range)),
-        None => Typed::Misformed,
-    }
-}
-
-/// The operand of `why`.
-#[tactic(auto, unfolding(crate::specs::Typed::why_typed))]
-fn why_typed(names: &[(Name, u16)], counter: Address, operands: &[u8]) -> Typed
-    ensures { result ≡ why_typed names.now counter operands.now }
-{
-    let Split { word, behind } = split_word(operands);
-    if !has_no_word(behind) {
+    let address = split_word(operands);
+    let count = split_word(address.behind);
+    let point = split_word(count.behind);
+    if !has_no_word(point.behind) {
         return Typed::Misformed;
     }
-    match address_at(names, counter, word) {
-        Some(address) => Typed::Asked(Question::Why(address)),
-        None => Typed::Misformed,
+    numbers_by(
+        first_range(names, counter, operands),
+        Point::read(point_at(count.behind)),
+    )
+}
+
+/// What a command asks for with a number.
+fn asked_with(command: NumberCommand, number: u64) -> Typed
+    ensures { result ≡ asked_with command number }
+{
+    match command {
+        NumberCommand::Script => Typed::Itself,
+        NumberCommand::Told(telling) => Typed::Told(telling, number),
     }
 }
 
-/// The operand of a run that is told.
-#[tactic(auto, unfolding(crate::specs::Typed::told_typed))]
-fn told_typed(telling: Telling, operands: &[u8]) -> Typed
-    ensures { result ≡ told_typed telling operands.now }
+/// The operand of a command that takes a number.
+#[tactic(auto, unfolding(crate::specs::Typed::number_typed))]
+fn number_typed(command: NumberCommand, operands: &[u8]) -> Typed
+    ensures { result ≡ number_typed command operands.now }
 {
     match lone_number(operands) {
-        Some(limit) => Typed::Told(telling, limit),
+        Some(number) => asked_with(command, number),
         None => Typed::Misformed,
     }
 }
@@ -291,37 +323,45 @@ fn help_typed(operands: &[u8]) -> Typed
     }
 }
 
+/// What a command asks for by itself.
+fn asked_alone(command: LoneCommand) -> Typed
+    ensures { result ≡ asked_alone command }
+{
+    match command {
+        LoneCommand::Script => Typed::Itself,
+        LoneCommand::Rules => Typed::Asked(Question::Rules),
+        LoneCommand::Labels => Typed::Asked(Question::Labels),
+        LoneCommand::Transcript => Typed::Transcript,
+        LoneCommand::New => Typed::New,
+    }
+}
+
 /// A command that takes no operand.
-fn lone(asked: Typed, operands: &[u8]) -> Typed
-    ensures { result ≡ lone asked operands.now }
+fn lone_typed(command: LoneCommand, operands: &[u8]) -> Typed
+    ensures { result ≡ lone_typed command operands.now }
 {
     if has_no_word(operands) {
-        asked
+        asked_alone(command)
     } else {
         Typed::Misformed
     }
 }
 
-/// A command with its operands.
+/// A command with its operands, by what stands behind its name. Of some the script's own form is the only one.
 fn typed_by(names: &[(Name, u16)], counter: Address, verb: Option<Verb>, operands: &[u8]) -> Typed
     ensures { result ≡ typed_by names.now counter verb operands.now }
 {
     match verb {
-        Some(Verb::Put) => put_typed(names, counter, operands),
-        Some(Verb::Go) => go_typed(names, counter, operands),
-        Some(Verb::Words | Verb::Show) => placed_range(names, counter, operands),
-        Some(Verb::Break | Verb::Watch) => placed_typed(names, counter, operands),
-        Some(Verb::Numbers) => numbers_typed(names, counter, operands),
-        Some(Verb::Why) => why_typed(names, counter, operands),
-        Some(Verb::Labels) => lone(Typed::Asked(Question::Labels), operands),
-        Some(Verb::Rules) => lone(Typed::Asked(Question::Rules), operands),
-        Some(Verb::Trace) => told_typed(Telling::Trace, operands),
-        Some(Verb::Profile) => told_typed(Telling::Profile, operands),
-        Some(Verb::Drum) => told_typed(Telling::Drum, operands),
-        Some(Verb::Transcript) => lone(Typed::Transcript, operands),
-        Some(Verb::New) => lone(Typed::New, operands),
-        Some(Verb::Help) => help_typed(operands),
-        _ => Typed::Misformed,
+        Some(Verb::Lone(command)) => lone_typed(command, operands),
+        Some(Verb::Address(command)) => address_typed(names, counter, command, operands),
+        Some(Verb::Number(command)) => number_typed(command, operands),
+        Some(Verb::Range) => placed_range(names, counter, operands),
+        Some(Verb::ScaledRange) => numbers_typed(names, counter, operands),
+        Some(Verb::Word) => put_typed(names, counter, operands),
+        Some(Verb::Command) => help_typed(operands),
+        Some(Verb::Text | Verb::Key | Verb::Source | Verb::File | Verb::End) | None => {
+            Typed::Misformed
+        }
     }
 }
 

@@ -1,134 +1,151 @@
-//! The commands of the monitor, each with its form.
+//! The commands of the monitor, each with what stands behind its name.
 
 ghost use Rattle.std.specs.Prelude.{◌≡◌};
 ghost use Rattle.lgp_text.specs.NamedValues.{named};
-ghost use Rattle.lgp_monitor.specs.Verbs.{form_of, verb_names};
+ghost use Rattle.lgp_monitor.specs.Verbs.{operands_form, takes_address, verb_names};
 
+use crate::telling::Telling;
 use lgp_text::{Named, value_named};
 
-/// What a line's first word says.
+/// A command behind whose name nothing stands.
 #[derive(Clone, Copy)]
-pub enum Verb {
-    Put,
-    Go,
-    Mount,
-    Press,
-    Type,
-    Turn,
-    Orders,
-    Run,
-    Trace,
-    Profile,
-    Drum,
-    Why,
-    Back,
-    Last,
-    Panel,
-    Words,
-    Show,
-    Numbers,
-    Printed,
-    Dump,
-    Source,
-    Do,
-    Tape,
-    Archive,
-    Save,
-    Restore,
-    List,
-    Load,
-    Break,
-    Watch,
-    Drop,
+pub enum LoneCommand {
+    /// One of scripts.
+    Script,
     Rules,
     Labels,
     Transcript,
     New,
-    Help,
-    Quit,
+}
+
+/// A command behind whose name an address stands.
+#[derive(Clone, Copy)]
+pub enum AddressCommand {
+    /// One of scripts.
+    Script,
+    Go,
+    Why,
+}
+
+/// A command behind whose name a number stands.
+#[derive(Clone, Copy)]
+pub enum NumberCommand {
+    /// One of scripts.
+    Script,
+    /// A run that is told.
+    Told(Telling),
+}
+
+/// What a line's first word says: what stands behind it, and what is done.
+#[derive(Clone, Copy)]
+pub enum Verb {
+    /// Nothing stands behind it.
+    Lone(LoneCommand),
+    /// An address.
+    Address(AddressCommand),
+    /// A number.
+    Number(NumberCommand),
+    /// An address, and how many words from it on.
+    Range,
+    /// The same, and perhaps the place behind which their point is.
+    ScaledRange,
+    /// An address and a word.
+    Word,
+    /// A text.
+    Text,
+    /// A button of the panel, or a switch and its position.
+    Key,
+    /// Nothing where lines of a source follow, or a file in the program.
+    Source,
+    /// A file, in the program.
+    File,
+    /// A command or nothing.
+    Command,
+    /// Nothing, in the program.
+    End,
 }
 
 /// The commands by their first word.
 pub const VERBS: [Named<Verb>; 37] = [
     Named {
         name: b"put",
-        value: Verb::Put,
+        value: Verb::Word,
     },
     Named {
         name: b"go",
-        value: Verb::Go,
+        value: Verb::Address(AddressCommand::Go),
     },
     Named {
         name: b"mount",
-        value: Verb::Mount,
+        value: Verb::Text,
     },
     Named {
         name: b"press",
-        value: Verb::Press,
+        value: Verb::Key,
     },
     Named {
         name: b"type",
-        value: Verb::Type,
+        value: Verb::Text,
     },
     Named {
         name: b"turn",
-        value: Verb::Turn,
+        value: Verb::Number(NumberCommand::Script),
     },
     Named {
         name: b"orders",
-        value: Verb::Orders,
+        value: Verb::Number(NumberCommand::Script),
     },
     Named {
         name: b"run",
-        value: Verb::Run,
+        value: Verb::Number(NumberCommand::Script),
     },
     Named {
         name: b"trace",
-        value: Verb::Trace,
+        value: Verb::Number(NumberCommand::Told(Telling::Trace)),
     },
     Named {
         name: b"profile",
-        value: Verb::Profile,
+        value: Verb::Number(NumberCommand::Told(Telling::Profile)),
     },
     Named {
         name: b"drum",
-        value: Verb::Drum,
+        value: Verb::Number(NumberCommand::Told(Telling::Drum)),
     },
     Named {
         name: b"why",
-        value: Verb::Why,
+        value: Verb::Address(AddressCommand::Why),
     },
     Named {
         name: b"back",
-        value: Verb::Back,
+        value: Verb::Number(NumberCommand::Script),
     },
     Named {
         name: b"last",
-        value: Verb::Last,
+        value: Verb::Lone(LoneCommand::Script),
     },
     Named {
         name: b"panel",
-        value: Verb::Panel,
+        value: Verb::Lone(LoneCommand::Script),
     },
     Named {
         name: b"words",
-        value: Verb::Words,
+        value: Verb::Range,
     },
     Named {
         name: b"show",
-        value: Verb::Show,
+        value: Verb::Range,
     },
     Named {
         name: b"numbers",
-        value: Verb::Numbers,
+        value: Verb::ScaledRange,
     },
     Named {
         name: b"printed",
-        value: Verb::Printed,
+        value: Verb::Lone(LoneCommand::Script),
     },
     Named {
         name: b"dump",
-        value: Verb::Dump,
+        value: Verb::Lone(LoneCommand::Script),
     },
     Named {
         name: b"source",
@@ -136,67 +153,67 @@ pub const VERBS: [Named<Verb>; 37] = [
     },
     Named {
         name: b"do",
-        value: Verb::Do,
+        value: Verb::File,
     },
     Named {
         name: b"tape",
-        value: Verb::Tape,
+        value: Verb::File,
     },
     Named {
         name: b"archive",
-        value: Verb::Archive,
+        value: Verb::File,
     },
     Named {
         name: b"save",
-        value: Verb::Save,
+        value: Verb::File,
     },
     Named {
         name: b"restore",
-        value: Verb::Restore,
+        value: Verb::File,
     },
     Named {
         name: b"list",
-        value: Verb::List,
+        value: Verb::Lone(LoneCommand::Script),
     },
     Named {
         name: b"load",
-        value: Verb::Load,
+        value: Verb::Lone(LoneCommand::Script),
     },
     Named {
         name: b"break",
-        value: Verb::Break,
+        value: Verb::Address(AddressCommand::Script),
     },
     Named {
         name: b"watch",
-        value: Verb::Watch,
+        value: Verb::Address(AddressCommand::Script),
     },
     Named {
         name: b"drop",
-        value: Verb::Drop,
+        value: Verb::Number(NumberCommand::Script),
     },
     Named {
         name: b"rules",
-        value: Verb::Rules,
+        value: Verb::Lone(LoneCommand::Rules),
     },
     Named {
         name: b"labels",
-        value: Verb::Labels,
+        value: Verb::Lone(LoneCommand::Labels),
     },
     Named {
         name: b"transcript",
-        value: Verb::Transcript,
+        value: Verb::Lone(LoneCommand::Transcript),
     },
     Named {
         name: b"new",
-        value: Verb::New,
+        value: Verb::Lone(LoneCommand::New),
     },
     Named {
         name: b"help",
-        value: Verb::Help,
+        value: Verb::Command,
     },
     Named {
         name: b"quit",
-        value: Verb::Quit,
+        value: Verb::End,
     },
 ];
 
@@ -207,54 +224,39 @@ pub fn verb_named(name: &[u8]) -> Option<Verb>
     value_named(&VERBS, name)
 }
 
-/// The form in which a command is written.
-#[tactic(auto, unfolding(crate::specs::Verbs::form_of))]
-pub fn form_of(verb: Verb) -> &'static [u8]
-    ensures { result.now ≡ form_of verb }
+/// What stands behind a command's name in its form.
+#[tactic(auto, unfolding(crate::specs::Verbs::operands_form))]
+pub fn operands_form(verb: Verb) -> &'static [u8]
+    ensures { result.now ≡ operands_form verb }
 {
     match verb {
-        Verb::Put => {
-            b"put ttss WORD, FRACTION or OPERATION as in a source, or put ttss = NUMBER or = NUMBER POINT"
+        Verb::Lone(_) => b"",
+        Verb::Address(_) => b" ttss",
+        Verb::Number(_) => b" NUMBER",
+        Verb::Range => b" ttss NUMBER, at most 64",
+        Verb::ScaledRange => b" ttss NUMBER, at most 64, or numbers ttss NUMBER POINT",
+        Verb::Word => {
+            b" ttss WORD, FRACTION or OPERATION as in a source, or put ttss = NUMBER or = NUMBER POINT"
         }
-        Verb::Go => b"go ttss",
-        Verb::Mount => b"mount TEXT",
-        Verb::Press => {
-            b"press normal, oneop, manual, start, clear, fill, execute, compute or read, or bp32, bp16, bp8, bp4, transfer or sixbit with up or down"
+        Verb::Text => b" TEXT",
+        Verb::Key => {
+            b" normal, oneop, manual, start, clear, fill, execute, compute or read, or bp32, bp16, bp8, bp4, transfer or sixbit with up or down"
         }
-        Verb::Type => b"type TEXT",
-        Verb::Turn => b"turn NUMBER",
-        Verb::Orders => b"orders NUMBER",
-        Verb::Run => b"run NUMBER",
-        Verb::Trace => b"trace NUMBER",
-        Verb::Profile => b"profile NUMBER",
-        Verb::Drum => b"drum NUMBER",
-        Verb::Why => b"why ttss",
-        Verb::Back => b"back NUMBER",
-        Verb::Last => b"last",
-        Verb::Panel => b"panel",
-        Verb::Words => b"words ttss NUMBER, at most 64",
-        Verb::Show => b"show ttss NUMBER, at most 64",
-        Verb::Numbers => b"numbers ttss NUMBER, at most 64",
-        Verb::Printed => b"printed",
-        Verb::Dump => b"dump",
         Verb::Source => {
-            b"source, then its lines, then a point alone; in the program lgp_monitor also source FILE"
+            b", then its lines, then a point alone; in the program lgp_monitor also source FILE"
         }
-        Verb::Do => b"do FILE, in the program lgp_monitor",
-        Verb::Tape => b"tape FILE, in the program lgp_monitor",
-        Verb::Archive => b"archive FILE, in the program lgp_monitor",
-        Verb::Save => b"save FILE, in the program lgp_monitor",
-        Verb::Restore => b"restore FILE, in the program lgp_monitor",
-        Verb::List => b"list",
-        Verb::Load => b"load",
-        Verb::Break => b"break ttss",
-        Verb::Watch => b"watch ttss",
-        Verb::Drop => b"drop NUMBER",
-        Verb::Rules => b"rules",
-        Verb::Labels => b"labels",
-        Verb::Transcript => b"transcript",
-        Verb::New => b"new",
-        Verb::Help => b"help or help COMMAND",
-        Verb::Quit => b"quit, which ends the program lgp_monitor",
+        Verb::File => b" FILE, in the program lgp_monitor",
+        Verb::Command => b" or help COMMAND",
+        Verb::End => b", which ends the program lgp_monitor",
     }
+}
+
+/// Whether an address stands first behind a command's name.
+pub fn takes_address(verb: Verb) -> bool
+    ensures { result ≡ takes_address verb }
+{
+    matches!(
+        verb,
+        Verb::Address(_) | Verb::Range | Verb::ScaledRange | Verb::Word
+    )
 }

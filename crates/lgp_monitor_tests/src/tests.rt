@@ -16,7 +16,7 @@ use std::process::Abort;
 /// Typed lines, what is written for them, and how many replies begin with a question mark.
 type Row = (&'static [u8], &'static [u8], u64);
 
-const ROWS: [Row; 26] = [
+const ROWS: [Row; 27] = [
     // Words by order, number and fraction: the machine's word of n at 30 is 2n, and -.5 is -2^30 of 2^31 steps.
     (
         b"put 0050 = 385\nput 0051 = -1\nput 0052 -.5\nput 0053 h 6363\nwords 0050 4\n",
@@ -137,6 +137,12 @@ const ROWS: [Row; 26] = [
         b"put 0002 = -1\nput 0003 = 385\nput 0004 -.5\nnumbers 0002 4\nrules\nlabels\ntranscript\n",
         b"ok\nok\nok\n0002 wwwwwwwq  -.0000000009  -1\n0003 00000302   .0000003586  385\n0004 j0000000  -.5000000000  -536870912\n0005 00000000   .0000000000  0\nput 0002 wwwwwwwq\nput 0003 00000302\nput 0004 j0000000\n",
         0,
+    ),
+    // The same with their point behind another place: pi behind place 3, and what has no more than ten decimals exactly.
+    (
+        b"put 0000 = 3\nput 0001 = 5 10\nput 0002 .1\nput 0003 -.5\nput 0004 80000000\nput 0005 3243w6f8\nput 0006 = -1\nnumbers 0000 7 3\nnumbers 0000 7 29\nnumbers 0001 2  10 \nnumbers 0000 7 0\nnumbers 0000 7 30\nnumbers 0000 7\nnumbers 0000 1 31\nnumbers 0000 1 030\nnumbers 0000 1 3 3\nnumbers 0000 65 3\nnumbers 0000 1 x\nnumbers 0000\nnumbers x 1 3\ntranscript\n",
+        b"ok\nok\nok\nok\nok\nok\nok\n0000 00000006   .0000000028  0.0000000224\n0001 00f00000   .0048828125  0.0390625\n0002 0jjjjjjj   .0999999996  0.799999997\n0003 j0000000  -.5000000000  -4\n0004 80000000  -1.000000000  -8\n0005 3243w6f8   .3926990815  3.1415926516\n0006 wwwwwwwq  -.0000000009  -0.0000000075\n0000 00000006   .0000000028  1.5\n0001 00f00000   .0048828125  2621440\n0002 0jjjjjjj   .0999999996  53687091\n0003 j0000000  -.5000000000  -268435456\n0004 80000000  -1.000000000  -536870912\n0005 3243w6f8   .3926990815  210828714\n0006 wwwwwwwq  -.0000000009  -0.5\n0001 00f00000   .0048828125  5\n0002 0jjjjjjj   .0999999996  102.3999996185\n0000 00000006   .0000000028  0.0000000028\n0001 00f00000   .0048828125  0.0048828125\n0002 0jjjjjjj   .0999999996  0.0999999996\n0003 j0000000  -.5000000000  -0.5\n0004 80000000  -1.000000000  -1\n0005 3243w6f8   .3926990815  0.3926990815\n0006 wwwwwwwq  -.0000000009  -0.0000000009\n0000 00000006   .0000000028  3\n0001 00f00000   .0048828125  5242880\n0002 0jjjjjjj   .0999999996  107374182\n0003 j0000000  -.5000000000  -536870912\n0004 80000000  -1.000000000  -1073741824\n0005 3243w6f8   .3926990815  421657428\n0006 wwwwwwwq  -.0000000009  -1\n0000 00000006   .0000000028  3\n0001 00f00000   .0048828125  5242880\n0002 0jjjjjjj   .0999999996  107374182\n0003 j0000000  -.5000000000  -536870912\n0004 80000000  -1.000000000  -1073741824\n0005 3243w6f8   .3926990815  421657428\n0006 wwwwwwwq  -.0000000009  -1\n? 1 Form: numbers ttss NUMBER, at most 64, or numbers ttss NUMBER POINT\n? 1 Form: numbers ttss NUMBER, at most 64, or numbers ttss NUMBER POINT\n? 1 Form: numbers ttss NUMBER, at most 64, or numbers ttss NUMBER POINT\n? 1 Form: numbers ttss NUMBER, at most 64, or numbers ttss NUMBER POINT\n? 1 Form: numbers ttss NUMBER, at most 64, or numbers ttss NUMBER POINT\n? 1 Form: numbers ttss NUMBER, at most 64, or numbers ttss NUMBER POINT\n? 1 Form: x names no label of the last source\nput 0000 00000006\nput 0001 00f00000\nput 0002 0jjjjjjj\nput 0003 j0000000\nput 0004 80000000\nput 0005 3243w6f8\nput 0006 wwwwwwwq\nnumbers 0000 1 31\nnumbers 0000 1 030\nnumbers 0000 1 3 3\nnumbers 0000 65 3\nnumbers 0000 1 x\nnumbers 0000\nnumbers x 1 3\n",
+        7,
     ),
     // A run that is told and finds the machine at rest, in each mode, and with no order asked for. `run` has the script's reply.
     (

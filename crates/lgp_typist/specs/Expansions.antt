@@ -78,17 +78,24 @@ bad_sign_text place line =
     codes "the byte at place " ++ (decimal place ++ (codes ", counted from 0, in line "
     ++ (decimal line ++ codes ", begins no sign of a tape")))
 
+abbrev pub fixed_trouble : FileTrouble → List ℕ
+fixed_trouble troubles.NotOpened = codes "it cannot be opened"
+fixed_trouble troubles.NotRead = codes "it cannot be read"
+fixed_trouble troubles.TooLong = codes "it has more than 16777216 bytes"
+fixed_trouble troubles.NotNamed = codes "this is no name of a file"
+fixed_trouble troubles.TooDeep = codes "16 files are open within one another"
+fixed_trouble troubles.HasPoint = codes "a line that is a point alone would end the source"
+fixed_trouble troubles.HasBlockEnd = codes "a line that is #. would end the block"
+fixed_trouble (troubles.BadSign place line) = []
+fixed_trouble troubles.LongTape = codes "it has more than 1048576 codes"
+fixed_trouble troubles.NotWritten = codes "it cannot be written, and is as it was"
+
+abbrev pub counted_trouble : FileTrouble → List ℕ
+counted_trouble (troubles.BadSign place line) = bad_sign_text place line
+counted_trouble trouble = []
+
 unfoldable pub trouble_text : FileTrouble → List ℕ
-trouble_text troubles.NotOpened = codes "it cannot be opened"
-trouble_text troubles.NotRead = codes "it cannot be read"
-trouble_text troubles.TooLong = codes "it has more than 16777216 bytes"
-trouble_text troubles.NotNamed = codes "this is no name of a file"
-trouble_text troubles.TooDeep = codes "16 files are open within one another"
-trouble_text troubles.HasPoint = codes "a line that is a point alone would end the source"
-trouble_text troubles.HasBlockEnd = codes "a line that is #. would end the block"
-trouble_text (troubles.BadSign place line) = bad_sign_text place line
-trouble_text troubles.LongTape = codes "it has more than 1048576 codes"
-trouble_text troubles.NotWritten = codes "it cannot be written, and is as it was"
+trouble_text trouble = fixed_trouble trouble ++ counted_trouble trouble
 
 -- the refusal of a file, which is given as a reply
 unfoldable pub refusal_front : List ℕ → List ℕ

@@ -1,7 +1,7 @@
 //! What is typed at a desk for what stands in files.
 
 ghost use Rattle.std.specs.Prelude.{◌≡◌, ◌*◌, ◌<◌, ◌++◌, OnOk, length, take};
-ghost use Rattle.lgp_typist.specs.Expansions.{bad_sign_text, block_head, codes_of_line, ended_text, file_note, line_codes, line_note, line_of, named_note, refusal_front, tape_line, tape_lines, trouble_text, typed_block, typed_kept, typed_mount, typed_refusal, typed_restore, typed_source, typed_tape};
+ghost use Rattle.lgp_typist.specs.Expansions.{bad_sign_text, block_head, codes_of_line, counted_trouble, ended_text, file_note, fixed_trouble, line_codes, line_note, line_of, named_note, refusal_front, tape_line, tape_lines, trouble_text, typed_block, typed_kept, typed_mount, typed_refusal, typed_restore, typed_source, typed_tape};
 
 use crate::filing::FileTrouble;
 use lgp_flexo::{Code, write_tape_text};
@@ -260,29 +260,44 @@ fn push_bad_sign<A: Allocator>(
     )
 }
 
+/// Why a file is refused, where no number says it.
+fn fixed_trouble(trouble: FileTrouble) -> &'static [u8]
+    ensures { result.now ≡ fixed_trouble trouble }
+{
+    match trouble {
+        FileTrouble::NotOpened => b"it cannot be opened",
+        FileTrouble::NotRead => b"it cannot be read",
+        FileTrouble::TooLong => b"it has more than 16777216 bytes",
+        FileTrouble::NotNamed => b"this is no name of a file",
+        FileTrouble::TooDeep => b"16 files are open within one another",
+        FileTrouble::HasPoint => b"a line that is a point alone would end the source",
+        FileTrouble::HasBlockEnd => b"a line that is #. would end the block",
+        FileTrouble::BadSign(_, _) => b"",
+        FileTrouble::LongTape => b"it has more than 1048576 codes",
+        FileTrouble::NotWritten => b"it cannot be written, and is as it was",
+    }
+}
+
+/// Appends what numbers say of a refused file.
+fn push_counted_trouble<A: Allocator>(
+    text: &mut Vec<u8, A>,
+    trouble: FileTrouble,
+) -> Result<(), AllocError>
+    ensures { OnOk result (text.new.items ≡ text.old.items ++ counted_trouble trouble) }
+{
+    match trouble {
+        FileTrouble::BadSign(place, line) => push_bad_sign(text, place, line),
+        _ => Ok(()),
+    }
+}
+
 /// Appends why a file is refused.
 #[tactic(auto, unfolding(crate::specs::Expansions::trouble_text))]
 fn push_trouble<A: Allocator>(text: &mut Vec<u8, A>, trouble: FileTrouble) -> Result<(), AllocError>
     ensures { OnOk result (text.new.items ≡ text.old.items ++ trouble_text trouble) }
 {
-    match trouble {
-        FileTrouble::NotOpened => text.extend_from_slice(b"it cannot be opened"),
-        FileTrouble::NotRead => text.extend_from_slice(b"it cannot be read"),
-        FileTrouble::TooLong => text.extend_from_slice(b"it has more than 16777216 bytes"),
-        FileTrouble::NotNamed => text.extend_from_slice(b"this is no name of a file"),
-        FileTrouble::TooDeep => text.extend_from_slice(b"16 files are open within one another"),
-        FileTrouble::HasPoint => {
-            text.extend_from_slice(b"a line that is a point alone would end the source")
-        }
-        FileTrouble::HasBlockEnd => {
-            text.extend_from_slice(b"a line that is #. would end the block")
-        }
-        FileTrouble::BadSign(place, line) => push_bad_sign(text, place, line),
-        FileTrouble::LongTape => text.extend_from_slice(b"it has more than 1048576 codes"),
-        FileTrouble::NotWritten => {
-            text.extend_from_slice(b"it cannot be written, and is as it was")
-        }
-    }
+    text.extend_from_slice(fixed_trouble(trouble))?;
+    push_counted_trouble(text, trouble)
 }
 
 /// Appends the front of the refusal of a file.

@@ -1,6 +1,7 @@
 //! What a typed line asks the typist for.
 
 use lgp_stream::split_word;
+use lgp_text::{Named, value_named};
 
 /// What is done with a file.
 #[derive(Clone, Copy, Debug, PartialEq, Eq)]
@@ -19,24 +20,33 @@ pub(crate) enum Work {
     Restore,
 }
 
-/// What a word says about a file.
-fn work_named(word: &[u8]) -> Option<Work> {
-    if word == b"do".as_slice() {
-        Some(Work::Lines)
-    } else if word == b"source".as_slice() {
-        Some(Work::Source)
-    } else if word == b"tape".as_slice() {
-        Some(Work::Tape)
-    } else if word == b"archive".as_slice() {
-        Some(Work::Archive)
-    } else if word == b"save".as_slice() {
-        Some(Work::Save)
-    } else if word == b"restore".as_slice() {
-        Some(Work::Restore)
-    } else {
-        None
-    }
-}
+/// What is done with a file, by the first word of a line.
+const WORKS: [Named<Work>; 6] = [
+    Named {
+        name: b"do",
+        value: Work::Lines,
+    },
+    Named {
+        name: b"source",
+        value: Work::Source,
+    },
+    Named {
+        name: b"tape",
+        value: Work::Tape,
+    },
+    Named {
+        name: b"archive",
+        value: Work::Archive,
+    },
+    Named {
+        name: b"save",
+        value: Work::Save,
+    },
+    Named {
+        name: b"restore",
+        value: Work::Restore,
+    },
+];
 
 /// Whether a byte belongs to a name at its ends.
 fn is_named(byte: &u8) -> bool {
@@ -56,7 +66,7 @@ fn trimmed(text: &[u8]) -> &[u8] {
 /// What a line asks for, and the name of the file, if it names one. A carriage return at its end is none of the name's.
 pub(crate) fn request_in(line: &[u8]) -> Option<(Work, &[u8])> {
     let command = split_word(line);
-    let work = work_named(command.word)?;
+    let work = value_named(&WORKS, command.word)?;
     let name = trimmed(command.behind);
     if name.is_empty() {
         return None;

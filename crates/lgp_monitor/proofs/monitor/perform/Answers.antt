@@ -24,7 +24,7 @@ returns-in-Help-clause-after g c = λ text kept asked.
 
 pub returns-in-HelpOf-clause-after : goal.returns-in-HelpOf-clause-after
 returns-in-HelpOf-clause-after g c = λ text kept asked.
-    on_ok_always c.push_form.result
+    on_ok_always c.push_form_behind.result
     (sym (ap (λ (asked : Typed). after_meaning script_language opening_standing c.args.recorder.now (meaning_of asked c.args.line.now)) c.in-HelpOf.is ∙ after-none script_language c.args.recorder.now))
 
 pub returns-in-Asked-clause-after : goal.returns-in-Asked-clause-after
