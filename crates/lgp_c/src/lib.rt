@@ -25,13 +25,13 @@ pub extern "C" fn lgp_run_script(
     outcome: &mut Outcome,
 ) -> u32
     ensures status { result < unread_status
-        → result ≡ answered_status (script_faults Global script.now) }
+        → result ≡ answered_status (script_faults script.now) }
     ensures questions { result < unread_status
-        → outcome.new.questions ≡ script_faults Global script.now }
+        → outcome.new.questions ≡ script_faults script.now }
     ensures length { result < unread_status
-        → outcome.new.length ≡ length (script_text Global script.now) }
+        → outcome.new.length ≡ length (script_text script.now) }
     ensures written { result < unread_status
-        → room.new ≡ filled (script_text Global script.now) room.old }
+        → room.new ≡ filled (script_text script.now) room.old }
     ensures known { result ≤ memory_status }
     ensures unwritten { unread_status ≤ result → room.new ≡ room.old }
     ensures uncounted { unread_status ≤ result

@@ -19,7 +19,7 @@ pub struct Slot {
     at: *mut u8,
     alloc: Global,
     /// The session that is open here, if there is one.
-    pub ghost held: { Option (Sitting Global) } by { held_coded },
+    pub ghost held: { Option Sitting } by { held_coded },
 }
 
 impl Model for Slot {

@@ -27,13 +27,13 @@ pub extern "C" fn lgp_run_script_in(
     outcome: &mut Outcome,
 ) -> u32
     ensures status { result < unread_status
-        → result ≡ answered_status (script_faults (Bor Region) script.now) }
+        → result ≡ answered_status (script_faults script.now) }
     ensures questions { result < unread_status
-        → outcome.new.questions ≡ script_faults (Bor Region) script.now }
+        → outcome.new.questions ≡ script_faults script.now }
     ensures length { result < unread_status
-        → outcome.new.length ≡ length (script_text (Bor Region) script.now) }
+        → outcome.new.length ≡ length (script_text script.now) }
     ensures written { result < unread_status
-        → room.new ≡ filled (script_text (Bor Region) script.now) room.old }
+        → room.new ≡ filled (script_text script.now) room.old }
     ensures known { result ≤ memory_status }
     ensures unwritten { unread_status ≤ result → room.new ≡ room.old }
     ensures uncounted { unread_status ≤ result

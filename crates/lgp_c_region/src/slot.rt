@@ -17,7 +17,7 @@ pub struct Slot {
     is_open: bool,
     at: *mut u8,
     /// The session that is open here, if there is one.
-    pub ghost held: { Option (Sitting (Bor Region)) } by { held_coded },
+    pub ghost held: { Option Sitting } by { held_coded },
 }
 
 impl Model for Slot {

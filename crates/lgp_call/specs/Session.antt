@@ -7,23 +7,23 @@ use Rattle.lgp_monitor.specs.Monitor.{monitor_language}
 use Rattle.lgp_call.specs.declared.script.Outcome.{Outcome}
 
 -- where the monitor stands, and what it replied last
-pub record Sitting (A : Type 0) : Type 0 where
+pub record Sitting : Type 0 where
   pub recorded : Recorded Standing
   pub reply : List ℕ
 
 -- before the first line
-abbrev pub opening_sitting : Sitting A
+abbrev pub opening_sitting : Sitting
 opening_sitting = record { recorded = untouched opening_standing; reply = [] }
 
 -- after a line
-abbrev pub after_line : Sitting A → List ℕ → Sitting A
+abbrev pub after_line : Sitting → List ℕ → Sitting
 after_line sitting line = record {
   recorded = monitor_language.after sitting.recorded line;
   reply = monitor_language.reply sitting.recorded line;
 }
 
 -- the reply to the session's end
-abbrev pub closing_reply : Sitting A → List ℕ
+abbrev pub closing_reply : Sitting → List ℕ
 closing_reply sitting = monitor_language.closing sitting.recorded
 
 -- what is told of a reply: whether it begins with a question mark, and its length

@@ -27,8 +27,8 @@ fn write_replies<A: Allocator + Copy>(
 ) -> Result<u64, LabFault>
     requires { replies.old.refused ≡ false }
     ensures text { OnOk result (replies.new.text.items
-        ≡ replies.old.text.items ++ script_text A script.now) }
-    ensures questions { IfOk result (λ questions. questions ≡ script_faults A script.now) }
+        ≡ replies.old.text.items ++ script_text script.now) }
+    ensures questions { IfOk result (λ questions. questions ≡ script_faults script.now) }
 {
     run_script(alloc, &mut FeedOf::new(script, READS), replies)
 }
@@ -46,13 +46,13 @@ pub fn run_into<A: Allocator + Copy>(
     outcome: &mut Outcome,
 ) -> u32
     ensures status { result < unread_status
-        → result ≡ answered_status (script_faults A script.now) }
+        → result ≡ answered_status (script_faults script.now) }
     ensures questions { result < unread_status
-        → outcome.new.questions ≡ script_faults A script.now }
+        → outcome.new.questions ≡ script_faults script.now }
     ensures length { result < unread_status
-        → outcome.new.length ≡ length (script_text A script.now) }
+        → outcome.new.length ≡ length (script_text script.now) }
     ensures written { result < unread_status
-        → room.new ≡ filled (script_text A script.now) room.old }
+        → room.new ≡ filled (script_text script.now) room.old }
     ensures known { result ≤ memory_status }
     ensures unwritten { unread_status ≤ result → room.new ≡ room.old }
     ensures uncounted { unread_status ≤ result

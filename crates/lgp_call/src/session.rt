@@ -34,7 +34,7 @@ pub struct Session<A: Allocator + Copy> {
 impl<A: Allocator + Copy> Model for Session<A> {
     ghost use Rattle.lgp_call.specs.Session.{Sitting};
 
-    ghost Value = { Sitting A };
+    ghost Value = { Sitting };
 
     ghost view = { λ session. record {
       recorded = session.monitor;

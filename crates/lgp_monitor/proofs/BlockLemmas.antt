@@ -171,15 +171,15 @@ free-restoring (Some fault) rests cells = tt
 free-restoring None true cells = free-cells cells
 free-restoring None false cells = tt
 
-free-block : (A : Type 0) (block : Option Block) (behind : List Handed) → AllByRecursion IsHandedLine behind
-    → AllByRecursion IsHandedLine (handed_block (monitor_language) takes_commands_at prompt_at monitor_blocks block behind)
-free-block A None behind rest = rest
-free-block A (Some block) behind rest = (tt, rest)
+free-block : (block : Option Block) (behind : List Handed) → AllByRecursion IsHandedLine behind
+    → AllByRecursion IsHandedLine (handed_block monitor_language takes_commands_at prompt_at monitor_blocks block behind)
+free-block None behind rest = rest
+free-block (Some block) behind rest = (tt, rest)
 
 free-role : (role : Role) (seat : Seat (Recorded Standing)) (line : List ℕ) (behind : List Handed) → IsLine line → AllByRecursion IsHandedLine behind
     → AllByRecursion IsHandedLine (handed_by monitor_language takes_commands_at prompt_at monitor_blocks role seat line behind)
 free-role Leaving seat line behind free rest = tt
-free-role Closing seat line behind free rest = free-block A seat.block behind rest
+free-role Closing seat line behind free rest = free-block seat.block behind rest
 free-role Plain seat line behind free rest = (free, rest)
 free-role Unheard seat line behind free rest = rest
 free-role Note seat line behind free rest = rest
@@ -198,7 +198,7 @@ free-handed seat (line ∷ more) free =
     free.0 (free-handed next more free.1)
 
 abbrev IsTold-at : Recorded Standing → Type 0
-IsTold-at recorded = IsTold (script_language) opening_standing recorded.standing recorded.transcript
+IsTold-at recorded = IsTold script_language opening_standing recorded.standing recorded.transcript
 
 told_block : (recorded : Recorded Standing) (kind text : List ℕ) → IsTold-at recorded → is_tape kind ≡ false
     → IsTold-at (behind_block recorded kind text)
@@ -222,12 +222,12 @@ told_on recorded (Line line ∷ more) told free sayable =
 told_on recorded (Whole block ∷ more) told free sayable =
     told_on (monitor_blocks.after recorded block) more (told_block recorded block.kind block.text told sayable.0) free.1 sayable.1
 
-pub told_at_desk : (manner : Manner) (typed : List ℕ) → AllByRecursion IsSayable (handed_over A manner typed)
-    → IsToldByTranscript (script_language) opening_standing
+pub told_at_desk : (manner : Manner) (typed : List ℕ) → AllByRecursion IsSayable (handed_over manner typed)
+    → IsToldByTranscript script_language opening_standing
     (state_after attended_language (taken_seat manner (untouched opening_standing)) (lines typed)).standing
 told_at_desk manner typed sayable =
     let seat : Seat (Recorded Standing) = taken_seat manner (untouched opening_standing) in
-    let handed_items = handed_over A manner typed in
+    let handed_items = handed_over manner typed in
     let recorded = behind_handed monitor_language takes_commands_at prompt_at monitor_blocks (untouched opening_standing) handed_items in
     subst (λ (r : Recorded Standing). IsToldByTranscript script_language opening_standing r)
     (sym (lines_before_quit monitor_language takes_commands_at prompt_at monitor_blocks seat (lines typed)))

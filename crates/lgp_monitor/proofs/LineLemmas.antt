@@ -140,5 +140,5 @@ pub free-at : (recorded : Recorded Standing) (line : List ℕ) → IsLine line �
 unfolding meaning_at
 free-at recorded line free = free-meaning (typed_at recorded line) line free
 
-pub told_by_script : (text : List ℕ) → IsToldByTranscript (script_language) opening_standing (state_after monitor_language (untouched opening_standing) (lines text))
-told_by_script {A} text = told_by_transcript script_language opening_standing (meaning_at) monitor_language (λ recorded line. refl) (λ recorded line free. free-at recorded line free) text
+pub told_by_script : (text : List ℕ) → IsToldByTranscript script_language opening_standing (state_after monitor_language (untouched opening_standing) (lines text))
+told_by_script text = told_by_transcript script_language opening_standing meaning_at monitor_language (λ recorded line. refl) (λ recorded line free. free-at recorded line free) text

@@ -1,20 +1,19 @@
 -- A picture along the drum: its rows begun, the orders drawn, its rows ended.
 use Rattle.std.proofs.Common.{◌≡◌, ◌∙◌, ◌++◌, ℕ, List, ap, append_assoc}
 use Rattle.std.proofs.Common.{Result, Ok, Err}
-use Rattle.std.specs.Result.{IfErr, IfOk}
+use Rattle.lgp_debugger.specs.Run.{UnlessMemory}
+use Rattle.lgp_debugger.specs.declared.fault.Ran.{Ran}
+use Rattle.lgp_debugger.specs.declared.fault.RunFault.{RunFault}
 use Rattle.lgp_table.specs.After.{after}
 use Rattle.lgp_table.specs.State.{State}
 use Rattle.lgp_trace.specs.DrumRows.{rows_begun, rows_ended}
 use Rattle.lgp_trace.specs.Runs.{drawn}
 use Rattle.lgp_monitor.specs.Telling.{pictured}
 
-pub both_ok : {T E : Type 0} (r : Result T E) (P Q R : T → Type 0) → ((x : T) → P x → Q x → R x) → IfOk r P → IfOk r Q → IfOk r R
-both_ok (Ok x) P Q R f p q = f x p q
-both_ok (Err e) P Q R f p q = tt
-
-pub both_err : {T E : Type 0} (r : Result T E) (P Q R : E → Type 0) → ((x : E) → P x → Q x → R x) → IfErr r P → IfErr r Q → IfErr r R
-both_err (Ok x) P Q R f p q = tt
-both_err (Err e) P Q R f p q = f e p q
+-- what follows of a run from two facts about it
+pub both : (outcome : Result Ran RunFault) (P Q R : Type 0) → (P → Q → R) → UnlessMemory outcome P → Q → UnlessMemory outcome R
+both (Ok ran) P Q R f p q = f p q
+both (Err fault) P Q R f p q = λ e. f (p e) q
 
 pub pictured_all : (names : List (List ℕ × ℕ)) (first last : ℕ) (s now : State) (orders : ℕ) (text begun told ended : List ℕ) → first ≡ s.clock → last ≡ now.clock → begun ≡ text ++ rows_begun first → told ≡ begun ++ drawn s orders
     → now ≡ after s orders → ended ≡ told ++ rows_ended last → ended ≡ text ++ pictured names s orders

@@ -1,11 +1,22 @@
 -- A run in portions: behind one that ended by its limit the run goes on, and any other has ended it.
-use Rattle.std.proofs.Common.{◌≡◌, ◌∙◌, ◌+◌, ◌-◌, ◌≤◌, ℕ, zero, suc, Bool, true, false, cond, Option, None, Some, ap, refl, sym, arith, add-zero, zero-add}
+use Rattle.std.proofs.Common.{◌≡◌, ◌∙◌, ◌+◌, ◌-◌, ◌≤◌, ℕ, zero, suc, Bool, true, false, cond, List, Option, None, Some, Ok, Err, ap, refl, sym, subst, arith, add-zero, zero-add}
+use Rattle.std.specs.Prelude.{Result}
+use Rattle.lgp_table.specs.Activity.{next}
+use Rattle.lgp_table.specs.After.{after}
 use Rattle.lgp_table.specs.Console.{is_at_rest}
-use Rattle.lgp_history.specs.declared.step.Step.TheVariants.{Perform}
-use Rattle.lgp_debugger.specs.Debugging.{Debugging, after_step, ended_for, first_stop, one_order_more, run_of, unless_stopped}
+use Rattle.lgp_table.specs.State.{State}
+use Rattle.lgp_table.proofs.After.{after_first, after_none}
+use Rattle.lgp_machine.specs.Answers.{passes_clock_end}
+use Rattle.lgp_history.specs.Step.{Perform}
+use Rattle.lgp_history.specs.declared.rule.Rule.{Rule}
+use Rattle.lgp_debugger.specs.Debugging.{Debugging, after_step, performed}
+use Rattle.lgp_debugger.specs.Run.{IsRun, at_clock_end, ended_for, first_stop, one_order_more, run_of, unless_stopped}
 use Rattle.lgp_debugger.specs.declared.fault.Ran.{Ran}
 use Rattle.lgp_debugger.specs.declared.fault.Reason.{Reason}
 use Rattle.lgp_debugger.specs.declared.fault.Reason.TheVariants as reasons
+use Rattle.lgp_debugger.specs.declared.fault.RunFault.{RunFault}
+use Rattle.lgp_debugger.specs.declared.fault.RunRefusal.TheVariants as refusals
+use Rattle.lgp_debugger.proofs.PerformedLemmas.{performed_state}
 use Rattle.lgp_debugger.proofs.RunLemmas.{HasRun, more}
 
 abbrev pub is_limit : Reason → Bool
@@ -26,114 +37,186 @@ both_ways false a b holds fails = absurd (clash holds) where
   clash : false ≡ true → ⊥
   clash e = cc
 
-abbrev is_resting : Debugging → Bool
-is_resting d = is_at_rest d.state.core.panel.status
+abbrev rests : State → Bool
+rests s = is_at_rest s.core.panel.status
 
-at_rest : (n : ℕ) (d : Debugging) → is_resting d ≡ true → run_of n d ≡ ended_for reasons.Rest d
-unfolding run_of
-at_rest zero d e = rw e refl
-at_rest (suc n) d e = rw e refl
+-- orders behind others, and that none of them changes a rule
+performed_sum : (first : Debugging) (done then : ℕ) → performed first (done + then) ≡ performed (performed first done) then
+unfolding performed
+performed_sum first done zero = ap (performed first) (add-zero done)
+performed_sum first done (suc then) =
+    let count : done + suc then ≡ suc (done + then) = omega arith in
+    ap (performed first) count ∙ ap (λ (d : Debugging). after_step d Perform) (performed_sum first done then)
 
-no_order : (d : Debugging) → is_resting d ≡ false → run_of 0 d ≡ ended_for reasons.Limit d
-unfolding run_of
-no_order d e = rw e refl
+performed_rules : (first : Debugging) (done : ℕ) → (performed first done).rules ≡ first.rules
+unfolding performed
+performed_rules first zero = refl
+performed_rules first (suc done) = performed_rules first done
 
-an_order : (n : ℕ) (d : Debugging) → is_resting d ≡ false
-    → run_of (suc n) d ≡ one_order_more (unless_stopped (first_stop d.rules d.state) (after_step d Perform) (run_of n (after_step d Perform)))
-unfolding run_of
-an_order n d e = rw e refl
+-- so many orders in front of others
+more_sum : (first then : ℕ) (run : Result Ran RunFault) → more first (more then run) ≡ more (first + then) run
+more_sum first then (Ok ran) = let count : ran.orders + then + first ≡ ran.orders + (first + then) = omega arith in ap (λ (n : ℕ). Ok (record ran { orders = n })) count
+more_sum first then (Err fault) = let count : fault.orders + then + first ≡ fault.orders + (first + then) = omega arith in ap (λ (n : ℕ). Err (record fault { orders = n })) count
 
--- ---- a run with a higher limit
+no_more : (run : Result Ran RunFault) → more 0 run ≡ run
+no_more (Ok ran) = ap (λ (n : ℕ). Ok (record ran { orders = n })) (add-zero ran.orders)
+no_more (Err fault) = ap (λ (n : ℕ). Err (record fault { orders = n })) (add-zero fault.orders)
 
--- a run, of which the limit was the first part of a higher one
-abbrev behind : ℕ → ℕ → Ran × Debugging → Ran × Debugging
-behind portion rest run = cond (is_limit run.0.reason) (more portion (run_of rest run.1)) run
+one_more : (portion : ℕ) (run : Result Ran RunFault) → one_order_more (more portion run) ≡ more (suc portion) run
+one_more portion (Ok ran) = let count : ran.orders + portion + 1 ≡ ran.orders + suc portion = omega arith in ap (λ (n : ℕ). Ok (record ran { orders = n })) count
+one_more portion (Err fault) = let count : fault.orders + portion + 1 ≡ fault.orders + suc portion = omega arith in ap (λ (n : ℕ). Err (record fault { orders = n })) count
 
-no_more : (run : Ran × Debugging) → more 0 run ≡ run
-no_more run = ap (λ (n : ℕ). (record run.0 { orders = n }, run.1)) (add-zero run.0.orders)
+module _ (rules : List Rule) where
+  at_rest : (n : ℕ) (s : State) → rests s ≡ true → run_of rules n s ≡ ended_for reasons.Rest
+  unfolding run_of
+  at_rest zero s e = rw e refl
+  at_rest (suc n) s e = rw e refl
 
-one_more : (is : Bool) (portion : ℕ) (rest run : Ran × Debugging) → one_order_more (cond is (more portion rest) run) ≡ cond is (more (suc portion) rest) (one_order_more run)
-one_more true portion rest run =
-    let count : rest.0.orders + portion + 1 ≡ rest.0.orders + suc portion = omega arith in
-    ap (λ (n : ℕ). (record rest.0 { orders = n }, rest.1)) count
-one_more false portion rest run = refl
+  no_order : (s : State) → rests s ≡ false → run_of rules 0 s ≡ ended_for reasons.Limit
+  unfolding run_of
+  no_order s e = rw e refl
 
-behind_order : (stop : Option ℕ) (d : Debugging) (portion rest : ℕ) (run : Ran × Debugging)
-    → one_order_more (unless_stopped stop d (behind portion rest run)) ≡ behind (suc portion) rest (one_order_more (unless_stopped stop d run))
-behind_order (Some number) d portion rest run = refl
-behind_order None d portion rest run = one_more (is_limit run.0.reason) portion (run_of rest run.1) run
+  passing : (n : ℕ) (s : State) → rests s ≡ false → passes_clock_end s ≡ true → run_of rules (suc n) s ≡ at_clock_end
+  unfolding run_of
+  passing n s e f = rw (e, f) refl
 
-run_behind : (portion rest : ℕ) (d : Debugging) → run_of (portion + rest) d ≡ behind portion rest (run_of portion d)
-run_behind zero rest d = by_rest (is_resting d) refl where
-  by_rest : (resting : Bool) → is_resting d ≡ resting → run_of (zero + rest) d ≡ behind zero rest (run_of zero d)
-  by_rest true e = ap (λ (n : ℕ). run_of n d) (zero-add rest) ∙ at_rest rest d e ∙ sym (ap (behind zero rest) (at_rest zero d e))
-  by_rest false e = ap (λ (n : ℕ). run_of n d) (zero-add rest) ∙ sym (ap (behind zero rest) (no_order d e) ∙ no_more (run_of rest d))
-run_behind (suc portion) rest d = by_rest (is_resting d) refl (run_behind portion rest (after_step d Perform)) where
-  by_rest : (resting : Bool) → is_resting d ≡ resting → run_of (portion + rest) (after_step d Perform) ≡ behind portion rest (run_of portion (after_step d Perform))
-      → run_of (suc portion + rest) d ≡ behind (suc portion) rest (run_of (suc portion) d)
-  by_rest true e later = at_rest (suc portion + rest) d e ∙ sym (ap (behind (suc portion) rest) (at_rest (suc portion) d e))
-  by_rest false e later =
-      let all : suc portion + rest ≡ suc (portion + rest) = omega arith in
-      ap (λ (n : ℕ). run_of n d) all ∙ an_order (portion + rest) d e
-      ∙ ap (λ (run : Ran × Debugging). one_order_more (unless_stopped (first_stop d.rules d.state) (after_step d Perform) run)) later
-      ∙ behind_order (first_stop d.rules d.state) (after_step d Perform) portion rest (run_of portion (after_step d Perform))
-      ∙ sym (ap (behind (suc portion) rest) (an_order portion d e))
+  an_order : (n : ℕ) (s : State) → rests s ≡ false → passes_clock_end s ≡ false
+      → run_of rules (suc n) s ≡ one_order_more (unless_stopped (first_stop rules s) (run_of rules n (next s)))
+  unfolding run_of
+  an_order n s e f = rw (e, f) refl
 
--- ---- how many orders it performs
+  -- ---- a run with a higher limit
 
-within_order : (stop : Option ℕ) (d : Debugging) (n : ℕ) (run : Ran × Debugging) → run.0.orders ≤ n → (one_order_more (unless_stopped stop d run)).0.orders ≤ suc n
-within_order (Some number) d n run within = omega arith
-within_order None d n run within = omega (arith, within)
+  -- a run from this state, of which the limit was the first part of a higher one
+  abbrev behind : ℕ → ℕ → State → Result Ran RunFault → Result Ran RunFault
+  behind portion rest s (Ok ran) = cond (is_limit ran.reason) (more portion (run_of rules rest (after s portion))) (Ok ran)
+  behind portion rest s (Err fault) = Err fault
 
-within_limit : (n : ℕ) (d : Debugging) → (run_of n d).0.orders ≤ n
-within_limit zero d = by_rest (is_resting d) refl where
-  by_rest : (resting : Bool) → is_resting d ≡ resting → (run_of zero d).0.orders ≤ zero
-  by_rest true e = rw (at_rest zero d e) (omega arith)
-  by_rest false e = rw (no_order d e) (omega arith)
-within_limit (suc n) d = by_rest (is_resting d) refl (within_limit n (after_step d Perform)) where
-  by_rest : (resting : Bool) → is_resting d ≡ resting → (run_of n (after_step d Perform)).0.orders ≤ n → (run_of (suc n) d).0.orders ≤ suc n
-  by_rest true e later = rw (at_rest (suc n) d e) (omega arith)
-  by_rest false e later = rw (an_order n d e) (within_order (first_stop d.rules d.state) (after_step d Perform) n (run_of n (after_step d Perform)) later)
+  either_more : (is : Bool) (portion : ℕ) (rest : Result Ran RunFault) (ran : Ran)
+      → one_order_more (cond is (more portion rest) (Ok ran)) ≡ cond is (more (suc portion) rest) (Ok (record ran { orders = ran.orders + 1 }))
+  either_more true portion rest ran = one_more portion rest
+  either_more false portion rest ran = refl
 
-pub orders_within : (n : ℕ) (d e : Debugging) (ran : Ran) → run_of n d ≡ (ran, e) → ran.orders ≤ n
-orders_within n d e ran is =
-    let orders : (run_of n d).0.orders ≡ ran.orders = ap (λ (run : Ran × Debugging). run.0.orders) is in
-    let within = within_limit n d in
-    omega (arith, orders, within)
+  behind_order : (stop : Option ℕ) (portion rest : ℕ) (s : State) (run : Result Ran RunFault)
+      → one_order_more (unless_stopped stop (behind portion rest (next s) run)) ≡ behind (suc portion) rest s (one_order_more (unless_stopped stop run))
+  behind_order (Some number) portion rest s run = refl
+  behind_order None portion rest s (Ok ran) =
+      either_more (is_limit ran.reason) portion (run_of rules rest (after (next s) portion)) ran
+      ∙ ap (λ (t : State). cond (is_limit ran.reason) (more (suc portion) (run_of rules rest t)) (Ok (record ran { orders = ran.orders + 1 }))) (sym (after_first s portion))
+  behind_order None portion rest s (Err fault) = refl
+
+  run_behind : (portion rest : ℕ) (s : State) → run_of rules (portion + rest) s ≡ behind portion rest s (run_of rules portion s)
+  run_behind zero rest s = by_rest (rests s) refl where
+    by_rest : (resting : Bool) → rests s ≡ resting → run_of rules (zero + rest) s ≡ behind zero rest s (run_of rules zero s)
+    by_rest true e = ap (λ (n : ℕ). run_of rules n s) (zero-add rest) ∙ at_rest rest s e ∙ sym (ap (behind zero rest s) (at_rest zero s e))
+    by_rest false e =
+        ap (λ (n : ℕ). run_of rules n s) (zero-add rest)
+        ∙ sym (ap (behind zero rest s) (no_order s e) ∙ no_more (run_of rules rest (after s 0)) ∙ ap (run_of rules rest) (after_none s))
+  run_behind (suc portion) rest s = by_rest (rests s) refl (run_behind portion rest (next s)) where
+    by_clock : (passed : Bool) → rests s ≡ false → passes_clock_end s ≡ passed
+        → run_of rules (portion + rest) (next s) ≡ behind portion rest (next s) (run_of rules portion (next s))
+        → run_of rules (suc portion + rest) s ≡ behind (suc portion) rest s (run_of rules (suc portion) s)
+    by_clock true e f later =
+        let all : suc portion + rest ≡ suc (portion + rest) = omega arith in
+        ap (λ (n : ℕ). run_of rules n s) all ∙ passing (portion + rest) s e f ∙ sym (ap (behind (suc portion) rest s) (passing portion s e f))
+    by_clock false e f later =
+        let all : suc portion + rest ≡ suc (portion + rest) = omega arith in
+        ap (λ (n : ℕ). run_of rules n s) all ∙ an_order (portion + rest) s e f
+        ∙ ap (λ (run : Result Ran RunFault). one_order_more (unless_stopped (first_stop rules s) run)) later
+        ∙ behind_order (first_stop rules s) portion rest s (run_of rules portion (next s))
+        ∙ sym (ap (behind (suc portion) rest s) (an_order portion s e f))
+
+    by_rest : (resting : Bool) → rests s ≡ resting → run_of rules (portion + rest) (next s) ≡ behind portion rest (next s) (run_of rules portion (next s))
+        → run_of rules (suc portion + rest) s ≡ behind (suc portion) rest s (run_of rules (suc portion) s)
+    by_rest true e later = at_rest (suc portion + rest) s e ∙ sym (ap (behind (suc portion) rest s) (at_rest (suc portion) s e))
+    by_rest false e later = by_clock (passes_clock_end s) e refl later
+
+  -- ---- how many orders it performs: all of its limit, where that ended it
+
+  abbrev Counts : ℕ → Result Ran RunFault → Type 0
+  Counts n (Ok ran) = (ran.orders ≤ n) × (is_limit ran.reason ≡ true → ran.orders ≡ n)
+  Counts n (Err fault) = Unit {0}
+
+  counts_more : (stop : Option ℕ) (n : ℕ) (run : Result Ran RunFault) → Counts n run → Counts (suc n) (one_order_more (unless_stopped stop run))
+  counts_more (Some number) n run counts = (omega arith, λ e. cc)
+  counts_more None n (Ok ran) counts = (let most = counts.0 in omega (arith, most), λ e. let all = counts.1 e in omega (arith, all))
+  counts_more None n (Err fault) counts = tt
+
+  counted : (n : ℕ) (s : State) → Counts n (run_of rules n s)
+  counted zero s = by_rest (rests s) refl where
+    by_rest : (resting : Bool) → rests s ≡ resting → Counts zero (run_of rules zero s)
+    by_rest true e = subst (Counts zero) (sym (at_rest zero s e)) (omega arith, λ f. cc)
+    by_rest false e = subst (Counts zero) (sym (no_order s e)) (omega arith, λ f. refl)
+  counted (suc n) s = by_rest (rests s) refl (counted n (next s)) where
+    by_clock : (passed : Bool) → rests s ≡ false → passes_clock_end s ≡ passed → Counts n (run_of rules n (next s)) → Counts (suc n) (run_of rules (suc n) s)
+    by_clock true e f later = subst (Counts (suc n)) (sym (passing n s e f)) tt
+    by_clock false e f later = subst (Counts (suc n)) (sym (an_order n s e f)) (counts_more (first_stop rules s) n (run_of rules n (next s)) later)
+
+    by_rest : (resting : Bool) → rests s ≡ resting → Counts n (run_of rules n (next s)) → Counts (suc n) (run_of rules (suc n) s)
+    by_rest true e later = subst (Counts (suc n)) (sym (at_rest (suc n) s e)) (omega arith, λ f. cc)
+    by_rest false e later = by_clock (passes_clock_end s) e refl later
+
+  pub orders_within : (n : ℕ) (s : State) (ran : Ran) → run_of rules n s ≡ Ok ran → ran.orders ≤ n
+  orders_within n s ran is = (subst (Counts n) is (counted n s)).0
+
+  pub orders_all : (n : ℕ) (s : State) (ran : Ran) → run_of rules n s ≡ Ok ran → is_limit ran.reason ≡ true → ran.orders ≡ n
+  orders_all n s ran is = (subst (Counts n) is (counted n s)).1
 
 -- ---- portion by portion
 
--- behind a portion that ended by its limit
-pub portion_done : (first now next : Debugging) (done portion : ℕ) (ran : Ran) → HasRun first now done → run_of portion now ≡ (ran, next) → is_limit ran.reason ≡ true → HasRun first next (done + portion)
-portion_done first now next done portion ran h is limit = record {
-  goes_on = λ n.
-      let shift : done + portion + n ≡ done + (portion + n) = omega arith in
-      let count : (run_of n next).0.orders + portion + done ≡ (run_of n next).0.orders + (done + portion) = omega arith in
-      ap (λ (k : ℕ). run_of k first) shift ∙ h.goes_on (portion + n)
-      ∙ ap (more done) (run_behind portion n now ∙ ap (behind portion n) is)
-      ∙ ap (λ (b : Bool). more done (cond b (more portion (run_of n next)) (ran, next))) limit
-      ∙ ap (λ (k : ℕ). (record (run_of n next).0 { orders = k }, (run_of n next).1)) count;
-}
+module _ (first now next : Debugging) (done portion limit : ℕ) (h : HasRun true first now done) where
+  -- this run by the rules in force
+  its : (n : ℕ) (outcome : Result Ran RunFault) → run_of now.rules n now.state ≡ outcome → run_of first.rules n now.state ≡ outcome
+  its n outcome is = ap (λ (rs : List Rule). run_of rs n now.state) (sym h.same_rules) ∙ is
 
--- behind a portion in which the run has ended
-pub portion_ended : (first now next : Debugging) (done portion limit : ℕ) (ran : Ran) → HasRun first now done → run_of portion now ≡ (ran, next) → is_limit ran.reason ≡ false → done + portion ≤ limit
-    → run_of limit first ≡ (record ran { orders = ran.orders + done }, next)
-portion_ended first now next done portion limit ran h is ended within =
-    let shift : limit ≡ done + (portion + (limit - done - portion)) = omega (arith, within) in
-    ap (λ (k : ℕ). run_of k first) shift ∙ h.goes_on (portion + (limit - done - portion))
-    ∙ ap (more done) (run_behind portion (limit - done - portion) now ∙ ap (behind portion (limit - done - portion)) is)
-    ∙ ap (λ (b : Bool). more done (cond b (more portion (run_of (limit - done - portion) next)) (ran, next))) ended
+  -- the run with a higher limit, behind what is known of a portion of it
+  higher : (rest : ℕ) (outcome : Result Ran RunFault) → run_of now.rules portion now.state ≡ outcome
+      → run_of first.rules (done + (portion + rest)) first.state ≡ more done (behind first.rules portion rest now.state outcome)
+  higher rest outcome is =
+      h.goes_on (portion + rest)
+      ∙ ap (more done) (run_behind first.rules portion rest now.state ∙ ap (behind first.rules portion rest now.state) (its portion outcome is))
 
--- behind the last portion
-pub run_ended : (first now next : Debugging) (done limit : ℕ) (ran : Ran) → HasRun first now done → run_of (limit - done) now ≡ (ran, next) → done ≤ limit
-    → run_of limit first ≡ (record ran { orders = ran.orders + done }, next)
-run_ended first now next done limit ran h is within =
-    let shift : limit ≡ done + (limit - done) = omega (arith, within) in
-    ap (λ (k : ℕ). run_of k first) shift ∙ h.goes_on (limit - done) ∙ ap (more done) is
+  -- behind a portion that ended by its limit
+  pub portion_done : (ran : Ran) → IsRun now.rules portion now next (Ok ran) → is_limit ran.reason ≡ true → HasRun true first next (done + portion)
+  portion_done ran run limited =
+      let all = orders_all now.rules portion now.state ran run.ran limited in
+      let reached : next ≡ performed now portion = run.performed ∙ ap (performed now) all in
+      let state : next.state ≡ after now.state portion = ap (λ (d : Debugging). d.state) reached ∙ performed_state now portion in
+      record {
+        goes_on = λ n.
+            let shift : done + portion + n ≡ done + (portion + n) = omega arith in
+            ap (λ (k : ℕ). run_of first.rules k first.state) shift ∙ higher n (Ok ran) run.ran
+            ∙ ap (λ (b : Bool). more done (cond b (more portion (run_of first.rules n (after now.state portion))) (Ok ran))) limited
+            ∙ more_sum done portion (run_of first.rules n (after now.state portion))
+            ∙ ap (λ (s : State). more (done + portion) (run_of first.rules n s)) (sym state);
+        reached = reached ∙ ap (λ (d : Debugging). performed d portion) h.reached ∙ sym (performed_sum first done portion);
+        same_rules = ap (λ (d : Debugging). d.rules) reached ∙ performed_rules now portion ∙ h.same_rules;
+      }
 
--- where a portion was broken off
-pub run_broken : (first now next : Debugging) (done orders : ℕ) → HasRun first now done → run_of orders now ≡ (record { orders = orders; reason = reasons.Limit }, next)
-    → run_of (orders + done) first ≡ (record { orders = orders + done; reason = reasons.Limit }, next)
-run_broken first now next done orders h is =
-    let shift : orders + done ≡ done + orders = omega arith in
-    ap (λ (k : ℕ). run_of k first) shift ∙ h.goes_on orders ∙ ap (more done) is
+  -- behind a portion in which the run has ended
+  pub portion_ended : (ran : Ran) → run_of now.rules portion now.state ≡ Ok ran → is_limit ran.reason ≡ false → done + portion ≤ limit
+      → run_of first.rules limit first.state ≡ Ok (record ran { orders = ran.orders + done })
+  portion_ended ran is ended within =
+      let shift : limit ≡ done + (portion + (limit - done - portion)) = omega (arith, within) in
+      ap (λ (k : ℕ). run_of first.rules k first.state) shift ∙ higher (limit - done - portion) (Ok ran) is
+      ∙ ap (λ (b : Bool). more done (cond b (more portion (run_of first.rules (limit - done - portion) (after now.state portion))) (Ok ran))) ended
+
+  -- behind one that the clock's end broke off
+  pub portion_broken : (fault : RunFault) → run_of now.rules portion now.state ≡ Err fault → done + portion ≤ limit
+      → run_of first.rules limit first.state ≡ Err (record fault { orders = fault.orders + done })
+  portion_broken fault is within =
+      let shift : limit ≡ done + (portion + (limit - done - portion)) = omega (arith, within) in
+      ap (λ (k : ℕ). run_of first.rules k first.state) shift ∙ higher (limit - done - portion) (Err fault) is
+
+  -- behind the last portion
+  pub run_ended : (outcome : Result Ran RunFault) → run_of now.rules (limit - done) now.state ≡ outcome → done ≤ limit
+      → run_of first.rules limit first.state ≡ more done outcome
+  run_ended outcome is within =
+      let shift : limit ≡ done + (limit - done) = omega (arith, within) in
+      ap (λ (k : ℕ). run_of first.rules k first.state) shift ∙ h.goes_on (limit - done) ∙ ap (more done) (its (limit - done) outcome is)
+
+  -- the orders of a portion behind those before it
+  pub performed_behind : (orders : ℕ) → next ≡ performed now orders → next ≡ performed first (orders + done)
+  performed_behind orders is =
+      let shift : done + orders ≡ orders + done = omega arith in
+      is ∙ ap (λ (d : Debugging). performed d orders) h.reached ∙ sym (performed_sum first done orders) ∙ ap (performed first) shift

@@ -11,10 +11,10 @@ use Rattle.lgp_monitor.specs.Attending.{attended_language, prompt_at}
 use Rattle.lgp_monitor.specs.Sessions.{HasAnswered}
 
 -- nothing is written
-pub nothing_answered : (A : Type 0) (manner : Manner) (known w : Option (List ℕ)) → HasAnswered A manner known (Err Memory) w w
-nothing_answered A manner None w = tt
-nothing_answered A manner (Some typed) w = (
+pub nothing_answered : (manner : Manner) (known w : Option (List ℕ)) → HasAnswered manner known (Err Memory) w w
+nothing_answered manner None w = tt
+nothing_answered manner (Some typed) w = (
   Some typed,
-  StandsWritten-unnamed (attended_language) (taken_seat manner (untouched opening_standing))
-      (opening_text manner (prompt_at (untouched (opening_standing)))) (Some typed) (Some typed) w,
+  StandsWritten-unnamed attended_language (taken_seat manner (untouched opening_standing))
+      (opening_text manner (prompt_at (untouched opening_standing))) (Some typed) (Some typed) w,
 )

@@ -40,9 +40,9 @@ abbrev pub attended_language : Language (Seat (Recorded Standing))
 attended_language = desk_language monitor_language takes_commands_at prompt_at monitor_blocks
 
 -- what a typed text hands to the monitor before `quit`: lines, and blocks; the type is that of Standing
-abbrev pub handed_over : Type 0 → Manner → List ℕ → List Handed
-handed_over A manner typed =
-    handed (monitor_language) takes_commands_at prompt_at monitor_blocks
+abbrev pub handed_over : Manner → List ℕ → List Handed
+handed_over manner typed =
+    handed monitor_language takes_commands_at prompt_at monitor_blocks
     (taken_seat manner (untouched opening_standing)) (lines typed)
 
 -- what a script can say: each line, and each block but a tape
@@ -51,8 +51,8 @@ IsSayable (Line line) = Unit {0}
 IsSayable (Whole block) = is_tape block.kind ≡ false
 
 -- what is written for a typed text, and how many replies begin with a question mark
-abbrev pub attended_text : Type 0 → Manner → List ℕ → List ℕ
-attended_text A manner typed = desk_text (monitor_language) takes_commands_at prompt_at monitor_blocks manner (untouched opening_standing) typed
+abbrev pub attended_text : Manner → List ℕ → List ℕ
+attended_text manner typed = desk_text monitor_language takes_commands_at prompt_at monitor_blocks manner (untouched opening_standing) typed
 
-abbrev pub attended_faults : Type 0 → Manner → List ℕ → ℕ
-attended_faults A manner typed = desk_faults (monitor_language) takes_commands_at prompt_at monitor_blocks manner (untouched opening_standing) typed
+abbrev pub attended_faults : Manner → List ℕ → ℕ
+attended_faults manner typed = desk_faults monitor_language takes_commands_at prompt_at monitor_blocks manner (untouched opening_standing) typed

@@ -7,11 +7,11 @@ use Rattle.lgp_transcript.specs.Transcript.{untouched}
 use Rattle.lgp_lab.specs.Standing.{opening_standing}
 use Rattle.lgp_monitor.specs.Monitor.{monitor_language}
 
-unfoldable pub monitor_replies : Type 0 → List ℕ → List (List ℕ)
-monitor_replies A typed = text_replies monitor_language (untouched (opening_standing)) typed
+unfoldable pub monitor_replies : List ℕ → List (List ℕ)
+monitor_replies typed = text_replies monitor_language (untouched opening_standing) typed
 
-abbrev pub monitor_text : Type 0 → List ℕ → List ℕ
-monitor_text A typed = concat (monitor_replies A typed)
+abbrev pub monitor_text : List ℕ → List ℕ
+monitor_text typed = concat (monitor_replies typed)
 
-abbrev pub monitor_faults : Type 0 → List ℕ → ℕ
-monitor_faults A typed = question_count (monitor_replies A typed)
+abbrev pub monitor_faults : List ℕ → ℕ
+monitor_faults typed = question_count (monitor_replies typed)

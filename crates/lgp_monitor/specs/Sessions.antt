@@ -16,11 +16,11 @@ use Rattle.lgp_desk.specs.declared.desk.Manner.TheVariants.{Prompting, Prompting
 use Rattle.lgp_monitor.specs.Attending.{attended_faults, attended_language, attended_text, prompt_at}
 
 -- what became of typed lines, of which nothing may be known: they were answered to their end, or a fault broke the work off
-abbrev pub HasAnswered : Type 0 → Manner → Option (List ℕ) → Result ℕ StreamFault → Option (List ℕ) → Option (List ℕ) → Type 0
-HasAnswered A manner known (Ok count) w₀ w =
-    IfSome known (λ typed. Appends w₀ w (attended_text A manner typed) × (count ≡ attended_faults A manner typed))
-HasAnswered A manner known (Err fault) w₀ w = IfSome known (λ typed. (left : Option (List ℕ))
-    × StandsWritten (opening_text manner (prompt_at (untouched (opening_standing))) ∷ []) (attended_language)
+abbrev pub HasAnswered : Manner → Option (List ℕ) → Result ℕ StreamFault → Option (List ℕ) → Option (List ℕ) → Type 0
+HasAnswered manner known (Ok count) w₀ w =
+    IfSome known (λ typed. Appends w₀ w (attended_text manner typed) × (count ≡ attended_faults manner typed))
+HasAnswered manner known (Err fault) w₀ w = IfSome known (λ typed. (left : Option (List ℕ))
+    × StandsWritten (opening_text manner (prompt_at (untouched opening_standing)) ∷ []) attended_language
     (taken_seat manner (untouched opening_standing)) fault typed left w₀ w)
 
 -- the status for what became of typed lines
@@ -29,9 +29,9 @@ session_status (Ok count) = answered_status count
 session_status (Err fault) = broken_status fault
 
 -- a session, with the status for it
-abbrev pub IsHeld : Type 0 → Manner → Option (List ℕ) → ℕ → Option (List ℕ) → Option (List ℕ) → Type 0
-IsHeld A manner known status w₀ w =
-    (outcome : Result ℕ StreamFault) × HasAnswered A manner known outcome w₀ w × (status ≡ session_status outcome)
+abbrev pub IsHeld : Manner → Option (List ℕ) → ℕ → Option (List ℕ) → Option (List ℕ) → Type 0
+IsHeld manner known status w₀ w =
+    (outcome : Result ℕ StreamFault) × HasAnswered manner known outcome w₀ w × (status ≡ session_status outcome)
 
 -- where the lines of files come first, a prompt stands behind them only
 abbrev pub manner_behind : List (List ℕ) → Manner → Manner
@@ -51,6 +51,6 @@ typed_with typed_behind input files = typed_behind files
 abbrev pub IsAsked : Type 0 → Manner → List (List ℕ) → (List (List ℕ) → Option (List ℕ)) → Option (List ℕ) → ℕ → Option (List ℕ) → Option (List ℕ) → Option (List ℕ) → Option (List ℕ) → Type 0
 IsAsked A manner typed typed_behind input status w₀ w m₀ m =
     ((fault_of monitor_line typed ≡ [])
-    × IsHeld A (session_manner manner (session_for typed)) (typed_with typed_behind input (session_for typed).files) status w₀ w
+    × IsHeld (session_manner manner (session_for typed)) (typed_with typed_behind input (session_for typed).files) status w₀ w
     × (m ≡ m₀))
     ⊎ ((fault : TaskFault A) × IsFaultOn monitor_line typed fault × IsRefused fault status w₀ w m₀ m)

@@ -67,14 +67,14 @@ pub fn attend<A: Allocator + Copy, B: Bell, P: Progress, R: Feed, W: Sink>(
 ) -> Result<u64, StreamFault>
     ensures read { OnOk result (IsAtEnd (R.remaining reader.new)) }
     ensures text { OnOk result (IfSome (R.remaining reader.old) (λ typed.
-        Appends (W.contents writer.old) (W.contents writer.new) (attended_text A manner typed))) }
+        Appends (W.contents writer.old) (W.contents writer.new) (attended_text manner typed))) }
     ensures faults { IfOk result (λ faults. IfSome (R.remaining reader.old) (λ typed.
-        faults ≡ attended_faults A manner typed)) }
+        faults ≡ attended_faults manner typed)) }
     ensures cause { IfErr result (λ fault.
         HasCause fault (R.failed reader.new) (W.failed writer.new)) }
     ensures stands { IfErr result (λ fault. IfSome (R.remaining reader.old) (λ typed.
-        StandsWritten (opening_text manner (prompt_at (untouched (opening_standing))) ∷ [])
-        (attended_language) (taken_seat manner (untouched opening_standing)) fault typed
+        StandsWritten (opening_text manner (prompt_at (untouched opening_standing)) ∷ [])
+        attended_language (taken_seat manner (untouched opening_standing)) fault typed
         (R.remaining reader.new) (W.contents writer.old) (W.contents writer.new))) }
 {
     let Ok(monitor) = Monitor::telling(alloc, progress) else {

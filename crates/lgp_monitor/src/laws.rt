@@ -21,7 +21,7 @@ use std::alloc::Allocator;
 /// Whatever is typed, the laboratory stands where the script language puts it for the transcript, run as a script from its
 /// beginning.
 pub fn transcript_is_the_script<A: Allocator>()
-    ensures { (typed : List ℕ) → IsToldByTranscript (script_language) opening_standing
+    ensures { (typed : List ℕ) → IsToldByTranscript script_language opening_standing
         (state_after monitor_language (untouched opening_standing) (lines typed)) }
 {}
 
@@ -29,8 +29,8 @@ pub fn transcript_is_the_script<A: Allocator>()
 /// it for the transcript. A tape for which no line of a script has room is the one thing that a transcript only names.
 pub fn transcript_at_a_desk_is_the_script<A: Allocator>()
     ensures { (manner : Manner) (typed : List ℕ)
-        → AllByRecursion IsSayable (handed_over A manner typed)
-        → IsToldByTranscript (script_language) opening_standing
+        → AllByRecursion IsSayable (handed_over manner typed)
+        → IsToldByTranscript script_language opening_standing
         (state_after attended_language (taken_seat manner (untouched opening_standing))
         (lines typed)).standing }
 {}

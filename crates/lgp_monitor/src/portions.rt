@@ -1,9 +1,8 @@
 //! Runs in portions, between which is told how far they are.
 
-ghost use Rattle.std.specs.Prelude.{◌≡◌, ◌+◌, ◌++◌, ◌<◌, ◌^◌, ◌↔◌, [], IfErr, IfOk, OnOk};
-ghost use Rattle.lgp_table.specs.Activity.{cost};
-ghost use Rattle.lgp_machine.specs.Answers.{clock_end};
-ghost use Rattle.lgp_debugger.specs.Debugging.{run_of};
+ghost use Rattle.std.specs.Prelude.{◌≡◌, ◌+◌, ◌++◌, ◌<◌, ◌^◌, [], OnOk};
+ghost use Rattle.lgp_debugger.specs.Debugging.{performed};
+ghost use Rattle.lgp_debugger.specs.Run.{IsRun, UnlessMemory, orders_of, run_of};
 ghost use Rattle.lgp_lab.specs.HistoryCommands.{answer_to_run};
 
 use crate::progress::Progress;
@@ -50,12 +49,7 @@ fn run_on<A: Allocator + Copy>(
     debugger: &mut Debugger<Records<A>, A>,
     limit: u64,
 ) -> Result<Ran, RunFault>
-    ensures ran { IfOk result (λ ran. run_of limit debugger.old ≡ (ran, debugger.new)) }
-    ensures stands { IfErr result (λ fault. run_of fault.orders debugger.old
-        ≡ (record { orders = fault.orders; reason = Reason.Limit }, debugger.new)) }
-    ensures within { IfErr result (λ fault. fault.orders < limit) }
-    ensures clock_end { IfErr result (λ fault. (fault.fault ≡ RunRefusal.ClockEnd)
-        ↔ (clock_end < debugger.new.state.clock + cost debugger.new.state)) }
+    ensures { IsRun debugger.old.rules limit debugger.old debugger.new result }
 {
     debugger.run(limit)
 }
@@ -66,12 +60,10 @@ fn run_in_portions<A: Allocator + Copy, P: Progress>(
     limit: u64,
     progress: &P,
 ) -> Result<Ran, RunFault>
-    ensures ran { IfOk result (λ ran. run_of limit debugger.old ≡ (ran, debugger.new)) }
-    ensures stands { IfErr result (λ fault. run_of fault.orders debugger.old
-        ≡ (record { orders = fault.orders; reason = Reason.Limit }, debugger.new)) }
-    ensures within { IfErr result (λ fault. fault.orders < limit) }
-    ensures clock_end { IfErr result (λ fault. (fault.fault ≡ RunRefusal.ClockEnd)
-        ↔ (clock_end < debugger.new.state.clock + cost debugger.new.state)) }
+    ensures ran { UnlessMemory result
+        (run_of debugger.old.rules limit debugger.old.state ≡ result) }
+    ensures performed { UnlessMemory result
+        (debugger.new ≡ performed debugger.old (orders_of result)) }
 {
     let portion = progress.portion().max(1);
     let mut done: u64 = 0;

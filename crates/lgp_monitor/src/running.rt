@@ -21,13 +21,13 @@ pub fn run_monitor<A: Allocator + Copy, R: Feed, W: Sink>(
 ) -> Result<u64, StreamFault>
     ensures read { OnOk result (IsAtEnd (R.remaining reader.new)) }
     ensures text { OnOk result (IfSome (R.remaining reader.old) (λ typed.
-        Appends (W.contents writer.old) (W.contents writer.new) (monitor_text A typed))) }
+        Appends (W.contents writer.old) (W.contents writer.new) (monitor_text typed))) }
     ensures faults { IfOk result (λ faults. IfSome (R.remaining reader.old) (λ typed.
-        faults ≡ monitor_faults A typed)) }
+        faults ≡ monitor_faults typed)) }
     ensures cause { IfErr result (λ fault.
         HasCause fault (R.failed reader.new) (W.failed writer.new)) }
     ensures stands { IfErr result (λ fault. IfSome (R.remaining reader.old) (λ typed.
-        StandsWritten [] (monitor_language) (untouched opening_standing) fault typed
+        StandsWritten [] monitor_language (untouched opening_standing) fault typed
         (R.remaining reader.new) (W.contents writer.old) (W.contents writer.new))) }
 {
     let Ok(monitor) = Monitor::new(alloc) else {

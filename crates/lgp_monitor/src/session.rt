@@ -33,7 +33,7 @@ fn answer<A: Allocator + Copy, B: Bell, P: Progress, R: Feed, W: Sink>(
     input: &mut R,
     output: &mut W,
 ) -> Result<u64, StreamFault>
-    ensures { HasAnswered A manner (R.remaining input.old) result
+    ensures { HasAnswered manner (R.remaining input.old) result
         (W.contents output.old) (W.contents output.new) }
 {
     match attend(alloc, manner, bell, progress, input, output) {
@@ -55,7 +55,7 @@ pub fn hold_session<A: Allocator + Copy, B: Bell, P: Progress, R: Feed, W: Sink>
     requires reads { R.reads input.old ≡ read_limit }
     requires input { R.failed input.old ≡ false }
     requires output { W.failed output.old ≡ false }
-    ensures { IsHeld A manner (R.remaining input.old) result
+    ensures { IsHeld manner (R.remaining input.old) result
         (W.contents output.old) (W.contents output.new) }
 {
     session_status(answer(alloc, manner, bell, progress, input, output))
@@ -134,7 +134,7 @@ fn hold_task<A: Allocator + Copy, B: Bell, P: Progress, R: FilesFirst, W: Sink>(
     requires reads { R.reads input.old ≡ read_limit }
     requires input { R.failed input.old ≡ false }
     requires output { W.failed output.old ≡ false }
-    ensures { IsHeld A (session_manner manner task.now)
+    ensures { IsHeld (session_manner manner task.now)
         (typed_with (R.typed_behind input.old) (R.remaining input.old) task.now.files) result
         (W.contents output.old) (W.contents output.new) }
 {

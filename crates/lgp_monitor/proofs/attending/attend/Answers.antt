@@ -8,5 +8,5 @@ use Rattle.lgp_monitor.proofs.attending.attend.Goals as goal
 pub returns-in_default-clause-stands : goal.returns-in_default-clause-stands
 returns-in_default-clause-stands g c =
     let read = g.R.Feed.remaining c.args.reader.now in
-    StandsWritten-unnamed (attended_language) (taken_seat c.args.manner (untouched opening_standing))
-    (opening_text c.args.manner (prompt_at (untouched (opening_standing)))) read read (g.W.Sink.contents c.args.writer.now)
+    StandsWritten-unnamed attended_language (taken_seat c.args.manner (untouched opening_standing))
+    (opening_text c.args.manner (prompt_at (untouched opening_standing))) read read (g.W.Sink.contents c.args.writer.now)

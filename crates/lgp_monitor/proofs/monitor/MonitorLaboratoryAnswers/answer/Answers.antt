@@ -13,7 +13,7 @@ use Rattle.lgp_monitor.proofs.monitor.MonitorLaboratoryAnswers.answer.Goals as g
 asked : (inside self : Recorded Standing) (stands : Standing) (kept : Kept) (text : List ℕ) (typed : Typed) → inside ≡ self → kept ≡ kept_of text → stands ≡ inside.standing
     → typed ≡ typed_of (is_some stands.opened) (labels_of stands.source) stands.debugger.state.core.panel.counter kept → typed ≡ typed_at self text
 unfolding typed_at
-asked {A} inside self stands kept text typed same is_kept standing is =
+asked inside self stands kept text typed same is_kept standing is =
     is ∙ (ap (λ (s : Standing). typed_of (is_some s.opened) (labels_of s.source) s.debugger.state.core.panel.counter kept) (standing ∙ ap (λ (r : Recorded Standing). r.standing) same)
     ∙ ap (λ (k : Kept). typed_of (is_some self.standing.opened) (labels_of self.standing.source) self.standing.debugger.state.core.panel.counter k) is_kept)
 
