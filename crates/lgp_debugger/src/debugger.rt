@@ -170,8 +170,10 @@ impl<H: History<A>, A: Allocator> Debugger<H, A> {
     pub fn go_on(&mut self) -> Result<Option<u8>, StepFault>
         ensures { IsOrderOfRun self.old.rules self.old self.new result }
     {
-        let by_rules = self.has_rules();
-        self.go_on_so(by_rules)
+        if !self.has_rules() {
+            return self.go_on_freely();
+        }
+        self.go_on_by_rules()
     }
 
     /// Whether a run has to look at the rules: where there are none, it is one without them.
@@ -188,7 +190,7 @@ impl<H: History<A>, A: Allocator> Debugger<H, A> {
         ensures { IsOrderOfRun (rules_in_force by_rules self.old.rules) self.old self.new result }
     {
         if by_rules {
-            return self.go_on_by_rules();
+            return self.go_on();
         }
         self.go_on_freely()
     }
@@ -220,9 +222,6 @@ impl<H: History<A>, A: Allocator> Debugger<H, A> {
         ensures run { IsRun self.old.rules limit self.old self.new result }
         ensures within_clock { self.new.state.clock ≤ clock_end }
     {
-        if !self.has_rules() {
-            return self.run_freely(limit);
-        }
         let outcome = self.run_orders(limit, true);
         // That the clock is within its end is what the mark's clause says.
         let Some(_) = self.machine.mark() else {
