@@ -55,8 +55,7 @@ fn add_missing_end<A: Allocator>(
     Ok(())
 }
 
-/// The image that the draft of all lines gives, so many, or else its faults and that of a source that
-/// has not ended.
+/// The image of the draft of all lines, so many, or else its faults and that of a missing end line.
 fn image_or_faults<A: Allocator>(
     draft: Draft<A>,
     ended: bool,
