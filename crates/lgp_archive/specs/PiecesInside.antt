@@ -1,5 +1,6 @@
 -- Serves proofs only: a text of an archive read piece by piece, for the functions that do so.
-use Rattle.std.specs.Prelude.{ℕ, ◌==◌, if◌then◌else◌, Bool, false, Option, None, Result, List, [], ◌∷◌, drop, option_map}
+use Rattle.std.specs.Prelude.{ℕ, ◌==◌, if◌then◌else◌, Bool, false, Option, None, Result, List, []}
+use Rattle.std.specs.Prelude.{◌∷◌, drop, option_map}
 use Rattle.std.specs.Str.{byte}
 use Rattle.lgp_flexo.specs.TapeText.{code_of_group, single}
 use Rattle.lgp_archive.specs.Archive.{archived_from, codes_of_archived}
@@ -19,6 +20,7 @@ piece_length text = if begins_group text then 3 else 1
 
 abbrev pub first_codes : List ℕ → Option (List ℕ)
 first_codes (sign ∷ tens ∷ units ∷ bytes) =
-    if sign == byte "!" then option_map single (code_of_group tens units) else codes_of_archived sign
+    if sign == byte "!"
+    then option_map single (code_of_group tens units) else codes_of_archived sign
 first_codes (sign ∷ bytes) = codes_of_archived sign
 first_codes [] = None

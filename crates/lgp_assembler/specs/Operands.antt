@@ -6,7 +6,7 @@ use Rattle.std.specs.Prelude.{ℤ, pos, ◌*ℤ◌}
 use Rattle.lgp_word.specs.declared.order.Op.{Op}
 use Rattle.lgp_word.specs.declared.order.Op.TheVariants.{P, T}
 use Rattle.lgp_word.specs.Drum.{track_size}
-use Rattle.lgp_word.specs.Order.{order_word}
+use Rattle.lgp_word.specs.Order.{order_word, plain_order}
 use Rattle.lgp_word.specs.Decimal.{decimal_number}
 use Rattle.lgp_word.specs.Digits.{address_text, word_of_digits}
 use Rattle.lgp_fraction.specs.declared.fraction.FractionFault.{FractionFault}
@@ -35,7 +35,7 @@ cell_of_order minus op (Err fault) = Err fault
 -- `=` and one sign: the p that prints the sign's code, which is its track
 abbrev pub cell_of_sign : Option ℕ → Result Meaning OperandFault
 cell_of_sign (Some code) =
-    Ok (Cell (order_word (record { minus = false; op = P; address = track_size * code })))
+    Ok (Cell (plain_order P (track_size * code)))
 cell_of_sign None = Err Misformed
 
 abbrev pub sign_operand : Op → List ℕ → Result Meaning OperandFault
@@ -93,7 +93,7 @@ place_meaning (Err fault) = Err fault
 unfoldable pub meaning_of : List (List ℕ × ℕ) → ℕ → Operation → Option (List ℕ)
     → Option (List ℕ) → Result Meaning OperandFault
 meaning_of names place (Order op) None second =
-    Ok (Cell (order_word (record { minus = false; op = op; address = 0 })))
+    Ok (Cell (plain_order op 0))
 meaning_of names place (Order op) (Some text) second = order_operand names place false op text
 meaning_of names place MinusT (Some text) second = order_operand names place true T text
 meaning_of names place MinusT None second = Err Misformed

@@ -20,7 +20,8 @@ the_session = session.the_row heap.the_row ghosts (copied.ghosts heap.the_row)
 -- an empty slot owns nothing, and an open one the box of its session
 abbrev pub slot_owns : Global → Bool → Ptr → Option Sitting → Fml
 slot_owns alloc false at None = ftrue
-slot_owns alloc true at (Some sitting) = box_owns (ghosts.dealloc_token alloc) the_session at sitting
+slot_owns alloc true at (Some sitting) =
+    box_owns (ghosts.dealloc_token alloc) the_session at sitting
 slot_owns alloc _ at _ = ffalse
 
 abbrev pub held_coded : Coded (Option Sitting)

@@ -26,10 +26,12 @@ the_region = type_at {n = 0} (RefOf [] tt (plain (λ _. region.the_row)) (λ _. 
 abbrev pub the_session : RattleType
 the_session = session.the_row the_region (lent.ghosts region.the_row regions.ghosts lent.no_dict lent.no_dict) (copied.ghosts region.the_row)
 
--- an empty slot owns nothing, and an open one the box of its session, whose memory goes back to nobody
+-- an empty slot owns nothing, and an open one the box of its session, whose memory goes back to
+-- nobody
 abbrev pub slot_owns : Bool → Ptr → Option Sitting → Fml
 slot_owns false at None = ftrue
-slot_owns true at (Some sitting) = box_owns (unfreed.ghosts.dealloc_token (record {})) the_session at sitting
+slot_owns true at (Some sitting) =
+    box_owns (unfreed.ghosts.dealloc_token (record {})) the_session at sitting
 slot_owns _ at _ = ffalse
 
 abbrev pub held_coded : Coded (Option Sitting)

@@ -1,6 +1,7 @@
 -- Part of the public promise: runs, and what one comes to. That depends alone on the rules and on
 -- the state in which it begins.
-use Rattle.std.specs.Prelude.{◌≡◌, ◌↔◌, ℕ, zero, suc, ◌+◌, ◌<◌, Bool, false, List, Option, Some, None, Result, Ok, Err, IfErr, IfOk, IsTrue, if◌then◌else◌, position}
+use Rattle.std.specs.Prelude.{◌≡◌, ◌↔◌, ℕ, zero, suc, ◌+◌, ◌<◌, Bool, false, List, Option, Some}
+use Rattle.std.specs.Prelude.{None, Result, Ok, Err, IfErr, IfOk, IsTrue, if◌then◌else◌, position}
 use Rattle.lgp_table.specs.State.{State}
 use Rattle.lgp_table.specs.Activity.{cost, next}
 use Rattle.lgp_table.specs.Console.{is_at_rest}
@@ -82,8 +83,8 @@ IsOrderOfRun rules old new (Err ClockEnd) =
 IsOrderOfRun rules old new (Err Memory) = CanStep Perform old.state × (new ≡ old)
 
 -- what a run answers, and where it leaves the debugger: what it comes to, and each order performed
--- is kept. Where an order is refused, those before it stand; it is refused for the clock's end where
--- it would pass that, and else for memory
+-- is kept. Where an order is refused, those before it stand; it is refused for the clock's end
+-- where it would pass that, and else for memory
 pub record IsRun (rules : List Rule) (limit : ℕ) (old new : Debugging)
     (answer : Result Ran RunFault) : Type 0 where
   pub ran : IfOk answer (λ ran. run_of rules limit old.state ≡ Ok ran)

@@ -1,16 +1,21 @@
--- Part of the public promise: a desk, at which lines of a language are typed until `quit`: bare, behind prompts, or each shown
--- above its reply. A line that begins with `#` may be the desk's own, for a program that types what stands in files.
-use Rattle.std.specs.Prelude.{ℕ, Bool, false, true, if◌then◌else◌, Option, None, Some, option_map, List, [], ◌++◌, codes}
+-- Part of the public promise: a desk, at which lines of a language are typed until `quit`: bare,
+-- behind prompts, or each shown above its reply. A line that begins with `#` may be the desk's own,
+-- for a program that types what stands in files.
+use Rattle.std.specs.Prelude.{ℕ, Bool, false, true, if◌then◌else◌, Option, None, Some, option_map}
+use Rattle.std.specs.Prelude.{List, [], ◌++◌, codes}
 use Rattle.lgp_stream.specs.KeptLine.{Kept, kept_of}
 use Rattle.lgp_stream.specs.Language.{Language, is_question}
-use Rattle.lgp_desk.specs.Roles.{Block, block_role, command_role, given_by, note_of, opened_by, with_line}
+use Rattle.lgp_desk.specs.Roles.{Block, block_role, command_role, given_by, note_of, opened_by}
+use Rattle.lgp_desk.specs.Roles.{with_line}
 use Rattle.lgp_desk.specs.declared.desk.Manner.{Manner}
-use Rattle.lgp_desk.specs.declared.desk.Manner.TheVariants.{Prompting, PromptingBehindFirst, Echoing}
+use Rattle.lgp_desk.specs.declared.desk.Manner.TheVariants.{Prompting, PromptingBehindFirst}
+use Rattle.lgp_desk.specs.declared.desk.Manner.TheVariants.{Echoing}
 use Rattle.lgp_desk.specs.declared.role.Role.{Role}
-use Rattle.lgp_desk.specs.declared.role.Role.TheVariants.{Unheard, Leaving, Note, NoteEnd, Given, Opening, Within, Closing, Plain}
+use Rattle.lgp_desk.specs.declared.role.Role.TheVariants.{Unheard, Leaving, Note, NoteEnd, Given}
+use Rattle.lgp_desk.specs.declared.role.Role.TheVariants.{Opening, Within, Closing, Plain}
 
--- where the language stands, how its replies are written, where the lines come from if not from the keyboard, the block that is
--- open, and whether `quit` was typed
+-- where the language stands, how its replies are written, where the lines come from if not from the
+-- keyboard, the block that is open, and whether `quit` was typed
 pub record Seat (S : Type 0) : Type 0 where
   pub standing : S
   pub manner : Manner
@@ -28,7 +33,8 @@ pub record BlockAnswers (S : Type 0) : Type 0 where
   pub reply : S → Block → List ℕ
   pub after : S → Block → S
 
--- a line above its reply, behind a question mark where the reply begins with one; of a longer line its front, and two points
+-- a line above its reply, behind a question mark where the reply begins with one; of a longer line
+-- its front, and two points
 abbrev pub mark_of : List ℕ → List ℕ
 mark_of reply = if is_question reply then codes "? " else codes "> "
 
@@ -90,7 +96,8 @@ abbrev pub answer_text : {S : Type 0} → (S → List ℕ) → Seat S → List �
 answer_text prompt seat reply =
     reply ++ (note_line seat.note reply ++ prompt_in seat.manner seat.note (prompt seat.standing))
 
--- the language at a desk, with where lines are commands, with the prompts, and with what answers blocks
+-- the language at a desk, with where lines are commands, with the prompts, and with what answers
+-- blocks
 module _ {S : Type 0} (language : Language S) (takes_commands : S → Bool) (prompt : S → List ℕ) (blocks : BlockAnswers S) where
   -- the reply to the open block, and where it leaves the language
   abbrev pub block_reply : Option Block → S → List ℕ
@@ -141,7 +148,8 @@ module _ {S : Type 0} (language : Language S) (takes_commands : S → Bool) (pro
   unfoldable pub closing_at : Seat S → List ℕ
   closing_at seat =
       if seat.has_left then []
-      else lost_text seat.block ++ (language.closing seat.standing ++ prompt_in seat.manner seat.note (codes "\n"))
+      else lost_text seat.block
+      ++ (language.closing seat.standing ++ prompt_in seat.manner seat.note (codes "\n"))
 
   abbrev pub desk_language : Language (Seat S)
   desk_language = record { reply = reply_at; after = seat_after; closing = closing_at }

@@ -1,16 +1,20 @@
--- Part of the public promise: what a line is at a desk: the desk's own, a block's, or one of the language.
-use Rattle.std.specs.Prelude.{ℕ, ◌==◌, Bool, not, ◌&&◌, if◌then◌else◌, List, [], ◌∷◌, ◌++◌, drop, codes, nat_eq, slice_index}
+-- Part of the public promise: what a line is at a desk: the desk's own, a block's, or one of the
+-- language.
+use Rattle.std.specs.Prelude.{ℕ, ◌==◌, Bool, not, ◌&&◌, if◌then◌else◌, List, [], ◌∷◌, ◌++◌, drop}
+use Rattle.std.specs.Prelude.{codes, nat_eq, slice_index}
 use Rattle.std.specs.List.{starts_with}
 use Rattle.std.specs.Str.{byte, bytes_eq}
 use Rattle.lgp_stream.specs.KeptLine.{Kept}
 use Rattle.lgp_stream.specs.LineWords.{behind_word, first_word, has_no_word}
 use Rattle.lgp_desk.specs.declared.role.Role.{Role}
-use Rattle.lgp_desk.specs.declared.role.Role.TheVariants.{Leaving, Note, NoteEnd, Given, Opening, Within, Closing, Plain}
+use Rattle.lgp_desk.specs.declared.role.Role.TheVariants.{Leaving, Note, NoteEnd, Given, Opening}
+use Rattle.lgp_desk.specs.declared.role.Role.TheVariants.{Within, Closing, Plain}
 
 -- the line that leaves the desk: the word `quit` alone
 unfoldable pub is_quit : Kept → Bool
 is_quit kept =
-    not kept.longer && (bytes_eq (first_word kept.front) (codes "quit") && has_no_word (behind_word kept.front))
+    not kept.longer
+    && (bytes_eq (first_word kept.front) (codes "quit") && has_no_word (behind_word kept.front))
 
 -- the line that ends a note: `#` alone
 unfoldable pub is_note_end : Kept → Bool

@@ -9,7 +9,8 @@ module _ {S : Type 0} (language : Language S) (takes_commands : S → Bool) (pro
   -- the replies to a typed text, and all that is written for it
   abbrev pub desk_replies : Manner → S → List ℕ → List (List ℕ)
   desk_replies manner standing typed =
-      text_replies (desk_language language takes_commands prompt blocks) (taken_seat manner standing) typed
+      text_replies (desk_language language takes_commands prompt blocks)
+      (taken_seat manner standing) typed
 
   abbrev pub desk_text : Manner → S → List ℕ → List ℕ
   desk_text manner standing typed =

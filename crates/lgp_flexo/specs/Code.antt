@@ -1,6 +1,7 @@
--- Part of the public promise: the six-bit codes of the Flexowriter's paper tape (Operations Manual, "The Flexowriter"). Which sign
--- belongs to which code is this project's own table.
-use Rattle.std.specs.Prelude.{ℕ, ◌+◌, ◌*◌, ◌/◌, ◌%◌, ◌≤◌, Bool, not, ◌&&◌, ◌||◌, ◌==◌, if◌then◌else◌, Option, Some, None, List, codes, slice_get, position}
+-- Part of the public promise: the six-bit codes of the Flexowriter's paper tape (Operations Manual,
+-- "The Flexowriter"). Which sign belongs to which code is this project's own table.
+use Rattle.std.specs.Prelude.{ℕ, ◌+◌, ◌*◌, ◌/◌, ◌%◌, ◌≤◌, Bool, not, ◌&&◌, ◌||◌, ◌==◌}
+use Rattle.std.specs.Prelude.{if◌then◌else◌, Option, Some, None, List, codes, slice_get, position}
 use Rattle.std.specs.Option.{option_map, option_or}
 use Rattle.std.specs.Str.{byte}
 use Rattle.lgp_word.specs.Digits.{digits}
@@ -13,8 +14,9 @@ greatest_code = 63
 abbrev pub IsCode : ℕ → Type 0
 IsCode number = number ≤ greatest_code
 
--- the letters of the sixteen orders are the signs of the codes 4*o + 1, o from 0 to 15, and the digits of base 16 those of
--- 4*d + 2, d from 0 to 15; these are the signs of the codes 4*k + 3, k from 0 to 9; the first is the space
+-- the letters of the sixteen orders are the signs of the codes 4*o + 1, o from 0 to 15, and the
+-- digits of base 16 those of 4*d + 2, d from 0 to 15; these are the signs of the codes 4*k + 3, k
+-- from 0 to 9; the first is the space
 abbrev pub other_signs : List ℕ
 other_signs = codes " -+;/.,vox"
 
@@ -57,6 +59,7 @@ digit_at code = if code % 4 == 2 then Some (code / 4) else None
 abbrev pub delete_code : ℕ
 delete_code = greatest_code
 
--- the codes that an input passes over: those whose last two bits are 00, but for the conditional stop; and delete
+-- the codes that an input passes over: those whose last two bits are 00, but for the conditional
+-- stop; and delete
 abbrev pub is_skipped : ℕ → Bool
 is_skipped code = ((code % 4 == 0) && not (is_stop code)) || (code == delete_code)

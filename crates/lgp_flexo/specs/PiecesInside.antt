@@ -1,5 +1,6 @@
 -- Serves proofs only: a tape's text read piece by piece, for the functions that do so.
-use Rattle.std.specs.Prelude.{ℕ, ◌==◌, ◌&&◌, if◌then◌else◌, Bool, false, Option, None, Result, Ok, Err, List, [], ◌∷◌, length, drop, option_map}
+use Rattle.std.specs.Prelude.{ℕ, ◌==◌, ◌&&◌, if◌then◌else◌, Bool, false, Option, None, Result, Ok}
+use Rattle.std.specs.Prelude.{Err, List, [], ◌∷◌, length, drop, option_map}
 use Rattle.std.specs.Str.{byte}
 use Rattle.lgp_flexo.specs.TapeText.{code_of_group, codes_of_sign, single, text_from}
 
@@ -23,6 +24,7 @@ piece_length text = if begins_group text then 4 else 1
 
 abbrev pub first_codes : List ℕ → Option (List ℕ)
 first_codes (sign ∷ tens ∷ units ∷ close ∷ bytes) =
-    if (sign == byte "[") && (close == byte "]") then option_map single (code_of_group tens units) else codes_of_sign sign
+    if (sign == byte "[") && (close == byte "]")
+    then option_map single (code_of_group tens units) else codes_of_sign sign
 first_codes (sign ∷ bytes) = codes_of_sign sign
 first_codes [] = None

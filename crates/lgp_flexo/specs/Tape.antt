@@ -1,6 +1,8 @@
--- Part of the public promise. The tape in the reader (Operations Manual, "The tape reader"): whether the reader is on, the
--- codes that have passed it since the tape was mounted, and the codes that have not, each in order.
-use Rattle.std.specs.Prelude.{ℕ, ◌-◌, ◌++◌, ◌&&◌, Bool, false, if◌then◌else◌, List, [], drop, length, take}
+-- Part of the public promise. The tape in the reader (Operations Manual, "The tape reader"):
+-- whether the reader is on, the codes that have passed it since the tape was mounted, and the codes
+-- that have not, each in order.
+use Rattle.std.specs.Prelude.{ℕ, ◌-◌, ◌++◌, ◌&&◌, Bool, false, if◌then◌else◌, List, [], drop}
+use Rattle.std.specs.Prelude.{length, take}
 use Rattle.lgp_flexo.specs.Input.{passed_codes, left_after, met_stop}
 
 pub record Tape : Type 0 where

@@ -1,7 +1,9 @@
--- Part of the public promise: tapes written as text, a form of this project's own. A code with a sign is written as that sign, any
--- other as a group [nn] of two decimal digits. Reading takes a group for any code; line feeds and carriage returns stand
--- for nothing.
-use Rattle.std.specs.Prelude.{ℕ, ◌+◌, ◌&&◌, ◌||◌, ◌==◌, Bool, nat_le, if◌then◌else◌, Option, Some, None, Result, Ok, Err, List, [], ◌∷◌, ◌++◌, codes, flat_map, option_and_then, option_map}
+-- Part of the public promise: tapes written as text, a form of this project's own. A code with a
+-- sign is written as that sign, any other as a group [nn] of two decimal digits. Reading takes a
+-- group for any code; line feeds and carriage returns stand for nothing.
+use Rattle.std.specs.Prelude.{ℕ, ◌+◌, ◌&&◌, ◌||◌, ◌==◌, Bool, nat_le, if◌then◌else◌, Option, Some}
+use Rattle.std.specs.Prelude.{None, Result, Ok, Err, List, [], ◌∷◌, ◌++◌, codes, flat_map}
+use Rattle.std.specs.Prelude.{option_and_then, option_map}
 use Rattle.std.specs.Str.{byte}
 use Rattle.lgp_word.specs.Decimal.{decimal_number}
 use Rattle.lgp_word.specs.Digits.{two_digits}
@@ -38,7 +40,8 @@ code_of_group tens units = option_and_then code_of_number (decimal_number 2 (ten
 abbrev pub single : ℕ → List ℕ
 single code = code ∷ []
 
--- what a sign by itself stands for: nothing at a line's end (a line feed or a carriage return), else its code
+-- what a sign by itself stands for: nothing at a line's end (a line feed or a carriage return),
+-- else its code
 abbrev pub is_line_end : ℕ → Bool
 is_line_end sign = (sign == 10) || (sign == 13)
 
@@ -55,8 +58,8 @@ abbrev pub joined : ℕ → Option (List ℕ) → Result (List ℕ) ℕ → Resu
 joined place None following = Err place
 joined place (Some codes) following = before codes following
 
--- the codes that a text stands for from a place on, or its first bad place: four bytes [nn] are a group, any other byte is a sign
--- by itself
+-- the codes that a text stands for from a place on, or its first bad place: four bytes [nn] are a
+-- group, any other byte is a sign by itself
 unfoldable pub text_from : ℕ → List ℕ → Result (List ℕ) ℕ
 text_from place (sign ∷ tens ∷ units ∷ close ∷ bytes) =
     if (sign == byte "[") && (close == byte "]")

@@ -1,7 +1,10 @@
--- Part of the public promise: fractions as decimals (this project's own choice). A fraction is a whole number of steps of 2^-30,
--- from -1 up to just below 1. It is read from a sign, which may be missing, a digit 0 or 1, which may be missing, a point and
--- one to twelve digits; it is written with a minus or a space, a point and ten digits. Both ways the nearest is taken.
-use Rattle.std.specs.Prelude.{ℕ, ◌+◌, ◌*◌, ◌/◌, ◌%◌, ◌^◌, Bool, if◌then◌else◌, ◌&&◌, ◌||◌, ◌==◌, ℤ, pos, neg_ℤ, ◌*ℤ◌, int_lt, int_le, unsigned_abs, List, [], ◌∷◌, ◌++◌, length, drop, codes, slice_index, Result, Ok, Err}
+-- Part of the public promise: fractions as decimals (this project's own choice). A fraction is a
+-- whole number of steps of 2^-30, from -1 up to just below 1. It is read from a sign, which may be
+-- missing, a digit 0 or 1, which may be missing, a point and one to twelve digits; it is written
+-- with a minus or a space, a point and ten digits. Both ways the nearest is taken.
+use Rattle.std.specs.Prelude.{ℕ, ◌+◌, ◌*◌, ◌/◌, ◌%◌, ◌^◌, Bool, if◌then◌else◌, ◌&&◌, ◌||◌, ◌==◌, ℤ}
+use Rattle.std.specs.Prelude.{pos, neg_ℤ, ◌*ℤ◌, int_lt, int_le, unsigned_abs, List, [], ◌∷◌, ◌++◌}
+use Rattle.std.specs.Prelude.{length, drop, codes, slice_index, Result, Ok, Err}
 use Rattle.std.specs.Int.{is_negative}
 use Rattle.std.specs.Str.{byte}
 use Rattle.lgp_word.specs.Decimal.{decimal_digit, decimal_of, is_decimal}
@@ -19,7 +22,8 @@ most_places = 12
 
 -- a text without its first byte, where that is one of two
 abbrev pub without : ℕ → ℕ → List ℕ → List ℕ
-without one other text = if (slice_index text 0 == one) || (slice_index text 0 == other) then drop 1 text else text
+without one other text =
+    if (slice_index text 0 == one) || (slice_index text 0 == other) then drop 1 text else text
 
 -- what is left of a text behind its sign
 abbrev pub behind_sign : List ℕ → List ℕ
@@ -35,17 +39,20 @@ places text = drop 1 (behind_whole text)
 
 -- a text has the form of a fraction
 abbrev pub is_fraction_text : List ℕ → Bool
-is_fraction_text text = (slice_index (behind_whole text) 0 == byte ".") && is_decimal most_places (places text)
+is_fraction_text text =
+    (slice_index (behind_whole text) 0 == byte ".") && is_decimal most_places (places text)
 
 -- what a text stands for in units of its last place, without its sign
 abbrev pub units_of : List ℕ → ℕ
 units_of text =
-    (if slice_index (behind_sign text) 0 == byte "1" then 10 ^ length (places text) else 0) + decimal_of (places text)
+    (if slice_index (behind_sign text) 0 == byte "1" then 10 ^ length (places text) else 0)
+    + decimal_of (places text)
 
 -- the number of steps nearest to what a text stands for
 unfoldable pub steps_of_text : List ℕ → ℤ
 steps_of_text text =
-    nearest (with_sign (slice_index text 0 == byte "-") (units_of text * 2 ^ 30)) (pos (10 ^ length (places text)))
+    nearest (with_sign (slice_index text 0 == byte "-") (units_of text * 2 ^ 30))
+    (pos (10 ^ length (places text)))
 
 -- the fraction of a number of steps
 abbrev pub fraction_of : ℤ → Result ℤ FractionFault
@@ -77,4 +84,5 @@ places_text steps =
 
 -- the text of a fraction; -1 alone has a digit before the point
 unfoldable pub decimal_text : ℤ → List ℕ
-decimal_text steps = if int_le steps (neg_ℤ (pos (2 ^ 30))) then codes "-1.000000000" else places_text steps
+decimal_text steps =
+    if int_le steps (neg_ℤ (pos (2 ^ 30))) then codes "-1.000000000" else places_text steps

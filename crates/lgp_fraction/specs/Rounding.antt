@@ -1,5 +1,7 @@
--- Part of the public promise: quotients to the nearest whole number, ties away from zero (this project's own choice).
-use Rattle.std.specs.Prelude.{ℕ, ◌+◌, ◌*◌, ◌/◌, ◌≤◌, Bool, if◌then◌else◌, ℤ, pos, neg_ℤ, ◌-ℤ◌, ◌*ℤ◌, unsigned_abs}
+-- Part of the public promise: quotients to the nearest whole number, ties away from zero (this
+-- project's own choice).
+use Rattle.std.specs.Prelude.{ℕ, ◌+◌, ◌*◌, ◌/◌, ◌≤◌, Bool, if◌then◌else◌, ℤ, pos, neg_ℤ, ◌-ℤ◌, ◌*ℤ◌}
+use Rattle.std.specs.Prelude.{unsigned_abs}
 use Rattle.std.specs.Int.{is_negative}
 use Rattle.std.specs.Bool.{xor}
 
@@ -14,7 +16,8 @@ nearest_size dividend divisor = (2 * dividend + divisor) / (2 * divisor)
 -- the whole number nearest to a quotient; of two that are equally near the one further from zero
 unfoldable pub nearest : ℤ → ℤ → ℤ
 nearest dividend divisor =
-    with_sign (xor (is_negative dividend) (is_negative divisor)) (nearest_size (unsigned_abs dividend) (unsigned_abs divisor))
+    with_sign (xor (is_negative dividend) (is_negative divisor))
+    (nearest_size (unsigned_abs dividend) (unsigned_abs divisor))
 
 -- how far a number is from a quotient, times the size of the divisor
 abbrev pub deviation : ℤ → ℤ → ℤ → ℕ
@@ -25,4 +28,5 @@ abbrev pub IsNearest : ℤ → ℤ → ℤ → Type 0
 IsNearest dividend divisor number =
     (other : ℤ)
     → (deviation dividend divisor number ≤ deviation dividend divisor other)
-    × (deviation dividend divisor other ≤ deviation dividend divisor number → unsigned_abs other ≤ unsigned_abs number)
+    × (deviation dividend divisor other ≤ deviation dividend divisor number
+    → unsigned_abs other ≤ unsigned_abs number)

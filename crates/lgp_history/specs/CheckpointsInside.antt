@@ -1,6 +1,7 @@
 -- Serves proofs only: the steps of a trail, of which every 64th begins with a copy of the machine,
 -- and what they play.
-use Rattle.std.specs.Prelude.{◌≡◌, ℕ, ◌+◌, ◌-◌, ◌≤◌, ◌<◌, ◌%◌, ◌==◌, if◌then◌else◌, List, [], ◌∷◌, length, Option, Some, None}
+use Rattle.std.specs.Prelude.{◌≡◌, ℕ, ◌+◌, ◌-◌, ◌≤◌, ◌<◌, ◌%◌, ◌==◌, if◌then◌else◌, List, [], ◌∷◌}
+use Rattle.std.specs.Prelude.{length, Option, Some, None}
 use Rattle.lgp_table.specs.State.{State, opening}
 use Rattle.lgp_table.specs.Interleaving.{Configuration, at_boundary}
 use Rattle.lgp_history.specs.Steps.{CanStep, stepped}

@@ -1,5 +1,6 @@
 -- Part of the public promise. Rules, and the orders that they hit.
-use Rattle.std.specs.Prelude.{ℕ, ◌+◌, ◌==◌, ◌&&◌, Bool, true, false, not, if◌then◌else◌, List, [], ◌∷◌, Option, None, option_map, position}
+use Rattle.std.specs.Prelude.{ℕ, ◌+◌, ◌==◌, ◌&&◌, Bool, true, false, not, if◌then◌else◌, List, []}
+use Rattle.std.specs.Prelude.{◌∷◌, Option, None, option_map, position}
 use Rattle.std.specs.Option.{option_or}
 use Rattle.lgp_table.specs.State.{State, word_at}
 use Rattle.lgp_table.specs.Activity.{next}

@@ -1,6 +1,7 @@
 -- Part of the public promise. Where words came from: the latest kept step that changed the word at
 -- an address.
-use Rattle.std.specs.Prelude.{◌≡◌, ℕ, ◌==◌, Bool, false, not, if◌then◌else◌, List, [], ◌∷◌, ◌++◌, Option, Some, None, IsTrue, All}
+use Rattle.std.specs.Prelude.{◌≡◌, ℕ, ◌==◌, Bool, false, not, if◌then◌else◌, List, [], ◌∷◌, ◌++◌}
+use Rattle.std.specs.Prelude.{Option, Some, None, IsTrue, All}
 use Rattle.std.specs.Option.{option_or}
 use Rattle.lgp_table.specs.State.{Core, State, word_at}
 use Rattle.lgp_table.specs.Activity.{BegunOrder, begun_order, place_in}
@@ -11,7 +12,8 @@ use Rattle.lgp_history.specs.declared.origin.Origin.{Origin}
 use Rattle.lgp_history.specs.declared.origin.PastOrder.{PastOrder}
 use Rattle.lgp_history.specs.Step.{KeptStep}
 
--- the word of an activity's order; where the operator has the tape read, what stands in the register
+-- the word of an activity's order; where the operator has the tape read, what stands in the
+-- register
 abbrev pub word_or_register : Option BegunOrder → Core → ℕ
 word_or_register None core = core.panel.register
 word_or_register (Some order) core = order.word

@@ -1,6 +1,8 @@
 -- Serves proofs only: what is recorded of a step and of the state before it, and how a state is
 -- taken back with it.
-use Rattle.std.specs.Prelude.{ℕ, ◌+◌, ◌==◌, ◌&&◌, ◌||◌, Bool, true, false, not, if◌then◌else◌, nat_le, nat_lt, List, [], ◌∷◌, length, Option, Some, None, is_some, slice_index}
+use Rattle.std.specs.Prelude.{ℕ, ◌+◌, ◌==◌, ◌&&◌, ◌||◌, Bool, true, false, not, if◌then◌else◌}
+use Rattle.std.specs.Prelude.{nat_le, nat_lt, List, [], ◌∷◌, length, Option, Some, None, is_some}
+use Rattle.std.specs.Prelude.{slice_index}
 use Rattle.lgp_word.specs.Word.{stored}
 use Rattle.lgp_word.specs.Address.{address_after}
 use Rattle.lgp_word.specs.Order.{address_at, op_at, with_address_of}

@@ -1,7 +1,8 @@
--- Part of the public promise. Storing words by the console (Operations Manual, "Manual input"): an order to store is keyed into the
--- accumulator and filled into the instruction register, the word is keyed into the accumulator, and the order is executed.
+-- Part of the public promise. Storing words by the console (Operations Manual, "Manual input"): an
+-- order to store is keyed into the accumulator and filled into the instruction register, the word
+-- is keyed into the accumulator, and the order is executed.
 use Rattle.std.specs.Prelude.{ℕ, ◌+◌, false, List, [], ◌∷◌, ◌++◌, map}
-use Rattle.lgp_word.specs.Order.{order_word}
+use Rattle.lgp_word.specs.Order.{plain_order}
 use Rattle.lgp_word.specs.declared.order.Op.TheVariants.{H, U}
 use Rattle.lgp_flexo.specs.WordCodes.{word_codes}
 use Rattle.lgp_table.specs.State.{State}
@@ -17,10 +18,10 @@ word_keys word = map (λ code. actions.Key code) (word_codes word)
 
 -- the orders h and u to an address
 abbrev pub store_order : ℕ → ℕ
-store_order address = order_word (record { minus = false; op = H; address = address })
+store_order address = plain_order H address
 
 abbrev pub jump_order : ℕ → ℕ
-jump_order address = order_word (record { minus = false; op = U; address = address })
+jump_order address = plain_order U address
 
 -- the twenty actions before a word is stored at an address
 abbrev pub store_actions : ℕ → ℕ → List Action
@@ -31,7 +32,8 @@ store_actions address word =
 -- the twelve actions before a jump to an address, and the two that set the machine going there
 abbrev pub jump_actions : ℕ → List Action
 jump_actions address =
-    actions.Mode Manual ∷ (word_keys (jump_order address) ++ (actions.Fill ∷ actions.Mode OneOperation ∷ actions.Execute ∷ []))
+    actions.Mode Manual ∷ (word_keys (jump_order address)
+    ++ (actions.Fill ∷ actions.Mode OneOperation ∷ actions.Execute ∷ []))
 
 abbrev pub going_actions : List Action
 going_actions = actions.Mode Normal ∷ actions.Start ∷ []

@@ -1,5 +1,6 @@
 -- Part of the public promise. What key-in leaves.
-use Rattle.std.specs.Prelude.{◌≡◌, ℕ, ◌+◌, ◌<◌, false, List, [], ◌∷◌, length, slice_index, slice_set, take}
+use Rattle.std.specs.Prelude.{◌≡◌, ℕ, ◌+◌, ◌<◌, false, List, [], ◌∷◌, length, slice_index}
+use Rattle.std.specs.Prelude.{slice_set, take}
 use Rattle.lgp_table.specs.State.{State, core_of}
 use Rattle.lgp_table.specs.Activity.{cost}
 use Rattle.lgp_table.specs.declared.panel.Panel.{Panel}
@@ -27,26 +28,31 @@ panel_after_store panel address word = record panel {
 
 -- the panel after words have been keyed in: it shows the last of them
 abbrev pub panel_after_words : Panel → ℕ → List ℕ → Panel
-panel_after_words panel base [] = record panel { switches = record panel.switches { six_bit = false } }
-panel_after_words panel base (word ∷ words) = panel_after_words (panel_after_store panel base word) (base + 1) words
+panel_after_words panel base [] =
+    record panel { switches = record panel.switches { six_bit = false } }
+panel_after_words panel base (word ∷ words) =
+    panel_after_words (panel_after_store panel base word) (base + 1) words
 
 -- a state after words have been keyed in, at some clock
 abbrev pub state_after_words : State → ℕ → List ℕ → ℕ → State
 state_after_words s base words clock = record {
-  core = core_of (panel_after_words s.core.panel base words) (words_from s.core.words base words) s.core.tape;
+  core = core_of (panel_after_words s.core.panel base words)
+      (words_from s.core.words base words) s.core.tape;
   printed = s.printed;
   clock = clock;
 }
 
 -- about to store the word that comes after so many others
 abbrev pub before_store : State → ℕ → List ℕ → ℕ → State
-before_store s base words done = about_to_store (keyed s base (take done words)) (base + done) (slice_index words done)
+before_store s base words done =
+    about_to_store (keyed s base (take done words)) (base + done) (slice_index words done)
 
 -- the clock after the words have been stored would be past its end
 abbrev pub PassesClockEnd : State → ℕ → List ℕ → Type 0
 PassesClockEnd s base words = (0 < length words) × (clock_end < (keyed s base words).clock)
 
--- where key-in meets the end of the clock: so many words are stored, and the next store would pass it
+-- where key-in meets the end of the clock: so many words are stored, and the next store would pass
+-- it
 abbrev pub EndsBeforeStore : Configuration → State → ℕ → List ℕ → Type 0
 EndsBeforeStore now s base words =
     (done : ℕ) × (done < length words) × (now ≡ at_boundary (before_store s base words done))

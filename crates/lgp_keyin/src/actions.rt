@@ -7,7 +7,7 @@ ghost use Rattle.lgp_keyin.specs.KeyIn.{jump_actions, start_actions, store_actio
 
 use lgp_flexo::codes_of_word;
 use lgp_table::{Action, Mode};
-use lgp_word::{Address, Op, Order, Word, encode};
+use lgp_word::{Address, Op, Word, plain_order};
 
 /// The keys of a word's eight digits.
 fn word_keys(word: Word) -> [Action; 8]
@@ -34,12 +34,7 @@ pub fn actions_to_store(address: Address, word: Word) -> [Action; 20]
     ensures address { IsAddress address }
     ensures word { IsWord word }
 {
-    let order = Order {
-        minus: false,
-        op: Op::H,
-        address,
-    };
-    let [a, b, c, d, e, f, g, h] = word_keys(encode(order));
+    let [a, b, c, d, e, f, g, h] = word_keys(plain_order(Op::H, address));
     let [i, j, k, l, m, n, o, p] = word_keys(word);
     let manual = Action::Mode(Mode::Manual);
     let one_operation = Action::Mode(Mode::OneOperation);
@@ -72,12 +67,7 @@ pub fn actions_to_store(address: Address, word: Word) -> [Action; 20]
 pub fn actions_to_jump(address: Address) -> [Action; 12]
     ensures { result ≡ jump_actions address }
 {
-    let order = Order {
-        minus: false,
-        op: Op::U,
-        address,
-    };
-    let [a, b, c, d, e, f, g, h] = word_keys(encode(order));
+    let [a, b, c, d, e, f, g, h] = word_keys(plain_order(Op::U, address));
     let manual = Action::Mode(Mode::Manual);
     let one_operation = Action::Mode(Mode::OneOperation);
     [

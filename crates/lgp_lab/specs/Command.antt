@@ -35,7 +35,8 @@ put_by _ _ = None
 unfoldable pub put_command : List ℕ → Option Command
 put_command operands =
     if has_no_word (behind_word (behind_word operands))
-    then put_by (address_text (first_word operands)) (word_of_digits (first_word (behind_word operands))) else None
+    then put_by (address_text (first_word operands))
+    (word_of_digits (first_word (behind_word operands))) else None
 
 abbrev pub switch_by : Option Switch → Option Bool → Option Command
 switch_by (Some switch) (Some down) = Some (commands.Press (switch_action down switch))
@@ -43,18 +44,22 @@ switch_by _ _ = None
 
 unfoldable pub press_command : List ℕ → Option Command
 press_command operands =
-    if has_no_word (behind_word operands) then option_map commands.Press (named button_names (first_word operands))
+    if has_no_word (behind_word operands)
+    then option_map commands.Press (named button_names (first_word operands))
     else (if has_no_word (behind_word (behind_word operands))
-    then switch_by (named switch_names (first_word operands)) (named position_names (first_word (behind_word operands)))
+    then switch_by (named switch_names (first_word operands))
+    (named position_names (first_word (behind_word operands)))
     else None)
 
 -- the number that is the only operand
 unfoldable pub lone_number : List ℕ → Option ℕ
-lone_number operands = if has_no_word (behind_word operands) then number_at (first_word operands) else None
+lone_number operands =
+    if has_no_word (behind_word operands) then number_at (first_word operands) else None
 
 -- the address that is the only operand
 unfoldable pub lone_address : List ℕ → Option ℕ
-lone_address operands = if has_no_word (behind_word operands) then address_text (first_word operands) else None
+lone_address operands =
+    if has_no_word (behind_word operands) then address_text (first_word operands) else None
 
 -- the range of words that an address and a number ask for
 abbrev pub span_by : Option ℕ → Option ℕ → Option WordRange
@@ -64,7 +69,8 @@ span_by _ _ = None
 unfoldable pub span_at : List ℕ → Option WordRange
 span_at operands =
     if has_no_word (behind_word (behind_word operands))
-    then span_by (address_text (first_word operands)) (number_at (first_word (behind_word operands))) else None
+    then span_by (address_text (first_word operands))
+    (number_at (first_word (behind_word operands))) else None
 
 -- a command that takes no operand
 abbrev pub lone : Command → List ℕ → Option Command

@@ -1,5 +1,6 @@
 -- Part of the public promise: what is written for a whole file, of a source or of a script.
-use Rattle.std.specs.Prelude.{ℕ, ◌++◌, if◌then◌else◌, Option, Some, None, Result, Ok, Err, List, [], ◌∷◌, codes}
+use Rattle.std.specs.Prelude.{ℕ, ◌++◌, if◌then◌else◌, Option, Some, None, Result, Ok, Err, List, []}
+use Rattle.std.specs.Prelude.{◌∷◌, codes}
 use Rattle.lgp_word.specs.Drum.{blank_words}
 use Rattle.lgp_flexo.specs.TapeText.{written_tape}
 use Rattle.lgp_table.specs.After.{after}
@@ -23,7 +24,8 @@ use Rattle.lgp_lab.specs.declared.refusal.Refusal.TheVariants.{ClockEnd, TooLong
 unfoldable pub heading : List ℕ → List ℕ
 heading name = codes "file " ++ (name ++ codes "\n")
 
--- what is written for a source, and the status: 0 where all is well, 1 where the source has a fault or is too long
+-- what is written for a source, and the status: 0 where all is well, 1 where the source has a fault
+-- or is too long
 pub record FileAnswer : Type 0 where
   pub text : List ℕ
   pub status : ℕ
@@ -60,8 +62,8 @@ unfoldable pub tape_answer : List ℕ → FileAnswer
 tape_answer source = answer_of taped (source_of source)
 
 -- run: the source is loaded into a new machine, and a run that no rule stops follows, of at most so
--- many orders; then what is printed is shown, and the panel. Where the clock's end is met, that alone
--- is told
+-- many orders; then what is printed is shown, and the panel. Where the clock's end is met, that
+-- alone is told
 abbrev pub state_answer : State → FileAnswer
 state_answer s = record { text = printed_text s.printed ++ panel_text s; status = 0 }
 

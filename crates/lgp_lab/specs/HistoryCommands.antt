@@ -1,5 +1,7 @@
--- Part of the public promise: the script language, what is answered to the commands of rules and of the way back.
-use Rattle.std.specs.Prelude.{ℕ, ◌==◌, ◌++◌, if◌then◌else◌, nat_lt, Option, Some, None, Result, Ok, Err}
+-- Part of the public promise: the script language, what is answered to the commands of rules and of
+-- the way back.
+use Rattle.std.specs.Prelude.{ℕ, ◌==◌, ◌++◌, if◌then◌else◌, nat_lt, Option, Some, None, Result, Ok}
+use Rattle.std.specs.Prelude.{Err}
 use Rattle.std.specs.Prelude.{List, [], ◌∷◌, length, remove, slice_get, codes, decimal}
 use Rattle.lgp_history.specs.Hits.{last_hit}
 use Rattle.lgp_history.specs.Steps.{orders_in}
@@ -35,7 +37,8 @@ abbrev pub ran_text : Ran → List ℕ
 ran_text ran = codes "ran " ++ (decimal ran.orders ++ reason_text ran.reason)
 
 abbrev pub with_rules : Debugging → List Rule → Debugging
-with_rules d rules = record { state = d.state; steps = d.steps; capacity = d.capacity; rules = rules }
+with_rules d rules =
+    record { state = d.state; steps = d.steps; capacity = d.capacity; rules = rules }
 
 -- ---- break, watch: one rule more, which has the next number
 
@@ -59,8 +62,8 @@ answer_to_drop standing number =
     }
     else refused refusals.NoRule standing
 
--- ---- run: a run of the debugger; where its next order would pass the clock's end it is broken off,
--- and the orders before stand
+-- ---- run: a run of the debugger; where its next order would pass the clock's end it is broken
+-- off, and the orders before stand
 
 -- what the run of at most so many orders comes to
 abbrev pub run_in : Debugging → ℕ → Result Ran RunFault
@@ -106,4 +109,5 @@ answer_to_hit standing (Some hit) = record {
 }
 
 unfoldable pub answer_to_last : Standing → Answer
-answer_to_last standing = answer_to_hit standing (last_hit standing.debugger.rules standing.debugger.steps)
+answer_to_last standing =
+    answer_to_hit standing (last_hit standing.debugger.rules standing.debugger.steps)

@@ -1,5 +1,5 @@
--- Part of the public promise: the script language, what is answered to `load`: the words of the last source that assembled are
--- loaded by the keyed-in loader.
+-- Part of the public promise: the script language, what is answered to `load`: the words of the
+-- last source that assembled are loaded by the keyed-in loader.
 use Rattle.std.specs.Prelude.{ℕ, ◌++◌, Option, Some, None, List, [], codes, decimal}
 use Rattle.lgp_table.specs.State.{State}
 use Rattle.lgp_assembler.specs.Image.{image_of}
@@ -18,7 +18,8 @@ loaded_text image = codes "loaded " ++ (decimal (longest_load image).orders ++ c
 abbrev pub forgotten_in : State → Debugging → Debugging
 forgotten_in state d = record { state = state; steps = []; capacity = d.capacity; rules = d.rules }
 
--- by where loading meets the clock's end: the machine then stands there; else it stands as loading leaves it
+-- by where loading meets the clock's end: the machine then stands there; else it stands as loading
+-- leaves it
 abbrev pub load_by : Standing → ImageParts → Option State → Answer
 load_by standing image None = record {
   reply = loaded_text image;

@@ -1,5 +1,5 @@
--- Part of the public promise: the script language, what is answered to the commands that press, wait, perform orders and show the
--- panel.
+-- Part of the public promise: the script language, what is answered to the commands that press,
+-- wait, perform orders and show the panel.
 use Rattle.std.specs.Prelude.{ℕ, ◌+◌, ◌++◌, Bool, not, if◌then◌else◌, nat_lt, ◌==◌, Result, Ok, Err}
 use Rattle.std.specs.Prelude.{List, [], length, fold, codes, decimal}
 use Rattle.lgp_word.specs.Digits.{address_digits, digits_of}
@@ -27,13 +27,15 @@ abbrev pub press_text : Bool → List ℕ
 press_text live = if live then codes "live\n" else codes "dead\n"
 
 abbrev pub typed_text : ℕ → ℕ → List ℕ
-typed_text live dead = codes "live " ++ (decimal live ++ (codes " dead " ++ (decimal dead ++ codes "\n")))
+typed_text live dead =
+    codes "live " ++ (decimal live ++ (codes " dead " ++ (decimal dead ++ codes "\n")))
 
 abbrev pub clock_text : ℕ → List ℕ
 clock_text clock = codes "clock " ++ (decimal clock ++ codes "\n")
 
 abbrev pub orders_text : ℕ → Status → List ℕ
-orders_text done status = codes "orders " ++ (decimal done ++ (codes " " ++ (status_text status ++ codes "\n")))
+orders_text done status =
+    codes "orders " ++ (decimal done ++ (codes " " ++ (status_text status ++ codes "\n")))
 
 -- keys struck one after another: how many were live and dead, and the debugger after them
 pub record Typed : Type 0 where
@@ -43,7 +45,8 @@ pub record Typed : Type 0 where
 
 -- a live press is a step, a dead one is none
 abbrev pub after_pressing : Debugging → Action → Debugging
-after_pressing d action = if is_live d.state.core.panel action then after_step d (Press action) else d
+after_pressing d action =
+    if is_live d.state.core.panel action then after_step d (Press action) else d
 
 abbrev pub answer_to_press : Standing → Action → Answer
 answer_to_press standing action = record {
@@ -82,7 +85,10 @@ answer_to_turn standing times =
     let s = standing.debugger.state in
     if not (is_at_rest s.core.panel.status) then refused refusals.AtWork standing
     else (if nat_lt clock_end (s.clock + times) then refused refusals.ClockEnd standing
-    else record { reply = clock_text (s.clock + times); after = with_debugger standing (after_idle standing.debugger times) })
+    else record {
+      reply = clock_text (s.clock + times);
+      after = with_debugger standing (after_idle standing.debugger times);
+    })
 
 -- orders: a run that no rule stops, and the status behind it; broken off where the next order would
 -- pass the clock's end
@@ -102,8 +108,10 @@ answer_to_orders standing limit =
 -- the panel's line
 unfoldable pub registers_text : Look → List ℕ
 registers_text look =
-    codes "counter " ++ (address_digits look.counter ++ (codes " accumulator " ++ (digits_of look.accumulator
-    ++ (codes " register " ++ (digits_of look.register ++ (codes " status " ++ (status_text look.status
+    codes "counter "
+    ++ (address_digits look.counter ++ (codes " accumulator " ++ (digits_of look.accumulator
+    ++ (codes " register " ++ (digits_of look.register
+    ++ (codes " status " ++ (status_text look.status
     ++ (codes " mode " ++ (mode_text look.mode ++ codes " switches ")))))))))
 
 unfoldable pub reader_text : Look → ℕ → List ℕ

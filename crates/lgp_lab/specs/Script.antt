@@ -1,17 +1,22 @@
--- Part of the public promise: the script language. A script is its lines, each of which has at most one reply, and a script's text
--- is its replies one after another, from a machine in its opening state on.
-use Rattle.std.specs.Prelude.{ℕ, ◌==◌, ◌||◌, Bool, true, false, if◌then◌else◌, nat_lt, Option, Some, None, List, length, slice_index}
+-- Part of the public promise: the script language. A script is its lines, each of which has at most
+-- one reply, and a script's text is its replies one after another, from a machine in its opening
+-- state on.
+use Rattle.std.specs.Prelude.{ℕ, ◌==◌, ◌||◌, Bool, true, false, if◌then◌else◌, nat_lt, Option, Some}
+use Rattle.std.specs.Prelude.{None, List, length, slice_index}
 use Rattle.std.specs.List.{concat}
 use Rattle.std.specs.Str.{byte}
 use Rattle.lgp_lab.specs.Command.{command_of, text_behind}
-use Rattle.lgp_lab.specs.DrumCommands.{answer_to_dump, answer_to_put, answer_to_show, answer_to_words}
+use Rattle.lgp_lab.specs.DrumCommands.{answer_to_dump, answer_to_put, answer_to_show}
+use Rattle.lgp_lab.specs.DrumCommands.{answer_to_words}
 use Rattle.lgp_history.specs.declared.rule.Rule.TheVariants.{At, Changed}
-use Rattle.lgp_lab.specs.HistoryCommands.{answer_to_back, answer_to_drop, answer_to_last, answer_to_rule, answer_to_run}
+use Rattle.lgp_lab.specs.HistoryCommands.{answer_to_back, answer_to_drop, answer_to_last}
+use Rattle.lgp_lab.specs.HistoryCommands.{answer_to_rule, answer_to_run}
 use Rattle.lgp_stream.specs.Language.{Language, question_count, text_replies}
 use Rattle.lgp_stream.specs.KeptLine.{line_limit}
 use Rattle.lgp_stream.specs.LineWords.{has_no_word}
 use Rattle.lgp_lab.specs.LoadCommand.{answer_to_load}
-use Rattle.lgp_lab.specs.MachineCommands.{answer_to_orders, answer_to_panel, answer_to_press, answer_to_turn, answer_to_type}
+use Rattle.lgp_lab.specs.MachineCommands.{answer_to_orders, answer_to_panel, answer_to_press}
+use Rattle.lgp_lab.specs.MachineCommands.{answer_to_turn, answer_to_type}
 use Rattle.lgp_lab.specs.SourceCommands.{answer_in_source, answer_to_list, answer_to_source, closed}
 use Rattle.lgp_lab.specs.SourceText.{SourceText}
 use Rattle.lgp_lab.specs.Standing.{Answer, Standing, opening_standing, refused, silent}

@@ -1,5 +1,7 @@
--- Part of the public promise: the script language, what is answered to a source, and to the commands that use it.
-use Rattle.std.specs.Prelude.{ℕ, ◌++◌, Bool, if◌then◌else◌, Option, Some, None, List, [], ◌∷◌, length, codes, decimal}
+-- Part of the public promise: the script language, what is answered to a source, and to the
+-- commands that use it.
+use Rattle.std.specs.Prelude.{ℕ, ◌++◌, Bool, if◌then◌else◌, Option, Some, None, List, [], ◌∷◌}
+use Rattle.std.specs.Prelude.{length, codes, decimal}
 use Rattle.std.specs.Str.{bytes_eq}
 use Rattle.lgp_word.specs.Digits.{address_digits}
 use Rattle.lgp_assembler.specs.Image.{faults_of, image_of}
@@ -22,7 +24,8 @@ answer_to_source standing = silent (with_opened standing (Some (source_of [])))
 unfoldable pub faults_text : List Fault → List ℕ
 faults_text [] = []
 faults_text (fault ∷ more) =
-    (codes "line " ++ (decimal fault.line ++ (codes " " ++ (kind_name fault.kind ++ codes "\n")))) ++ faults_text more
+    (codes "line " ++ (decimal fault.line ++ (codes " " ++ (kind_name fault.kind ++ codes "\n"))))
+    ++ faults_text more
 
 -- how many words a source has made, and where it starts
 abbrev pub start_text : Option ℕ → List ℕ
@@ -30,7 +33,8 @@ start_text None = codes "none\n"
 start_text (Some start) = address_digits start ++ codes "\n"
 
 abbrev pub cells_text : ImageParts → List ℕ
-cells_text image = codes "cells " ++ (decimal (length image.cells) ++ (codes " start " ++ start_text image.start))
+cells_text image =
+    codes "cells " ++ (decimal (length image.cells) ++ (codes " start " ++ start_text image.start))
 
 -- a line of an open source: a point alone closes it
 abbrev pub is_point : List ℕ → Bool
@@ -42,7 +46,8 @@ assembled standing text [] = record {
   reply = cells_text (image_of text);
   after = record { debugger = standing.debugger; source = Some text; opened = None };
 }
-assembled standing text (fault ∷ more) = answer_showing (codes "? 9 Faults\n" ++ faults_text (fault ∷ more)) standing
+assembled standing text (fault ∷ more) =
+    answer_showing (codes "? 9 Faults\n" ++ faults_text (fault ∷ more)) standing
 
 -- the answer to a source at its end
 abbrev pub answer_to_end : Standing → SourceText → Answer

@@ -1,5 +1,7 @@
--- Part of the public promise: a source as it is gathered, from the lines of a script or from a file.
-use Rattle.std.specs.Prelude.{ℕ, ◌+◌, ◌||◌, Bool, true, if◌then◌else◌, nat_lt, List, [], ◌++◌, length, codes}
+-- Part of the public promise: a source as it is gathered, from the lines of a script or from a
+-- file.
+use Rattle.std.specs.Prelude.{ℕ, ◌+◌, ◌||◌, Bool, true, if◌then◌else◌, nat_lt, List, [], ◌++◌}
+use Rattle.std.specs.Prelude.{length, codes}
 use Rattle.lgp_lab.specs.Limits.{source_limit}
 use Rattle.lgp_stream.specs.KeptLine.{line_limit}
 

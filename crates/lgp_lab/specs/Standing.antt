@@ -1,5 +1,6 @@
--- Part of the public promise: the script language, where a laboratory stands between two lines of a script, and what an answer is.
--- The type A stands for the allocator of the tapes that are kept; nothing depends on it.
+-- Part of the public promise: the script language, where a laboratory stands between two lines of a
+-- script, and what an answer is. The type A stands for the allocator of the tapes that are kept;
+-- nothing depends on it.
 use Rattle.std.specs.Prelude.{ℕ, Option, None, Some, List, []}
 use Rattle.lgp_word.specs.Drum.{blank_words}
 use Rattle.lgp_assembler.specs.Image.{image_of}
@@ -10,7 +11,8 @@ use Rattle.lgp_lab.specs.Refusal.{refusal_text}
 use Rattle.lgp_lab.specs.SourceText.{SourceText}
 use Rattle.lgp_lab.specs.declared.refusal.Refusal.{Refusal}
 
--- the machine with its kept steps and its rules, the last source that assembled, and the source whose lines are being taken
+-- the machine with its kept steps and its rules, the last source that assembled, and the source
+-- whose lines are being taken
 pub record Standing : Type 0 where
   pub debugger : Debugging
   pub source : Option (List ℕ)
@@ -40,10 +42,12 @@ opening_standing = record {
 }
 
 abbrev pub with_debugger : Standing → Debugging → Standing
-with_debugger standing debugger = record { debugger = debugger; source = standing.source; opened = standing.opened }
+with_debugger standing debugger =
+    record { debugger = debugger; source = standing.source; opened = standing.opened }
 
 abbrev pub with_opened : Standing → Option SourceText → Standing
-with_opened standing opened = record { debugger = standing.debugger; source = standing.source; opened = opened }
+with_opened standing opened =
+    record { debugger = standing.debugger; source = standing.source; opened = opened }
 
 -- an answer that shows something and changes nothing
 abbrev pub answer_showing : List ℕ → Standing → Answer

@@ -1,5 +1,7 @@
--- Part of the public promise: the script language, what is answered to the commands of the tape and the paper.
-use Rattle.std.specs.Prelude.{ℕ, ◌++◌, Bool, false, nat_lt, if◌then◌else◌, Result, Ok, Err, List, [], ◌∷◌, length, codes, decimal}
+-- Part of the public promise: the script language, what is answered to the commands of the tape and
+-- the paper.
+use Rattle.std.specs.Prelude.{ℕ, ◌++◌, Bool, false, nat_lt, if◌then◌else◌, Result, Ok, Err, List}
+use Rattle.std.specs.Prelude.{[], ◌∷◌, length, codes, decimal}
 use Rattle.lgp_flexo.specs.TapeText.{codes_of_text, tape_limit, written_tape}
 use Rattle.lgp_table.specs.Console.{is_at_rest}
 use Rattle.lgp_history.specs.Step.{Mount}
@@ -21,7 +23,10 @@ abbrev pub answer_to_tape : Standing → Result (List ℕ) ℕ → Answer
 answer_to_tape standing (Err place) = refused (refusals.BadSign place) standing
 answer_to_tape standing (Ok tape) =
     if is_at_rest standing.debugger.state.core.panel.status
-    then record { reply = count_text (length tape); after = with_debugger standing (after_step standing.debugger (Mount tape)) }
+    then record {
+      reply = count_text (length tape);
+      after = with_debugger standing (after_step standing.debugger (Mount tape));
+    }
     else refused refusals.Moving standing
 
 abbrev pub answer_to_mount : Standing → List ℕ → Answer
@@ -38,7 +43,8 @@ answer_to_tape_text standing text =
 unfoldable pub printed_text : List ℕ → List ℕ
 printed_text [] = codes "printed 0\n"
 printed_text (code ∷ more) =
-    codes "printed " ++ (decimal (length (code ∷ more)) ++ (codes " " ++ (written_tape (code ∷ more) ++ codes "\n")))
+    codes "printed "
+    ++ (decimal (length (code ∷ more)) ++ (codes " " ++ (written_tape (code ∷ more) ++ codes "\n")))
 
 abbrev pub answer_to_printed : Standing → Answer
 answer_to_printed standing = answer_showing (printed_text standing.debugger.state.printed) standing

@@ -19,7 +19,7 @@ use Rattle.lgp_keyin.specs.KeyIn.{about_to_jump, jump_order, keyed, started}
 use Rattle.lgp_keyin.specs.Keyed.{panel_after_store, panel_after_words, started_panel, state_after_words, state_when_started, words_from}
 use Rattle.lgp_keyin.proofs.ByHand.{keyed_are, started_by_hand}
 use Rattle.lgp_loader.specs.Loading.{IsLoader, TapeLoad, begun, loaded, prepared}
-use Rattle.lgp_loader.specs.Places.{loader_base}
+use Rattle.lgp_assembler.specs.Parts.{loader_base}
 use Rattle.lgp_loader.proofs.Orders.{IsCalm, core_at, off}
 use Rattle.lgp_loader.proofs.Runs.{Runs, calm_at, state_after_run}
 

@@ -19,7 +19,7 @@ use Rattle.lgp_assembler.specs.Parts.{is_loaders}
 use Rattle.lgp_loader.specs.BlockPlaces.{block_end_cell, block_loader_words, block_store_cell, count_cell, one_up, one_up_place}
 use Rattle.lgp_loader.specs.BlockTape.{count_word}
 use Rattle.lgp_loader.specs.LoaderTape.{control_word}
-use Rattle.lgp_loader.specs.Places.{loader_base}
+use Rattle.lgp_assembler.specs.Parts.{loader_base}
 use Rattle.lgp_loader.proofs.Orders.{Fetches, Leads, core_at, performs}
 
 -- a plain sum

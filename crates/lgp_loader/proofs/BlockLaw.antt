@@ -12,7 +12,7 @@ use Rattle.lgp_loader.specs.BlockPlaces.{block_loader_words, block_store_cell, c
 use Rattle.lgp_loader.specs.BlockTape.{block_tape_codes}
 use Rattle.lgp_loader.specs.Cutting.{are_blocks, cells_of}
 use Rattle.lgp_loader.specs.Loading.{IsLoader, begun, loaded}
-use Rattle.lgp_loader.specs.Places.{loader_base}
+use Rattle.lgp_assembler.specs.Parts.{loader_base}
 use Rattle.lgp_loader.proofs.Begun.{all_words, is_word, left_by_run, length_from, runs_when_begun, with_words}
 use Rattle.lgp_loader.proofs.BlockCells.{HasBlockLoader, with_cells}
 use Rattle.lgp_loader.proofs.Blocks.{through_blocks}

@@ -2,7 +2,7 @@
 use Rattle.std.proofs.Common.{◌≡◌, ◌≢◌, ℕ, zero, suc, ◌+◌, ◌*◌, ◌<◌, false, refl, sym, ap, ◌∙◌, subst, arith, List, [], ◌∷◌, ◌++◌, append-nil, append_assoc, length, slice_set, map}
 use Rattle.std.specs.List.{concat}
 use Rattle.std.proofs.lemmas.Bool.Decides.{nat_tests}
-use Rattle.lgp_word.specs.Order.{op_of}
+use Rattle.lgp_word.specs.Order.{op_of, plain_order}
 use Rattle.lgp_word.specs.Word.{IsWord}
 use Rattle.lgp_word.specs.declared.order.Op.TheVariants.{I, P, T, H, A, B}
 use Rattle.lgp_fraction.specs.Arithmetic.{added}
@@ -15,7 +15,7 @@ use Rattle.lgp_loader.specs.BlockPlaces.{block_store_cell, count_cell, next_word
 use Rattle.lgp_loader.specs.BlockTape.{count_word, word_of_cell}
 use Rattle.lgp_loader.specs.LoaderTape.{control_word, stopped_word}
 use Rattle.lgp_loader.specs.Loading.{overlay}
-use Rattle.lgp_loader.specs.Places.{loader_base, word_of}
+use Rattle.lgp_assembler.specs.Parts.{loader_base}
 use Rattle.lgp_loader.proofs.Cuts.{FollowFrom}
 use Rattle.lgp_loader.proofs.Cells.{nothing_skipped, read_codes, two_orders}
 use Rattle.lgp_loader.proofs.Orders.{cleared, core_at, goes_on, held, off, transfers_to}
@@ -34,22 +34,22 @@ behind_word zero = loader_base + 17
 behind_word (suc more) = next_word
 
 tested : (switches : Switches) (words passed rest : List ℕ) (more : ℕ) → HasBlockLoader words → more < 4096
-    → (count : ℕ) (last : Core) → Runs count (core_at switches (behind_word more) (count_left more) (word_of T next_word) words (off passed rest)) last
-    → Runs (suc count) (core_at switches (loader_base + 16) (count_left more) (word_of H count_cell) words (off passed rest)) last
+    → (count : ℕ) (last : Core) → Runs count (core_at switches (behind_word more) (count_left more) (plain_order T next_word) words (off passed rest)) last
+    → Runs (suc count) (core_at switches (loader_base + 16) (count_left more) (plain_order H count_cell) words (off passed rest)) last
 unfolding op_of behind_word count_left
 tested switches words passed rest zero has few count last runs =
-    one_then count (core_at switches (loader_base + 16) 0 (word_of H count_cell) words (off passed rest)) (core_at switches (loader_base + 17) 0 (word_of T next_word) words (off passed rest)) last
-    (goes_on switches (loader_base + 16) 0 (word_of H count_cell) words (off passed rest) (word_of T next_word) next_word
-    (fetches words 16 (word_of T next_word) T next_word has (omega arith) (omega arith) (omega arith) (omega arith) refl refl refl) refl refl) runs
+    one_then count (core_at switches (loader_base + 16) 0 (plain_order H count_cell) words (off passed rest)) (core_at switches (loader_base + 17) 0 (plain_order T next_word) words (off passed rest)) last
+    (goes_on switches (loader_base + 16) 0 (plain_order H count_cell) words (off passed rest) (plain_order T next_word) next_word
+    (fetches words 16 (plain_order T next_word) T next_word has (omega arith) (omega arith) (omega arith) (omega arith) refl refl refl) refl refl) runs
 tested switches words passed rest (suc more) has few count last runs =
-    one_then count (core_at switches (loader_base + 16) (count_word (suc more)) (word_of H count_cell) words (off passed rest)) (core_at switches next_word (count_word (suc more)) (word_of T next_word) words (off passed rest)) last
-    (transfers_to switches (loader_base + 16) (count_word (suc more)) (word_of H count_cell) words (off passed rest) (word_of T next_word) next_word
-    (fetches words 16 (word_of T next_word) T next_word has (omega arith) (omega arith) (omega arith) (omega arith) refl refl refl) refl (count_is_negative more (omega (arith, few)))) runs
+    one_then count (core_at switches (loader_base + 16) (count_word (suc more)) (plain_order H count_cell) words (off passed rest)) (core_at switches next_word (count_word (suc more)) (plain_order T next_word) words (off passed rest)) last
+    (transfers_to switches (loader_base + 16) (count_word (suc more)) (plain_order H count_cell) words (off passed rest) (plain_order T next_word) next_word
+    (fetches words 16 (plain_order T next_word) T next_word has (omega arith) (omega arith) (omega arith) (omega arith) refl refl refl) refl (count_is_negative more (omega (arith, few)))) runs
 
 -- the count goes up, and is tested
 counted : (switches : Switches) (register : ℕ) (words passed rest : List ℕ) (store more : ℕ) → HasBlockLoader words → more < 4096
     → (count : ℕ) (last : Core)
-    → Runs count (core_at switches (behind_word more) (count_left more) (word_of T next_word) (with_cells words store (count_left more)) (off passed rest)) last
+    → Runs count (core_at switches (behind_word more) (count_left more) (plain_order T next_word) (with_cells words store (count_left more)) (off passed rest)) last
     → (accumulator : ℕ)
     → Runs (suc (suc (suc (suc count)))) (core_at switches (loader_base + 13) accumulator register (with_cells words store (count_word (suc more))) (off passed rest)) last
 unfolding op_of
@@ -62,26 +62,26 @@ counted switches register words passed rest store more has few count last runs a
     let has0 = has_with_cells words store old has in
     let has1 = has_with_cells words store new has in
     let at13 = core_at switches (loader_base + 13) accumulator register ws tape in
-    let at14 = core_at switches (loader_base + 14) old (word_of B count_cell) ws tape in
-    let at15 = core_at switches (loader_base + 15) new (word_of A one_up_place) ws tape in
-    let at16 = core_at switches (loader_base + 16) new (word_of H count_cell) ws1 tape in
+    let at14 = core_at switches (loader_base + 14) old (plain_order B count_cell) ws tape in
+    let at15 = core_at switches (loader_base + 15) new (plain_order A one_up_place) ws tape in
+    let at16 = core_at switches (loader_base + 16) new (plain_order H count_cell) ws1 tape in
     let test = tested switches ws1 passed rest more has1 few count last runs in
-    let held_there = held switches (loader_base + 15) new (word_of A one_up_place) ws tape (word_of H count_cell) count_cell
-    (fetches ws 15 (word_of H count_cell) H count_cell has0 (omega arith) (omega arith) (omega arith) (omega arith) refl refl refl) (count_is_word more (omega (arith, few))) in
-    let third = one_then (suc count) at15 (core_at switches (loader_base + 16) new (word_of H count_cell) (slice_set ws count_cell new) tape) last held_there
-    (subst (λ w. Runs (suc count) (core_at switches (loader_base + 16) new (word_of H count_cell) w tape) last) (sym (count_set words store old new)) test) in
+    let held_there = held switches (loader_base + 15) new (plain_order A one_up_place) ws tape (plain_order H count_cell) count_cell
+    (fetches ws 15 (plain_order H count_cell) H count_cell has0 (omega arith) (omega arith) (omega arith) (omega arith) refl refl refl) (count_is_word more (omega (arith, few))) in
+    let third = one_then (suc count) at15 (core_at switches (loader_base + 16) new (plain_order H count_cell) (slice_set ws count_cell new) tape) last held_there
+    (subst (λ w. Runs (suc count) (core_at switches (loader_base + 16) new (plain_order H count_cell) w tape) last) (sym (count_set words store old new)) test) in
     let sum = ap (λ n. added old n) (one_up_there ws has0) ∙ counted_up more few in
     let second = one_then (suc (suc count)) at14 at15 last
-    (adds switches (loader_base + 14) old (word_of B count_cell) ws tape (word_of A one_up_place) one_up_place new
-    (fetches ws 14 (word_of A one_up_place) A one_up_place has0 (omega arith) (omega arith) (omega arith) (omega arith) refl refl refl) sum) third in
+    (adds switches (loader_base + 14) old (plain_order B count_cell) ws tape (plain_order A one_up_place) one_up_place new
+    (fetches ws 14 (plain_order A one_up_place) A one_up_place has0 (omega arith) (omega arith) (omega arith) (omega arith) refl refl refl) sum) third in
     one_then (suc (suc (suc count))) at13 at14 last
-    (brings switches (loader_base + 13) accumulator register ws tape (word_of B count_cell) count_cell old
-    (fetches ws 13 (word_of B count_cell) B count_cell has0 (omega arith) (omega arith) (omega arith) (omega arith) refl refl refl) (count_held words store old has.drum)) second
+    (brings switches (loader_base + 13) accumulator register ws tape (plain_order B count_cell) count_cell old
+    (fetches ws 13 (plain_order B count_cell) B count_cell has0 (omega arith) (omega arith) (omega arith) (omega arith) refl refl refl) (count_held words store old has.drum)) second
 
 -- the order in the store cell goes up
 moved_up : (switches : Switches) (register : ℕ) (words passed rest : List ℕ) (place count_now : ℕ) → HasBlockLoader words → place < 4096
     → (count : ℕ) (last : Core)
-    → Runs count (core_at switches (loader_base + 13) (control_word (place + 1)) (word_of H block_store_cell) (with_cells words (control_word (place + 1)) count_now) (off passed rest)) last
+    → Runs count (core_at switches (loader_base + 13) (control_word (place + 1)) (plain_order H block_store_cell) (with_cells words (control_word (place + 1)) count_now) (off passed rest)) last
     → Runs (suc (suc (suc count))) (core_at switches (loader_base + 10) 0 register (with_cells words (control_word place) count_now) (off passed rest)) last
 unfolding op_of
 moved_up switches register words passed rest place count_now has within count last runs =
@@ -91,25 +91,25 @@ moved_up switches register words passed rest place count_now has within count la
     let tape = off passed rest in
     let has0 = has_with_cells words old count_now has in
     let at10 = core_at switches (loader_base + 10) 0 register ws tape in
-    let at11 = core_at switches (loader_base + 11) old (word_of B block_store_cell) ws tape in
-    let at12 = core_at switches (loader_base + 12) new (word_of A one_up_place) ws tape in
-    let held_there = held switches (loader_base + 12) new (word_of A one_up_place) ws tape (word_of H block_store_cell) block_store_cell
-    (fetches ws 12 (word_of H block_store_cell) H block_store_cell has0 (omega arith) (omega arith) (omega arith) (omega arith) refl refl refl) (next_control_is_word place within) in
-    let third = one_then count at12 (core_at switches (loader_base + 13) new (word_of H block_store_cell) (slice_set ws block_store_cell new) tape) last held_there
-    (subst (λ w. Runs count (core_at switches (loader_base + 13) new (word_of H block_store_cell) w tape) last) (sym (store_set words old count_now new)) runs) in
+    let at11 = core_at switches (loader_base + 11) old (plain_order B block_store_cell) ws tape in
+    let at12 = core_at switches (loader_base + 12) new (plain_order A one_up_place) ws tape in
+    let held_there = held switches (loader_base + 12) new (plain_order A one_up_place) ws tape (plain_order H block_store_cell) block_store_cell
+    (fetches ws 12 (plain_order H block_store_cell) H block_store_cell has0 (omega arith) (omega arith) (omega arith) (omega arith) refl refl refl) (next_control_is_word place within) in
+    let third = one_then count at12 (core_at switches (loader_base + 13) new (plain_order H block_store_cell) (slice_set ws block_store_cell new) tape) last held_there
+    (subst (λ w. Runs count (core_at switches (loader_base + 13) new (plain_order H block_store_cell) w tape) last) (sym (store_set words old count_now new)) runs) in
     let sum = ap (λ n. added old n) (one_up_there ws has0) ∙ control_up place within in
     let second = one_then (suc count) at11 at12 last
-    (adds switches (loader_base + 11) old (word_of B block_store_cell) ws tape (word_of A one_up_place) one_up_place new
-    (fetches ws 11 (word_of A one_up_place) A one_up_place has0 (omega arith) (omega arith) (omega arith) (omega arith) refl refl refl) sum) third in
+    (adds switches (loader_base + 11) old (plain_order B block_store_cell) ws tape (plain_order A one_up_place) one_up_place new
+    (fetches ws 11 (plain_order A one_up_place) A one_up_place has0 (omega arith) (omega arith) (omega arith) (omega arith) refl refl refl) sum) third in
     one_then (suc (suc count)) at10 at11 last
-    (brings switches (loader_base + 10) 0 register ws tape (word_of B block_store_cell) block_store_cell old
-    (fetches ws 10 (word_of B block_store_cell) B block_store_cell has0 (omega arith) (omega arith) (omega arith) (omega arith) refl refl refl) (store_held words old count_now has.drum)) second
+    (brings switches (loader_base + 10) 0 register ws tape (plain_order B block_store_cell) block_store_cell old
+    (fetches ws 10 (plain_order B block_store_cell) B block_store_cell has0 (omega arith) (omega arith) (omega arith) (omega arith) refl refl refl) (store_held words old count_now has.drum)) second
 
 -- one word: it is read and stored, and the order that stores and the count go up
 pub one_word : (switches : Switches) (accumulator register : ℕ) (words passed rest : List ℕ) (place word more : ℕ)
     → HasBlockLoader words → place < 4096 → is_loaders place ≡ false → IsWord word → more < 4096
     → (count : ℕ) (last : Core)
-    → Runs count (core_at switches (behind_word more) (count_left more) (word_of T next_word) (with_cells (slice_set words place word) (control_word (place + 1)) (count_left more))
+    → Runs count (core_at switches (behind_word more) (count_left more) (plain_order T next_word) (with_cells (slice_set words place word) (control_word (place + 1)) (count_left more))
     (off (passed ++ read_codes [] word) rest)) last
     → Runs (suc (suc (suc (suc (suc (suc (suc (suc (suc (suc count)))))))))) (core_at switches next_word accumulator register (with_cells words (control_word place) (count_word (suc more)))
     (off passed (word_codes word ++ stop_code ∷ rest))) last
@@ -123,16 +123,16 @@ one_word switches accumulator register words passed rest place word more has wit
     let passed1 = passed ++ read_codes [] word in
     let has0 = has_with_cells words control old has in
     let has1 = block_loader_stays words place word has (program_elsewhere place free) in
-    let behind = counted switches (word_of H block_store_cell) words1 passed1 rest (control_word (place + 1)) more has1 few count last runs (control_word (place + 1)) in
+    let behind = counted switches (plain_order H block_store_cell) words1 passed1 rest (control_word (place + 1)) more has1 few count last runs (control_word (place + 1)) in
     let up = moved_up switches control words1 passed1 rest place old has1 within (suc (suc (suc (suc count)))) last behind in
-    let at9 = core_at switches block_store_cell word (word_of I 0) ws (off passed1 rest) in
-    let stored_there = cleared switches block_store_cell word (word_of I 0) ws (off passed1 rest) control place (fetch_store words place old has.drum within) is in
+    let at9 = core_at switches block_store_cell word (plain_order I 0) ws (off passed1 rest) in
+    let stored_there = cleared switches block_store_cell word (plain_order I 0) ws (off passed1 rest) control place (fetch_store words place old has.drum within) is in
     let third = one_then (suc (suc (suc (suc (suc (suc (suc count))))))) at9 (core_at switches (loader_base + 10) 0 control (slice_set ws place word) (off passed1 rest)) last stored_there
     (subst (λ w. Runs (suc (suc (suc (suc (suc (suc (suc count))))))) (core_at switches (loader_base + 10) 0 control w (off passed1 rest)) last)
     (sym (word_set words control old place word (store_apart place free) (count_apart place free))) up) in
     two_orders switches next_word accumulator register ws passed [] rest word (suc (suc (suc (suc (suc (suc (suc (suc count)))))))) last
-    (fetches ws 7 (word_of P 0) P 0 has0 (omega arith) (omega arith) (omega arith) (omega arith) refl refl refl)
-    (fetches ws 8 (word_of I 0) I 0 has0 (omega arith) (omega arith) (omega arith) (omega arith) refl refl refl)
+    (fetches ws 7 (plain_order P 0) P 0 has0 (omega arith) (omega arith) (omega arith) (omega arith) refl refl refl)
+    (fetches ws 8 (plain_order I 0) I 0 has0 (omega arith) (omega arith) (omega arith) (omega arith) refl refl refl)
     (omega arith) nothing_skipped is third
 
 -- the codes of some words, the first of them and the others
@@ -147,7 +147,7 @@ pub block_words : (switches : Switches) (accumulator register : ℕ) (words pass
     → HasBlockLoader words → AreProgramCells ((place, word) ∷ cells) → FollowFrom (place + 1) cells → length cells < 4096
     → place + suc (length cells) ≡ behind
     → (count : ℕ) (last : Core)
-    → Runs count (core_at switches (loader_base + 17) 0 (word_of T next_word) (with_cells (overlay words ((place, word) ∷ cells)) (control_word behind) 0)
+    → Runs count (core_at switches (loader_base + 17) 0 (plain_order T next_word) (with_cells (overlay words ((place, word) ∷ cells)) (control_word behind) 0)
     (off (passed ++ words_codes ((place, word) ∷ cells)) rest)) last
     → Runs (10 * length ((place, word) ∷ cells) + count) (core_at switches next_word accumulator register (with_cells words (control_word place) (count_word (suc (length cells))))
     (off passed (words_codes ((place, word) ∷ cells) ++ rest))) last
@@ -155,10 +155,10 @@ unfolding behind_word count_left
 block_words switches accumulator register words passed rest place word [] behind has ((within, free, is), others) follow few same count last runs =
     let words1 = slice_set words place word in
     let at_end : place + 1 ≡ behind = omega (arith, same) in
-    let here = subst (λ n. Runs count (core_at switches (loader_base + 17) 0 (word_of T next_word) (with_cells words1 (control_word n) 0) (off (passed ++ words_codes ((place, word) ∷ [])) rest)) last)
+    let here = subst (λ n. Runs count (core_at switches (loader_base + 17) 0 (plain_order T next_word) (with_cells words1 (control_word n) 0) (off (passed ++ words_codes ((place, word) ∷ [])) rest)) last)
     (sym at_end) runs in
     let passed_is : passed ++ words_codes ((place, word) ∷ []) ≡ passed ++ read_codes [] word = ap (λ codes. passed ++ codes) (append-nil (stopped_word word)) in
-    let there = subst (λ codes. Runs count (core_at switches (loader_base + 17) 0 (word_of T next_word) (with_cells words1 (control_word (place + 1)) 0) (off codes rest)) last) passed_is here in
+    let there = subst (λ codes. Runs count (core_at switches (loader_base + 17) 0 (plain_order T next_word) (with_cells words1 (control_word (place + 1)) 0) (off codes rest)) last) passed_is here in
     let all = one_word switches accumulator register words passed rest place word zero has within free is (omega arith) count last there in
     let block : List (ℕ × ℕ) = (place, word) ∷ [] in
     let orders : suc (suc (suc (suc (suc (suc (suc (suc (suc (suc count))))))))) ≡ 10 * length block + count = omega arith in
@@ -171,11 +171,11 @@ block_words switches accumulator register words passed rest place word ((p, w) �
     let more = suc (length cells) in
     let later_codes = words_codes ((p, w) ∷ cells) in
     let shape : passed1 ++ later_codes ≡ passed ++ words_codes ((place, word) ∷ (p, w) ∷ cells) = append_assoc passed (read_codes [] word) later_codes in
-    let here = subst (λ codes. Runs count (core_at switches (loader_base + 17) 0 (word_of T next_word) (with_cells (overlay words1 ((p, w) ∷ cells)) (control_word behind) 0) (off codes rest)) last)
+    let here = subst (λ codes. Runs count (core_at switches (loader_base + 17) 0 (plain_order T next_word) (with_cells (overlay words1 ((p, w) ∷ cells)) (control_word behind) 0) (off codes rest)) last)
     (sym shape) runs in
-    let later = block_words switches (count_word more) (word_of T next_word) words1 passed1 rest p w cells behind
+    let later = block_words switches (count_word more) (plain_order T next_word) words1 passed1 rest p w cells behind
     (block_loader_stays words place word has (program_elsewhere place free)) others (subst (λ n. FollowFrom (n + 1) cells) (sym next) follow) (omega (arith, few)) (omega (arith, same, next)) count last here in
-    let from_place = subst (λ n. Runs (10 * more + count) (core_at switches next_word (count_word more) (word_of T next_word) (with_cells words1 (control_word n) (count_word more)) (off passed1 (later_codes ++ rest))) last)
+    let from_place = subst (λ n. Runs (10 * more + count) (core_at switches next_word (count_word more) (plain_order T next_word) (with_cells words1 (control_word n) (count_word more)) (off passed1 (later_codes ++ rest))) last)
     next later in
     let all = one_word switches accumulator register words passed (later_codes ++ rest) place word more has within free is (omega (arith, few)) (10 * more + count) last from_place in
     let orders : suc (suc (suc (suc (suc (suc (suc (suc (suc (suc (10 * more + count)))))))))) ≡ 10 * length ((place, word) ∷ (p, w) ∷ cells) + count = omega arith in

@@ -5,7 +5,7 @@ use Rattle.std.specs.Prelude.{IfSome}
 use Rattle.std.proofs.lemmas.Bool.{and_parts}
 use Rattle.std.proofs.lemmas.List.Sums.{fold-append}
 use Rattle.lgp_word.specs.Address.{IsAddress}
-use Rattle.lgp_word.specs.Order.{op_of}
+use Rattle.lgp_word.specs.Order.{op_of, plain_order}
 use Rattle.lgp_word.specs.Word.{IsWord}
 use Rattle.lgp_word.specs.declared.order.Op.TheVariants.{I, P, U, T, H}
 use Rattle.lgp_flexo.specs.Code.{stop_code}
@@ -19,7 +19,7 @@ use Rattle.lgp_loader.specs.BlockTape.{block_codes, count_word}
 use Rattle.lgp_loader.specs.Cutting.{are_blocks, cells_of, is_block}
 use Rattle.lgp_loader.specs.LoaderTape.{carriage_return, control_word, end_word, stopped_word}
 use Rattle.lgp_loader.specs.Loading.{overlay}
-use Rattle.lgp_loader.specs.Places.{loader_base, word_of}
+use Rattle.lgp_assembler.specs.Parts.{loader_base}
 use Rattle.lgp_loader.proofs.Cuts.{FollowFrom, places_follow}
 use Rattle.lgp_loader.proofs.Cells.{AreSkipped, control_is_positive, control_is_word, nothing_skipped, read_codes, return_skipped, two_orders}
 use Rattle.lgp_loader.proofs.Orders.{core_at, goes_on, held, jumps, off}
@@ -39,7 +39,7 @@ pub one_block : (switches : Switches) (accumulator register : ℕ) (words passed
     → HasBlockLoader words → AreSkipped skipped → place < 4096 → AreProgramCells ((place, word) ∷ cells) → FollowFrom (place + 1) cells → length cells < 4096
     → place + suc (length cells) ≡ behind
     → (count : ℕ) (last : Core)
-    → Runs count (core_at switches loader_base 0 (word_of U loader_base) (with_cells (overlay words ((place, word) ∷ cells)) (control_word behind) 0)
+    → Runs count (core_at switches loader_base 0 (plain_order U loader_base) (with_cells (overlay words ((place, word) ∷ cells)) (control_word behind) 0)
     (off (((passed ++ read_codes skipped (control_word place)) ++ read_codes [] (count_word (suc (length cells)))) ++ words_codes ((place, word) ∷ cells)) (carriage_return ∷ rest))) last
     → HasBlockLoader (overlay words ((place, word) ∷ cells))
     → Runs (8 + 10 * length ((place, word) ∷ cells) + count) (core_at switches loader_base accumulator register (with_cells words store0 count0)
@@ -62,34 +62,34 @@ one_block switches accumulator register words passed skipped rest store0 count0 
     let has1 = has_with_cells words control count0 has in
     let has3 = has_with_cells (overlay words ((place, word) ∷ cells)) (control_word behind) 0 has_after in
     let all_passed = passed2 ++ codes in
-    let out = core_at switches (loader_base + 17) 0 (word_of T next_word) ws3 (off all_passed end) in
-    let back = core_at switches loader_base 0 (word_of U loader_base) ws3 (off all_passed end) in
+    let out = core_at switches (loader_base + 17) 0 (plain_order T next_word) ws3 (off all_passed end) in
+    let back = core_at switches loader_base 0 (plain_order U loader_base) ws3 (off all_passed end) in
     let seventh = one_then count out back last
-    (jumps switches (loader_base + 17) 0 (word_of T next_word) ws3 (off all_passed end) (word_of U loader_base) loader_base
-    (fetches ws3 17 (word_of U loader_base) U loader_base has3 (omega arith) (omega arith) (omega arith) (omega arith) refl refl refl)) runs in
-    let sixth = block_words switches number (word_of H count_cell) words passed2 end place word cells behind has program follow few same (suc count) last seventh in
+    (jumps switches (loader_base + 17) 0 (plain_order T next_word) ws3 (off all_passed end) (plain_order U loader_base) loader_base
+    (fetches ws3 17 (plain_order U loader_base) U loader_base has3 (omega arith) (omega arith) (omega arith) (omega arith) refl refl refl)) runs in
+    let sixth = block_words switches number (plain_order H count_cell) words passed2 end place word cells behind has program follow few same (suc count) last seventh in
     let m = 10 * n + suc count in
-    let at6 = core_at switches (loader_base + 6) number (word_of I 0) ws1 (off passed2 (codes ++ end)) in
-    let fifth = one_then m at6 (core_at switches next_word number (word_of H count_cell) (slice_set ws1 count_cell number) (off passed2 (codes ++ end))) last
-    (held switches (loader_base + 6) number (word_of I 0) ws1 (off passed2 (codes ++ end)) (word_of H count_cell) count_cell
-    (fetches ws1 6 (word_of H count_cell) H count_cell has1 (omega arith) (omega arith) (omega arith) (omega arith) refl refl refl) (block_count_is_word (length cells) few))
-    (subst (λ w. Runs m (core_at switches next_word number (word_of H count_cell) w (off passed2 (codes ++ end))) last) (sym (count_set words control count0 number)) sixth) in
-    let fourth = two_orders switches (loader_base + 4) control (word_of H block_store_cell) ws1 passed1 [] (codes ++ end) number (suc m) last
-    (fetches ws1 4 (word_of P 0) P 0 has1 (omega arith) (omega arith) (omega arith) (omega arith) refl refl refl)
-    (fetches ws1 5 (word_of I 0) I 0 has1 (omega arith) (omega arith) (omega arith) (omega arith) refl refl refl)
+    let at6 = core_at switches (loader_base + 6) number (plain_order I 0) ws1 (off passed2 (codes ++ end)) in
+    let fifth = one_then m at6 (core_at switches next_word number (plain_order H count_cell) (slice_set ws1 count_cell number) (off passed2 (codes ++ end))) last
+    (held switches (loader_base + 6) number (plain_order I 0) ws1 (off passed2 (codes ++ end)) (plain_order H count_cell) count_cell
+    (fetches ws1 6 (plain_order H count_cell) H count_cell has1 (omega arith) (omega arith) (omega arith) (omega arith) refl refl refl) (block_count_is_word (length cells) few))
+    (subst (λ w. Runs m (core_at switches next_word number (plain_order H count_cell) w (off passed2 (codes ++ end))) last) (sym (count_set words control count0 number)) sixth) in
+    let fourth = two_orders switches (loader_base + 4) control (plain_order H block_store_cell) ws1 passed1 [] (codes ++ end) number (suc m) last
+    (fetches ws1 4 (plain_order P 0) P 0 has1 (omega arith) (omega arith) (omega arith) (omega arith) refl refl refl)
+    (fetches ws1 5 (plain_order I 0) I 0 has1 (omega arith) (omega arith) (omega arith) (omega arith) refl refl refl)
     (omega arith) nothing_skipped (block_count_is_word (length cells) few) fifth in
-    let at3 = core_at switches (loader_base + 3) control (word_of T block_end_place) ws0 (off passed1 left1) in
-    let third = one_then (suc (suc (suc m))) at3 (core_at switches (loader_base + 4) control (word_of H block_store_cell) (slice_set ws0 block_store_cell control) (off passed1 left1)) last
-    (held switches (loader_base + 3) control (word_of T block_end_place) ws0 (off passed1 left1) (word_of H block_store_cell) block_store_cell
-    (fetches ws0 3 (word_of H block_store_cell) H block_store_cell has0 (omega arith) (omega arith) (omega arith) (omega arith) refl refl refl) (control_is_word place within))
-    (subst (λ w. Runs (suc (suc (suc m))) (core_at switches (loader_base + 4) control (word_of H block_store_cell) w (off passed1 left1)) last) (sym (store_set words store0 count0 control)) fourth) in
-    let at2 = core_at switches (loader_base + 2) control (word_of I 0) ws0 (off passed1 left1) in
+    let at3 = core_at switches (loader_base + 3) control (plain_order T block_end_place) ws0 (off passed1 left1) in
+    let third = one_then (suc (suc (suc m))) at3 (core_at switches (loader_base + 4) control (plain_order H block_store_cell) (slice_set ws0 block_store_cell control) (off passed1 left1)) last
+    (held switches (loader_base + 3) control (plain_order T block_end_place) ws0 (off passed1 left1) (plain_order H block_store_cell) block_store_cell
+    (fetches ws0 3 (plain_order H block_store_cell) H block_store_cell has0 (omega arith) (omega arith) (omega arith) (omega arith) refl refl refl) (control_is_word place within))
+    (subst (λ w. Runs (suc (suc (suc m))) (core_at switches (loader_base + 4) control (plain_order H block_store_cell) w (off passed1 left1)) last) (sym (store_set words store0 count0 control)) fourth) in
+    let at2 = core_at switches (loader_base + 2) control (plain_order I 0) ws0 (off passed1 left1) in
     let second = one_then (suc (suc (suc (suc m)))) at2 at3 last
-    (goes_on switches (loader_base + 2) control (word_of I 0) ws0 (off passed1 left1) (word_of T block_end_place) block_end_place
-    (fetches ws0 2 (word_of T block_end_place) T block_end_place has0 (omega arith) (omega arith) (omega arith) (omega arith) refl refl refl) refl (control_is_positive place within)) third in
+    (goes_on switches (loader_base + 2) control (plain_order I 0) ws0 (off passed1 left1) (plain_order T block_end_place) block_end_place
+    (fetches ws0 2 (plain_order T block_end_place) T block_end_place has0 (omega arith) (omega arith) (omega arith) (omega arith) refl refl refl) refl (control_is_positive place within)) third in
     let first = two_orders switches loader_base accumulator register ws0 passed skipped left1 control (suc (suc (suc (suc (suc m))))) last
-    (fetches ws0 0 (word_of P 0) P 0 has0 (omega arith) (omega arith) (omega arith) (omega arith) refl refl refl)
-    (fetches ws0 1 (word_of I 0) I 0 has0 (omega arith) (omega arith) (omega arith) (omega arith) refl refl refl)
+    (fetches ws0 0 (plain_order P 0) P 0 has0 (omega arith) (omega arith) (omega arith) (omega arith) refl refl refl)
+    (fetches ws0 1 (plain_order I 0) I 0 has0 (omega arith) (omega arith) (omega arith) (omega arith) refl refl refl)
     (omega arith) are (control_is_word place within) second in
     let orders : suc (suc (suc (suc (suc (suc (suc m)))))) ≡ 8 + 10 * n + count = omega arith in
     subst (λ k. Runs k (core_at switches loader_base accumulator register ws0 (off passed ((skipped ++ word_codes control) ++ stop_code ∷ left1))) last) orders first
@@ -105,10 +105,10 @@ the_end : (switches : Switches) (accumulator register : ℕ) (words passed skipp
 unfolding op_of
 the_end switches accumulator register words passed skipped start has are is =
     end_read block_end_place switches accumulator register words passed skipped start
-    (fetches words 0 (word_of P 0) P 0 has (omega arith) (omega arith) (omega arith) (omega arith) refl refl refl)
-    (fetches words 1 (word_of I 0) I 0 has (omega arith) (omega arith) (omega arith) (omega arith) refl refl refl)
-    (fetches words 2 (word_of T block_end_place) T block_end_place has (omega arith) (omega arith) (omega arith) (omega arith) refl refl refl)
-    (fetches words 18 (word_of H block_end_cell) H block_end_cell has (omega arith) (omega arith) (omega arith) (omega arith) refl refl refl)
+    (fetches words 0 (plain_order P 0) P 0 has (omega arith) (omega arith) (omega arith) (omega arith) refl refl refl)
+    (fetches words 1 (plain_order I 0) I 0 has (omega arith) (omega arith) (omega arith) (omega arith) refl refl refl)
+    (fetches words 2 (plain_order T block_end_place) T block_end_place has (omega arith) (omega arith) (omega arith) (omega arith) refl refl refl)
+    (fetches words 18 (plain_order H block_end_cell) H block_end_cell has (omega arith) (omega arith) (omega arith) (omega arith) refl refl refl)
     (omega arith) has.drum are is
 
 -- the program's cells leave the loader where it is
@@ -167,13 +167,13 @@ through_blocks switches accumulator register words passed skipped store (((place
     let parts = length-append whole (cells_of blocks) in
     let rest = concat (map block_codes blocks) ++ stopped_word (end_word start) in
     let passed1 = ((passed ++ read_codes skipped control) ++ read_codes [] number) ++ codes in
-    let onward = through_blocks switches 0 (word_of U loader_base) words1 passed1 (carriage_return ∷ []) (control_word behind) blocks start has1 return_skipped others later (omega (arith, few, parts)) is in
+    let onward = through_blocks switches 0 (plain_order U loader_base) words1 passed1 (carriage_return ∷ []) (control_word behind) blocks start has1 return_skipped others later (omega (arith, few, parts)) is in
     let words_last = slice_set (with_cells (overlay words1 (cells_of blocks)) (store_after (control_word behind) blocks) 0) block_end_cell (end_word start) in
     let left = block_shape skipped (word_codes control) (word_codes number) codes (concat (map block_codes blocks)) (stopped_word (end_word start)) in
     let all_passed : passed1 ++ (carriage_return ∷ rest) ≡ passed ++ blocks_left skipped (whole ∷ blocks) start =
     block_passed passed skipped (word_codes control) (word_codes number) codes rest ∙ ap (λ codes. passed ++ codes) (sym left) in
     let last = block_final_core switches start words_last (passed ++ blocks_left skipped (whole ∷ blocks) start) in
-    let next = subst (λ codes. Runs (orders_for_blocks blocks) (core_at switches loader_base 0 (word_of U loader_base) (with_cells words1 (control_word behind) 0) (off passed1 (carriage_return ∷ rest))) (block_final_core switches start words_last codes)) all_passed onward in
+    let next = subst (λ codes. Runs (orders_for_blocks blocks) (core_at switches loader_base 0 (plain_order U loader_base) (with_cells words1 (control_word behind) 0) (off passed1 (carriage_return ∷ rest))) (block_final_core switches start words_last codes)) all_passed onward in
     let (within, free, word_is) = first.0 in
     let all = one_block switches accumulator register words passed skipped rest store 0 place word block behind has are within first follow (omega (arith, few, parts)) refl (orders_for_blocks blocks) last next has1 in
     let orders : 8 + 10 * length whole + orders_for_blocks blocks ≡ orders_for_blocks (whole ∷ blocks) = omega (arith, parts) in

@@ -5,7 +5,7 @@ use Rattle.std.proofs.lemmas.Bool.Decides.{nat_tests}
 use Rattle.std.proofs.lemmas.List.{get_or-set_other, get_or-set_same, length-set}
 use Rattle.std.proofs.lemmas.List.Elements.{filter-append}
 use Rattle.std.proofs.lemmas.List.Folds.{list_any-append}
-use Rattle.lgp_word.specs.Order.{op_of, sign_of}
+use Rattle.lgp_word.specs.Order.{op_of, plain_order, sign_of}
 use Rattle.lgp_word.specs.Word.{IsWord}
 use Rattle.lgp_word.specs.declared.order.Op.TheVariants.{I, P, U, T, H, C}
 use Rattle.lgp_flexo.specs.Code.{is_stop, stop_code}
@@ -16,7 +16,7 @@ use Rattle.lgp_table.specs.State.{Core}
 use Rattle.lgp_table.specs.declared.panel.Switches.{Switches}
 use Rattle.lgp_assembler.specs.Parts.{is_loaders}
 use Rattle.lgp_loader.specs.LoaderTape.{carriage_return, control_word}
-use Rattle.lgp_loader.specs.Places.{loader_base, word_of}
+use Rattle.lgp_assembler.specs.Parts.{loader_base}
 use Rattle.lgp_loader.specs.SinglePlaces.{single_end_cell, single_end_place, single_loader_words, single_store_cell}
 use Rattle.lgp_loader.proofs.Orders.{Fetches, Leads, core_at, off, on, reader_starts, word_read}
 use Rattle.lgp_loader.proofs.Runs.{Runs, one_then}
@@ -46,35 +46,35 @@ end_cell_elsewhere k within six nine same = nine (omega (arith, same))
 pub program_elsewhere : (place : ℕ) → is_loaders place ≡ false → IsElsewhere place
 program_elsewhere place free k within six nine same = grind (arith, nat_tests)
 
-pub fetch_0 : (words : List ℕ) → HasLoader words → Fetches words loader_base (word_of P 0) P 0
+pub fetch_0 : (words : List ℕ) → HasLoader words → Fetches words loader_base (plain_order P 0) P 0
 unfolding op_of
 fetch_0 words has = record { here = has.fixed 0 (omega arith) (omega arith) (omega arith); is_op = refl; is_at = refl }
 
-pub fetch_1 : (words : List ℕ) → HasLoader words → Fetches words (loader_base + 1) (word_of I 0) I 0
+pub fetch_1 : (words : List ℕ) → HasLoader words → Fetches words (loader_base + 1) (plain_order I 0) I 0
 unfolding op_of
 fetch_1 words has = record { here = has.fixed 1 (omega arith) (omega arith) (omega arith); is_op = refl; is_at = refl }
 
-pub fetch_2 : (words : List ℕ) → HasLoader words → Fetches words (loader_base + 2) (word_of T single_end_place) T single_end_place
+pub fetch_2 : (words : List ℕ) → HasLoader words → Fetches words (loader_base + 2) (plain_order T single_end_place) T single_end_place
 unfolding op_of
 fetch_2 words has = record { here = has.fixed 2 (omega arith) (omega arith) (omega arith); is_op = refl; is_at = refl }
 
-pub fetch_3 : (words : List ℕ) → HasLoader words → Fetches words (loader_base + 3) (word_of H single_store_cell) H single_store_cell
+pub fetch_3 : (words : List ℕ) → HasLoader words → Fetches words (loader_base + 3) (plain_order H single_store_cell) H single_store_cell
 unfolding op_of
 fetch_3 words has = record { here = has.fixed 3 (omega arith) (omega arith) (omega arith); is_op = refl; is_at = refl }
 
-pub fetch_4 : (words : List ℕ) → HasLoader words → Fetches words (loader_base + 4) (word_of P 0) P 0
+pub fetch_4 : (words : List ℕ) → HasLoader words → Fetches words (loader_base + 4) (plain_order P 0) P 0
 unfolding op_of
 fetch_4 words has = record { here = has.fixed 4 (omega arith) (omega arith) (omega arith); is_op = refl; is_at = refl }
 
-pub fetch_5 : (words : List ℕ) → HasLoader words → Fetches words (loader_base + 5) (word_of I 0) I 0
+pub fetch_5 : (words : List ℕ) → HasLoader words → Fetches words (loader_base + 5) (plain_order I 0) I 0
 unfolding op_of
 fetch_5 words has = record { here = has.fixed 5 (omega arith) (omega arith) (omega arith); is_op = refl; is_at = refl }
 
-pub fetch_7 : (words : List ℕ) → HasLoader words → Fetches words (loader_base + 7) (word_of U loader_base) U loader_base
+pub fetch_7 : (words : List ℕ) → HasLoader words → Fetches words (loader_base + 7) (plain_order U loader_base) U loader_base
 unfolding op_of
 fetch_7 words has = record { here = has.fixed 7 (omega arith) (omega arith) (omega arith); is_op = refl; is_at = refl }
 
-pub fetch_8 : (words : List ℕ) → HasLoader words → Fetches words single_end_place (word_of H single_end_cell) H single_end_cell
+pub fetch_8 : (words : List ℕ) → HasLoader words → Fetches words single_end_place (plain_order H single_end_cell) H single_end_cell
 unfolding op_of
 fetch_8 words has = record { here = has.fixed 8 (omega arith) (omega arith) (omega arith); is_op = refl; is_at = refl }
 
@@ -116,22 +116,22 @@ read_codes skipped word = (skipped ++ word_codes word) ++ stop_code ∷ []
 
 -- a word read from the tape, by p and i
 pub two_orders : (switches : Switches) (counter accumulator register : ℕ) (words passed skipped rest : List ℕ) (word : ℕ) (count : ℕ) (last : Core)
-    → Fetches words counter (word_of P 0) P 0 → Fetches words (counter + 1) (word_of I 0) I 0 → counter + 2 < 4096
+    → Fetches words counter (plain_order P 0) P 0 → Fetches words (counter + 1) (plain_order I 0) I 0 → counter + 2 < 4096
     → AreSkipped skipped → IsWord word
-    → Runs count (core_at switches (counter + 2) word (word_of I 0) words (off (passed ++ read_codes skipped word) rest)) last
+    → Runs count (core_at switches (counter + 2) word (plain_order I 0) words (off (passed ++ read_codes skipped word) rest)) last
     → Runs (suc (suc count)) (core_at switches counter accumulator register words (off passed ((skipped ++ word_codes word) ++ stop_code ∷ rest))) last
 two_orders switches counter accumulator register words passed skipped rest word count last p i within are is runs =
     let left = (skipped ++ word_codes word) ++ stop_code ∷ rest in
     let started : (counter + 1) % 4096 ≡ counter + 1 = omega arith in
     let read : (counter + 1 + 1) % 4096 ≡ counter + 2 = omega arith in
-    let next = core_at switches (counter + 1) accumulator (word_of P 0) words (on passed left) in
-    let then = core_at switches (counter + 2) word (word_of I 0) words (off (passed ++ read_codes skipped word) rest) in
+    let next = core_at switches (counter + 1) accumulator (plain_order P 0) words (on passed left) in
+    let then = core_at switches (counter + 2) word (plain_order I 0) words (off (passed ++ read_codes skipped word) rest) in
     let first : Leads (core_at switches counter accumulator register words (off passed left)) next =
-    subst (λ n. Leads (core_at switches counter accumulator register words (off passed left)) (core_at switches n accumulator (word_of P 0) words (on passed left))) started
-    (reader_starts switches counter accumulator register words passed left (word_of P 0) p) in
+    subst (λ n. Leads (core_at switches counter accumulator register words (off passed left)) (core_at switches n accumulator (plain_order P 0) words (on passed left))) started
+    (reader_starts switches counter accumulator register words passed left (plain_order P 0) p) in
     let second : Leads next then =
-    subst (λ n. Leads next (core_at switches n word (word_of I 0) words (off (passed ++ read_codes skipped word) rest))) read
-    (word_read switches (counter + 1) accumulator (word_of P 0) words passed (skipped ++ word_codes word) rest (word_of I 0) word i
+    subst (λ n. Leads next (core_at switches n word (plain_order I 0) words (off (passed ++ read_codes skipped word) rest))) read
+    (word_read switches (counter + 1) accumulator (plain_order P 0) words passed (skipped ++ word_codes word) rest (plain_order I 0) word i
     (no_stop_before skipped word are) (word_enters skipped word are) is) in
     one_then (suc count) (core_at switches counter accumulator register words (off passed left)) next last first
     (one_then count next then last second runs)

@@ -23,7 +23,7 @@ use Rattle.lgp_loader.specs.LoadedOver.{IsLoadedOver}
 use Rattle.lgp_loader.specs.LoaderTape.{end_word}
 use Rattle.lgp_loader.specs.Loading.{TapeLoad, begun, loaded, loading_cost, order_states, overlay, prepared, store_states}
 use Rattle.lgp_loader.specs.Loads.{IsLoad}
-use Rattle.lgp_loader.specs.Places.{loader_base}
+use Rattle.lgp_assembler.specs.Parts.{loader_base}
 use Rattle.lgp_loader.specs.declared.loading.LoadFault.{LoadFault}
 use Rattle.lgp_loader.specs.ReadyInside.{LeavesProgram}
 use Rattle.lgp_loader.specs.SingleLoading.{last_control, single_load, words_after_single}

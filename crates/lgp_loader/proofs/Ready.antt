@@ -13,7 +13,7 @@ use Rattle.lgp_machine.specs.Answers.{clock_end}
 use Rattle.lgp_table.proofs.After.{after_none, after_one_more, after_sum, clock_after}
 use Rattle.lgp_keyin.specs.KeyIn.{about_to_jump, keyed}
 use Rattle.lgp_loader.specs.Loading.{TapeLoad, begun, loaded, prepared}
-use Rattle.lgp_loader.specs.Places.{loader_base}
+use Rattle.lgp_assembler.specs.Parts.{loader_base}
 use Rattle.lgp_loader.proofs.Begun.{keyed_up}
 
 -- the clock goes on

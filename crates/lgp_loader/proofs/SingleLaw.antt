@@ -10,7 +10,7 @@ use Rattle.lgp_keyin.proofs.Placed.{words_lie}
 use Rattle.lgp_assembler.specs.Parts.{AreProgramCells, ImageParts, is_loaders}
 use Rattle.lgp_loader.specs.LoaderTape.{control_word, end_word}
 use Rattle.lgp_loader.specs.Loading.{IsLoader, begun, loaded, overlay}
-use Rattle.lgp_loader.specs.Places.{loader_base}
+use Rattle.lgp_assembler.specs.Parts.{loader_base}
 use Rattle.lgp_loader.specs.SingleLoading.{last_control, left_by_single, single_load}
 use Rattle.lgp_loader.specs.SinglePlaces.{single_end_cell, single_loader_words, single_store_cell}
 use Rattle.lgp_loader.specs.SingleTape.{single_tape_codes}

@@ -13,7 +13,7 @@ use Rattle.lgp_machine.specs.Answers.{clock_end, passes_clock_end}
 use Rattle.lgp_keyin.specs.KeyIn.{about_to_jump, about_to_store, keyed, with_four_bit_input, words_keyed}
 use Rattle.lgp_keyin.specs.Keyed.{before_store}
 use Rattle.lgp_loader.specs.Loading.{TapeLoad, begun, loaded, loading_stopped, order_states, prepared, store_states}
-use Rattle.lgp_loader.specs.Places.{loader_base}
+use Rattle.lgp_assembler.specs.Parts.{loader_base}
 use Rattle.lgp_loader.proofs.Ready.{begun_later, clock_later, loading_time}
 
 -- an activity within the clock, and one past its end

@@ -5,7 +5,7 @@ use Rattle.std.specs.Prelude.{IfSome, unwrap_or}
 use Rattle.std.proofs.lemmas.Bool.Decides.{nat_tests}
 use Rattle.std.proofs.lemmas.List.{get_or-set_same}
 use Rattle.lgp_word.specs.Address.{IsAddress, address_after}
-use Rattle.lgp_word.specs.Order.{op_of, sign_of}
+use Rattle.lgp_word.specs.Order.{op_of, plain_order, sign_of}
 use Rattle.lgp_word.specs.Word.{IsWord}
 use Rattle.lgp_word.specs.declared.order.Op.TheVariants.{Z, I, P, U, T, H}
 use Rattle.lgp_flexo.specs.Code.{stop_code}
@@ -17,7 +17,7 @@ use Rattle.lgp_assembler.specs.Parts.{AreProgramCells, is_loaders}
 use Rattle.lgp_loader.specs.LoaderTape.{carriage_return, control_word, end_word, stopped_word}
 use Rattle.lgp_loader.specs.SingleTape.{cell_codes}
 use Rattle.lgp_loader.specs.Loading.{status_after_load}
-use Rattle.lgp_loader.specs.Places.{loader_base, word_of}
+use Rattle.lgp_assembler.specs.Parts.{loader_base}
 use Rattle.lgp_loader.specs.SinglePlaces.{single_end_cell, single_end_place, single_store_cell}
 use Rattle.lgp_loader.proofs.Orders.{Fetches, cleared, core_at, goes_on, held, jumps, off, stops, transfers_to}
 use Rattle.lgp_loader.proofs.Runs.{Runs, one_then}
@@ -33,7 +33,7 @@ cell_left skipped place word rest = (skipped ++ word_codes (control_word place))
 
 one_cell : (switches : Switches) (accumulator register : ℕ) (words passed skipped rest : List ℕ) (place word : ℕ) (count : ℕ) (last : Core)
     → HasLoader words → AreSkipped skipped → place < 4096 → is_loaders place ≡ false → IsWord word
-    → Runs count (core_at switches loader_base 0 (word_of U loader_base) (words_after_cell words place word)
+    → Runs count (core_at switches loader_base 0 (plain_order U loader_base) (words_after_cell words place word)
     (off ((passed ++ read_codes skipped (control_word place)) ++ read_codes [] word) (carriage_return ∷ rest))) last
     → Runs (suc (suc (suc (suc (suc (suc (suc (suc count))))))))
     (core_at switches loader_base accumulator register words (off passed (cell_left skipped place word rest))) last
@@ -46,17 +46,17 @@ one_cell switches accumulator register words passed skipped rest place word coun
     let words2 = slice_set words1 place word in
     let has1 = loader_stays words single_store_cell control has store_cell_elsewhere in
     let has2 = loader_stays words1 place word has1 (program_elsewhere place free) in
-    let at3 = core_at switches (loader_base + 2) control (word_of I 0) words (off passed1 left) in
-    let at4 = core_at switches (loader_base + 3) control (word_of T single_end_place) words (off passed1 left) in
-    let at5 = core_at switches (loader_base + 4) control (word_of H single_store_cell) words1 (off passed1 left) in
-    let at7 = core_at switches single_store_cell word (word_of I 0) words1 (off passed2 (carriage_return ∷ rest)) in
+    let at3 = core_at switches (loader_base + 2) control (plain_order I 0) words (off passed1 left) in
+    let at4 = core_at switches (loader_base + 3) control (plain_order T single_end_place) words (off passed1 left) in
+    let at5 = core_at switches (loader_base + 4) control (plain_order H single_store_cell) words1 (off passed1 left) in
+    let at7 = core_at switches single_store_cell word (plain_order I 0) words1 (off passed2 (carriage_return ∷ rest)) in
     let at8 = core_at switches (loader_base + 7) 0 control words2 (off passed2 (carriage_return ∷ rest)) in
-    let at9 = core_at switches loader_base 0 (word_of U loader_base) words2 (off passed2 (carriage_return ∷ rest)) in
-    let eighth = one_then count at8 at9 last (jumps switches (loader_base + 7) 0 control words2 (off passed2 (carriage_return ∷ rest)) (word_of U loader_base) loader_base (fetch_7 words2 has2)) runs in
-    let seventh = one_then (suc count) at7 at8 last (cleared switches single_store_cell word (word_of I 0) words1 (off passed2 (carriage_return ∷ rest)) control place (fetch_store words place has within) is) eighth in
-    let fifth = two_orders switches (loader_base + 4) control (word_of H single_store_cell) words1 passed1 [] (carriage_return ∷ rest) word (suc (suc count)) last (fetch_4 words1 has1) (fetch_5 words1 has1) (omega arith) nothing_skipped is seventh in
-    let fourth = one_then (suc (suc (suc (suc count)))) at4 at5 last (held switches (loader_base + 3) control (word_of T single_end_place) words (off passed1 left) (word_of H single_store_cell) single_store_cell (fetch_3 words has) (control_is_word place within)) fifth in
-    let third = one_then (suc (suc (suc (suc (suc count))))) at3 at4 last (goes_on switches (loader_base + 2) control (word_of I 0) words (off passed1 left) (word_of T single_end_place) single_end_place (fetch_2 words has) refl (control_is_positive place within)) fourth in
+    let at9 = core_at switches loader_base 0 (plain_order U loader_base) words2 (off passed2 (carriage_return ∷ rest)) in
+    let eighth = one_then count at8 at9 last (jumps switches (loader_base + 7) 0 control words2 (off passed2 (carriage_return ∷ rest)) (plain_order U loader_base) loader_base (fetch_7 words2 has2)) runs in
+    let seventh = one_then (suc count) at7 at8 last (cleared switches single_store_cell word (plain_order I 0) words1 (off passed2 (carriage_return ∷ rest)) control place (fetch_store words place has within) is) eighth in
+    let fifth = two_orders switches (loader_base + 4) control (plain_order H single_store_cell) words1 passed1 [] (carriage_return ∷ rest) word (suc (suc count)) last (fetch_4 words1 has1) (fetch_5 words1 has1) (omega arith) nothing_skipped is seventh in
+    let fourth = one_then (suc (suc (suc (suc count)))) at4 at5 last (held switches (loader_base + 3) control (plain_order T single_end_place) words (off passed1 left) (plain_order H single_store_cell) single_store_cell (fetch_3 words has) (control_is_word place within)) fifth in
+    let third = one_then (suc (suc (suc (suc (suc count))))) at3 at4 last (goes_on switches (loader_base + 2) control (plain_order I 0) words (off passed1 left) (plain_order T single_end_place) single_end_place (fetch_2 words has) refl (control_is_positive place within)) fourth in
     two_orders switches loader_base accumulator register words passed skipped left control (suc (suc (suc (suc (suc (suc count)))))) last (fetch_0 words has) (fetch_1 words has) (omega arith) are (control_is_word place within) third
 
 -- the end word
@@ -104,8 +104,8 @@ end_performed switches (Some address) words passed cell register is here =
 
 -- the end word is read at the base, put into the end cell, and performed
 pub end_read : (place : ℕ) (switches : Switches) (accumulator register : ℕ) (words passed skipped : List ℕ) (start : Option ℕ)
-    → Fetches words loader_base (word_of P 0) P 0 → Fetches words (loader_base + 1) (word_of I 0) I 0
-    → Fetches words (loader_base + 2) (word_of T place) T place → Fetches words place (word_of H (address_after place)) H (address_after place)
+    → Fetches words loader_base (plain_order P 0) P 0 → Fetches words (loader_base + 1) (plain_order I 0) I 0
+    → Fetches words (loader_base + 2) (plain_order T place) T place → Fetches words place (plain_order H (address_after place)) H (address_after place)
     → place < 4096 → length words ≡ 4096 → AreSkipped skipped → IfSome start IsAddress
     → Runs 5 (core_at switches loader_base accumulator register words (off passed ((skipped ++ word_codes (end_word start)) ++ stop_code ∷ [])))
     (core_at_end (address_after (address_after place)) switches start (slice_set words (address_after place) (end_word start)) (passed ++ read_codes skipped (end_word start)))
@@ -115,14 +115,14 @@ end_read place switches accumulator register words passed skipped start p i t h 
     let passed1 = passed ++ read_codes skipped word in
     let words1 = slice_set words cell word in
     let last = core_at_end (address_after cell) switches start words1 passed1 in
-    let at3 = core_at switches (loader_base + 2) word (word_of I 0) words (off passed1 []) in
-    let at4 = core_at switches place word (word_of T place) words (off passed1 []) in
-    let at5 = core_at switches cell word (word_of H cell) words1 (off passed1 []) in
+    let at3 = core_at switches (loader_base + 2) word (plain_order I 0) words (off passed1 []) in
+    let at4 = core_at switches place word (plain_order T place) words (off passed1 []) in
+    let at5 = core_at switches cell word (plain_order H cell) words1 (off passed1 []) in
     let here = get_or-set_same words cell word 0 (omega (arith, long)) in
-    let fifth = end_performed switches start words1 passed1 cell (word_of H cell) is here in
-    let fourth = one_then 1 at4 at5 last (held switches place word (word_of T place) words (off passed1 []) (word_of H cell) cell h (end_is_word start is)) fifth in
-    let plus : sign_of (word_of T place) ≡ false = grind (arith, nat_tests) in
-    let third = one_then 2 at3 at4 last (transfers_to switches (loader_base + 2) word (word_of I 0) words (off passed1 []) (word_of T place) place t plus (end_is_negative start)) fourth in
+    let fifth = end_performed switches start words1 passed1 cell (plain_order H cell) is here in
+    let fourth = one_then 1 at4 at5 last (held switches place word (plain_order T place) words (off passed1 []) (plain_order H cell) cell h (end_is_word start is)) fifth in
+    let plus : sign_of (plain_order T place) ≡ false = grind (arith, nat_tests) in
+    let third = one_then 2 at3 at4 last (transfers_to switches (loader_base + 2) word (plain_order I 0) words (off passed1 []) (plain_order T place) place t plus (end_is_negative start)) fourth in
     two_orders switches loader_base accumulator register words passed skipped [] word 3 last p i (omega arith) are (end_is_word start is) third
 
 -- the core at the end of the ten words
@@ -175,12 +175,12 @@ through_tape switches accumulator register words passed skipped ((place, word) �
     let passed2 = (passed ++ read_codes skipped control) ++ read_codes [] word in
     let rest = concat (map cell_codes cells) ++ stopped_word (end_word start) in
     let words_last = slice_set (words_after_cells words2 cells) single_end_cell (end_word start) in
-    let later = through_tape switches 0 (word_of U loader_base) words2 passed2 (carriage_return ∷ []) cells start has2 return_skipped others is in
+    let later = through_tape switches 0 (plain_order U loader_base) words2 passed2 (carriage_return ∷ []) cells start has2 return_skipped others is in
     let left = shape skipped (word_codes control) (word_codes word) (concat (map cell_codes cells)) (stopped_word (end_word start)) in
     let whole : passed2 ++ (carriage_return ∷ rest) ≡ passed ++ tape_left skipped ((place, word) ∷ cells) start =
     passed_shape passed skipped (word_codes control) (word_codes word) rest ∙ ap (λ codes. passed ++ codes) (sym left) in
     let last = final_core switches start words_last (passed ++ tape_left skipped ((place, word) ∷ cells) start) in
-    let onward = subst (λ codes. Runs (8 * length cells + 5) (core_at switches loader_base 0 (word_of U loader_base) words2 (off passed2 (carriage_return ∷ rest))) (final_core switches start words_last codes)) whole later in
+    let onward = subst (λ codes. Runs (8 * length cells + 5) (core_at switches loader_base 0 (plain_order U loader_base) words2 (off passed2 (carriage_return ∷ rest))) (final_core switches start words_last codes)) whole later in
     let all = one_cell switches accumulator register words passed skipped rest place word (8 * length cells + 5) last has are within free is_word onward in
     let count : suc (suc (suc (suc (suc (suc (suc (suc (8 * length cells + 5)))))))) ≡ 8 * length ((place, word) ∷ cells) + 5 = omega arith in
     let there = subst (λ n. Runs n (core_at switches loader_base accumulator register words (off passed (cell_left skipped place word rest))) last) count all in

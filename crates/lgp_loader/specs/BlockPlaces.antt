@@ -1,8 +1,10 @@
--- Part of the public promise. The loader of 22 words (this project's own), for tapes of blocks. It stores so many words at places
--- one after another, and counts the address up inside the order that stores them.
+-- Part of the public promise. The loader of 22 words (this project's own), for tapes of blocks. It
+-- stores so many words at places one after another, and counts the address up inside the order that
+-- stores them.
 use Rattle.std.specs.Prelude.{ℕ, ◌+◌, List, [], ◌∷◌}
 use Rattle.lgp_word.specs.declared.order.Op.TheVariants.{B, I, P, U, T, H, A}
-use Rattle.lgp_loader.specs.Places.{loader_base, word_of}
+use Rattle.lgp_word.specs.Order.{plain_order}
+use Rattle.lgp_assembler.specs.Parts.{loader_base}
 
 -- where a word of the block is read
 abbrev pub next_word : ℕ
@@ -33,9 +35,9 @@ count_cell = loader_base + 21
 -- the 22 words
 abbrev pub block_loader_words : List ℕ
 block_loader_words =
-    word_of P 0 ∷ word_of I 0 ∷ word_of T block_end_place ∷ word_of H block_store_cell
-    ∷ word_of P 0 ∷ word_of I 0 ∷ word_of H count_cell
-    ∷ word_of P 0 ∷ word_of I 0 ∷ 0
-    ∷ word_of B block_store_cell ∷ word_of A one_up_place ∷ word_of H block_store_cell
-    ∷ word_of B count_cell ∷ word_of A one_up_place ∷ word_of H count_cell ∷ word_of T next_word
-    ∷ word_of U loader_base ∷ word_of H block_end_cell ∷ 0 ∷ one_up ∷ 0 ∷ []
+    plain_order P 0 ∷ plain_order I 0 ∷ plain_order T block_end_place ∷ plain_order H block_store_cell
+    ∷ plain_order P 0 ∷ plain_order I 0 ∷ plain_order H count_cell
+    ∷ plain_order P 0 ∷ plain_order I 0 ∷ 0
+    ∷ plain_order B block_store_cell ∷ plain_order A one_up_place ∷ plain_order H block_store_cell
+    ∷ plain_order B count_cell ∷ plain_order A one_up_place ∷ plain_order H count_cell ∷ plain_order T next_word
+    ∷ plain_order U loader_base ∷ plain_order H block_end_cell ∷ 0 ∷ one_up ∷ 0 ∷ []

@@ -1,5 +1,6 @@
--- Part of the public promise. A tape of blocks: for each block the order that stores its first word, its count, and its words; then
--- the end word. A count is negative, so many times one as the block has words, and reaches zero behind the last of them.
+-- Part of the public promise. A tape of blocks: for each block the order that stores its first
+-- word, its count, and its words; then the end word. A count is negative, so many times one as the
+-- block has words, and reaches zero behind the last of them.
 use Rattle.std.specs.Prelude.{ℕ, ◌-◌, ◌*◌, ◌^◌, List, [], ◌∷◌, ◌++◌, Option, length, map}
 use Rattle.std.specs.List.{concat}
 use Rattle.lgp_loader.specs.BlockPlaces.{one_up}
@@ -20,7 +21,8 @@ word_of_cell cell = stopped_word cell.1
 abbrev pub block_codes : List (ℕ × ℕ) → List ℕ
 block_codes cells =
     stopped_word (control_word (first_place cells))
-    ++ (stopped_word (count_word (length cells)) ++ (concat (map word_of_cell cells) ++ carriage_return ∷ []))
+    ++ (stopped_word (count_word (length cells))
+    ++ (concat (map word_of_cell cells) ++ carriage_return ∷ []))
 
 -- the tape of blocks and a start
 unfoldable pub block_tape_codes : List (List (ℕ × ℕ)) → Option ℕ → List ℕ

@@ -1,5 +1,6 @@
 -- Part of the public promise. How the cells of a program are cut into blocks.
-use Rattle.std.specs.Prelude.{◌≡◌, ℕ, ◌+◌, ◌==◌, ◌&&◌, if◌then◌else◌, Bool, true, false, List, [], ◌∷◌, ◌++◌, drop, length, sum, take}
+use Rattle.std.specs.Prelude.{◌≡◌, ℕ, ◌+◌, ◌==◌, ◌&&◌, if◌then◌else◌, Bool, true, false, List, []}
+use Rattle.std.specs.Prelude.{◌∷◌, ◌++◌, drop, length, sum, take}
 use Rattle.std.specs.List.{list_all}
 
 -- whether a cell lies one place behind another
@@ -20,7 +21,8 @@ abbrev pub cells_of : List (List (ℕ × ℕ)) → List (ℕ × ℕ)
 cells_of [] = []
 cells_of (block ∷ blocks) = block ++ cells_of blocks
 
--- the longest blocks: a cell belongs to the block behind it where that begins one place on, and else is a block of its own
+-- the longest blocks: a cell belongs to the block behind it where that begins one place on, and
+-- else is a block of its own
 abbrev pub with_block : ℕ × ℕ → List (List (ℕ × ℕ)) → List (List (ℕ × ℕ))
 with_block cell ((next ∷ block) ∷ blocks) =
     if follows cell next then (cell ∷ (next ∷ block)) ∷ blocks
@@ -35,7 +37,8 @@ longest_blocks (cell ∷ cells) = with_block cell (longest_blocks cells)
 abbrev pub StandApart : List (List (ℕ × ℕ)) → Type 0
 StandApart [] = Unit {0}
 StandApart (block ∷ []) = Unit {0}
-StandApart (block ∷ (next ∷ blocks)) = (is_block (block ++ next) ≡ false) × StandApart (next ∷ blocks)
+StandApart (block ∷ (next ∷ blocks)) =
+    (is_block (block ++ next) ≡ false) × StandApart (next ∷ blocks)
 
 -- pieces of so many cells each, one after another
 abbrev pub pieces_of : List ℕ → List (ℕ × ℕ) → List (List (ℕ × ℕ))

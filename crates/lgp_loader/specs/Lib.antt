@@ -1,4 +1,3 @@
-pub mod Places
 pub mod LoaderTape
 pub mod Loading
 pub mod Loads

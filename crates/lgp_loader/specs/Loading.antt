@@ -1,5 +1,7 @@
--- Part of the public promise. Loading: a loader is keyed in, a tape mounted, the loader started, and so many orders performed.
-use Rattle.std.specs.Prelude.{ℕ, ◌+◌, ◌<◌, ◌≤◌, ◌++◌, false, List, ◌∷◌, [], Option, None, Some, find, fold, length, map, slice_set, sum_by, unwrap_or}
+-- Part of the public promise. Loading: a loader is keyed in, a tape mounted, the loader started,
+-- and so many orders performed.
+use Rattle.std.specs.Prelude.{ℕ, ◌+◌, ◌<◌, ◌≤◌, ◌++◌, false, List, ◌∷◌, [], Option, None, Some}
+use Rattle.std.specs.Prelude.{find, fold, length, map, slice_set, sum_by, unwrap_or}
 use Rattle.std.specs.List.{All, range_with_len}
 use Rattle.lgp_word.specs.Word.{IsWord}
 use Rattle.lgp_flexo.specs.Tape.{Tape}
@@ -16,7 +18,7 @@ use Rattle.lgp_machine.specs.Answers.{passes_clock_end}
 use Rattle.lgp_keyin.specs.KeyIn.{about_to_jump, keyed, started}
 use Rattle.lgp_keyin.specs.Keyed.{before_store}
 use Rattle.lgp_loader.specs.LoaderTape.{end_word}
-use Rattle.lgp_loader.specs.Places.{loader_base}
+use Rattle.lgp_assembler.specs.Parts.{loader_base}
 
 -- a loader's words, a tape that it reads, and how many orders that takes
 pub record TapeLoad : Type 0 where
@@ -70,14 +72,16 @@ panel_after_load panel end_cell start = record {
 abbrev pub read_tape : List ℕ → Tape
 read_tape codes = record { on = false; passed = codes; left = [] }
 
--- the states in which words are about to be stored, and those in which so many activities begin, one after another
+-- the states in which words are about to be stored, and those in which so many activities begin,
+-- one after another
 unfoldable pub store_states : State → ℕ → List ℕ → List State
 store_states s base words = map (before_store s base words) (range_with_len 0 (length words))
 
 unfoldable pub order_states : State → ℕ → List State
 order_states s count = map (after s) (range_with_len 0 count)
 
--- the states in which the activities of loading begin: the stores of the loader's words, the jump that starts it, its orders
+-- the states in which the activities of loading begin: the stores of the loader's words, the jump
+-- that starts it, its orders
 abbrev pub loading_states : State → TapeLoad → List State
 loading_states s load =
     store_states s loader_base load.loader
@@ -87,6 +91,7 @@ loading_states s load =
 unfoldable pub loading_cost : State → TapeLoad → ℕ
 loading_cost s load = sum_by cost (loading_states s load)
 
--- where loading meets the end of the clock: in the first of these states whose activity would pass it; None where there is none
+-- where loading meets the end of the clock: in the first of these states whose activity would pass
+-- it; None where there is none
 unfoldable pub loading_stopped : State → TapeLoad → Option State
 loading_stopped s load = find passes_clock_end (loading_states s load)

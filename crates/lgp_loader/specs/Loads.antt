@@ -1,6 +1,7 @@
 -- Part of the public promise. What a load answers, and what it leaves of the machine, whatever its
 -- loader and its tape are.
-use Rattle.std.specs.Prelude.{◌≡◌, ◌↔◌, ◌+◌, ◌<◌, ◌≤◌, ℕ, false, None, Some, Result, Err, IfOk, OnOk}
+use Rattle.std.specs.Prelude.{◌≡◌, ◌↔◌, ◌+◌, ◌<◌, ◌≤◌, ℕ, false, None, Some, Result, Err, IfOk}
+use Rattle.std.specs.Prelude.{OnOk}
 use Rattle.lgp_table.specs.Interleaving.{Configuration, at_boundary, is_boundary}
 use Rattle.lgp_machine.specs.Answers.{clock_end}
 use Rattle.lgp_loader.specs.Loading.{TapeLoad, loaded, loading_cost, loading_stopped}
@@ -9,7 +10,8 @@ use Rattle.lgp_loader.specs.declared.loading.LoadFault.TheVariants.{Moving, Cloc
 
 -- The machine before and after it, and the answer: how many orders the loader performed, or why the
 -- program is not loaded.
-pub record IsLoad (load : TapeLoad) (before after : Configuration) (answer : Result ℕ LoadFault) : Type 0 where
+pub record IsLoad (load : TapeLoad) (before after : Configuration)
+    (answer : Result ℕ LoadFault) : Type 0 where
   -- all of the tape has been read, and the clock has gone on by what all activities cost
   pub leaves : OnOk answer (after ≡ at_boundary (loaded before.state load))
   pub time : OnOk answer (after.state.clock ≡ before.state.clock + loading_cost before.state load)

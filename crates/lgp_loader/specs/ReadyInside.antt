@@ -13,8 +13,10 @@ pub record IsReady (s : State) (load : TapeLoad) : Type 0 where
   pub fits : IsLoader load.loader
   pub short : length load.codes ≤ tape_limit
   pub some : 0 < load.orders
-  pub work : (before : ℕ) → before < load.orders → is_at_rest (after (begun s load) before).core.panel.status ≡ false
-  pub silent : (before : ℕ) → before < load.orders → print_of (after (begun s load) before).core ≡ None
+  pub work : (before : ℕ) → before < load.orders
+      → is_at_rest (after (begun s load) before).core.panel.status ≡ false
+  pub silent : (before : ℕ) → before < load.orders
+      → print_of (after (begun s load) before).core ≡ None
 
 -- from whatever state
 abbrev pub GoesThrough : TapeLoad → Type 0
@@ -23,4 +25,5 @@ GoesThrough load = (s : State) → length s.core.words ≡ 4096 → IsReady s lo
 -- from whatever state it leaves a program's words over what was there
 abbrev pub LeavesProgram : TapeLoad → List (ℕ × ℕ) → Type 0
 LeavesProgram load cells =
-    (s : State) → length s.core.words ≡ 4096 → IsLoadedOver s.core.words (loaded s load).core.words cells
+    (s : State) → length s.core.words ≡ 4096
+    → IsLoadedOver s.core.words (loaded s load).core.words cells

@@ -1,11 +1,12 @@
--- Part of the public promise. Loading cell by cell: the loader of ten words reads a tape of single cells. What that leaves.
+-- Part of the public promise. Loading cell by cell: the loader of ten words reads a tape of single
+-- cells. What that leaves.
 use Rattle.std.specs.Prelude.{ℕ, ◌+◌, ◌*◌, List, fold, length, slice_set}
 use Rattle.lgp_table.specs.State.{State, core_of}
 use Rattle.lgp_keyin.specs.Keyed.{words_from}
 use Rattle.lgp_assembler.specs.Parts.{ImageParts}
 use Rattle.lgp_loader.specs.LoaderTape.{control_word, end_word}
 use Rattle.lgp_loader.specs.Loading.{TapeLoad, overlay, panel_after_load, read_tape}
-use Rattle.lgp_loader.specs.Places.{loader_base}
+use Rattle.lgp_assembler.specs.Parts.{loader_base}
 use Rattle.lgp_loader.specs.SinglePlaces.{single_end_cell, single_loader_words, single_store_cell}
 use Rattle.lgp_loader.specs.SingleTape.{single_tape_codes}
 
@@ -21,7 +22,8 @@ single_load image = record {
 abbrev pub last_control : List (ℕ × ℕ) → ℕ
 last_control cells = fold (λ _ cell. control_word cell.0) 0 cells
 
--- the drum after loading: the program over what was there, the loader, and what it has put into its own two cells
+-- the drum after loading: the program over what was there, the loader, and what it has put into its
+-- own two cells
 abbrev pub words_after_single : List ℕ → ImageParts → List ℕ
 words_after_single words image =
     slice_set (slice_set (overlay (words_from words loader_base single_loader_words) image.cells)

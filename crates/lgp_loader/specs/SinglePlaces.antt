@@ -1,8 +1,9 @@
--- Part of the public promise. The loader of ten words (this project's own), for tapes of single cells. It performs each cell of a
--- tape as an order that it has just stored.
+-- Part of the public promise. The loader of ten words (this project's own), for tapes of single
+-- cells. It performs each cell of a tape as an order that it has just stored.
 use Rattle.std.specs.Prelude.{ℕ, ◌+◌, List, [], ◌∷◌}
 use Rattle.lgp_word.specs.declared.order.Op.TheVariants.{I, P, U, T, H}
-use Rattle.lgp_loader.specs.Places.{loader_base, word_of}
+use Rattle.lgp_word.specs.Order.{plain_order}
+use Rattle.lgp_assembler.specs.Parts.{loader_base}
 
 -- the cell in which the order that stores a program word is put together, and performed
 abbrev pub single_store_cell : ℕ
@@ -18,6 +19,6 @@ single_end_cell = loader_base + 9
 -- the ten words: two inputs, of a control word and of the word itself, each stored where it belongs
 abbrev pub single_loader_words : List ℕ
 single_loader_words =
-    word_of P 0 ∷ word_of I 0 ∷ word_of T single_end_place ∷ word_of H single_store_cell
-    ∷ word_of P 0 ∷ word_of I 0 ∷ 0 ∷ word_of U loader_base
-    ∷ word_of H single_end_cell ∷ 0 ∷ []
+    plain_order P 0 ∷ plain_order I 0 ∷ plain_order T single_end_place ∷ plain_order H single_store_cell
+    ∷ plain_order P 0 ∷ plain_order I 0 ∷ 0 ∷ plain_order U loader_base
+    ∷ plain_order H single_end_cell ∷ 0 ∷ []

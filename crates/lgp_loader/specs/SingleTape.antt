@@ -1,4 +1,5 @@
--- Part of the public promise. A tape of single cells: for each cell its control word and its word, then the end word.
+-- Part of the public promise. A tape of single cells: for each cell its control word and its word,
+-- then the end word.
 use Rattle.std.specs.Prelude.{ℕ, List, [], ◌∷◌, ◌++◌, map}
 use Rattle.std.specs.List.{concat}
 use Rattle.lgp_assembler.specs.Parts.{ImageParts}

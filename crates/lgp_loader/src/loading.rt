@@ -17,7 +17,7 @@ ghost use Rattle.lgp_loader.specs.Loads.{IsLoad};
 ghost use Rattle.lgp_loader.specs.LoadedOver.{IsLoadedOver};
 ghost use Rattle.lgp_loader.specs.ReadyInside.{IsReady};
 ghost use Rattle.lgp_loader.specs.SingleLoading.{single_load};
-ghost use Rattle.lgp_loader.specs.Places.{loader_base};
+ghost use Rattle.lgp_assembler.specs.Parts.{loader_base};
 
 use crate::reading::{Reading, in_cut, in_longest, in_single};
 use crate::tape::CutFault;

@@ -12,7 +12,7 @@ ghost use Rattle.lgp_loader.specs.SingleTape.{cell_codes, single_tape_codes};
 use crate::cutting::{Cell, first_block, is_cutting};
 use lgp_assembler::Image;
 use lgp_flexo::{Code, codes_of_word};
-use lgp_word::{Address, Op, Order, Word, encode};
+use lgp_word::{Address, Op, Word, plain_order};
 use std::alloc::{AllocError, Allocator};
 use thiserror::Error;
 
@@ -30,11 +30,7 @@ pub enum CutFault {
 fn control_word(place: Address) -> Word
     ensures { result ≡ control_word place }
 {
-    encode(Order {
-        minus: false,
-        op: Op::C,
-        address: place,
-    })
+    plain_order(Op::C, place)
 }
 
 /// The word that ends the tape of a program with this start.
@@ -44,13 +40,8 @@ fn end_word(start: Option<Address>) -> Word
     let Some(address) = start else {
         return Word { bits: 1 << 31 };
     };
-    let jump = Order {
-        minus: false,
-        op: Op::U,
-        address,
-    };
     Word {
-        bits: (1 << 31) + encode(jump).get(),
+        bits: (1 << 31) + plain_order(Op::U, address).get(),
     }
 }
 

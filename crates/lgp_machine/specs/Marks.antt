@@ -1,5 +1,7 @@
--- Part of the public promise. Going back to an earlier order boundary: a mark keeps what cannot be read off the machine later.
-use Rattle.std.specs.Prelude.{ℕ, ◌&&◌, Bool, nat_le, List, length, take, Option, Some, None, slice_set}
+-- Part of the public promise. Going back to an earlier order boundary: a mark keeps what cannot be
+-- read off the machine later.
+use Rattle.std.specs.Prelude.{ℕ, ◌&&◌, Bool, nat_le, List, length, take, Option, Some, None}
+use Rattle.std.specs.Prelude.{slice_set}
 use Rattle.lgp_flexo.specs.Tape.{all_codes, tape_at}
 use Rattle.lgp_table.specs.State.{State, core_of}
 use Rattle.lgp_machine.specs.declared.mark.Mark.{Mark}
@@ -16,7 +18,8 @@ mark_of s = record {
 
 -- whether a state has printed and passed as many codes as a mark says
 abbrev pub has_reached : State → Mark → Bool
-has_reached s mark = nat_le mark.printed (length s.printed) && nat_le mark.passed (length s.core.tape.passed)
+has_reached s mark =
+    nat_le mark.printed (length s.printed) && nat_le mark.passed (length s.core.tape.passed)
 
 -- the words with one of them changed, or none
 abbrev pub words_with : List ℕ → Option (ℕ × ℕ) → List ℕ
@@ -34,4 +37,5 @@ state_at_mark s mark change = record {
 
 -- the state with another tape in the reader, of which so many codes have passed
 abbrev pub with_tape_at : State → List ℕ → ℕ → State
-with_tape_at s codes passed = record s { core = record s.core { tape = tape_at s.core.tape.on codes passed } }
+with_tape_at s codes passed =
+    record s { core = record s.core { tape = tape_at s.core.tape.on codes passed } }

@@ -1,5 +1,7 @@
--- Part of the public promise: the monitor at a desk, where `quit` ends it, with its prompts and its answers to blocks.
-use Rattle.std.specs.Prelude.{◌≡◌, ℕ, Bool, false, is_none, is_some, if◌then◌else◌, List, ◌++◌, codes}
+-- Part of the public promise: the monitor at a desk, where `quit` ends it, with its prompts and its
+-- answers to blocks.
+use Rattle.std.specs.Prelude.{◌≡◌, ℕ, Bool, false, is_none, is_some, if◌then◌else◌, List, ◌++◌}
+use Rattle.std.specs.Prelude.{codes}
 use Rattle.std.specs.Str.Lines.{lines}
 use Rattle.lgp_word.specs.Digits.{address_digits}
 use Rattle.lgp_stream.specs.Language.{Language}
@@ -39,7 +41,8 @@ monitor_blocks = record {
 abbrev pub attended_language : Language (Seat (Recorded Standing))
 attended_language = desk_language monitor_language takes_commands_at prompt_at monitor_blocks
 
--- what a typed text hands to the monitor before `quit`: lines, and blocks; the type is that of Standing
+-- what a typed text hands to the monitor before `quit`: lines, and blocks; the type is that of
+-- Standing
 abbrev pub handed_over : Manner → List ℕ → List Handed
 handed_over manner typed =
     handed monitor_language takes_commands_at prompt_at monitor_blocks

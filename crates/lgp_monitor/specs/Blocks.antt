@@ -1,7 +1,8 @@
 -- Part of the public promise: how the monitor answers a block of lines under the name of what it is
 -- for, and where that leaves it. `restore` puts the words of a dump on the drum, by lines of a
 -- script; `tape` mounts a tape for whose text no line of a script has room.
-use Rattle.std.specs.Prelude.{ℕ, ◌+◌, ◌==◌, Bool, if◌then◌else◌, Option, Some, None, List, [], ◌∷◌, ◌++◌, codes, decimal, fold, length, map, slice_set}
+use Rattle.std.specs.Prelude.{ℕ, ◌+◌, ◌==◌, Bool, if◌then◌else◌, Option, Some, None, List, [], ◌∷◌}
+use Rattle.std.specs.Prelude.{◌++◌, codes, decimal, fold, length, map, slice_set}
 use Rattle.std.specs.Str.{bytes_eq}
 use Rattle.bstr.specs.Text.{lines_of}
 use Rattle.lgp_word.specs.Drum.{blank_words}

@@ -1,6 +1,7 @@
 -- Part of the public promise: what is answered where a point closes a source with faults: each
 -- fault with its line of the source and a mark below the part that is at fault.
-use Rattle.std.specs.Prelude.{ℕ, ◌-◌, Bool, not, ◌&&◌, if◌then◌else◌, Option, Some, None, option_map, List, [], ◌∷◌, ◌++◌, codes, decimal, slice_get}
+use Rattle.std.specs.Prelude.{ℕ, ◌-◌, Bool, not, ◌&&◌, if◌then◌else◌, Option, Some, None}
+use Rattle.std.specs.Prelude.{option_map, List, [], ◌∷◌, ◌++◌, codes, decimal, slice_get}
 use Rattle.std.specs.Str.{bytes_eq}
 use Rattle.lgp_source.specs.Source.{SourceLine, lines_of}
 use Rattle.lgp_assembler.specs.Image.{faults_of}

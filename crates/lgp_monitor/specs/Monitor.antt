@@ -1,5 +1,7 @@
--- Part of the public promise: the monitor, a language in which a typed line stands for lines of a script.
-use Rattle.std.specs.Prelude.{ℕ, false, if◌then◌else◌, is_some, Option, Some, None, Result, Ok, Err, List, [], ◌∷◌, ◌++◌, codes}
+-- Part of the public promise: the monitor, a language in which a typed line stands for lines of a
+-- script.
+use Rattle.std.specs.Prelude.{ℕ, false, if◌then◌else◌, is_some, Option, Some, None, Result, Ok, Err}
+use Rattle.std.specs.Prelude.{List, [], ◌∷◌, ◌++◌, codes}
 use Rattle.lgp_word.specs.Digits.{address_digits, digits_of}
 use Rattle.lgp_word.specs.Order.{order_word}
 use Rattle.lgp_word.specs.declared.order.Op.TheVariants.{U}
@@ -7,11 +9,13 @@ use Rattle.lgp_stream.specs.KeptLine.{Kept, kept_of}
 use Rattle.lgp_stream.specs.Language.{Language}
 use Rattle.lgp_assembler.specs.AddressOperands.{address_operand}
 use Rattle.lgp_assembler.specs.declared.operands.OperandFault.{OperandFault}
-use Rattle.lgp_assembler.specs.declared.operands.OperandFault.TheVariants.{Misformed, Unknown, Outside}
+use Rattle.lgp_assembler.specs.declared.operands.OperandFault.TheVariants.{Misformed, Unknown}
+use Rattle.lgp_assembler.specs.declared.operands.OperandFault.TheVariants.{Outside}
 use Rattle.lgp_stream.specs.LineWords.{behind_word, first_word, has_no_word}
 use Rattle.lgp_text.specs.NamedValues.{named}
 use Rattle.lgp_table.specs.declared.panel.Panel.{Panel}
-use Rattle.lgp_transcript.specs.Transcript.{Meaning, Lines, Anew, Recorded, after_lines, after_meaning, replies_text, stand_in}
+use Rattle.lgp_transcript.specs.Transcript.{Meaning, Lines, Anew, Recorded, after_lines}
+use Rattle.lgp_transcript.specs.Transcript.{after_meaning, replies_text, stand_in}
 use Rattle.lgp_debugger.specs.Debugging.{order_origins}
 use Rattle.lgp_lab.specs.Script.{script_language}
 use Rattle.lgp_lab.specs.HistoryCommands.{orders_run}
@@ -33,9 +37,11 @@ use Rattle.lgp_monitor.specs.declared.typed.Typed.TheVariants as typed
 unfoldable pub put_line : ℕ → ℕ → List ℕ
 put_line address word = codes "put " ++ (address_digits address ++ (codes " " ++ digits_of word))
 
--- to start at an address: the jump there is keyed in and executed as one order, and the machine is started in Normal
+-- to start at an address: the jump there is keyed in and executed as one order, and the machine is
+-- started in Normal
 unfoldable pub jump_line : ℕ → List ℕ
-jump_line address = codes "type " ++ digits_of (order_word (record { minus = false; op = U; address = address }))
+jump_line address =
+    codes "type " ++ digits_of (order_word (record { minus = false; op = U; address = address }))
 
 abbrev pub lines_behind_jump : List (List ℕ)
 lines_behind_jump =
@@ -105,7 +111,8 @@ reason_by names counter (Some verb) line =
 
 unfoldable pub misformed_text : List (List ℕ × ℕ) → ℕ → List ℕ → List ℕ
 misformed_text names counter line =
-    codes "? 1 Form: " ++ (reason_by names counter (named verb_names (first_word line)) line ++ codes "\n")
+    codes "? 1 Form: "
+    ++ (reason_by names counter (named verb_names (first_word line)) line ++ codes "\n")
 
 -- the form of the command that stands behind another
 abbrev pub form_behind : List ℕ → Verb → List ℕ
@@ -144,7 +151,8 @@ itself_reply recorded kept =
 -- what is written about the orders of a run, and the reply to its script's line
 abbrev pub told_reply : Recorded Standing → Telling → ℕ → List ℕ → List ℕ
 told_reply recorded telling limit line =
-    told_of recorded.standing telling limit ++ replies_text script_language recorded (run_line line ∷ [])
+    told_of recorded.standing telling limit
+    ++ replies_text script_language recorded (run_line line ∷ [])
 
 -- the same with what is said behind it, where its script's line leaves the machine
 abbrev pub explained_run : Recorded Standing → Telling → ℕ → List ℕ → List ℕ
@@ -154,8 +162,10 @@ explained_run recorded telling limit line =
 
 abbrev pub reply_of : Recorded Standing → Typed → Kept → List ℕ
 reply_of recorded typed.Itself kept = itself_reply recorded kept
-reply_of recorded typed.Misformed kept = misformed_text (names_at recorded) (counter_at recorded) kept.front
-reply_of recorded (typed.Placed address) kept = explained_reply recorded (placed_line address kept.front)
+reply_of recorded typed.Misformed kept =
+    misformed_text (names_at recorded) (counter_at recorded) kept.front
+reply_of recorded (typed.Placed address) kept =
+    explained_reply recorded (placed_line address kept.front)
 reply_of recorded (typed.Go address) kept = replies_text script_language recorded (go_lines address)
 reply_of recorded (typed.Put address word) kept = explained_reply recorded (put_line address word)
 reply_of recorded (typed.Told telling limit) kept = explained_run recorded telling limit kept.front

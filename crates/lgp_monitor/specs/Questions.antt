@@ -1,5 +1,5 @@
--- Part of the public promise: what is shown and changes nothing: words as numbers, where a word came from, the names of the last source, the
--- rules.
+-- Part of the public promise: what is shown and changes nothing: words as numbers, where a word
+-- came from, the names of the last source, the rules.
 use Rattle.std.specs.Prelude.{ℕ, ◌+◌, ◌++◌, if◌then◌else◌, nat_lt, List, [], ◌∷◌, codes, decimal}
 use Rattle.lgp_word.specs.Digits.{address_digits, digits_of}
 use Rattle.lgp_fraction.specs.Arithmetic.{half}
@@ -17,7 +17,8 @@ use Rattle.lgp_monitor.specs.declared.question.Question.TheVariants as questions
 -- a word by its digits, as a fraction, and as the number whose point is behind a place
 unfoldable pub number_line : ℕ → ℕ → ℕ → List ℕ
 number_line point address word =
-    address_digits address ++ (codes " " ++ (digits_of word ++ (codes "  " ++ (decimal_text (half word) ++ (codes "  "
+    address_digits address
+    ++ (codes " " ++ (digits_of word ++ (codes "  " ++ (decimal_text (half word) ++ (codes "  "
     ++ (scaled_text point word ++ codes "\n"))))))
 
 -- the value of a name: an address, or the place behind the drum's last
@@ -49,11 +50,14 @@ rule_line names number rule =
 -- rules whose first has this number
 unfoldable pub rule_lines : List (List ℕ × ℕ) → ℕ → List Rule → List ℕ
 rule_lines names number [] = []
-rule_lines names number (rule ∷ more) = rule_line names number rule ++ rule_lines names (number + 1) more
+rule_lines names number (rule ∷ more) =
+    rule_line names number rule ++ rule_lines names (number + 1) more
 
 unfoldable pub answer_to : Question → Standing → List ℕ
 answer_to (questions.Numbers range point) standing =
     lines_text (number_line point) standing.debugger.state range.first range.count
-answer_to (questions.Why address) standing = why_text (label_of (labels_of standing.source)) standing.debugger address
+answer_to (questions.Why address) standing =
+    why_text (label_of (labels_of standing.source)) standing.debugger address
 answer_to questions.Labels standing = label_lines (labels_of standing.source)
-answer_to questions.Rules standing = rule_lines (labels_of standing.source) 0 standing.debugger.rules
+answer_to questions.Rules standing =
+    rule_lines (labels_of standing.source) 0 standing.debugger.rules

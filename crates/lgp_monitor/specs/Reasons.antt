@@ -1,6 +1,7 @@
--- Part of the public promise: what is said behind replies: the reasons of refusals, and how the machine stands behind a run that is
--- told.
-use Rattle.std.specs.Prelude.{ℕ, zero, suc, ◌-◌, ◌==◌, if◌then◌else◌, Option, Some, None, List, [], ◌∷◌, ◌++◌, codes, drop, length, slice_index, take}
+-- Part of the public promise: what is said behind replies: the reasons of refusals, and how the
+-- machine stands behind a run that is told.
+use Rattle.std.specs.Prelude.{ℕ, zero, suc, ◌-◌, ◌==◌, if◌then◌else◌, Option, Some, None, List, []}
+use Rattle.std.specs.Prelude.{◌∷◌, ◌++◌, codes, drop, length, slice_index, take}
 use Rattle.std.specs.Str.{bytes_eq}
 use Rattle.lgp_stream.specs.LineWords.{behind_word, first_word}
 use Rattle.lgp_table.specs.declared.panel.Mode.{Mode}
@@ -35,12 +36,14 @@ reason_of kinds.TooFar = codes "no more orders than this are kept"
 reason_of kinds.NoHit = codes "no rule hits one of the kept orders, which are so many"
 reason_of kinds.NoImage = codes "no source has assembled yet"
 reason_of kinds.TooLong = codes "a line has at most 4096 bytes, a source 1048576"
-reason_of kinds.BadSign = codes "the byte at this place of the text, counted from 0, begins no sign of a tape"
+reason_of kinds.BadSign =
+    codes "the byte at this place of the text, counted from 0, begins no sign of a tape"
 
 -- where the line begins in which a place lies
 unfoldable pub line_start : List ℕ → ℕ → ℕ
 line_start text zero = 0
-line_start text (suc place) = if slice_index text place == 10 then suc place else line_start text place
+line_start text (suc place) =
+    if slice_index text place == 10 then suc place else line_start text place
 
 -- the last line of a text, with the line feed that ends it
 unfoldable pub last_line : List ℕ → List ℕ
@@ -49,11 +52,13 @@ last_line text = drop (line_start text (length text - 1)) text
 -- the kind of a refusal; None of any other line
 unfoldable pub refusal_in : List ℕ → Option RefusalKind
 refusal_in line =
-    if bytes_eq (first_word line) (codes "?") then named refusal_numbers (first_word (behind_word line)) else None
+    if bytes_eq (first_word line) (codes "?")
+    then named refusal_numbers (first_word (behind_word line)) else None
 
 -- a reply with the reason behind its last line
 abbrev pub with_reason : RefusalKind → List ℕ → List ℕ
-with_reason kind reply = take (length reply - 1) reply ++ (codes ": " ++ (reason_of kind ++ codes "\n"))
+with_reason kind reply =
+    take (length reply - 1) reply ++ (codes ": " ++ (reason_of kind ++ codes "\n"))
 
 -- a reply, of which the last line has its reason behind it where that is a refusal
 abbrev pub reasoned_by : Option RefusalKind → List ℕ → List ℕ
@@ -63,7 +68,8 @@ reasoned_by None reply = reply
 unfoldable pub reasoned : List ℕ → List ℕ
 reasoned reply = reasoned_by (refusal_in (last_line reply)) reply
 
--- what is told of a run behind which the machine stands so: where the reply at its end leaves open how the machine stands, with a line
--- that says it
+-- what is told of a run behind which the machine stands so: where the reply at its end leaves open
+-- how the machine stands, with a line that says it
 unfoldable pub explained : Status → Mode → List ℕ → List ℕ
-explained status mode told = if tells_standstill (last_line told) then told ++ stand_text status mode else reasoned told
+explained status mode told =
+    if tells_standstill (last_line told) then told ++ stand_text status mode else reasoned told

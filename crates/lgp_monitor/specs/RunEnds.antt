@@ -1,5 +1,5 @@
--- Part of the public promise: what is said behind a run that found the machine at rest, and behind one that a rule stopped: how the
--- machine stands, and what lets it go on.
+-- Part of the public promise: what is said behind a run that found the machine at rest, and behind
+-- one that a rule stopped: how the machine stands, and what lets it go on.
 use Rattle.std.specs.Prelude.{ℕ, ◌&&◌, ◌||◌, Bool, List, ◌++◌, codes, nat_eq}
 use Rattle.std.specs.List.{starts_with}
 use Rattle.std.specs.Str.{bytes_eq}
@@ -28,7 +28,8 @@ start_text Manual = codes ": press normal, then press start lets it go on\n"
 unfoldable pub stand_text : Status → Mode → List ℕ
 stand_text (Halted cause) mode = codes "        " ++ (halt_text cause ++ start_text mode)
 stand_text Waiting mode = codes "        an input waits for codes: press read lets the tape pass, press compute ends the input\n"
-stand_text status mode = codes "        the machine is still going: run goes on, press manual halts it\n"
+stand_text status mode =
+    codes "        the machine is still going: run goes on, press manual halts it\n"
 
 -- whether a line tells of a run that found the machine at rest, or that a rule stopped
 unfoldable pub tells_standstill : List ℕ → Bool

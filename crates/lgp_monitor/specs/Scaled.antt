@@ -1,6 +1,8 @@
--- Part of the public promise: words as numbers whose point is behind a place. A number is shown with at most ten decimals, to the
--- nearest, without the zeros at their end: exactly, where they are enough.
-use Rattle.std.specs.Prelude.{ℕ, zero, suc, ◌-◌, ◌*◌, ◌/◌, ◌%◌, ◌^◌, ◌++◌, ◌==◌, if◌then◌else◌, nat_le, Option, Some, None, List, [], ◌∷◌, codes, decimal}
+-- Part of the public promise: words as numbers whose point is behind a place. A number is shown
+-- with at most ten decimals, to the nearest, without the zeros at their end: exactly, where they
+-- are enough.
+use Rattle.std.specs.Prelude.{ℕ, zero, suc, ◌-◌, ◌*◌, ◌/◌, ◌%◌, ◌^◌, ◌++◌, ◌==◌, if◌then◌else◌}
+use Rattle.std.specs.Prelude.{nat_le, Option, Some, None, List, [], ◌∷◌, codes, decimal}
 use Rattle.lgp_word.specs.Decimal.{decimal_digit, decimal_number}
 use Rattle.lgp_word.specs.Order.{sign_of}
 use Rattle.lgp_fraction.specs.Rounding.{nearest_size}
@@ -22,7 +24,8 @@ size_of word = if sign_of word then (2 ^ 32 - word) / 2 else word / 2
 unfoldable pub units_at : ℕ → ℕ → ℕ
 units_at point size = nearest_size (size * 10 ^ 10) (2 ^ (30 - point))
 
--- at most so many digits of a number below 10^10, the first one first, without the zeros at their end
+-- at most so many digits of a number below 10^10, the first one first, without the zeros at their
+-- end
 unfoldable pub decimals : ℕ → ℕ → List ℕ
 decimals zero number = []
 decimals (suc more) number =

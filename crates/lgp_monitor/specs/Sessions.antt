@@ -1,5 +1,7 @@
--- Part of the public promise: what the monitor's program does for the words of its command line: what it writes where, and its status.
-use Rattle.std.specs.Prelude.{◌≡◌, ◌⊎◌, ℕ, if◌then◌else◌, Option, List, [], ◌∷◌, IfSome, Result, Ok, Err}
+-- Part of the public promise: what the monitor's program does for the words of its command line:
+-- what it writes where, and its status.
+use Rattle.std.specs.Prelude.{◌≡◌, ◌⊎◌, ℕ, if◌then◌else◌, Option, List, [], ◌∷◌, IfSome, Result, Ok}
+use Rattle.std.specs.Prelude.{Err}
 use Rattle.std.specs.Io.KnownBytes.{Appends}
 use Rattle.clap.specs.Words.{fault_of}
 use Rattle.lgp_task.specs.CommandLine.{monitor_line}
@@ -12,11 +14,15 @@ use Rattle.lgp_lab.specs.Standing.{opening_standing}
 use Rattle.lgp_lab.specs.Tasks.{IsRefused, answered_status, broken_status}
 use Rattle.lgp_desk.specs.Desk.{opening_text, taken_seat}
 use Rattle.lgp_desk.specs.declared.desk.Manner.{Manner}
-use Rattle.lgp_desk.specs.declared.desk.Manner.TheVariants.{Prompting, PromptingBehindFirst, Echoing}
-use Rattle.lgp_monitor.specs.Attending.{attended_faults, attended_language, attended_text, prompt_at}
+use Rattle.lgp_desk.specs.declared.desk.Manner.TheVariants.{Prompting, PromptingBehindFirst}
+use Rattle.lgp_desk.specs.declared.desk.Manner.TheVariants.{Echoing}
+use Rattle.lgp_monitor.specs.Attending.{attended_faults, attended_language, attended_text}
+use Rattle.lgp_monitor.specs.Attending.{prompt_at}
 
--- what became of typed lines, of which nothing may be known: they were answered to their end, or a fault broke the work off
-abbrev pub HasAnswered : Manner → Option (List ℕ) → Result ℕ StreamFault → Option (List ℕ) → Option (List ℕ) → Type 0
+-- what became of typed lines, of which nothing may be known: they were answered to their end, or a
+-- fault broke the work off
+abbrev pub HasAnswered : Manner → Option (List ℕ) → Result ℕ StreamFault → Option (List ℕ)
+    → Option (List ℕ) → Type 0
 HasAnswered manner known (Ok count) w₀ w =
     IfSome known (λ typed. Appends w₀ w (attended_text manner typed) × (count ≡ attended_faults manner typed))
 HasAnswered manner known (Err fault) w₀ w = IfSome known (λ typed. (left : Option (List ℕ))
@@ -31,7 +37,8 @@ session_status (Err fault) = broken_status fault
 -- a session, with the status for it
 abbrev pub IsHeld : Manner → Option (List ℕ) → ℕ → Option (List ℕ) → Option (List ℕ) → Type 0
 IsHeld manner known status w₀ w =
-    (outcome : Result ℕ StreamFault) × HasAnswered manner known outcome w₀ w × (status ≡ session_status outcome)
+    (outcome : Result ℕ StreamFault) × HasAnswered manner known outcome w₀ w
+    × (status ≡ session_status outcome)
 
 -- where the lines of files come first, a prompt stands behind them only
 abbrev pub manner_behind : List (List ℕ) → Manner → Manner
@@ -43,12 +50,16 @@ abbrev pub session_manner : Manner → SessionTask → Manner
 session_manner manner task = if task.is_echoing then Echoing else manner_behind task.files manner
 
 -- what is typed, where it is known: the lines of the files first
-abbrev pub typed_with : (List (List ℕ) → Option (List ℕ)) → Option (List ℕ) → List (List ℕ) → Option (List ℕ)
+abbrev pub typed_with : (List (List ℕ) → Option (List ℕ)) → Option (List ℕ) → List (List ℕ)
+    → Option (List ℕ)
 typed_with typed_behind input [] = input
 typed_with typed_behind input files = typed_behind files
 
--- the words of the command line ask for a session, which is held without a message; or they are refused
-abbrev pub IsAsked : Type 0 → Manner → List (List ℕ) → (List (List ℕ) → Option (List ℕ)) → Option (List ℕ) → ℕ → Option (List ℕ) → Option (List ℕ) → Option (List ℕ) → Option (List ℕ) → Type 0
+-- the words of the command line ask for a session, which is held without a message; or they are
+-- refused
+abbrev pub IsAsked : Type 0 → Manner → List (List ℕ) → (List (List ℕ) → Option (List ℕ))
+    → Option (List ℕ) → ℕ → Option (List ℕ) → Option (List ℕ) → Option (List ℕ) → Option (List ℕ)
+    → Type 0
 IsAsked A manner typed typed_behind input status w₀ w m₀ m =
     ((fault_of monitor_line typed ≡ [])
     × IsHeld (session_manner manner (session_for typed)) (typed_with typed_behind input (session_for typed).files) status w₀ w

@@ -1,4 +1,5 @@
--- Part of the public promise: what is written about the orders of a run, with names as labels of the addresses that are their values.
+-- Part of the public promise: what is written about the orders of a run, with names as labels of
+-- the addresses that are their values.
 use Rattle.std.specs.Prelude.{ℕ, ◌==◌, ◌++◌, if◌then◌else◌, List, [], ◌∷◌, Option, codes}
 use Rattle.lgp_table.specs.After.{after}
 use Rattle.lgp_table.specs.State.{State}
@@ -14,7 +15,8 @@ use Rattle.lgp_monitor.specs.declared.telling.Telling.TheVariants as tellings
 -- what stands behind an address: a blank and the first name that has it as its value, or nothing
 unfoldable pub label_of : List (List ℕ × ℕ) → ℕ → List ℕ
 label_of [] address = []
-label_of (name ∷ more) address = if name.1 == address then codes " " ++ name.0 else label_of more address
+label_of (name ∷ more) address =
+    if name.1 == address then codes " " ++ name.0 else label_of more address
 
 -- the account of each order below the heading, with where its order came from
 abbrev pub traced : List (List ℕ × ℕ) → State → (ℕ → Option Origin) → ℕ → List ℕ
@@ -26,7 +28,8 @@ profiled names s orders = profile_text (label_of names) orders (profile_of s ord
 
 -- the rows of the drum, from the turn in which the first order begins
 abbrev pub pictured : List (List ℕ × ℕ) → State → ℕ → List ℕ
-pictured names s orders = rows_begun s.clock ++ (drawn s orders ++ rows_ended (after s orders).clock)
+pictured names s orders =
+    rows_begun s.clock ++ (drawn s orders ++ rows_ended (after s orders).clock)
 
 -- what is written about so many orders from a state on
 unfoldable pub told_text : Telling → List (List ℕ × ℕ) → State → (ℕ → Option Origin) → ℕ → List ℕ

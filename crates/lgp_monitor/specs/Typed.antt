@@ -1,5 +1,6 @@
 -- Part of the public promise: what a typed line asks for.
-use Rattle.std.specs.Prelude.{ℕ, ◌==◌, ◌||◌, Bool, if◌then◌else◌, is_some, Option, Some, None, Result, Ok, Err, List, codes, slice_index, ℤ, pos, ◌*ℤ◌}
+use Rattle.std.specs.Prelude.{ℕ, ◌==◌, ◌||◌, Bool, if◌then◌else◌, is_some, Option, Some, None}
+use Rattle.std.specs.Prelude.{Result, Ok, Err, List, codes, slice_index, ℤ, pos, ◌*ℤ◌}
 use Rattle.std.specs.Option.{option_or}
 use Rattle.std.specs.Str.{byte, bytes_eq}
 use Rattle.lgp_word.specs.Digits.{word_of_digits}
@@ -30,8 +31,8 @@ use Rattle.lgp_monitor.specs.declared.typed.Typed.TheVariants as typed
 
 -- ---- addresses
 
--- an address is written as an operand of the last source: as ttss, by a name, or by `*`, which is here the counter, and perhaps
--- with a sign and a number behind
+-- an address is written as an operand of the last source: as ttss, by a name, or by `*`, which is
+-- here the counter, and perhaps with a sign and a number behind
 abbrev pub address_by : Result ℕ OperandFault → Option ℕ
 address_by (Ok address) = Some address
 address_by (Err fault) = None
@@ -48,7 +49,8 @@ word_by (Err fault) = None
 abbrev pub operand_at : List ℕ → Option (List ℕ)
 operand_at operands = if has_no_word operands then None else Some (first_word operands)
 
--- an operation of the last source with at most two operands, where the place of the word is that of its `*`
+-- an operation of the last source with at most two operands, where the place of the word is that of
+-- its `*`
 unfoldable pub operation_at : List (List ℕ × ℕ) → ℕ → List ℕ → Option ℕ
 operation_at names place line =
     if has_no_word (behind_word (behind_word (behind_word line)))
@@ -96,7 +98,8 @@ put_by names (Some address) operands = put_word address (value_at names address 
 put_by names None operands = typed.Misformed
 
 unfoldable pub put_typed : List (List ℕ × ℕ) → ℕ → List ℕ → Typed
-put_typed names counter operands = put_by names (address_at names counter (first_word operands)) (behind_word operands)
+put_typed names counter operands =
+    put_by names (address_at names counter (first_word operands)) (behind_word operands)
 
 -- what a command asks for with an address; one of scripts has there its `ttss`
 abbrev pub asked_at : AddressCommand → ℕ → Typed
@@ -178,7 +181,8 @@ asked_alone lone_commands.New = typed.New
 abbrev pub lone_typed : LoneCommand → List ℕ → Typed
 lone_typed command operands = if has_no_word operands then asked_alone command else typed.Misformed
 
--- a command with its operands, by what stands behind its name; of some the script's own form is the only one
+-- a command with its operands, by what stands behind its name; of some the script's own form is the
+-- only one
 abbrev pub typed_by : List (List ℕ × ℕ) → ℕ → Option Verb → List ℕ → Typed
 typed_by names counter (Some (verbs.Lone command)) operands = lone_typed command operands
 typed_by names counter (Some (verbs.Address command)) operands =
@@ -196,9 +200,11 @@ typed_line names counter line =
     if is_some (command_of line) then typed.Itself
     else typed_by names counter (named verb_names (first_word line)) (behind_word line)
 
--- lines that are taken as they stand: all of an open source, too long ones, and those on which nothing is asked
+-- lines that are taken as they stand: all of an open source, too long ones, and those on which
+-- nothing is asked
 abbrev pub stands_for_itself : Bool → Kept → Bool
-stands_for_itself is_open kept = is_open || kept.longer || kept.blank || (slice_index kept.front 0 == byte ";")
+stands_for_itself is_open kept =
+    is_open || kept.longer || kept.blank || (slice_index kept.front 0 == byte ";")
 
 -- what a line asks for, with the names of the last source and the counter
 unfoldable pub typed_of : Bool → List (List ℕ × ℕ) → ℕ → Kept → Typed

@@ -1,5 +1,6 @@
--- Part of the public promise: the commands of the monitor, each with what stands behind its name. Those of the script language are among
--- them, the desk's `quit`, and those that name a file, which the monitor's program takes.
+-- Part of the public promise: the commands of the monitor, each with what stands behind its name.
+-- Those of the script language are among them, the desk's `quit`, and those that name a file, which
+-- the monitor's program takes.
 use Rattle.std.specs.Prelude.{ℕ, Bool, true, false, List, [], ◌∷◌, ◌++◌, codes}
 use Rattle.lgp_monitor.specs.declared.telling.Telling.TheVariants as tellings
 use Rattle.lgp_monitor.specs.declared.verb.AddressCommand.TheVariants as address_commands
@@ -57,10 +58,12 @@ operands_form (verbs.Address command) = codes " ttss"
 operands_form (verbs.Number command) = codes " NUMBER"
 operands_form verbs.Range = codes " ttss NUMBER, at most 64"
 operands_form verbs.ScaledRange = codes " ttss NUMBER, at most 64, or numbers ttss NUMBER POINT"
-operands_form verbs.Word = codes " ttss WORD, FRACTION or OPERATION as in a source, or put ttss = NUMBER or = NUMBER POINT"
+operands_form verbs.Word =
+    codes " ttss WORD, FRACTION or OPERATION as in a source, or put ttss = NUMBER or = NUMBER POINT"
 operands_form verbs.Text = codes " TEXT"
 operands_form verbs.Key = codes " normal, oneop, manual, start, clear, fill, execute, compute or read, or bp32, bp16, bp8, bp4, transfer or sixbit with up or down"
-operands_form verbs.Source = codes ", then its lines, then a point alone; in the program lgp_monitor also source FILE"
+operands_form verbs.Source =
+    codes ", then its lines, then a point alone; in the program lgp_monitor also source FILE"
 operands_form verbs.File = codes " FILE, in the program lgp_monitor"
 operands_form verbs.Command = codes " or help COMMAND"
 operands_form verbs.End = codes ", which ends the program lgp_monitor"

@@ -1,5 +1,7 @@
--- Part of the public promise: what is kept of a line that is read byte by byte, enough to answer it.
-use Rattle.std.specs.Prelude.{ℕ, ◌&&◌, ◌||◌, Bool, if◌then◌else◌, nat_le, nat_lt, List, [], ◌∷◌, ◌++◌, length, take}
+-- Part of the public promise: what is kept of a line that is read byte by byte, enough to answer
+-- it.
+use Rattle.std.specs.Prelude.{ℕ, ◌&&◌, ◌||◌, Bool, if◌then◌else◌, nat_le, nat_lt, List, [], ◌∷◌}
+use Rattle.std.specs.Prelude.{◌++◌, length, take}
 use Rattle.std.specs.List.{list_all}
 use Rattle.lgp_stream.specs.LineWords.{is_space}
 

@@ -1,6 +1,7 @@
--- Part of the public promise: what a language of lines is, the replies to a text in it, and what stands written of them where
--- the text was not answered to its end.
-use Rattle.std.specs.Prelude.{◌≡◌, ℕ, ◌+◌, ◌-◌, ◌^◌, ◌≤◌, ◌==◌, Bool, true, min, List, [], ◌∷◌, ◌++◌, length, take, count_by, slice_index, Option, Some, ⊤}
+-- Part of the public promise: what a language of lines is, the replies to a text in it, and what
+-- stands written of them where the text was not answered to its end.
+use Rattle.std.specs.Prelude.{◌≡◌, ℕ, ◌+◌, ◌-◌, ◌^◌, ◌≤◌, ◌==◌, Bool, true, min, List, [], ◌∷◌}
+use Rattle.std.specs.Prelude.{◌++◌, length, take, count_by, slice_index, Option, Some, ⊤}
 use Rattle.std.specs.List.{concat}
 use Rattle.std.specs.Io.KnownBytes.{Appends, Consumes}
 use Rattle.std.specs.Str.{byte}
@@ -8,7 +9,8 @@ use Rattle.std.specs.Str.Lines.{lines}
 use Rattle.lgp_stream.specs.declared.stream.StreamFault.{StreamFault}
 use Rattle.lgp_stream.specs.declared.stream.StreamFault.TheVariants.{Read, Write, Memory}
 
--- the reply to a line, empty where it has none, and the state after it; and the reply to the text's end
+-- the reply to a line, empty where it has none, and the state after it; and the reply to the text's
+-- end
 pub record Language (S : Type 0) : Type 0 where
   pub reply : S → List ℕ → List ℕ
   pub after : S → List ℕ → S
@@ -17,7 +19,8 @@ pub record Language (S : Type 0) : Type 0 where
 -- the replies to lines, one after another, and the state after them
 abbrev pub replies_to : {S : Type 0} → Language S → S → List (List ℕ) → List (List ℕ)
 replies_to language s [] = []
-replies_to language s (line ∷ more) = language.reply s line ∷ replies_to language (language.after s line) more
+replies_to language s (line ∷ more) =
+    language.reply s line ∷ replies_to language (language.after s line) more
 
 abbrev pub state_after : {S : Type 0} → Language S → S → List (List ℕ) → S
 state_after language s [] = s
@@ -26,9 +29,11 @@ state_after language s (line ∷ more) = state_after language (language.after s 
 -- the replies to a text: to its lines, and to its end
 unfoldable pub text_replies : {S : Type 0} → Language S → S → List ℕ → List (List ℕ)
 text_replies language s text =
-    replies_to language s (lines text) ++ language.closing (state_after language s (lines text)) ∷ []
+    replies_to language s (lines text)
+    ++ language.closing (state_after language s (lines text)) ∷ []
 
--- how far a number of 64 bits counts, and how many replies begin with a question mark, as far as that
+-- how far a number of 64 bits counts, and how many replies begin with a question mark, as far as
+-- that
 abbrev pub count_limit : ℕ
 count_limit = 2 ^ 64 - 1
 
@@ -45,14 +50,17 @@ is_line_feed character = character == byte "\n"
 abbrev pub complete_lines : List ℕ → List (List ℕ)
 complete_lines text = take (count_by is_line_feed text) (lines text)
 
--- of a text that was read in part, the replies to the complete lines of that part were written, behind those in front
-pub record HasReadPart {S : Type 0} (front : List (List ℕ)) (language : Language S) (s : S) (text : List ℕ) (left w₀ w : Option (List ℕ)) : Type 0 where
+-- of a text that was read in part, the replies to the complete lines of that part were written,
+-- behind those in front
+pub record HasReadPart {S : Type 0} (front : List (List ℕ)) (language : Language S) (s : S)
+    (text : List ℕ) (left w₀ w : Option (List ℕ)) : Type 0 where
   pub part : List ℕ
   pub consumed : Consumes (Some text) left part
   pub sent : Appends w₀ w (concat (front ++ replies_to language s (complete_lines part)))
 
 -- the first bytes of the replies were written, so many as counted
-pub record HasWrittenBytes (count : ℕ) (w₀ w : Option (List ℕ)) (replies : List (List ℕ)) : Type 0 where
+pub record HasWrittenBytes (count : ℕ) (w₀ w : Option (List ℕ))
+    (replies : List (List ℕ)) : Type 0 where
   pub taken : ℕ
   pub within : taken ≤ length (concat replies)
   pub sent : Appends w₀ w (take taken (concat replies))
@@ -67,10 +75,13 @@ pub record HasWrittenReplies (w₀ w : Option (List ℕ)) (replies : List (List 
   pub sent : Appends w₀ w (concat first)
 
 -- what stands written after each fault, of replies in front and of the replies to a text
-abbrev pub StandsWritten : {S : Type 0} → List (List ℕ) → Language S → S → StreamFault → List ℕ → Option (List ℕ) → Option (List ℕ) → Option (List ℕ) → Type 0
+abbrev pub StandsWritten : {S : Type 0} → List (List ℕ) → Language S → S → StreamFault → List ℕ
+    → Option (List ℕ) → Option (List ℕ) → Option (List ℕ) → Type 0
 StandsWritten front language s Read text left w₀ w = HasReadPart front language s text left w₀ w
-StandsWritten front language s (Write count) text left w₀ w = HasWrittenBytes count w₀ w (front ++ text_replies language s text)
-StandsWritten front language s Memory text left w₀ w = HasWrittenReplies w₀ w (front ++ text_replies language s text)
+StandsWritten front language s (Write count) text left w₀ w =
+    HasWrittenBytes count w₀ w (front ++ text_replies language s text)
+StandsWritten front language s Memory text left w₀ w =
+    HasWrittenReplies w₀ w (front ++ text_replies language s text)
 
 -- whose failure a fault tells: the reader's, the writer's
 abbrev pub HasCause : StreamFault → Bool → Bool → Type 0
@@ -84,7 +95,8 @@ HasStopped Read w₀ w replies = ⊥
 HasStopped (Write count) w₀ w replies = HasWrittenBytes count w₀ w replies
 HasStopped Memory w₀ w replies = HasWrittenReplies w₀ w replies
 
--- what stands written of one text after each fault: nothing, or so many of its first bytes as are counted
+-- what stands written of one text after each fault: nothing, or so many of its first bytes as are
+-- counted
 abbrev pub StandsOf : List ℕ → StreamFault → Option (List ℕ) → Option (List ℕ) → Type 0
 StandsOf text Read w₀ w = Appends w₀ w []
 StandsOf text (Write count) w₀ w = HasWrittenBytes count w₀ w (text ∷ [])

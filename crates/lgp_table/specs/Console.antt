@@ -1,5 +1,5 @@
--- Part of the public promise. The console (Operations Manual, "The control panel"): what each action does. When an action is
--- live is this project's own choice; a dead action changes nothing.
+-- Part of the public promise. The console (Operations Manual, "The control panel"): what each
+-- action does. When an action is live is this project's own choice; a dead action changes nothing.
 use Rattle.std.specs.Prelude.{ℕ, ◌&&◌, Bool, true, false, not, if◌then◌else◌}
 use Rattle.lgp_word.specs.Word.{stored}
 use Rattle.lgp_flexo.specs.Code.{is_stop, is_skipped}
@@ -15,7 +15,8 @@ use Rattle.lgp_table.specs.declared.panel.Which.TheVariants.{B32, B16, B8, B4}
 use Rattle.lgp_table.specs.declared.panel.Mode.{Mode}
 use Rattle.lgp_table.specs.declared.panel.Mode.TheVariants.{Normal, OneOperation, Manual}
 use Rattle.lgp_table.specs.declared.panel.Status.{Status}
-use Rattle.lgp_table.specs.declared.panel.Status.TheVariants.{Halted, Going, Executing, Waiting, Reading}
+use Rattle.lgp_table.specs.declared.panel.Status.TheVariants.{Halted, Going, Executing, Waiting}
+use Rattle.lgp_table.specs.declared.panel.Status.TheVariants.{Reading}
 use Rattle.lgp_table.specs.declared.panel.Cause.TheVariants.{Operator}
 
 -- what the console acts on
@@ -54,7 +55,8 @@ takes_codes _ mode = false
 -- whether a key is live: a skipped code never is, the conditional stop only where an input waits
 abbrev pub key_is_live : Panel → ℕ → Bool
 key_is_live panel code =
-    if is_stop code then is_waiting panel.status else takes_codes panel.status panel.mode && not (is_skipped code)
+    if is_stop code
+    then is_waiting panel.status else takes_codes panel.status panel.mode && not (is_skipped code)
 
 -- whether an action is live
 abbrev pub is_live : Panel → Action → Bool
@@ -70,7 +72,8 @@ is_live panel (actions.BreakPoint which down) = true
 is_live panel (actions.Transfer down) = true
 is_live panel (actions.SixBit down) = true
 
--- the status after a mode button: OneOperation stops a going machine, Manual any that has not halted
+-- the status after a mode button: OneOperation stops a going machine, Manual any that has not
+-- halted
 abbrev pub status_in_mode : Mode → Status → Status
 status_in_mode Normal status = status
 status_in_mode OneOperation Going = Halted Operator
@@ -87,23 +90,36 @@ with_break_point switches B4 down = record switches { b4 = down }
 -- a key struck: the conditional stop ends the input, any other code enters
 abbrev pub after_key : Panel → ℕ → Panel
 after_key panel code = record panel {
-  accumulator = if is_stop code then panel.accumulator else accumulator_after panel.switches.six_bit panel.accumulator code;
+  accumulator =
+      if is_stop code
+      then panel.accumulator else accumulator_after panel.switches.six_bit panel.accumulator code;
   status = if is_stop code then resume panel.mode else panel.status;
 }
 
 -- what a live action does
 abbrev pub effect_on : Desk → Action → Desk
-effect_on desk (actions.Mode mode) = record desk { panel = record desk.panel { mode = mode; status = status_in_mode mode desk.panel.status } }
+effect_on desk (actions.Mode mode) = record desk {
+  panel = record desk.panel { mode = mode; status = status_in_mode mode desk.panel.status };
+}
 effect_on desk actions.Start = record desk { panel = record desk.panel { status = Going } }
 effect_on desk actions.ClearCounter = record desk { panel = record desk.panel { counter = 0 } }
-effect_on desk actions.Fill = record desk { panel = record desk.panel { register = stored desk.panel.accumulator } }
+effect_on desk actions.Fill =
+    record desk { panel = record desk.panel { register = stored desk.panel.accumulator } }
 effect_on desk actions.Execute = record desk { panel = record desk.panel { status = Executing } }
 effect_on desk (actions.Key code) = record desk { panel = after_key desk.panel code }
-effect_on desk actions.StartCompute = record desk { panel = record desk.panel { status = resume desk.panel.mode } }
-effect_on desk actions.StartRead = record { panel = record desk.panel { status = Reading }; tape = record desk.tape { on = true } }
-effect_on desk (actions.BreakPoint which down) = record desk { panel = record desk.panel { switches = with_break_point desk.panel.switches which down } }
-effect_on desk (actions.Transfer down) = record desk { panel = record desk.panel { switches = record desk.panel.switches { transfer = down } } }
-effect_on desk (actions.SixBit down) = record desk { panel = record desk.panel { switches = record desk.panel.switches { six_bit = down } } }
+effect_on desk actions.StartCompute =
+    record desk { panel = record desk.panel { status = resume desk.panel.mode } }
+effect_on desk actions.StartRead =
+    record { panel = record desk.panel { status = Reading }; tape = record desk.tape { on = true } }
+effect_on desk (actions.BreakPoint which down) = record desk {
+  panel = record desk.panel { switches = with_break_point desk.panel.switches which down };
+}
+effect_on desk (actions.Transfer down) = record desk {
+  panel = record desk.panel { switches = record desk.panel.switches { transfer = down } };
+}
+effect_on desk (actions.SixBit down) = record desk {
+  panel = record desk.panel { switches = record desk.panel.switches { six_bit = down } };
+}
 
 -- what an action does: nothing where it is dead
 abbrev pub desk_after : Desk → Action → Desk

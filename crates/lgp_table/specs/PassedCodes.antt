@@ -1,5 +1,6 @@
--- Part of the public promise. The codes that have passed the reader stand in the state so that a step back can put the tape back.
--- No order, cost or action looks at them: this says what a state is without them.
+-- Part of the public promise. The codes that have passed the reader stand in the state so that a
+-- step back can put the tape back. No order, cost or action looks at them: this says what a state
+-- is without them.
 use Rattle.std.specs.Prelude.{[]}
 use Rattle.lgp_flexo.specs.Tape.{Tape}
 use Rattle.lgp_table.specs.State.{Core, State}

@@ -1,5 +1,5 @@
--- Part of the public promise. The switches BREAK POINT and TRANSFER CONTROL (Operations Manual, "The control panel"): which orders
--- look at them, and what it is to press nothing else.
+-- Part of the public promise. The switches BREAK POINT and TRANSFER CONTROL (Operations Manual,
+-- "The control panel"): which orders look at them, and what it is to press nothing else.
 use Rattle.std.specs.Prelude.{ℕ, Bool, true, false, nat_le, Option, Some, None}
 use Rattle.lgp_word.specs.Address.{track_of}
 use Rattle.lgp_word.specs.Order.{address_at, op_at, sign_of}
@@ -13,7 +13,8 @@ use Rattle.lgp_table.specs.declared.action.Event.{Event}
 use Rattle.lgp_table.specs.declared.action.Event.TheVariants.{WordTime, Press}
 use Rattle.lgp_table.specs.declared.panel.Switches.{Switches}
 
--- whether an order looks at them: a z whose track number has one of the bits 32, 16, 8, 4, and a t with a minus
+-- whether an order looks at them: a z whose track number has one of the bits 32, 16, 8, 4, and a t
+-- with a minus
 abbrev pub order_looks : Op → Bool → ℕ → Bool
 order_looks Z minus m = nat_le 4 (track_of m)
 order_looks T minus m = minus
@@ -34,7 +35,11 @@ looks_at_switches s = looks (begun_order s.core)
 -- the same state with BREAK POINT and TRANSFER CONTROL set as given; 6 BIT INPUT stays
 abbrev pub core_with_switches : Core → Switches → Core
 core_with_switches core switches =
-    record core { panel = record core.panel { switches = record switches { six_bit = core.panel.switches.six_bit } } }
+    record core {
+      panel = record core.panel {
+        switches = record switches { six_bit = core.panel.switches.six_bit };
+      };
+    }
 
 abbrev pub with_switches : State → Switches → State
 with_switches s switches = record s { core = core_with_switches s.core switches }

@@ -1,8 +1,8 @@
--- Part of the public promise. How worked orders are written down: addresses by track and sector, order words by their letter, tapes
--- by their codes, and how an order begins.
+-- Part of the public promise. How worked orders are written down: addresses by track and sector,
+-- order words by their letter, tapes by their codes, and how an order begins.
 use Rattle.std.specs.Prelude.{◌≡◌, ℕ, ◌+◌, ◌*◌, false, true, List, [], ◌∷◌}
 use Rattle.lgp_word.specs.Drum.{track_size}
-use Rattle.lgp_word.specs.Order.{order_word}
+use Rattle.lgp_word.specs.Order.{order_word, plain_order}
 use Rattle.lgp_word.specs.declared.order.Op.{Op}
 use Rattle.lgp_word.specs.declared.order.Op.TheVariants.{T}
 use Rattle.lgp_flexo.specs.Tape.{Tape}
@@ -16,7 +16,7 @@ at track sector = track_size * track + sector
 
 -- an order word: the letter, and the track and the sector of the address
 abbrev pub order : Op → ℕ → ℕ → ℕ
-order op track sector = order_word (record { minus = false; op = op; address = at track sector })
+order op track sector = plain_order op (at track sector)
 
 -- a t with a minus
 abbrev pub minus_t : ℕ → ℕ → ℕ
@@ -26,7 +26,8 @@ minus_t track sector = order_word (record { minus = true; op = T; address = at t
 abbrev pub tape_to_read : List ℕ → Tape
 tape_to_read codes = record { on = true; passed = []; left = codes }
 
--- the codes of 1 2, a carriage return (which is skipped) and 3, and the same with a conditional stop behind them
+-- the codes of 1 2, a carriage return (which is skipped) and 3, and the same with a conditional
+-- stop behind them
 abbrev pub unended_tape : List ℕ
 unended_tape = 6 ∷ 10 ∷ 16 ∷ 14 ∷ []
 
@@ -36,5 +37,6 @@ worked_tape = 6 ∷ 10 ∷ 16 ∷ 14 ∷ 32 ∷ []
 -- At this clock the machine, in Normal, begins the order at the counter, and this is its word.
 abbrev pub Begins : State → ℕ → ℕ → ℕ → Type 0
 Begins s clock counter word =
-    (s.clock ≡ clock) × (s.core.panel.status ≡ Going) × (s.core.panel.mode ≡ Normal) × (s.core.panel.counter ≡ counter)
+    (s.clock ≡ clock) × (s.core.panel.status ≡ Going) × (s.core.panel.mode ≡ Normal)
+    × (s.core.panel.counter ≡ counter)
     × (word_at s.core counter ≡ word)

@@ -1,4 +1,5 @@
--- Part of the public promise: the command line as `clap` is given it: each command with its arguments, one definition each.
+-- Part of the public promise: the command line as `clap` is given it: each command with its
+-- arguments, one definition each.
 use Rattle.std.specs.Prelude.{pos, true, Some, [], codes}
 use Rattle.clap.specs.Lexer.{usize_max}
 use Rattle.clap.specs.Words.{App, Rule, new_app, new_rule, with_rule, with_subcommand}
@@ -43,7 +44,8 @@ batch_command = with_rule (new_app (codes "batch")) files_rule
 
 -- `lgp_lab`, which knows its version
 abbrev pub bare_line : App
-bare_line = record { top = record (new_app (codes "lgp_lab")).top { has_version = true }; subs = [] }
+bare_line =
+    record { top = record (new_app (codes "lgp_lab")).top { has_version = true }; subs = [] }
 
 -- the command line: `lgp_lab`, which takes one of the five commands, or none
 unfoldable pub command_line : App

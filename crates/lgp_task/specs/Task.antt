@@ -1,10 +1,13 @@
--- Part of the public promise: the task that the matches of a command line hold, and which refusals its faults allow.
-use Rattle.std.specs.Prelude.{◌≡◌, ℕ, Bool, true, false, List, [], Option, Some, None, codes, if◌then◌else◌, unwrap_or}
+-- Part of the public promise: the task that the matches of a command line hold, and which refusals
+-- its faults allow.
+use Rattle.std.specs.Prelude.{◌≡◌, ℕ, Bool, true, false, List, [], Option, Some, None, codes}
+use Rattle.std.specs.Prelude.{if◌then◌else◌, unwrap_or}
 use Rattle.std.specs.Option.{option_map_or}
 use Rattle.std.specs.Str.{bytes_eq}
 use Rattle.std.specs.Str.Parse.{digits_value, without_leading_plus}
 use Rattle.clap.specs.ValueTests.{is_unsigned_in}
-use Rattle.clap.specs.Words.{App, IsAmong, Kinds, Row, Text, all_of, fault_of, first_of, matches_of, one_of, subcommand_of, takes}
+use Rattle.clap.specs.Words.{App, IsAmong, Kinds, Row, Text, all_of, fault_of, first_of, matches_of}
+use Rattle.clap.specs.Words.{one_of, subcommand_of, takes}
 use Rattle.clap.specs.declared.error.kind.ErrorKind.{ErrorKind}
 use Rattle.clap.specs.declared.error.kind.ErrorKind.TheVariants.{DisplayHelp, DisplayVersion}
 use Rattle.lgp_task.specs.CommandLine.{command_line, monitor_line}
@@ -13,8 +16,8 @@ use Rattle.lgp_task.specs.declared.task.Task.TheVariants.{Stdin, Asm, Tape, Run,
 use Rattle.lgp_task.specs.declared.task.TaskFault.{TaskFault}
 use Rattle.lgp_task.specs.declared.task.TaskFault.TheVariants.{Usage, Help, Memory}
 
--- the file that the matches of a command hold, and all of its files in the order in which they were typed; none is the
--- empty text, or the empty list
+-- the file that the matches of a command hold, and all of its files in the order in which they were
+-- typed; none is the empty text, or the empty list
 abbrev pub file_in : List Row → Text
 file_in rows = unwrap_or (first_of (codes "FILE") rows) []
 
@@ -24,7 +27,8 @@ files_in rows = unwrap_or (all_of (codes "FILE") rows) []
 -- the number that a text of decimal digits stands for, below 2^64; any other text stands for 0
 abbrev pub number_of : Text → ℕ
 number_of text =
-    if is_unsigned_in 0 18446744073709551615 text then digits_value 10 (without_leading_plus text) else 0
+    if is_unsigned_in 0 18446744073709551615 text
+    then digits_value 10 (without_leading_plus text) else 0
 
 -- the limit that the matches of a command hold; none is 0
 abbrev pub limit_in : List Row → ℕ
@@ -55,7 +59,8 @@ is_request DisplayHelp = true
 is_request DisplayVersion = true
 is_request _ = false
 
--- a refusal is one for memory, or one of these faults is its cause: a request is answered with help, a mistake with the usage
+-- a refusal is one for memory, or one of these faults is its cause: a request is answered with
+-- help, a mistake with the usage
 abbrev pub IsRefusalOf : {A : Type 0} → Kinds → TaskFault A → Type 0
 IsRefusalOf kinds (Usage text) = (kind : ErrorKind) × IsAmong kind kinds × (is_request kind ≡ false)
 IsRefusalOf kinds (Help text) = (kind : ErrorKind) × IsAmong kind kinds × (is_request kind ≡ true)
@@ -65,9 +70,11 @@ IsRefusalOf kinds Memory = Unit {0}
 abbrev pub task_for : {A : Type 0} → List Text → Task A
 task_for typed = task_in (subcommand_of command_line typed)
 
--- a refusal that the faults of these words allow; where the command line takes them, it is for want of memory
+-- a refusal that the faults of these words allow; where the command line takes them, it is for want
+-- of memory
 abbrev pub IsFaultOn : {A : Type 0} → App → List Text → TaskFault A → Type 0
-IsFaultOn line typed fault = IsRefusalOf (fault_of line typed) fault × (takes line typed ≡ true → fault ≡ Memory)
+IsFaultOn line typed fault =
+    IsRefusalOf (fault_of line typed) fault × (takes line typed ≡ true → fault ≡ Memory)
 
 abbrev pub IsFaultOf : {A : Type 0} → List Text → TaskFault A → Type 0
 IsFaultOf typed fault = IsFaultOn command_line typed fault

@@ -3,7 +3,8 @@ use Rattle.std.specs.Prelude.{ℕ, Bool, if◌then◌else◌, List, [], ◌∷�
 use Rattle.std.specs.Str.{byte}
 use Rattle.lgp_table.specs.declared.panel.Switches.{Switches}
 use Rattle.lgp_table.specs.declared.panel.Status.{Status}
-use Rattle.lgp_table.specs.declared.panel.Status.TheVariants.{Halted, Going, Executing, Waiting, Reading}
+use Rattle.lgp_table.specs.declared.panel.Status.TheVariants.{Halted, Going, Executing, Waiting}
+use Rattle.lgp_table.specs.declared.panel.Status.TheVariants.{Reading}
 use Rattle.lgp_table.specs.declared.panel.Cause.TheVariants.{Operator, Stop, Overflow, Step}
 use Rattle.lgp_table.specs.declared.panel.Mode.{Mode}
 use Rattle.lgp_table.specs.declared.panel.Mode.TheVariants.{Normal, OneOperation, Manual}
@@ -29,7 +30,8 @@ switch_text down = if down then byte "d" else byte "u"
 
 unfoldable pub switches_text : Switches → List ℕ
 switches_text switches =
-    switch_text switches.b32 ∷ switch_text switches.b16 ∷ switch_text switches.b8 ∷ switch_text switches.b4
+    switch_text switches.b32 ∷ switch_text switches.b16 ∷ switch_text switches.b8
+    ∷ switch_text switches.b4
     ∷ switch_text switches.transfer ∷ switch_text switches.six_bit ∷ []
 
 unfoldable pub on_text : Bool → List ℕ

@@ -1,8 +1,11 @@
--- Part of the public promise. The lines of an account: one with its columns, then those that begin with eight blanks, each only
--- where there is something to say. A label says what stands behind an address; for an address without one that is nothing.
-use Rattle.std.specs.Prelude.{ℕ, ◌-◌, ◌/◌, ◌^◌, ◌++◌, ◌==◌, ◌&&◌, Bool, true, false, if◌then◌else◌, Option, Some, None, List, [], ◌∷◌, codes, decimal}
+-- Part of the public promise. The lines of an account: one with its columns, then those that begin
+-- with eight blanks, each only where there is something to say. A label says what stands behind an
+-- address; for an address without one that is nothing.
+use Rattle.std.specs.Prelude.{ℕ, ◌-◌, ◌/◌, ◌^◌, ◌++◌, ◌==◌, ◌&&◌, Bool, true, false, if◌then◌else◌}
+use Rattle.std.specs.Prelude.{Option, Some, None, List, [], ◌∷◌, codes, decimal}
 use Rattle.lgp_word.specs.Digits.{address_digits, digits_of}
-use Rattle.lgp_word.specs.Order.{OrderParts, address_at, decoded, op_at, op_letter, sign_of, takes_minus}
+use Rattle.lgp_word.specs.Order.{OrderParts, address_at, decoded, op_at, op_letter, sign_of}
+use Rattle.lgp_word.specs.Order.{takes_minus}
 use Rattle.lgp_word.specs.declared.order.Op.{Op}
 use Rattle.lgp_word.specs.declared.order.Op.TheVariants.{Z, I, P}
 use Rattle.lgp_flexo.specs.Code.{sign_at}
@@ -18,7 +21,8 @@ use Rattle.lgp_trace.specs.declared.phases.Phases.{Phases}
 
 -- the line above accounts
 unfoldable pub heading_text : List ℕ
-heading_text = codes "  clock  at           order           find take seek  act   sum  accumulator\n"
+heading_text =
+    codes "  clock  at           order           find take seek  act   sum  accumulator\n"
 
 -- ---- addresses, orders and words
 
@@ -52,7 +56,8 @@ performed_text label word = parts_text label (sign_of word) (op_at word) (addres
 
 -- a word as a number, one half of its bits with its sign: the binary point stands behind bit 30
 abbrev pub number_text : ℕ → List ℕ
-number_text word = if sign_of word then codes "-" ++ decimal ((2 ^ 32 - word) / 2) else decimal (word / 2)
+number_text word =
+    if sign_of word then codes "-" ++ decimal ((2 ^ 32 - word) / 2) else decimal (word / 2)
 
 -- an order behind the digits of the word that is one
 abbrev pub order_behind : (ℕ → List ℕ) → Option OrderParts → ℕ → List ℕ
@@ -83,7 +88,8 @@ phases_text phases =
 -- the accumulator, or before and after it has changed
 unfoldable pub accumulator_text : ℕ → ℕ → List ℕ
 accumulator_text before after =
-    if before == after then digits_of before else digits_of before ++ (codes " -> " ++ digits_of after)
+    if before == after
+    then digits_of before else digits_of before ++ (codes " -> " ++ digits_of after)
 
 -- where the order stands, and the order
 unfoldable pub order_columns : (ℕ → List ℕ) → Account → List ℕ
@@ -95,11 +101,13 @@ order_columns label account =
 unfoldable pub result_columns : Account → List ℕ
 result_columns account =
     phases_text account.phases
-    ++ (codes "  " ++ (accumulator_text account.before.accumulator account.after.accumulator ++ codes "\n"))
+    ++ (codes "  "
+    ++ (accumulator_text account.before.accumulator account.after.accumulator ++ codes "\n"))
 
 unfoldable pub account_line : (ℕ → List ℕ) → Account → List ℕ
 account_line label account =
-    right_aligned 7 account.before.clock ++ (codes "  " ++ (order_columns label account ++ result_columns account))
+    right_aligned 7 account.before.clock
+    ++ (codes "  " ++ (order_columns label account ++ result_columns account))
 
 -- ---- the lines below it
 
@@ -110,15 +118,18 @@ register_line _ = []
 -- a word, and the one that took its place
 unfoldable pub change_text : (ℕ → List ℕ) → ℕ → ℕ → List ℕ
 change_text label before after =
-    codes ": " ++ (word_text label before ++ (codes " -> " ++ (word_text label after ++ codes "\n")))
+    codes ": "
+    ++ (word_text label before ++ (codes " -> " ++ (word_text label after ++ codes "\n")))
 
 -- what an order has stored: the word that stood there and the one that does
 unfoldable pub stored_line : (ℕ → List ℕ) → Operand → List ℕ
 stored_line label operand =
-    codes "        " ++ (place_text label operand.address ++ change_text label operand.found operand.left)
+    codes "        "
+    ++ (place_text label operand.address ++ change_text label operand.found operand.left)
 
 abbrev pub stored_lines : (ℕ → List ℕ) → Option ℕ → Option Operand → List ℕ
-stored_lines label (Some order) (Some operand) = if stores (op_at order) then stored_line label operand else []
+stored_lines label (Some order) (Some operand) =
+    if stores (op_at order) then stored_line label operand else []
 stored_lines label _ _ = []
 
 -- the sign of a code behind its number, where it has one
@@ -127,14 +138,16 @@ sign_text None = []
 sign_text (Some sign) = codes ", sign \"" ++ (sign ∷ codes "\"")
 
 unfoldable pub printed_line : ℕ → List ℕ
-printed_line code = codes "        printed code " ++ (decimal code ++ (sign_text (sign_at code) ++ codes "\n"))
+printed_line code =
+    codes "        printed code " ++ (decimal code ++ (sign_text (sign_at code) ++ codes "\n"))
 
 abbrev pub printed_lines : Option ℕ → List ℕ
 printed_lines None = []
 printed_lines (Some code) = printed_line code
 
 abbrev pub passed_lines : ℕ → List ℕ
-passed_lines count = if count == 0 then [] else codes "        codes passed: " ++ (decimal count ++ codes "\n")
+passed_lines count =
+    if count == 0 then [] else codes "        codes passed: " ++ (decimal count ++ codes "\n")
 
 unfoldable pub account_details : (ℕ → List ℕ) → Account → List ℕ
 account_details label account =

@@ -1,5 +1,5 @@
--- Part of the public promise. Columns of a line: a number stands at the right of its column and a text at the left; what is wider
--- than its column stands whole.
+-- Part of the public promise. Columns of a line: a number stands at the right of its column and a
+-- text at the left; what is wider than its column stands whole.
 use Rattle.std.specs.Prelude.{ℕ, ◌-◌, ◌++◌, List, codes, decimal, length, replicate}
 use Rattle.std.specs.Str.{byte}
 

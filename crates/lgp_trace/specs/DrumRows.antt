@@ -1,6 +1,8 @@
--- Part of the public promise. Accounts drawn along the drum: a sign for each word time, a row for each turn with its clock in
--- front. In the k-th column of a row the head reads the position k, and in the last one 0.
-use Rattle.std.specs.Prelude.{ℕ, zero, suc, ◌+◌, ◌-◌, ◌%◌, ◌++◌, ◌==◌, if◌then◌else◌, Option, Some, None, List, [], ◌∷◌, codes, replicate}
+-- Part of the public promise. Accounts drawn along the drum: a sign for each word time, a row for
+-- each turn with its clock in front. In the k-th column of a row the head reads the position k, and
+-- in the last one 0.
+use Rattle.std.specs.Prelude.{ℕ, zero, suc, ◌+◌, ◌-◌, ◌%◌, ◌++◌, ◌==◌, if◌then◌else◌, Option, Some}
+use Rattle.std.specs.Prelude.{None, List, [], ◌∷◌, codes, replicate}
 use Rattle.std.specs.Str.{byte}
 use Rattle.lgp_trace.specs.Columns.{blanks, right_aligned}
 use Rattle.lgp_trace.specs.Account.{stored_address}
@@ -37,7 +39,8 @@ row_head clock = right_aligned 7 clock ++ codes "  "
 -- one sign at its clock: a row begins with each turn, and ends with it
 abbrev pub sign_in_row : ℕ → ℕ → List ℕ
 sign_in_row clock sign =
-    (if clock % 64 == 0 then row_head clock else []) ++ (sign ∷ (if clock % 64 == 63 then codes "\n" else []))
+    (if clock % 64 == 0 then row_head clock else [])
+    ++ (sign ∷ (if clock % 64 == 63 then codes "\n" else []))
 
 -- signs from a clock on
 abbrev pub signs_in_rows : ℕ → List ℕ → List ℕ
@@ -46,7 +49,8 @@ signs_in_rows clock (sign ∷ more) = sign_in_row clock sign ++ signs_in_rows (c
 
 -- the head of the row in which a picture begins, and blanks up to its clock
 unfoldable pub rows_begun : ℕ → List ℕ
-rows_begun clock = if clock % 64 == 0 then [] else row_head (clock - clock % 64) ++ blanks (clock % 64)
+rows_begun clock =
+    if clock % 64 == 0 then [] else row_head (clock - clock % 64) ++ blanks (clock % 64)
 
 -- the end of the row in which a picture ends
 unfoldable pub rows_ended : ℕ → List ℕ

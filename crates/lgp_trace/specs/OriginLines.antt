@@ -1,5 +1,7 @@
--- Part of the public promise. What is written about where words came from. A label says what stands behind an address.
-use Rattle.std.specs.Prelude.{ℕ, ◌++◌, ◌==◌, if◌then◌else◌, Option, Some, None, List, [], codes, decimal}
+-- Part of the public promise. What is written about where words came from. A label says what stands
+-- behind an address.
+use Rattle.std.specs.Prelude.{ℕ, ◌++◌, ◌==◌, if◌then◌else◌, Option, Some, None, List, [], codes}
+use Rattle.std.specs.Prelude.{decimal}
 use Rattle.lgp_word.specs.Digits.{digits_of}
 use Rattle.lgp_word.specs.Order.{OrderParts, decoded}
 use Rattle.lgp_table.specs.State.{word_at}
@@ -9,7 +11,8 @@ use Rattle.lgp_history.specs.declared.origin.Changer.TheVariants.{Order, Hand}
 use Rattle.lgp_history.specs.declared.origin.Origin.{Origin}
 use Rattle.lgp_history.specs.declared.origin.PastOrder.{PastOrder}
 use Rattle.lgp_debugger.specs.Debugging.{Debugging}
-use Rattle.lgp_trace.specs.AccountLines.{account_details, account_line, number_text, performed_text, place_text, word_text}
+use Rattle.lgp_trace.specs.AccountLines.{account_details, account_line, number_text, performed_text}
+use Rattle.lgp_trace.specs.AccountLines.{place_text, word_text}
 use Rattle.lgp_trace.specs.declared.account.Account.{Account}
 
 -- where an order stood
@@ -19,7 +22,8 @@ stood_text label (Some place) = codes " at " ++ place_text label place
 
 -- how many orders ago
 abbrev pub ago_text : ℕ → List ℕ
-ago_text orders = decimal orders ++ (if orders == 1 then codes " order ago" else codes " orders ago")
+ago_text orders =
+    decimal orders ++ (if orders == 1 then codes " order ago" else codes " orders ago")
 
 -- an order, where it stood and when
 unfoldable pub past_order_text : (ℕ → List ℕ) → PastOrder → List ℕ
@@ -69,8 +73,10 @@ reason_text label (Some origin) = origin_text label origin
 
 unfoldable pub why_line : (ℕ → List ℕ) → ℕ → ℕ → Option Origin → List ℕ
 why_line label address word origin =
-    place_text label address ++ (codes ": " ++ (word_text label word ++ (codes ", " ++ reason_text label origin)))
+    place_text label address
+    ++ (codes ": " ++ (word_text label word ++ (codes ", " ++ reason_text label origin)))
 
 -- the same of a debugger's drum and kept steps
 abbrev pub why_text : (ℕ → List ℕ) → Debugging → ℕ → List ℕ
-why_text label d address = why_line label address (word_at d.state.core address) (latest_change address d.steps)
+why_text label d address =
+    why_line label address (word_at d.state.core address) (latest_change address d.steps)

@@ -6,7 +6,8 @@ use Rattle.lgp_word.specs.Drum.{position_of, position_under_head}
 use Rattle.lgp_word.specs.Order.{address_at, op_at}
 use Rattle.lgp_flexo.specs.Tape.{Tape}
 use Rattle.lgp_table.specs.State.{State}
-use Rattle.lgp_table.specs.Activity.{BegunOrder, act_time, begun_order, find_time, seek_time, take_time, time_alone}
+use Rattle.lgp_table.specs.Activity.{BegunOrder, act_time, begun_order, find_time, seek_time}
+use Rattle.lgp_table.specs.Activity.{take_time, time_alone}
 use Rattle.lgp_table.specs.declared.panel.Status.{Status}
 use Rattle.lgp_trace.specs.declared.phases.Phases.{Phases}
 

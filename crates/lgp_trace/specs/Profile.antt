@@ -1,6 +1,7 @@
 -- Part of the public promise. Profiles: the word times of many activities by phase, and by the
 -- address of the order.
-use Rattle.std.specs.Prelude.{ℕ, zero, suc, ◌+◌, List, Option, Some, None, replicate, slice_index, slice_set}
+use Rattle.std.specs.Prelude.{ℕ, zero, suc, ◌+◌, List, Option, Some, None, replicate, slice_index}
+use Rattle.std.specs.Prelude.{slice_set}
 use Rattle.lgp_table.specs.After.{after}
 use Rattle.lgp_table.specs.State.{State}
 use Rattle.lgp_trace.specs.Account.{account_of}

@@ -1,4 +1,5 @@
--- Part of the public promise. Runs that are told: so many orders of a debugger, and what is written of them.
+-- Part of the public promise. Runs that are told: so many orders of a debugger, and what is written
+-- of them.
 use Rattle.std.specs.Prelude.{ℕ, zero, suc, ◌++◌, List, [], Option}
 use Rattle.lgp_table.specs.After.{after}
 use Rattle.lgp_table.specs.State.{State}
@@ -7,7 +8,8 @@ use Rattle.lgp_trace.specs.Account.{account_of}
 use Rattle.lgp_trace.specs.OriginLines.{told_account}
 use Rattle.lgp_trace.specs.DrumRows.{signs_in_rows, signs_of}
 
--- the accounts of so many orders from a state on, one after another, each with the origin of its order
+-- the accounts of so many orders from a state on, one after another, each with the origin of its
+-- order
 unfoldable pub told : (ℕ → List ℕ) → State → (ℕ → Option Origin) → ℕ → List ℕ
 told label s origins zero = []
 told label s origins (suc count) =

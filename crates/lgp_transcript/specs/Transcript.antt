@@ -1,6 +1,7 @@
--- Part of the public promise: a language of lines that stand for lines of another one, and the transcript, a text of that other
--- language which says what was done.
-use Rattle.std.specs.Prelude.{◌≡◌, ℕ, ◌==◌, ◌-◌, Bool, false, if◌then◌else◌, List, [], ◌∷◌, ◌++◌, length, map, codes, slice_index}
+-- Part of the public promise: a language of lines that stand for lines of another one, and the
+-- transcript, a text of that other language which says what was done.
+use Rattle.std.specs.Prelude.{◌≡◌, ℕ, ◌==◌, ◌-◌, Bool, false, if◌then◌else◌, List, [], ◌∷◌, ◌++◌}
+use Rattle.std.specs.Prelude.{length, map, codes, slice_index}
 use Rattle.std.specs.List.{AllByRecursion, concat}
 use Rattle.std.specs.Borrow.{Bor}
 use Rattle.std.specs.Str.{byte}
@@ -18,7 +19,8 @@ pub data Meaning : Type 0 where
   Lines : List (List ℕ) → Meaning
   Anew : Meaning
 
--- a line as a text has it: behind a carriage return stands another one, since a text's line loses one
+-- a line as a text has it: behind a carriage return stands another one, since a text's line loses
+-- one
 abbrev pub ends_with_return : List ℕ → Bool
 ends_with_return line = slice_index line (length line - 1) == 13
 
@@ -36,7 +38,8 @@ bytes_of texts = map (λ text. text.now) texts
 -- a line that is kept as another one is: its front, and one byte more where it is longer
 unfoldable pub stand_in : Kept → List ℕ
 stand_in kept =
-    if kept.longer then kept.front ++ (if kept.blank then byte " " else byte ".") ∷ [] else kept.front
+    if kept.longer
+    then kept.front ++ (if kept.blank then byte " " else byte ".") ∷ [] else kept.front
 
 -- no byte of a line is a line feed
 abbrev pub IsLine : List ℕ → Type 0
@@ -59,7 +62,8 @@ module _ {S : Type 0} where
 
   -- with a line more in the transcript, and where it stands otherwise
   abbrev pub with_line : Recorded S → List ℕ → Recorded S
-  with_line recorded line = record { standing = recorded.standing; transcript = recorded.transcript ++ ended line }
+  with_line recorded line =
+      record { standing = recorded.standing; transcript = recorded.transcript ++ ended line }
 
   abbrev pub with_standing : Recorded S → S → Recorded S
   with_standing recorded standing = record { standing = standing; transcript = recorded.transcript }
@@ -73,15 +77,18 @@ module _ {S : Type 0} where
   after_meaning language opening recorded (Lines lines) = after_lines language recorded lines
   after_meaning language opening recorded Anew = untouched opening
 
--- a language of lines with a meaning each: its lines do to a transcript and to where it stands what they mean
-abbrev pub HasMeanings : {S : Type 0} → Language S → S → (Recorded S → List ℕ → Meaning) → Language (Recorded S) → Type 0
+-- a language of lines with a meaning each: its lines do to a transcript and to where it stands what
+-- they mean
+abbrev pub HasMeanings : {S : Type 0} → Language S → S → (Recorded S → List ℕ → Meaning)
+    → Language (Recorded S) → Type 0
 HasMeanings {S} language opening meaning typed =
     (recorded : Recorded S) (line : List ℕ)
     → typed.after recorded line ≡ after_meaning language opening recorded (meaning recorded line)
 
 -- lines stand for lines
 abbrev pub StandForLines : {S : Type 0} → (Recorded S → List ℕ → Meaning) → Type 0
-StandForLines {S} meaning = (recorded : Recorded S) (line : List ℕ) → IsLine line → AreLines (meaning recorded line)
+StandForLines {S} meaning =
+    (recorded : Recorded S) (line : List ℕ) → IsLine line → AreLines (meaning recorded line)
 
 -- wherever a text leads, the other language puts it there for the transcript
 abbrev pub IsToldByTranscript : {S : Type 0} → Language S → S → Recorded S → Type 0

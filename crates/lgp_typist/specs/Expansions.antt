@@ -1,5 +1,6 @@
 -- Part of the public promise: what is typed at a desk for what stands in files.
-use Rattle.std.specs.Prelude.{ℕ, zero, suc, ◌-◌, ◌*◌, ◌==◌, ◌||◌, nat_le, if◌then◌else◌, List, [], ◌++◌, codes, decimal, drop, length, slice_index, take}
+use Rattle.std.specs.Prelude.{ℕ, zero, suc, ◌-◌, ◌*◌, ◌==◌, ◌||◌, nat_le, if◌then◌else◌, List, []}
+use Rattle.std.specs.Prelude.{◌++◌, codes, decimal, drop, length, slice_index, take}
 use Rattle.std.specs.Int.{div_ceil}
 use Rattle.lgp_flexo.specs.TapeText.{written_tape}
 use Rattle.lgp_typist.specs.declared.filing.FileTrouble.{FileTrouble}
@@ -42,8 +43,8 @@ typed_block kind name lines = block_head kind name ++ (lines ++ codes "#.\n")
 unfoldable pub typed_restore : List ℕ → List ℕ → List ℕ
 typed_restore name dump = typed_block (codes "restore") name (ended_text dump)
 
--- a tape's text in lines of 1000 codes each, the last one of what is left. A code is written as a sign or as a group [nn], and no
--- code has the sign `#`: so none of these lines ends a block
+-- a tape's text in lines of 1000 codes each, the last one of what is left. A code is written as a
+-- sign or as a group [nn], and no code has the sign `#`: so none of these lines ends a block
 abbrev pub line_codes : ℕ
 line_codes = 1000
 

@@ -1,5 +1,5 @@
--- Part of the public promise: the numbering of the drum (Programming Manual, "The drum"). An address is
--- written ttss, by its track and its sector, and has the number 64 * track + sector.
+-- Part of the public promise: the numbering of the drum (Programming Manual, "The drum"). An
+-- address is written ttss, by its track and its sector, and has the number 64 * track + sector.
 use Rattle.std.specs.Prelude.{ℕ, ◌+◌, ◌/◌, ◌%◌, ◌<◌}
 use Rattle.lgp_word.specs.Drum.{drum_size, track_size}
 

@@ -1,6 +1,7 @@
--- Part of the public promise: decimal numbers, as scripts, sources and fractions write them. Such a number has one decimal digit
--- or more, and at most so many.
-use Rattle.std.specs.Prelude.{ℕ, ◌+◌, ◌-◌, ◌*◌, ◌&&◌, Bool, if◌then◌else◌, nat_le, Option, Some, None, List, length, fold}
+-- Part of the public promise: decimal numbers, as scripts, sources and fractions write them. Such a
+-- number has one decimal digit or more, and at most so many.
+use Rattle.std.specs.Prelude.{ℕ, ◌+◌, ◌-◌, ◌*◌, ◌&&◌, Bool, if◌then◌else◌, nat_le, Option, Some}
+use Rattle.std.specs.Prelude.{None, List, length, fold}
 use Rattle.std.specs.Char.{is_ascii_digit}
 use Rattle.std.specs.List.{list_all}
 use Rattle.std.specs.Str.{byte}
@@ -26,7 +27,8 @@ decimal_of digits = fold with_digit 0 digits
 
 -- a text is a decimal number: at least one digit, at most so many, and digits only
 unfoldable pub is_decimal : ℕ → List ℕ → Bool
-is_decimal most text = nat_le 1 (length text) && nat_le (length text) most && list_all is_ascii_digit text
+is_decimal most text =
+    nat_le 1 (length text) && nat_le (length text) most && list_all is_ascii_digit text
 
 -- the decimal number that a text is, if it is one
 unfoldable pub decimal_number : ℕ → List ℕ → Option ℕ

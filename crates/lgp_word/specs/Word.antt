@@ -1,5 +1,6 @@
--- Part of the public promise: a word of the LGP-30 (Programming Manual, "The word"). It has 32 bits, of which bit 0 is the sign
--- and bit 31, the spacer, is always 0. So a word is an even number below 2^32.
+-- Part of the public promise: a word of the LGP-30 (Programming Manual, "The word"). It has 32
+-- bits, of which bit 0 is the sign and bit 31, the spacer, is always 0. So a word is an even number
+-- below 2^32.
 use Rattle.std.specs.Prelude.{◌≡◌, ℕ, ◌*◌, ◌/◌, ◌%◌, ◌^◌, ◌<◌, ℤ}
 use Rattle.std.specs.Int.{cast_signed, w32}
 

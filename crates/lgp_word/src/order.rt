@@ -2,7 +2,7 @@
 
 ghost use Rattle.std.specs.Prelude.{◌≡◌, ℕ, ◌+◌, ◌-◌, ◌*◌, ◌/◌, ◌%◌, ◌^◌, ◌<◌, ◌↔◌, IsTrue, IsSome, IfSome, Some, Bool};
 ghost use Rattle.lgp_word.specs.Address.{IsAddress};
-ghost use Rattle.lgp_word.specs.Order.{IsOrder, OrderParts, address_at, decoded, letter_number, op_at, op_letter, op_number, op_of, op_of_letter, order_word, parts_of, sign_of, with_address_of};
+ghost use Rattle.lgp_word.specs.Order.{IsOrder, OrderParts, address_at, decoded, letter_number, op_at, op_letter, op_number, op_of, op_of_letter, order_word, parts_of, plain_order, sign_of, with_address_of};
 
 use crate::address::Address;
 use crate::word::Word;
@@ -121,6 +121,17 @@ pub fn encode(order: Order) -> Word
 {
     let sign = if order.minus { 1 << 31 } else { 0 };
     Word::of_bits(sign + order.op as u32 * 65536 + u32::from(order.address.number()) * 4)
+}
+
+/// The word of an order without a minus.
+pub fn plain_order(op: Op, address: Address) -> Word
+    ensures { result ≡ plain_order op address }
+{
+    encode(Order {
+        minus: false,
+        op,
+        address,
+    })
 }
 
 /// The order that a word is: `None` where a bit is set outside order and address, the sign with a t excepted.
