@@ -24,7 +24,10 @@ the_region = type_at {n = 0} (RefOf [] tt (plain (λ _. region.the_row)) (λ _. 
 
 -- a session over such a region
 abbrev pub the_session : RattleType
-the_session = session.the_row the_region (lent.ghosts region.the_row regions.ghosts lent.no_dict lent.no_dict) (copied.ghosts region.the_row)
+the_session =
+    session.the_row the_region
+    (lent.ghosts region.the_row regions.ghosts lent.no_dict lent.no_dict)
+    (copied.ghosts region.the_row)
 
 -- an empty slot owns nothing, and an open one the box of its session, whose memory goes back to
 -- nobody

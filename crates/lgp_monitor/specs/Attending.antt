@@ -55,7 +55,11 @@ IsSayable (Whole block) = is_tape block.kind ≡ false
 
 -- what is written for a typed text, and how many replies begin with a question mark
 abbrev pub attended_text : Manner → List ℕ → List ℕ
-attended_text manner typed = desk_text monitor_language takes_commands_at prompt_at monitor_blocks manner (untouched opening_standing) typed
+attended_text manner typed =
+    desk_text monitor_language takes_commands_at prompt_at monitor_blocks manner
+    (untouched opening_standing) typed
 
 abbrev pub attended_faults : Manner → List ℕ → ℕ
-attended_faults manner typed = desk_faults monitor_language takes_commands_at prompt_at monitor_blocks manner (untouched opening_standing) typed
+attended_faults manner typed =
+    desk_faults monitor_language takes_commands_at prompt_at monitor_blocks manner
+    (untouched opening_standing) typed

@@ -3,7 +3,7 @@
 use Rattle.std.specs.Prelude.{ℕ, false, if◌then◌else◌, is_some, Option, Some, None, Result, Ok, Err}
 use Rattle.std.specs.Prelude.{List, [], ◌∷◌, ◌++◌, codes}
 use Rattle.lgp_word.specs.Digits.{address_digits, digits_of}
-use Rattle.lgp_word.specs.Order.{order_word}
+use Rattle.lgp_word.specs.Order.{plain_order}
 use Rattle.lgp_word.specs.declared.order.Op.TheVariants.{U}
 use Rattle.lgp_stream.specs.KeptLine.{Kept, kept_of}
 use Rattle.lgp_stream.specs.Language.{Language}
@@ -41,7 +41,7 @@ put_line address word = codes "put " ++ (address_digits address ++ (codes " " ++
 -- started in Normal
 unfoldable pub jump_line : ℕ → List ℕ
 jump_line address =
-    codes "type " ++ digits_of (order_word (record { minus = false; op = U; address = address }))
+    codes "type " ++ digits_of (plain_order U address)
 
 abbrev pub lines_behind_jump : List (List ℕ)
 lines_behind_jump =
@@ -126,7 +126,8 @@ marked_or None other = other
 -- what is written about the orders of a run
 abbrev pub told_of : Standing → Telling → ℕ → List ℕ
 told_of standing telling limit =
-    told_text telling (labels_of standing.source) standing.debugger.state (order_origins standing.debugger)
+    told_text telling (labels_of standing.source) standing.debugger.state
+    (order_origins standing.debugger)
     (orders_run limit standing.debugger)
 
 -- the names of the last source that assembled, and the counter
@@ -146,7 +147,8 @@ explained_reply recorded line = reasoned (replies_text script_language recorded 
 -- the reply to a script's line of which this is kept
 abbrev pub itself_reply : Recorded Standing → Kept → List ℕ
 itself_reply recorded kept =
-    marked_or (closing_reply recorded.standing.opened kept) (explained_reply recorded (stand_in kept))
+    marked_or (closing_reply recorded.standing.opened kept)
+    (explained_reply recorded (stand_in kept))
 
 -- what is written about the orders of a run, and the reply to its script's line
 abbrev pub told_reply : Recorded Standing → Telling → ℕ → List ℕ → List ℕ
@@ -180,7 +182,8 @@ reply_of recorded (typed.HelpOf verb) kept = form_behind kept.front verb
 -- what a line asks for; in an open source each line is the source's
 unfoldable pub typed_at : Recorded Standing → List ℕ → Typed
 typed_at recorded line =
-    typed_of (is_some recorded.standing.opened) (names_at recorded) (counter_at recorded) (kept_of line)
+    typed_of (is_some recorded.standing.opened) (names_at recorded) (counter_at recorded)
+    (kept_of line)
 
 unfoldable pub meaning_at : Recorded Standing → List ℕ → Meaning
 meaning_at recorded line = meaning_of (typed_at recorded line) (kept_of line)
@@ -191,6 +194,7 @@ reply_at recorded line = reply_of recorded (typed_at recorded line) (kept_of lin
 abbrev pub monitor_language : Language (Recorded Standing)
 monitor_language = record {
   reply = reply_at;
-  after = λ recorded line. after_meaning script_language opening_standing recorded (meaning_at recorded line);
+  after = λ recorded line.
+      after_meaning script_language opening_standing recorded (meaning_at recorded line);
   closing = λ recorded. script_language.closing recorded.standing;
 }

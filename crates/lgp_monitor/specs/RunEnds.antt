@@ -27,7 +27,8 @@ start_text Manual = codes ": press normal, then press start lets it go on\n"
 -- how the machine stands, and what lets it go on
 unfoldable pub stand_text : Status → Mode → List ℕ
 stand_text (Halted cause) mode = codes "        " ++ (halt_text cause ++ start_text mode)
-stand_text Waiting mode = codes "        an input waits for codes: press read lets the tape pass, press compute ends the input\n"
+stand_text Waiting mode = codes
+    "        an input waits for codes: press read lets the tape pass, press compute ends the input\n"
 stand_text status mode =
     codes "        the machine is still going: run goes on, press manual halts it\n"
 
@@ -35,4 +36,5 @@ stand_text status mode =
 unfoldable pub tells_standstill : List ℕ → Bool
 tells_standstill line =
     bytes_eq line (codes "ran 0 rest\n")
-    || (starts_with nat_eq line (codes "ran ") && bytes_eq (first_word (behind_word (behind_word line))) (codes "rule"))
+    || (starts_with nat_eq line (codes "ran ")
+    && bytes_eq (first_word (behind_word (behind_word line))) (codes "rule"))

@@ -24,9 +24,11 @@ use Rattle.lgp_monitor.specs.Attending.{prompt_at}
 abbrev pub HasAnswered : Manner → Option (List ℕ) → Result ℕ StreamFault → Option (List ℕ)
     → Option (List ℕ) → Type 0
 HasAnswered manner known (Ok count) w₀ w =
-    IfSome known (λ typed. Appends w₀ w (attended_text manner typed) × (count ≡ attended_faults manner typed))
+    IfSome known (λ typed. Appends w₀ w (attended_text manner typed)
+    × (count ≡ attended_faults manner typed))
 HasAnswered manner known (Err fault) w₀ w = IfSome known (λ typed. (left : Option (List ℕ))
-    × StandsWritten (opening_text manner (prompt_at (untouched opening_standing)) ∷ []) attended_language
+    × StandsWritten (opening_text manner (prompt_at (untouched opening_standing)) ∷ [])
+    attended_language
     (taken_seat manner (untouched opening_standing)) fault typed left w₀ w)
 
 -- the status for what became of typed lines
@@ -62,6 +64,8 @@ abbrev pub IsAsked : Type 0 → Manner → List (List ℕ) → (List (List ℕ) 
     → Type 0
 IsAsked A manner typed typed_behind input status w₀ w m₀ m =
     ((fault_of monitor_line typed ≡ [])
-    × IsHeld (session_manner manner (session_for typed)) (typed_with typed_behind input (session_for typed).files) status w₀ w
+    × IsHeld (session_manner manner (session_for typed))
+    (typed_with typed_behind input (session_for typed).files) status w₀ w
     × (m ≡ m₀))
-    ⊎ ((fault : TaskFault A) × IsFaultOn monitor_line typed fault × IsRefused fault status w₀ w m₀ m)
+    ⊎ ((fault : TaskFault A) × IsFaultOn monitor_line typed fault
+    × IsRefused fault status w₀ w m₀ m)

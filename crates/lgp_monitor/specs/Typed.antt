@@ -54,7 +54,8 @@ operand_at operands = if has_no_word operands then None else Some (first_word op
 unfoldable pub operation_at : List (List ℕ × ℕ) → ℕ → List ℕ → Option ℕ
 operation_at names place line =
     if has_no_word (behind_word (behind_word (behind_word line)))
-    then word_by (operation_word names place (first_word line) (operand_at (behind_word line)) (operand_at (behind_word (behind_word line))))
+    then word_by (operation_word names place (first_word line) (operand_at (behind_word line))
+    (operand_at (behind_word (behind_word line))))
     else None
 
 -- behind `=` a whole number and the place behind which its point is, 30 where none is given
@@ -64,7 +65,8 @@ point_at operands = if has_no_word operands then codes "30" else first_word oper
 unfoldable pub whole_at : List (List ℕ × ℕ) → ℕ → List ℕ → Option ℕ
 whole_at names place operands =
     if has_no_word (behind_word (behind_word operands))
-    then word_by (operation_word names place (codes "int") (Some (first_word operands)) (Some (point_at (behind_word operands))))
+    then word_by (operation_word names place (codes "int") (Some (first_word operands))
+    (Some (point_at (behind_word operands))))
     else None
 
 -- a fraction
@@ -168,7 +170,8 @@ help_by None = typed.Misformed
 unfoldable pub help_typed : List ℕ → Typed
 help_typed operands =
     if has_no_word operands then typed.Help
-    else (if has_no_word (behind_word operands) then help_by (named verb_names (first_word operands)) else typed.Misformed)
+    else (if has_no_word (behind_word operands)
+    then help_by (named verb_names (first_word operands)) else typed.Misformed)
 
 -- what a command asks for by itself; one of scripts as it stands
 abbrev pub asked_alone : LoneCommand → Typed

@@ -26,7 +26,7 @@ use lgp_lab::Laboratory;
 use lgp_stream::{Answers, LineBytes, Split, has_no_word, split_word};
 use lgp_text::{Named, Piece, push_pieces};
 use lgp_transcript::Recorder;
-use lgp_word::{Address, Op, Order, Word, encode};
+use lgp_word::{Address, Op, Word, plain_order};
 use std::alloc::{AllocError, Allocator};
 use std::marker::Model;
 
@@ -84,11 +84,7 @@ pub(crate) fn put_line<A: Allocator>(
 fn jump_line<A: Allocator>(alloc: A, address: Address) -> Result<Vec<u8, A>, AllocError>
     ensures { IfOk result (λ line. line.items ≡ jump_line address) }
 {
-    let jump = encode(Order {
-        minus: false,
-        op: Op::U,
-        address,
-    });
+    let jump = plain_order(Op::U, address);
     let mut line = Vec::new(alloc);
     push_pieces(
         &mut line,
