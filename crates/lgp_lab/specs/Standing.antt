@@ -1,6 +1,5 @@
 -- Part of the public promise: the script language, where a laboratory stands between two lines of a
--- script, and what an answer is. The type A stands for the allocator of the tapes that are kept;
--- nothing depends on it.
+-- script, and what an answer is.
 use Rattle.std.specs.Prelude.{ℕ, Option, None, Some, List, []}
 use Rattle.lgp_word.specs.Drum.{blank_words}
 use Rattle.lgp_assembler.specs.Image.{image_of}

@@ -41,8 +41,7 @@ monitor_blocks = record {
 abbrev pub attended_language : Language (Seat (Recorded Standing))
 attended_language = desk_language monitor_language takes_commands_at prompt_at monitor_blocks
 
--- what a typed text hands to the monitor before `quit`: lines, and blocks; the type is that of
--- Standing
+-- what a typed text hands to the monitor before `quit`: lines, and blocks
 abbrev pub handed_over : Manner → List ℕ → List Handed
 handed_over manner typed =
     handed monitor_language takes_commands_at prompt_at monitor_blocks

@@ -1,5 +1,5 @@
 -- Part of the public promise: the replies to a typed text, that text's answer, and how many replies
--- begin with a question mark. The type is that of Standing.
+-- begin with a question mark.
 use Rattle.std.specs.Prelude.{ℕ, List}
 use Rattle.std.specs.List.{concat}
 use Rattle.lgp_stream.specs.Language.{question_count, text_replies}

@@ -1,6 +1,6 @@
 -- Part of the public promise. How worked orders are written down: addresses by track and sector,
 -- order words by their letter, tapes by their codes, and how an order begins.
-use Rattle.std.specs.Prelude.{◌≡◌, ℕ, ◌+◌, ◌*◌, false, true, List, [], ◌∷◌}
+use Rattle.std.specs.Prelude.{◌≡◌, ℕ, ◌+◌, ◌*◌, true, List, [], ◌∷◌}
 use Rattle.lgp_word.specs.Drum.{track_size}
 use Rattle.lgp_word.specs.Order.{order_word, plain_order}
 use Rattle.lgp_word.specs.declared.order.Op.{Op}

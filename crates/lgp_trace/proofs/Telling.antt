@@ -1,5 +1,5 @@
 -- A run in the middle of which a text tells.
-use Rattle.std.proofs.Common.{◌≡◌, ◌∙◌, ℕ, suc, ◌+◌, ◌++◌, Bool, false, List, Option, Ok, Err, append_assoc, refl, sym, ap, arith}
+use Rattle.std.proofs.Common.{◌≡◌, ◌∙◌, ℕ, suc, ◌+◌, ◌++◌, Bool, false, List, Option, Ok, Err, append_assoc, sym, ap, arith}
 use Rattle.std.specs.Prelude.{IsTrue, OnErr, OnOk, Result}
 use Rattle.std.proofs.lemmas.List.{append-nil}
 use Rattle.lgp_table.specs.After.{after}

@@ -3,7 +3,7 @@ use Rattle.lgp_table.specs.After.{after}
 use Rattle.lgp_table.specs.Interleaving.{Configuration, at_boundary}
 use Rattle.lgp_keyin.specs.KeyIn.{about_to_jump, started}
 use Rattle.lgp_keyin.specs.Keyed.{before_store}
-use Rattle.lgp_loader.specs.Loading.{load_with, prepared}
+use Rattle.lgp_loader.specs.Loading.{load_with}
 use Rattle.lgp_assembler.specs.Parts.{loader_base}
 use Rattle.lgp_loader.proofs.Ready.{at_false, past_by_jump, past_by_keying, past_by_order}
 use Rattle.lgp_loader.proofs.Stopped.{own_boundary, stops_in_jump, stops_in_order, stops_in_store}
