@@ -34,15 +34,17 @@ load_with loader codes orders = record { loader = loader; codes = codes; orders 
 abbrev pub IsLoader : List ℕ → Type 0
 IsLoader words = All IsWord words × (0 < length words) × (loader_base + length words ≤ 4096)
 
--- the loader keyed in and the tape mounted
+-- ---- a load, in four steps: key in, mount, start, perform
+
+-- the loader keyed in from its first place on, and then the tape mounted
 abbrev pub prepared : State → TapeLoad → State
 prepared s load = after_mount (keyed s loader_base load.loader) load.codes
 
--- the loader started
+-- then the loader started there
 abbrev pub begun : State → TapeLoad → State
 begun s load = started (prepared s load) loader_base
 
--- the tape read
+-- and then as many orders performed as the tape takes to be read
 abbrev pub loaded : State → TapeLoad → State
 loaded s load = after (begun s load) load.orders
 
