@@ -15,7 +15,6 @@ use Rattle.lgp_debugger.specs.declared.fault.Ran.{Ran}
 use Rattle.lgp_debugger.specs.declared.fault.Reason.{Reason}
 use Rattle.lgp_debugger.specs.declared.fault.Reason.TheVariants as reasons
 use Rattle.lgp_debugger.specs.declared.fault.RunFault.{RunFault}
-use Rattle.lgp_debugger.specs.declared.fault.RunRefusal.TheVariants as refusals
 use Rattle.lgp_debugger.proofs.PerformedLemmas.{performed_state}
 use Rattle.lgp_debugger.proofs.RunLemmas.{HasRun, more}
 

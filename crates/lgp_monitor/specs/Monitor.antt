@@ -1,6 +1,6 @@
 -- Part of the public promise: the monitor, a language in which a typed line stands for lines of a
 -- script.
-use Rattle.std.specs.Prelude.{ℕ, false, if◌then◌else◌, is_some, Option, Some, None, Result, Ok, Err}
+use Rattle.std.specs.Prelude.{ℕ, if◌then◌else◌, is_some, Option, Some, None, Result, Ok, Err}
 use Rattle.std.specs.Prelude.{List, [], ◌∷◌, ◌++◌, codes}
 use Rattle.lgp_word.specs.Digits.{address_digits, digits_of}
 use Rattle.lgp_word.specs.Order.{plain_order}
