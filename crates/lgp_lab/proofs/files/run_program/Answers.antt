@@ -1,8 +1,8 @@
-use Rattle.std.proofs.Common.{◌≡◌, ◌∙◌, None, ap, rules, sym}
+use Rattle.std.proofs.Common.{◌≡◌, None, rules}
 use Rattle.lgp_word.specs.Drum.{blank_words}
 use Rattle.lgp_table.specs.State.{opening}
 use Rattle.lgp_loader.specs.Loading.{loading_stopped}
-use Rattle.lgp_debugger.specs.Debugging.{Debugging, performed}
+use Rattle.lgp_debugger.specs.Debugging.{performed}
 use Rattle.lgp_lab.specs.Files.{load_of_source, loaded_new}
 use Rattle.lgp_lab.proofs.FileLemmas.{run_behind_load}
 use Rattle.lgp_lab.proofs.files.run_program.Goals as goal
