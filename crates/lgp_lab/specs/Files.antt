@@ -37,15 +37,15 @@ pub record FileAnswer : Type 0 where
 -- written before and after, and the answer: the status, or why not all is written.
 pub record IsFileAnswer (answer : List ℕ → FileAnswer) (source left : Option (List ℕ))
     (unread unwritten : Bool) (before after : Option (List ℕ)) (result : Result ℕ StreamFault) : Type 0
-    where
-  -- all is read, and all is written
-  pub read : OnOk result (IsAtEnd left)
-  pub text : OnOk result (IfSome source (λ bytes. Appends before after (answer bytes).text))
-  pub status : IfOk result (λ status. IfSome source (λ bytes. status ≡ (answer bytes).status))
-  -- whose failure it was, and what of the text stands written
-  pub cause : IfErr result (λ fault. HasCause fault unread unwritten)
-  pub stands : IfErr result (λ fault. IfSome source (λ bytes.
-    StandsOf (answer bytes).text fault before after))
+  where
+    -- all is read, and all is written
+    pub read : OnOk result (IsAtEnd left)
+    pub text : OnOk result (IfSome source (λ bytes. Appends before after (answer bytes).text))
+    pub status : IfOk result (λ status. IfSome source (λ bytes. status ≡ (answer bytes).status))
+    -- whose failure it was, and what of the text stands written
+    pub cause : IfErr result (λ fault. HasCause fault unread unwritten)
+    pub stands : IfErr result (λ fault. IfSome source (λ bytes.
+        StandsOf (answer bytes).text fault before after))
 
 -- a source is answered by its faults, or else as a command wants it
 abbrev pub faulty_or : (List ℕ → FileAnswer) → List ℕ → List Fault → FileAnswer
