@@ -9,10 +9,10 @@ use Rattle.lgp_lab.specs.Names.{button_names, position_names, switch_names, verb
 use Rattle.lgp_lab.specs.Span.{WordRange, range_of}
 use Rattle.lgp_lab.specs.declared.command.Command.{Command}
 use Rattle.lgp_lab.specs.declared.command.Command.TheVariants as commands
-use Rattle.lgp_lab.specs.declared.command.Verb.{Verb}
-use Rattle.lgp_lab.specs.declared.command.Verb.TheVariants as verbs
-use Rattle.lgp_lab.specs.declared.command.Switch.{Switch}
-use Rattle.lgp_lab.specs.declared.command.Switch.TheVariants as switches
+use Rattle.lgp_lab.specs.declared.names.Verb.{Verb}
+use Rattle.lgp_lab.specs.declared.names.Verb.TheVariants as verbs
+use Rattle.lgp_lab.specs.declared.names.Switch.{Switch}
+use Rattle.lgp_lab.specs.declared.names.Switch.TheVariants as switches
 use Rattle.lgp_table.specs.declared.action.Action.{Action}
 use Rattle.lgp_table.specs.declared.action.Action.TheVariants as actions
 

@@ -1,6 +1,9 @@
 -- Part of the public promise: what is written for a whole file, of a source or of a script.
 use Rattle.std.specs.Prelude.{ℕ, ◌++◌, if◌then◌else◌, Option, Some, None, Result, Ok, Err, List, []}
-use Rattle.std.specs.Prelude.{◌∷◌, codes}
+use Rattle.std.specs.Prelude.{◌∷◌, ◌≡◌, codes, Bool, IfErr, IfOk, IfSome, OnOk}
+use Rattle.std.specs.Io.KnownBytes.{Appends, IsAtEnd}
+use Rattle.lgp_stream.specs.Language.{HasCause, StandsOf}
+use Rattle.lgp_stream.specs.declared.stream.StreamFault.{StreamFault}
 use Rattle.lgp_word.specs.Drum.{blank_words}
 use Rattle.lgp_flexo.specs.TapeText.{written_tape}
 use Rattle.lgp_table.specs.After.{after}
@@ -29,6 +32,20 @@ heading name = codes "file " ++ (name ++ codes "\n")
 pub record FileAnswer : Type 0 where
   pub text : List ℕ
   pub status : ℕ
+
+-- A file's text before it is read and behind, whether reading or writing has failed, what stands
+-- written before and after, and the answer: the status, or why not all is written.
+pub record IsFileAnswer (answer : List ℕ → FileAnswer) (source left : Option (List ℕ))
+    (unread unwritten : Bool) (before after : Option (List ℕ)) (result : Result ℕ StreamFault) : Type 0
+  where
+    -- all is read, and all is written
+    pub read : OnOk result (IsAtEnd left)
+    pub text : OnOk result (IfSome source (λ bytes. Appends before after (answer bytes).text))
+    pub status : IfOk result (λ status. IfSome source (λ bytes. status ≡ (answer bytes).status))
+    -- whose failure it was, and what of the text stands written
+    pub cause : IfErr result (λ fault. HasCause fault unread unwritten)
+    pub stands : IfErr result (λ fault. IfSome source (λ bytes.
+        StandsOf (answer bytes).text fault before after))
 
 -- a source is answered by its faults, or else as a command wants it
 abbrev pub faulty_or : (List ℕ → FileAnswer) → List ℕ → List Fault → FileAnswer

@@ -4,10 +4,10 @@ use Rattle.lgp_table.specs.declared.action.Action.{Action}
 use Rattle.lgp_table.specs.declared.action.Action.TheVariants as actions
 use Rattle.lgp_table.specs.declared.panel.Mode.TheVariants.{Normal, OneOperation, Manual}
 use Rattle.lgp_table.specs.declared.panel.Which.TheVariants.{B32, B16, B8, B4}
-use Rattle.lgp_lab.specs.declared.command.Verb.{Verb}
-use Rattle.lgp_lab.specs.declared.command.Verb.TheVariants as verbs
-use Rattle.lgp_lab.specs.declared.command.Switch.{Switch}
-use Rattle.lgp_lab.specs.declared.command.Switch.TheVariants as switches
+use Rattle.lgp_lab.specs.declared.names.Verb.{Verb}
+use Rattle.lgp_lab.specs.declared.names.Verb.TheVariants as verbs
+use Rattle.lgp_lab.specs.declared.names.Switch.{Switch}
+use Rattle.lgp_lab.specs.declared.names.Switch.TheVariants as switches
 
 -- the commands by their first word
 abbrev pub verb_names : List (List ℕ × Verb)

@@ -2,7 +2,7 @@
 
 ghost use Rattle.std.specs.Prelude.{◌≡◌, ◌++◌, ℕ, List, option_map, IfErr, IfOk, IfSome, OnOk, false};
 ghost use Rattle.std.specs.Io.KnownBytes.{Appends, IsAtEnd};
-ghost use Rattle.lgp_lab.specs.Files.{FileAnswer, answer_left, answer_of, asm_answer, listed, run_answer, run_to, state_answer, tape_answer, taped};
+ghost use Rattle.lgp_lab.specs.Files.{FileAnswer, IsFileAnswer, answer_left, answer_of, asm_answer, listed, run_answer, run_to, state_answer, tape_answer, taped};
 ghost use Rattle.lgp_table.specs.Interleaving.{at_boundary};
 ghost use Rattle.lgp_stream.specs.Language.{HasCause, StandsOf};
 ghost use Rattle.lgp_lab.specs.Refusal.{refusal_text};
@@ -224,15 +224,9 @@ pub fn asm_file<A: Allocator + Copy, R: Feed, W: Sink>(
 ) -> Result<u64, StreamFault>
     requires reader { R.failed reader.old ≡ false }
     requires writer { W.failed writer.old ≡ false }
-    ensures read { OnOk result (IsAtEnd (R.remaining reader.new)) }
-    ensures text { OnOk result (IfSome (R.remaining reader.old) (λ source.
-        Appends (W.contents writer.old) (W.contents writer.new) (asm_answer source).text)) }
-    ensures status { IfOk result (λ status. IfSome (R.remaining reader.old) (λ source.
-        status ≡ (asm_answer source).status)) }
-    ensures cause { IfErr result (λ fault.
-        HasCause fault (R.failed reader.new) (W.failed writer.new)) }
-    ensures stands { IfErr result (λ fault. IfSome (R.remaining reader.old) (λ source.
-        StandsOf (asm_answer source).text fault (W.contents writer.old) (W.contents writer.new))) }
+    ensures { IsFileAnswer asm_answer (R.remaining reader.old) (R.remaining reader.new)
+        (R.failed reader.new) (W.failed writer.new) (W.contents writer.old) (W.contents writer.new)
+        result }
 {
     let source = read_source(alloc, reader)?;
     let Ok(reply) = FileReply::listing(alloc, source) else {
@@ -253,15 +247,9 @@ pub fn tape_file<A: Allocator + Copy, R: Feed, W: Sink>(
 ) -> Result<u64, StreamFault>
     requires reader { R.failed reader.old ≡ false }
     requires writer { W.failed writer.old ≡ false }
-    ensures read { OnOk result (IsAtEnd (R.remaining reader.new)) }
-    ensures text { OnOk result (IfSome (R.remaining reader.old) (λ source.
-        Appends (W.contents writer.old) (W.contents writer.new) (tape_answer source).text)) }
-    ensures status { IfOk result (λ status. IfSome (R.remaining reader.old) (λ source.
-        status ≡ (tape_answer source).status)) }
-    ensures cause { IfErr result (λ fault.
-        HasCause fault (R.failed reader.new) (W.failed writer.new)) }
-    ensures stands { IfErr result (λ fault. IfSome (R.remaining reader.old) (λ source.
-        StandsOf (tape_answer source).text fault (W.contents writer.old) (W.contents writer.new))) }
+    ensures { IsFileAnswer tape_answer (R.remaining reader.old) (R.remaining reader.new)
+        (R.failed reader.new) (W.failed writer.new) (W.contents writer.old) (W.contents writer.new)
+        result }
 {
     let source = read_source(alloc, reader)?;
     let Ok(reply) = FileReply::tape(alloc, source) else {
@@ -283,16 +271,9 @@ pub fn run_file<A: Allocator + Copy, R: Feed, W: Sink>(
 ) -> Result<u64, StreamFault>
     requires reader { R.failed reader.old ≡ false }
     requires writer { W.failed writer.old ≡ false }
-    ensures read { OnOk result (IsAtEnd (R.remaining reader.new)) }
-    ensures text { OnOk result (IfSome (R.remaining reader.old) (λ source.
-        Appends (W.contents writer.old) (W.contents writer.new) (run_answer limit source).text)) }
-    ensures status { IfOk result (λ status. IfSome (R.remaining reader.old) (λ source.
-        status ≡ (run_answer limit source).status)) }
-    ensures cause { IfErr result (λ fault.
-        HasCause fault (R.failed reader.new) (W.failed writer.new)) }
-    ensures stands { IfErr result (λ fault. IfSome (R.remaining reader.old) (λ source.
-        StandsOf (run_answer limit source).text fault
-        (W.contents writer.old) (W.contents writer.new))) }
+    ensures { IsFileAnswer (run_answer limit) (R.remaining reader.old) (R.remaining reader.new)
+        (R.failed reader.new) (W.failed writer.new) (W.contents writer.old) (W.contents writer.new)
+        result }
 {
     let source = read_source(alloc, reader)?;
     let Ok(reply) = FileReply::run(alloc, source, limit) else {

@@ -20,6 +20,7 @@ mod files;
 mod laboratory;
 pub mod laws;
 mod limits;
+mod names;
 mod program;
 mod refusal;
 mod script;
