@@ -98,7 +98,8 @@ answer_text prompt seat reply =
 
 -- the language at a desk, with where lines are commands, with the prompts, and with what answers
 -- blocks
-module _ {S : Type 0} (language : Language S) (takes_commands : S → Bool) (prompt : S → List ℕ) (blocks : BlockAnswers S) where
+module _ {S : Type 0} (language : Language S) (takes_commands : S → Bool)
+    (prompt : S → List ℕ) (blocks : BlockAnswers S) where
   -- the reply to the open block, and where it leaves the language
   abbrev pub block_reply : Option Block → S → List ℕ
   block_reply None standing = []

@@ -12,7 +12,8 @@ pub data Handed : Type 0 where
   Line : List ℕ → Handed
   Whole : Block → Handed
 
-module _ {S : Type 0} (language : Language S) (takes_commands : S → Bool) (prompt : S → List ℕ) (blocks : BlockAnswers S) where
+module _ {S : Type 0} (language : Language S) (takes_commands : S → Bool)
+    (prompt : S → List ℕ) (blocks : BlockAnswers S) where
   -- what a line hands over, in front of what the lines behind it do; behind `quit` nothing is
   -- handed over
   abbrev pub handed_block : Option Block → List Handed → List Handed

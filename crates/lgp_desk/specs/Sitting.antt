@@ -5,7 +5,8 @@ use Rattle.lgp_stream.specs.Language.{Language, question_count, text_replies}
 use Rattle.lgp_desk.specs.Desk.{BlockAnswers, desk_language, opening_text, taken_seat}
 use Rattle.lgp_desk.specs.declared.desk.Manner.{Manner}
 
-module _ {S : Type 0} (language : Language S) (takes_commands : S → Bool) (prompt : S → List ℕ) (blocks : BlockAnswers S) where
+module _ {S : Type 0} (language : Language S) (takes_commands : S → Bool)
+    (prompt : S → List ℕ) (blocks : BlockAnswers S) where
   -- the replies to a typed text, and all that is written for it
   abbrev pub desk_replies : Manner → S → List ℕ → List (List ℕ)
   desk_replies manner standing typed =

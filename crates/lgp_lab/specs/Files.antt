@@ -36,7 +36,8 @@ pub record FileAnswer : Type 0 where
 -- A file's text before it is read and behind, whether reading or writing has failed, what stands
 -- written before and after, and the answer: the status, or why not all is written.
 pub record IsFileAnswer (answer : List ℕ → FileAnswer) (source left : Option (List ℕ))
-    (unread unwritten : Bool) (before after : Option (List ℕ)) (result : Result ℕ StreamFault) : Type 0
+    (unread unwritten : Bool) (before after : Option (List ℕ)) (result : Result ℕ StreamFault)
+    : Type 0
   where
     -- all is read, and all is written
     pub read : OnOk result (IsAtEnd left)

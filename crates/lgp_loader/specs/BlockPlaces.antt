@@ -35,9 +35,10 @@ count_cell = loader_base + 21
 -- the 22 words
 abbrev pub block_loader_words : List ℕ
 block_loader_words =
-    plain_order P 0 ∷ plain_order I 0 ∷ plain_order T block_end_place ∷ plain_order H block_store_cell
-    ∷ plain_order P 0 ∷ plain_order I 0 ∷ plain_order H count_cell
+    plain_order P 0 ∷ plain_order I 0 ∷ plain_order T block_end_place
+    ∷ plain_order H block_store_cell ∷ plain_order P 0 ∷ plain_order I 0 ∷ plain_order H count_cell
     ∷ plain_order P 0 ∷ plain_order I 0 ∷ 0
     ∷ plain_order B block_store_cell ∷ plain_order A one_up_place ∷ plain_order H block_store_cell
-    ∷ plain_order B count_cell ∷ plain_order A one_up_place ∷ plain_order H count_cell ∷ plain_order T next_word
-    ∷ plain_order U loader_base ∷ plain_order H block_end_cell ∷ 0 ∷ one_up ∷ 0 ∷ []
+    ∷ plain_order B count_cell ∷ plain_order A one_up_place ∷ plain_order H count_cell
+    ∷ plain_order T next_word ∷ plain_order U loader_base ∷ plain_order H block_end_cell
+    ∷ 0 ∷ one_up ∷ 0 ∷ []

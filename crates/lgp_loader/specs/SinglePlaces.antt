@@ -19,6 +19,7 @@ single_end_cell = loader_base + 9
 -- the ten words: two inputs, of a control word and of the word itself, each stored where it belongs
 abbrev pub single_loader_words : List ℕ
 single_loader_words =
-    plain_order P 0 ∷ plain_order I 0 ∷ plain_order T single_end_place ∷ plain_order H single_store_cell
-    ∷ plain_order P 0 ∷ plain_order I 0 ∷ 0 ∷ plain_order U loader_base
+    plain_order P 0 ∷ plain_order I 0 ∷ plain_order T single_end_place
+    ∷ plain_order H single_store_cell ∷ plain_order P 0 ∷ plain_order I 0 ∷ 0
+    ∷ plain_order U loader_base
     ∷ plain_order H single_end_cell ∷ 0 ∷ []

@@ -1,8 +1,8 @@
 //! Words, addresses, orders and decimal numbers on values from outside.
 
 use lgp_word::{
-    Address, LETTERS, Op, Order, Word, decode, encode, parts, read_decimal, read_digits,
-    with_address, write_bits, write_digits,
+    Address, LETTERS, Op, Order, Word, decode, encode, parts, plain_order, position_of,
+    read_decimal, read_digits, with_address, write_bits, write_digits,
 };
 
 // What is tried, over texts and numbers and without its contracts, which would fill the context of each test.
@@ -63,6 +63,41 @@ fn addresses_have_a_track_and_a_sector(rt: HostRuntime) {
         ),
         (*b"0000", Some(*b"0000"), Some(*b"0200"))
     );
+}
+
+/// Sectors, and their positions on the track.
+const POSITIONS: [(u16, u16); 8] = [
+    (0, 0),
+    (57, 1),
+    (50, 2),
+    (43, 3),
+    (1, 9),
+    (32, 32),
+    (63, 55),
+    (7, 63),
+];
+
+/// The position of a sector; `None` where the number is no sector's.
+fn position(sector: u16) -> Option<u16> {
+    if sector < Address::SECTORS {
+        return Some(position_of(sector));
+    }
+    None
+}
+
+/// The place of the first sector that stands at another position.
+fn first_displaced(rows: &[(u16, u16)]) -> Option<usize> {
+    for (place, (sector, at)) in rows.iter().enumerate() {
+        if position(*sector) != Some(*at) {
+            return Some(place);
+        }
+    }
+    None
+}
+
+#[test]
+fn each_sector_has_its_position(rt: HostRuntime) {
+    assert_eq!(rt; first_displaced(&POSITIONS), None);
 }
 
 /// The number of the address of a text; `None` where it is none.
@@ -195,6 +230,41 @@ fn orders_are_decoded(rt: HostRuntime) {
             parts_of(b"80124002")
         ),
         (None, None, Some((true, Op::Y, 0)))
+    );
+}
+
+/// The bits of the word of an order without a minus; `None` where the number is no address's.
+fn plain_word(op: Op, number: u16) -> Option<u32> {
+    Some(plain_order(op, Address::new(number)?).get())
+}
+
+/// Orders without a minus, and the digits of their words.
+const PLAIN_ORDERS: [(Op, u16, &[u8]); 5] = [
+    (Op::Z, 0, b"00000000"),
+    (Op::B, 50, b"000100j8"),
+    (Op::H, 64, b"000j0100"),
+    (Op::T, 4040, b"000g3w20"),
+    (Op::S, 4095, b"000w3wwj"),
+];
+
+/// The place of the first order whose word has other digits.
+fn first_misplaced_order(rows: &[(Op, u16, &[u8])]) -> Option<usize> {
+    for (place, (op, number, digits)) in rows.iter().enumerate() {
+        if plain_word(*op, *number) != bits(digits) {
+            return Some(place);
+        }
+    }
+    None
+}
+
+#[test]
+fn orders_without_a_minus_have_words(rt: HostRuntime) {
+    assert_eq!(rt;
+        (
+            first_misplaced_order(&PLAIN_ORDERS),
+            plain_word(Op::B, 4096)
+        ),
+        (None, None)
     );
 }
 
