@@ -32,7 +32,7 @@ use lgp_history::{BackFault, History, Origin, Origins, Rule, Step, Tape};
 use lgp_loader::{LoadFault, load};
 use lgp_machine::{CLOCK_END, Look, Machine};
 use lgp_phases::Outcome;
-use lgp_table::Action;
+use lgp_table::{Action, Status};
 use lgp_word::{Address, Word};
 use std::alloc::{AllocError, Allocator, Global};
 use std::marker::Model;
@@ -117,13 +117,70 @@ impl<H: History<A>, A: Allocator> Debugger<H, A> {
             × (clock_end < self.old.state.clock + cost self.old.state)) }
         ensures unchanged { OnErr result (self.new ≡ self.old) }
     {
+        if self.goes_freely() {
+            return self.perform();
+        }
+        self.step_with_care()
+    }
+
+    /// Whether the machine goes, and no order that begins here can pass the clock's end, of which none takes 2^32 word times.
+    #[inline(always)]
+    #[tactic(auto, using(lgp_phases::proofs::Bounds::cost_at_short, crate::proofs::ClockLemmas::left_few))]
+    fn goes_freely(&self) -> bool
+        ensures at_work { IsTrue result → is_at_rest self.now.state.core.panel.status ≡ false }
+        ensures within { IsTrue result → self.now.state.clock + cost self.now.state ≤ clock_end }
+    {
+        let Some(_) = self.machine.tape_passed() else {
+            unreachable!()
+        };
+        let look = self.look();
+        matches!(look.status, Status::Going) && look.clock <= CLOCK_END - LONGEST_ORDER
+    }
+
+    /// The same as a step, where the machine is at rest, in the midst of an input, or near the clock's end.
+    #[cold]
+    #[inline(never)]
+    fn step_with_care(&mut self) -> Result<Outcome, StepFault>
+        ensures performed { OnOk result (self.new ≡ after_step self.old Perform) }
+        ensures cost { IfOk result (λ outcome. outcome.cost ≡ cost self.old.state) }
+        ensures status { IfOk result (λ outcome.
+            outcome.status ≡ self.new.state.core.panel.status) }
+        ensures printed { IfOk result (λ outcome.
+            outcome.printed ≡ print_of self.old.state.core) }
+        ensures at_rest { (result ≡ Err StepFault.AtRest)
+            ↔ IsTrue (is_at_rest self.old.state.core.panel.status) }
+        ensures clock_end { (result ≡ Err StepFault.ClockEnd)
+            ↔ ((is_at_rest self.old.state.core.panel.status ≡ false)
+            × (clock_end < self.old.state.clock + cost self.old.state)) }
+        ensures unchanged { OnErr result (self.new ≡ self.old) }
+    {
         let look = self.look();
         if look.status.is_at_rest() {
             return Err(StepFault::AtRest);
         }
-        if self.order_passes_end(look.clock) {
+        let Some(ahead) = self.machine.ahead() else {
+            unreachable!()
+        };
+        if passes_end(look.clock, ahead.cost) {
             return Err(StepFault::ClockEnd);
         }
+        self.perform()
+    }
+
+    /// The activity that begins here, which can be performed.
+    #[inline(always)]
+    fn perform(&mut self) -> Result<Outcome, StepFault>
+        requires at_work { is_at_rest self.old.state.core.panel.status ≡ false }
+        requires within { self.old.state.clock + cost self.old.state ≤ clock_end }
+        ensures performed { OnOk result (self.new ≡ after_step self.old Perform) }
+        ensures cost { IfOk result (λ outcome. outcome.cost ≡ cost self.old.state) }
+        ensures status { IfOk result (λ outcome.
+            outcome.status ≡ self.new.state.core.panel.status) }
+        ensures printed { IfOk result (λ outcome.
+            outcome.printed ≡ print_of self.old.state.core) }
+        ensures memory { IfErr result (λ fault. fault ≡ StepFault.Memory) }
+        ensures unchanged { OnErr result (self.new ≡ self.old) }
+    {
         let step: Step<A> = Step::Perform;
         let Ok(note) = self.history.prepare(&self.machine, &step) else {
             return Err(StepFault::Memory);
@@ -133,25 +190,6 @@ impl<H: History<A>, A: Allocator> Debugger<H, A> {
         };
         self.history.note(note);
         Ok(outcome)
-    }
-
-    /// Whether the order that begins here, at this clock, would pass the clock's end. No order takes 2^32 word times.
-    #[inline]
-    #[tactic(auto, using(lgp_phases::proofs::Bounds::cost_at_short, crate::proofs::ClockLemmas::left_few))]
-    fn order_passes_end(&self, clock: u64) -> bool
-        requires { clock ≡ self.now.state.clock }
-        ensures { IsTrue result ↔ (clock_end < self.now.state.clock + cost self.now.state) }
-    {
-        let Some(_) = self.machine.tape_passed() else {
-            unreachable!()
-        };
-        if clock <= CLOCK_END - LONGEST_ORDER {
-            return false;
-        }
-        let Some(ahead) = self.machine.ahead() else {
-            unreachable!()
-        };
-        passes_end(clock, ahead.cost)
     }
 
     /// What the rules watch, before an order.
@@ -170,10 +208,8 @@ impl<H: History<A>, A: Allocator> Debugger<H, A> {
     pub fn go_on(&mut self) -> Result<Option<u8>, StepFault>
         ensures { IsOrderOfRun self.old.rules self.old self.new result }
     {
-        if !self.has_rules() {
-            return self.go_on_freely();
-        }
-        self.go_on_by_rules()
+        let by_rules = self.has_rules();
+        self.go_on_so(by_rules)
     }
 
     /// Whether a run has to look at the rules: where there are none, it is one without them.
@@ -190,7 +226,7 @@ impl<H: History<A>, A: Allocator> Debugger<H, A> {
         ensures { IsOrderOfRun (rules_in_force by_rules self.old.rules) self.old self.new result }
     {
         if by_rules {
-            return self.go_on();
+            return self.go_on_by_rules();
         }
         self.go_on_freely()
     }
@@ -222,12 +258,8 @@ impl<H: History<A>, A: Allocator> Debugger<H, A> {
         ensures run { IsRun self.old.rules limit self.old self.new result }
         ensures within_clock { self.new.state.clock ≤ clock_end }
     {
-        let outcome = self.run_orders(limit, true);
-        // That the clock is within its end is what the mark's clause says.
-        let Some(_) = self.machine.mark() else {
-            unreachable!()
-        };
-        outcome
+        let by_rules = self.has_rules();
+        self.run_so(limit, by_rules)
     }
 
     /// The same, but no rule stops it.
@@ -235,7 +267,16 @@ impl<H: History<A>, A: Allocator> Debugger<H, A> {
         ensures run { IsRun [] limit self.old self.new result }
         ensures within_clock { self.new.state.clock ≤ clock_end }
     {
-        let outcome = self.run_orders(limit, false);
+        self.run_so(limit, false)
+    }
+
+    /// A run by the rules or without them, apart from its caller: so its loop has the processor's registers for itself.
+    #[inline(never)]
+    fn run_so(&mut self, limit: u64, by_rules: bool) -> Result<Ran, RunFault>
+        ensures run { IsRun (rules_in_force by_rules self.old.rules) limit self.old self.new result }
+        ensures within_clock { self.new.state.clock ≤ clock_end }
+    {
+        let outcome = self.run_orders(limit, by_rules);
         // That the clock is within its end is what the mark's clause says.
         let Some(_) = self.machine.mark() else {
             unreachable!()
