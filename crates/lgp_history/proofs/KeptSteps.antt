@@ -42,29 +42,29 @@ first_state-more (x ∷ xs) k now = refl
 
 are_steps-more : (kept : List KeptStep) (before : State) (step : Step) → AreStepsTo before kept → CanStep step before → AreStepsTo (stepped step before) (kept ++ step_from before step ∷ [])
 are_steps-more [] before step led can = (can, refl, tt)
-are_steps-more (x ∷ xs) before step led can = (led.0, led.1 ∙ sym (first_state-more xs (step_from before step) (stepped step before)), are_steps-more xs before step led.2 can)
+are_steps-more (x ∷ xs) before step led can = grind (arith, first_state-more, are_steps-more xs _ _ led.2 can)
 
 are_steps-drop : (n : ℕ) (kept : List KeptStep) (now : State) → AreStepsTo now kept → AreStepsTo now (drop n kept)
 are_steps-drop zero kept now led = led
 are_steps-drop (suc n) [] now led = led
-are_steps-drop (suc n) (x ∷ xs) now led = are_steps-drop n xs now led.2
+are_steps-drop (suc n) (x ∷ xs) now led = are_steps-drop n xs _ led.2
 
 pub leads-more : (capacity : ℕ) (kept : List KeptStep) (before : State) (step : Step) → Leads kept before → CanStep step before → Leads (with_step capacity kept before step) (stepped step before)
-leads-more capacity kept before step led can = record { steps = are_steps-drop _ _ _ (are_steps-more kept before step led.steps can) }
+leads-more capacity kept before step led can = record { steps = are_steps-drop _ _ _ (are_steps-more _ _ _ led.steps can) }
 
 first_state-back : (n : ℕ) (kept : List KeptStep) (now : State) → first_state (steps_back n kept) (state_back n kept now) ≡ first_state kept now
 first_state-back n [] now = refl
 first_state-back n (x ∷ xs) now =
-    elim (is_order_back n x xs) as (λ b. first_state (cond b [] (x ∷ steps_back n xs)) (cond b x.before (state_back n xs now)) ≡ x.before) [ true ↦ refl | false ↦ refl ]
+    grind arith
 
 are_steps-back : (n : ℕ) (kept : List KeptStep) (now : State) → AreStepsTo now kept → AreStepsTo (state_back n kept now) (steps_back n kept)
 are_steps-back n [] now led = tt
 are_steps-back n (x ∷ xs) now led =
     elim (is_order_back n x xs) as (λ b. AreStepsTo (cond b x.before (state_back n xs now)) (cond b [] (x ∷ steps_back n xs)))
-    [ true ↦ tt | false ↦ (led.0, led.1 ∙ sym (first_state-back n xs now), are_steps-back n xs now led.2) ]
+    [ true ↦ tt | false ↦ (led.0, led.1 ∙ sym (first_state-back n xs _), are_steps-back n xs _ led.2) ]
 
 pub leads-back : (n : ℕ) (kept : List KeptStep) (now : State) → Leads kept now → Leads (steps_back n kept) (state_back n kept now)
-leads-back n kept now led = record { steps = are_steps-back n kept now led.steps }
+leads-back n kept now led = record { steps = are_steps-back n _ _ led.steps }
 
 -- 1 for an order
 abbrev pub order_count : Step → ℕ
@@ -72,7 +72,7 @@ order_count step = cond (is_order step) 1 0
 
 -- whether a step is an order, as a number
 pub bool_byte-order : (step : Step) (b : Bool) → b ≡ is_order step → bool_byte b ≡ order_count step
-bool_byte-order step b e = rw e (bool_byte-count (is_order step))
+bool_byte-order step b e = rw e (bool_byte-count _)
 
 pub orders_in-more : (kept : List KeptStep) (k : KeptStep) → orders_in (kept ++ k ∷ []) ≡ orders_in kept + order_count k.step
 orders_in-more [] k = omega arith
@@ -83,22 +83,22 @@ orders_in-within [] = omega arith
 orders_in-within (k ∷ later) = within_more (is_order k.step) (orders_in later) (length later) (orders_in-within later)
 
 is_order_back-more : (xs : List KeptStep) (k x : KeptStep) (m : ℕ) → is_order_back (m + order_count k.step) x (xs ++ k ∷ []) ≡ is_order_back m x xs
-is_order_back-more xs k x m = rw (orders_in-more xs k) (ap (λ t. is_order x.step && t) (same_test (orders_in xs) m (order_count k.step)))
+is_order_back-more xs k x m = grind (arith, orders_in-more, same_test)
 
 -- going back over the last step
 pub state_back-more : (kept : List KeptStep) (k : KeptStep) (now : State) (m : ℕ) → 1 ≤ m + order_count k.step → m ≤ orders_in kept → state_back (m + order_count k.step) (kept ++ k ∷ []) now ≡ state_back m kept k.before
-state_back-more [] k now m h within = rw (last_test (is_order k.step) m h within)
+state_back-more [] k now m h within = rw (last_test _ m h within)
 state_back-more (x ∷ xs) k now m h within =
     rw (is_order_back-more xs k x m)
     (elim (is_order_back m x xs) as (λ b. is_order_back m x xs ≡ b → cond b x.before (state_back (m + order_count k.step) (xs ++ k ∷ []) now) ≡ cond b x.before (state_back m xs k.before))
-    [ true ↦ λ e. refl | false ↦ λ e. state_back-more xs k now m h (within_rest (is_order x.step) (orders_in xs) m e within) ] refl)
+    [ true ↦ λ e. refl | false ↦ λ e. state_back-more xs k _ m h (within_rest _ _ m e within) ] refl)
 
 pub steps_back-more : (kept : List KeptStep) (k : KeptStep) (m : ℕ) → 1 ≤ m + order_count k.step → m ≤ orders_in kept → steps_back (m + order_count k.step) (kept ++ k ∷ []) ≡ steps_back m kept
-steps_back-more [] k m h within = rw (last_test (is_order k.step) m h within)
+steps_back-more [] k m h within = rw (last_test _ m h within)
 steps_back-more (x ∷ xs) k m h within =
     rw (is_order_back-more xs k x m)
     (elim (is_order_back m x xs) as (λ b. is_order_back m x xs ≡ b → cond b [] (x ∷ steps_back (m + order_count k.step) (xs ++ k ∷ [])) ≡ cond b [] (x ∷ steps_back m xs))
-    [ true ↦ λ e. refl | false ↦ λ e. ap (λ ks. x ∷ ks) (steps_back-more xs k m h (within_rest (is_order x.step) (orders_in xs) m e within)) ] refl)
+    [ true ↦ λ e. refl | false ↦ λ e. ap (λ ks. x ∷ ks) (steps_back-more xs k m h (within_rest _ _ m e within)) ] refl)
 
 no_order_back : (k : KeptStep) (later : List KeptStep) → is_order_back 0 k later ≡ false
 no_order_back k later = none_back (is_order k.step) (orders_in later)
@@ -110,4 +110,4 @@ state_back-none (k ∷ later) now = rw (no_order_back k later) (state_back-none 
 
 pub steps_back-none : (kept : List KeptStep) → steps_back 0 kept ≡ kept
 steps_back-none [] = refl
-steps_back-none (k ∷ later) = rw (no_order_back k later) (ap (λ ks. k ∷ ks) (steps_back-none later))
+steps_back-none (k ∷ later) = rw (no_order_back k _) (ap (λ ks. k ∷ ks) (steps_back-none _))

@@ -17,7 +17,7 @@ pub lost_in_register : (m : Configuration) (look : Look) (op : Op) (address : �
     → ((panel : Panel) → panel.accumulator ≡ look.accumulator → panel.counter ≡ look.counter → lost ≡ lost_by op address (record m.state.core { panel = panel }))
     → lost ≡ lost_by_order m.state.core.panel.register m.state.core
 lost_in_register m look op address lost boundary shows op_is address_is loses =
-    let is = looked m look boundary shows in
+    let is = looked m _ boundary shows in
     loses m.state.core.panel (ap (λ (l : Look). l.accumulator) (sym is)) (ap (λ (l : Look). l.counter) (sym is))
     ∙ ap (λ o. lost_by o address m.state.core) (op_is ∙ ap (λ (l : Look). op_at l.register) is)
     ∙ ap (λ a. lost_by (op_at m.state.core.panel.register) a m.state.core) (address_is ∙ ap (λ (l : Look). address_at l.register) is)

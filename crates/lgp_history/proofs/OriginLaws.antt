@@ -30,12 +30,12 @@ unfolding latest_change
 word_stays address [] now led none = refl
 word_stays address (k ∷ later) now led none =
     let both = or_none (latest_change address later) (cond (changed_at address k) (Some (origin_of address k (orders_in (k ∷ later)))) None) none in
-    let same = eqb-true _ _ (not_not _ (not_taken (changed_at address k) (origin_of address k (orders_in (k ∷ later))) both.1)) in
+    let same = eqb-true _ _ (not_not _ (not_taken _ _ both.1)) in
     word_stays address later now led.2 both.0 ∙ ap (λ (s : State). word_at s.core address) (sym led.1) ∙ sym same
 
 -- and the word is the one with which the kept steps begin
 pub word_kept : (address : ℕ) (kept : List KeptStep) (now : State) → Leads kept now → latest_change address kept ≡ None → word_at now.core address ≡ word_at (first_state kept now).core address
-word_kept address kept now led none = word_stays address kept now led.steps none
+word_kept address kept now led none = word_stays _ _ _ led.steps none
 
 earlier_origin : (address : ℕ) (k : KeptStep) (later : List KeptStep) (now : State) (origin : Origin) → IsOrigin address later now origin → IsOrigin address (k ∷ later) now origin
 earlier_origin address k later now origin o = record {
@@ -58,35 +58,35 @@ this_origin address k later now origin led none changed named = record {
   parts = refl;
   changed = changed;
   named = named;
-  stands = word_stays address later now led.2 none ∙ ap (λ (s : State). word_at s.core address) (sym led.1);
-  later_stay = none_changed address later none;
+  stands = word_stays _ _ _ led.2 none ∙ ap (λ (s : State). word_at s.core address) (sym led.1);
+  later_stay = none_changed _ _ none;
 }
 
 by_change : (address : ℕ) (k : KeptStep) (later : List KeptStep) (now : State) (origin : Origin) (b : Bool) → AreStepsTo now (k ∷ later) → latest_change address later ≡ None → changed_at address k ≡ b
     → cond b (Some (origin_of address k (orders_in (k ∷ later)))) None ≡ Some origin → IsOrigin address (k ∷ later) now origin
-by_change address k later now origin true led none changed e = this_origin address k later now origin led none changed cc
+by_change address k later now origin true led none changed e = this_origin _ k _ _ _ led none changed cc
 by_change address k later now origin false led none changed e = cc
 
 by_later_change : (address : ℕ) (k : KeptStep) (later : List KeptStep) (now : State) (origin : Origin) (o : Option Origin) → AreStepsTo now (k ∷ later) → latest_change address later ≡ o
     → ((other : Origin) → o ≡ Some other → IsOrigin address later now other)
     → option_or o (cond (changed_at address k) (Some (origin_of address k (orders_in (k ∷ later)))) None) ≡ Some origin → IsOrigin address (k ∷ later) now origin
-by_later_change address k later now origin (Some other) led is ih e = earlier_origin address k later now origin (ih origin e)
-by_later_change address k later now origin None led is ih e = by_change address k later now origin (changed_at address k) led is refl e
+by_later_change address k later now origin (Some other) led is ih e = earlier_origin _ k _ _ _ (ih origin e)
+by_later_change address k later now origin None led is ih e = by_change _ k _ _ _ _ led is refl e
 
 origin_found : (address : ℕ) (kept : List KeptStep) (now : State) (origin : Origin) → AreStepsTo now kept → latest_change address kept ≡ Some origin → IsOrigin address kept now origin
 unfolding latest_change
 origin_found address [] now origin led e = cc
 origin_found address (k ∷ later) now origin led e =
-    by_later_change address k later now origin (latest_change address later) led refl (λ other q. origin_found address later now other led.2 q) e
+    by_later_change _ k _ _ _ _ led refl (λ other q. origin_found _ _ _ _ led.2 q) e
 
 pub word_came : (address : ℕ) (kept : List KeptStep) (now : State) (origin : Origin) → Leads kept now → latest_change address kept ≡ Some origin → IsOrigin address kept now origin
-word_came address kept now origin led e = origin_found address kept now origin led.steps e
+word_came address kept now origin led e = origin_found _ _ _ _ led.steps e
 
 steps_back_to : (earlier : List KeptStep) (k : KeptStep) (later : List KeptStep) → is_order k.step ≡ true → steps_back (orders_in (k ∷ later)) (earlier ++ k ∷ later) ≡ earlier
-steps_back_to [] k later order = rw (here_back k later order) refl
+steps_back_to [] k later order = rw (here_back k _ order) refl
 steps_back_to (x ∷ xs) k later order =
-    rw (not_so_far (is_order x.step) (orders_in (k ∷ later)) (orders_in (xs ++ k ∷ later)) (orders_in-append xs (k ∷ later))) (ap (λ (ks : List KeptStep). x ∷ ks) (steps_back_to xs k later order))
+    rw (not_so_far _ _ _ (orders_in-append xs _)) (ap (λ (ks : List KeptStep). x ∷ ks) (steps_back_to xs k _ order))
 
 pub origin_back : (address : ℕ) (earlier : List KeptStep) (k : KeptStep) (later : List KeptStep) → IsTrue (is_order k.step)
     → latest_change address (steps_back (orders_in (k ∷ later)) (earlier ++ k ∷ later)) ≡ latest_change address earlier
-origin_back address earlier k later order = ap (λ (ks : List KeptStep). latest_change address ks) (steps_back_to earlier k later order)
+origin_back address earlier k later order = ap (λ (ks : List KeptStep). latest_change address ks) (steps_back_to _ k _ order)

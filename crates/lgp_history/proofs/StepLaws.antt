@@ -1,5 +1,5 @@
 -- Orders done again, and last hits.
-use Rattle.std.proofs.Common.{◌≡◌, ℕ, ◌+◌, ◌<◌, ◌≤◌, ◌==◌, ◌&&◌, Bool, true, false, cond, List, [], ◌∷◌, ◌++◌, length, suc, Option, Some, None, get_or, position, option_map, All, ltb-false, lt_of_lt_of_le, refl, sym, ◌∙◌, ap, subst, arith, true≢false}
+use Rattle.std.proofs.Common.{◌≡◌, ℕ, ◌+◌, ◌<◌, ◌≤◌, ◌==◌, ◌&&◌, Bool, true, false, cond, List, [], ◌∷◌, ◌++◌, length, suc, Option, Some, None, get_or, position, option_map, All, refl, sym, ◌∙◌, ap, subst, arith, true≢false}
 use Rattle.std.specs.Option.{option_or}
 use Rattle.std.proofs.lemmas.Bool.Decides.{nat_tests}
 use Rattle.std.proofs.lemmas.List.Elements.{All-cons, All-nil}
@@ -9,7 +9,7 @@ use Rattle.std.proofs.lemmas.Option.{slice_get-get_or}
 use Rattle.lgp_table.specs.State.{State}
 use Rattle.lgp_table.specs.Activity.{next}
 use Rattle.lgp_history.specs.Steps.{AreStepsTo, Leads, is_order, is_order_back, orders_in, state_back, stepped}
-use Rattle.lgp_history.specs.Hits.{first_hit, is_hit, last_hit}
+use Rattle.lgp_history.specs.Hits.{first_hit, last_hit}
 use Rattle.lgp_history.specs.Laws.{IsLastHit, PassesRules, performed_again}
 use Rattle.lgp_history.specs.declared.rule.Rule.{Rule}
 use Rattle.lgp_history.specs.declared.rule.Rule.TheVariants.{At}
@@ -46,7 +46,7 @@ unmapped true later (Some number) e = cc
 unmapped false later o e = refl
 
 no_place : {Y : Type 0} (p : Y → Bool) (ys : List Y) → position p ys ≡ None → All (λ y. p y ≡ false) ys
-no_place p ys none = λ k d h. let past = ltb-false _ _ (untaken _ _ none) in fails_before_first p ys k d (lt_of_lt_of_le h past)
+no_place p ys none = grind (arith, untaken, fails_before_first)
 
 order_here : (step : Step) → is_order step ≡ true → step ≡ Perform
 order_here Perform e = refl
@@ -57,12 +57,12 @@ order_here (Put address word) e = absurd (true≢false (sym e))
 
 performed_on : (now : State) (k : KeptStep) (later : List KeptStep) → AreStepsTo now (k ∷ later) → orders_in (k ∷ later) ≡ suc (length later) → performed_again k.before (k ∷ later) ≡ now
 performed_on now k [] led all =
-    subst (λ (step : Step). stepped step k.before ≡ now) (order_here k.step (first_is (is_order k.step) 0 0 (omega arith) all)) led.1
+    grind (arith, order_here, first_is)
 performed_on now k (f ∷ later) led all =
     let few = orders_in-within (f ∷ later) in
-    let step = order_here k.step (first_is (is_order k.step) (orders_in (f ∷ later)) (suc (length later)) few all) in
+    let step = order_here _ (first_is _ _ _ few all) in
     let next_is : next k.before ≡ f.before = subst (λ (step : Step). stepped step k.before ≡ f.before) step led.1 in
-    ap (λ (s : State). performed_again s (f ∷ later)) next_is ∙ performed_on now f later led.2 (rest_are (is_order k.step) (orders_in (f ∷ later)) (suc (length later)) few all)
+    ap (λ (s : State). performed_again s (f ∷ later)) next_is ∙ performed_on now f later led.2 (rest_are _ _ _ few all)
 
 pub orders_in-append : (earlier later : List KeptStep) → orders_in later ≤ orders_in (earlier ++ later)
 orders_in-append [] later = omega arith
@@ -72,9 +72,9 @@ pub here_back : (k : KeptStep) (later : List KeptStep) → is_order k.step ≡ t
 here_back k later order = rw order (grind (arith, nat_tests))
 
 back_to : (earlier : List KeptStep) (k : KeptStep) (later : List KeptStep) (now : State) → is_order k.step ≡ true → state_back (orders_in (k ∷ later)) (earlier ++ k ∷ later) now ≡ k.before
-back_to [] k later now order = rw (here_back k later order) refl
+back_to [] k later now order = rw (here_back k _ order) refl
 back_to (x ∷ xs) k later now order =
-    rw (not_so_far (is_order x.step) (orders_in (k ∷ later)) (orders_in (xs ++ k ∷ later)) (orders_in-append xs (k ∷ later))) (back_to xs k later now order)
+    grind (arith, not_so_far, orders_in-append, back_to xs k later now order)
 
 leads_later : (earlier later : List KeptStep) (now : State) → AreStepsTo now (earlier ++ later) → AreStepsTo now later
 leads_later [] later now led = led
@@ -83,18 +83,18 @@ leads_later (k ∷ earlier) later now led = leads_later earlier later now led.2
 pub again : (earlier later : List KeptStep) (now : State) → Leads (earlier ++ later) now → 0 < length later → orders_in later ≡ length later → performed_again (state_back (length later) (earlier ++ later) now) later ≡ now
 again earlier [] now led some all = absurd (omega arith)
 again earlier (k ∷ later) now led some all =
-    let order = first_is (is_order k.step) (orders_in later) (length later) (orders_in-within later) all in
+    let order = first_is _ _ _ (orders_in-within _) all in
     let back = ap (λ n. state_back n (earlier ++ k ∷ later) now) (sym all) ∙ back_to earlier k later now order in
-    ap (λ (s : State). performed_again s (k ∷ later)) back ∙ performed_on now k later (leads_later earlier (k ∷ later) now led.steps) all
+    ap (λ (s : State). performed_again s (k ∷ later)) back ∙ performed_on _ k _ (leads_later earlier (k ∷ later) now led.steps) all
 
 passes : (rules : List Rule) (k : KeptStep) → cond (is_order k.step) (first_hit rules k.before) None ≡ None → PassesRules rules k
-passes rules k none = λ order. no_place (is_hit k.before) rules (rw order at none)
+passes rules k none = λ order. no_place _ _ (rw order at none)
 
 pub none_hit : (rules : List Rule) (kept : List KeptStep) → last_hit rules kept ≡ None → All (PassesRules rules) kept
 none_hit rules [] none = All-nil (PassesRules rules)
 none_hit rules (k ∷ later) none =
     let both = or_none (last_hit rules later) (cond (is_order k.step) (option_map (found_from (orders_in later)) (first_hit rules k.before)) None) none in
-    All-cons (PassesRules rules) k later (passes rules k (unmapped (is_order k.step) (orders_in later) (first_hit rules k.before) both.1)) (none_hit rules later both.0)
+    All-cons (PassesRules rules) k later (passes rules k (unmapped _ _ _ both.1)) (none_hit rules later both.0)
 
 later_hit : (rules : List Rule) (k : KeptStep) (later : List KeptStep) (hit : ℕ × ℕ) → IsLastHit rules later hit → IsLastHit rules (k ∷ later) hit
 later_hit rules k later hit h = record {
@@ -112,7 +112,7 @@ later_hit rules k later hit h = record {
 
 this_hit : (rules : List Rule) (k : KeptStep) (later : List KeptStep) (number : ℕ) → is_order k.step ≡ true → first_hit rules k.before ≡ Some number → last_hit rules later ≡ None → IsLastHit rules (k ∷ later) (orders_in later + 1, number)
 this_hit rules k later number order first none =
-    let place = position-Some (is_hit k.before) rules number (At 0) first in
+    let place = position-Some _ _ _ _ first in
     record {
       earlier = [];
       order = k;
@@ -121,24 +121,23 @@ this_hit rules k later number order first none =
       is_an_order = order;
       orders_back = refl;
       rule = get_or rules number (At 0);
-      numbered = slice_get-get_or rules number (At 0) place.0;
+      numbered = slice_get-get_or _ _ _ place.0;
       hits = place.1;
-      later_pass = none_hit rules later none;
+      later_pass = none_hit _ _ none;
     }
 
 by_parts : (rules : List Rule) (k : KeptStep) (later : List KeptStep) (hit : ℕ × ℕ) (b : Bool) (o : Option ℕ) → last_hit rules later ≡ None → is_order k.step ≡ b → first_hit rules k.before ≡ o
     → cond b (option_map (found_from (orders_in later)) o) None ≡ Some hit → IsLastHit rules (k ∷ later) hit
 by_parts rules k later hit true (Some number) none order first e =
-    let same : found_from (orders_in later) number ≡ hit = cc in
-    subst (λ (h : ℕ × ℕ). IsLastHit rules (k ∷ later) h) same (this_hit rules k later number order first none)
+    grind (arith, this_hit)
 by_parts rules k later hit true None none order first e = cc
 by_parts rules k later hit false o none order first e = cc
 
 by_later : (rules : List Rule) (k : KeptStep) (later : List KeptStep) (hit : ℕ × ℕ) (o : Option (ℕ × ℕ)) → last_hit rules later ≡ o → ((h : ℕ × ℕ) → o ≡ Some h → IsLastHit rules later h)
     → option_or o (cond (is_order k.step) (option_map (found_from (orders_in later)) (first_hit rules k.before)) None) ≡ Some hit → IsLastHit rules (k ∷ later) hit
-by_later rules k later hit (Some h) is ih e = later_hit rules k later hit (ih hit e)
-by_later rules k later hit None is ih e = by_parts rules k later hit (is_order k.step) (first_hit rules k.before) is refl refl e
+by_later rules k later hit (Some h) is ih e = later_hit _ k _ _ (ih hit e)
+by_later rules k later hit None is ih e = by_parts _ k _ _ _ _ is refl refl e
 
 pub hit_last : (rules : List Rule) (kept : List KeptStep) (hit : ℕ × ℕ) → last_hit rules kept ≡ Some hit → IsLastHit rules kept hit
 hit_last rules [] hit e = cc
-hit_last rules (k ∷ later) hit e = by_later rules k later hit (last_hit rules later) refl (λ h q. hit_last rules later h q) e
+hit_last rules (k ∷ later) hit e = by_later _ k _ _ _ refl (λ h q. hit_last _ _ h q) e

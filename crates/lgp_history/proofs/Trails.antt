@@ -5,7 +5,6 @@ use Rattle.std.proofs.lemmas.Bool.Decides.{nat_tests}
 use Rattle.std.proofs.Common.{eqb-true}
 use Rattle.std.specs.Option.{option_or}
 use Rattle.std.proofs.lemmas.Option.{slice_get_within}
-use Rattle.std.specs.Prelude.{if◌then◌else◌}
 use Rattle.circular_buffer.specs.Buffer.{keep_last}
 use Rattle.lgp_table.specs.State.{State}
 use Rattle.lgp_table.specs.Interleaving.{Configuration, at_boundary}
@@ -26,7 +25,7 @@ abbrev pair : ℕ → ℕ → ℕ × ℕ
 pair orders number = (orders, number)
 
 copy_after_block : (n : ℕ) (s : State) → copy_at (n + 64) s ≡ copy_at n s
-copy_after_block n s = let e : (n + 64) % 64 ≡ n % 64 = omega arith in ap (λ k. if k == 0 then Some (at_boundary s) else None) e
+copy_after_block n s = grind arith
 
 copy_due : (place : ℕ) (s : State) → place % 64 ≡ 0 → copy_at place s ≡ Some (at_boundary s)
 copy_due place s due = rw due refl
@@ -54,8 +53,7 @@ hit_shift : (b c : Bool) (orders : ℕ) (later : Option (ℕ × ℕ)) (here : Op
     → option_or (cond b (hit_more later here) later) (cond c (option_map (λ number. pair (orders + cond b 1 0 + 1) number) first) None)
     ≡ cond b (hit_more (option_or later (cond c (option_map (λ number. pair (orders + 1) number) first) None)) here) (option_or later (cond c (option_map (λ number. pair (orders + 1) number) first) None))
 hit_shift false c orders later here first =
-    let e : orders + 0 + 1 ≡ orders + 1 = omega arith in
-    ap (λ n. option_or later (cond c (option_map (λ number. pair n number) first) None)) e
+    grind arith
 hit_shift true c orders (Some hit) (Some rule) first = refl
 hit_shift true c orders (Some hit) None first = refl
 hit_shift true true orders None (Some rule) (Some number) = refl
@@ -67,7 +65,7 @@ hit_shift true false orders None None first = refl
 
 played-more : (s : State) (es : List Noted) (e : Noted) → played s (es ++ e ∷ []) ≡ played s es ++ step_from (played_to s es) e.step ∷ []
 played-more s [] e = refl
-played-more s (x ∷ xs) e = ap (λ (ks : List KeptStep). step_from s x.step ∷ ks) (played-more (stepped x.step s) xs e)
+played-more s (x ∷ xs) e = grind (arith, played-more (stepped x.step s) xs e)
 
 played_to-more : (s : State) (es : List Noted) (e : Noted) → played_to s (es ++ e ∷ []) ≡ stepped e.step (played_to s es)
 played_to-more s [] e = refl
@@ -80,24 +78,24 @@ length-played s (x ∷ xs) = ap suc (length-played (stepped x.step s) xs)
 played-drop : (k : ℕ) (s : State) (es : List Noted) → drop k (played s es) ≡ played (played_to s (take k es)) (drop k es)
 played-drop zero s es = refl
 played-drop (suc k) s [] = refl
-played-drop (suc k) s (x ∷ xs) = played-drop k (stepped x.step s) xs
+played-drop (suc k) s (x ∷ xs) = played-drop k _ xs
 
 played_to-split : (k : ℕ) (s : State) (es : List Noted) → played_to (played_to s (take k es)) (drop k es) ≡ played_to s es
 played_to-split zero s es = refl
 played_to-split (suc k) s [] = refl
-played_to-split (suc k) s (x ∷ xs) = played_to-split k (stepped x.step s) xs
+played_to-split (suc k) s (x ∷ xs) = played_to-split k _ xs
 
 noted-more : (n : ℕ) (s : State) (es : List Noted) (e : Noted) → AreNotedFrom n s es → e.copy ≡ copy_at (n + length es) (played_to s es) → CanStep e.step (played_to s es) → AreNotedFrom n s (es ++ e ∷ [])
-noted-more n s [] e noted copy can = (copy ∙ same_copy (n + 0) n s (omega arith), can, tt)
+noted-more n s [] e noted copy can = (copy ∙ same_copy _ n s (omega arith), can, tt)
 noted-more n s (x ∷ xs) e noted copy can =
     let t = stepped x.step s in
     let same : n + suc (length xs) ≡ n + 1 + length xs = omega arith in
-    (noted.0, noted.1, noted-more (n + 1) t xs e noted.2 (copy ∙ same_copy (n + suc (length xs)) (n + 1 + length xs) (played_to t xs) same) can)
+    (noted.0, noted.1, noted-more (n + 1) t xs e noted.2 (copy ∙ same_copy _ _ _ same) can)
 
 noted-take : (k n : ℕ) (s : State) (es : List Noted) → AreNotedFrom n s es → AreNotedFrom n s (take k es)
 noted-take zero n s es noted = tt
 noted-take (suc k) n s [] noted = tt
-noted-take (suc k) n s (x ∷ xs) noted = (noted.0, noted.1, noted-take k (n + 1) (stepped x.step s) xs noted.2)
+noted-take (suc k) n s (x ∷ xs) noted = (noted.0, noted.1, noted-take k _ _ xs noted.2)
 
 noted-drop : (k n : ℕ) (s : State) (es : List Noted) → AreNotedFrom n s es → AreNotedFrom (n + k) (played_to s (take k es)) (drop k es)
 noted-drop zero n s es noted = let e : n ≡ n + 0 = omega arith in subst (λ m. AreNotedFrom m s es) e noted
@@ -105,7 +103,7 @@ noted-drop (suc k) n s [] noted = tt
 noted-drop (suc k) n s (x ∷ xs) noted =
     let e : n + 1 + k ≡ n + suc k = omega arith in
     let t = stepped x.step s in
-    subst (λ m. AreNotedFrom m (played_to t (take k xs)) (drop k xs)) e (noted-drop k (n + 1) t xs noted.2)
+    subst (λ m. AreNotedFrom m (played_to t (take k xs)) (drop k xs)) e (noted-drop k _ t xs noted.2)
 
 noted-block : (n : ℕ) (s : State) (es : List Noted) → AreNotedFrom (n + 64) s es → AreNotedFrom n s es
 noted-block n s [] noted = tt
@@ -122,22 +120,20 @@ pub record IsNotedAt (n : ℕ) (s : State) (e : Noted) : Type 0 where
 noted-from : (k n : ℕ) (s : State) (es : List Noted) (e : Noted) → AreNotedFrom n s es → slice_get es k ≡ Some e → IsNotedAt (n + k) (played_to s (take k es)) e
 noted-from k n s [] e noted is = cc
 noted-from zero n s (x ∷ xs) e noted is =
-    let here : x ≡ e = cc in
-    let same : n ≡ n + 0 = omega arith in
-    subst (λ m. IsNotedAt m s e) same (subst (λ (y : Noted). IsNotedAt n s y) here (record { copy = noted.0; can = noted.1 }))
+    grind arith
 noted-from (suc k) n s (x ∷ xs) e noted is =
     let same : n + 1 + k ≡ n + suc k = omega arith in
     let t = stepped x.step s in
-    subst (λ m. IsNotedAt m (played_to t (take k xs)) e) same (noted-from k (n + 1) t xs e noted.2 is)
+    subst (λ m. IsNotedAt m (played_to t (take k xs)) e) same (noted-from k _ t xs e noted.2 is)
 
 pub noted_at : (k : ℕ) (es : List Noted) (e : Noted) → IsNoted es → slice_get es k ≡ Some e → IsNotedAt k (played_to (start_of es) (take k es)) e
-noted_at k es e noted is = let same : 0 + k ≡ k = omega arith in subst (λ m. IsNotedAt m (played_to (start_of es) (take k es)) e) same (noted-from k 0 (start_of es) es e noted.noted is)
+noted_at k es e noted is = let same : 0 + k ≡ k = omega arith in subst (λ m. IsNotedAt m (played_to (start_of es) (take k es)) e) same (noted-from k 0 _ es e noted.noted is)
 
 -- one place further
 take-next : (es : List Noted) (k : ℕ) (e : Noted) → slice_get es k ≡ Some e → take (k + 1) es ≡ take k es ++ e ∷ []
 take-next [] k e is = cc
 take-next (x ∷ xs) zero e is = cc
-take-next (x ∷ xs) (suc k) e is = let same : suc k + 1 ≡ suc (k + 1) = omega arith in rw same (ap (λ (ys : List Noted). x ∷ ys) (take-next xs k e is))
+take-next (x ∷ xs) (suc k) e is = grind (arith, take-next xs k e is)
 
 pub played_to-next : (s : State) (es : List Noted) (k : ℕ) (e : Noted) → slice_get es k ≡ Some e → played_to s (take (k + 1) es) ≡ stepped e.step (played_to s (take k es))
 played_to-next s es k e is = ap (λ (ys : List Noted). played_to s ys) (take-next es k e is) ∙ played_to-more s (take k es) e
@@ -151,7 +147,7 @@ kept_to-next s es passed k e h is =
     let within = slice_get_within es k e is in
     let long : passed ≤ length (played s (take k es)) = omega (arith, length-played s (take k es), length-take k es) in
     ap (λ (ys : List Noted). drop passed (played s ys)) (take-next es k e is)
-    ∙ ap (λ (ks : List KeptStep). drop passed ks) (played-more s (take k es) e)
+    ∙ ap (λ (ks : List KeptStep). drop passed ks) (played-more s _ e)
     ∙ drop-append-le passed (played s (take k es)) (step_from (played_to s (take k es)) e.step ∷ []) long
 
 -- the trail leads where its kept steps lead
@@ -161,26 +157,26 @@ leads-played now s e (f ∷ later) led = leads-played now (stepped e.step s) f l
 
 leads_some : (now s : State) (es : List Noted) → 0 < length es → AreStepsTo now (played s es) → played_to s es ≡ now
 leads_some now s [] h led = absurd (omega arith)
-leads_some now s (e ∷ later) h led = leads-played now s e later led
+leads_some now s (e ∷ later) h led = leads-played _ s e _ led
 
 pub leads_to : (now s : State) (es : List Noted) (passed : ℕ) → passed < length es → Leads (drop passed (played s es)) now → played_to s es ≡ now
 leads_to now s es passed h led =
     let t = played_to s (take passed es) in
     let some : 0 < length (drop passed es) = omega (arith, length-drop passed es) in
-    sym (played_to-split passed s es) ∙ leads_some now t (drop passed es) some (subst (λ (ks : List KeptStep). AreStepsTo now ks) (played-drop passed s es) led.steps)
+    sym (played_to-split _ s es) ∙ leads_some _ t _ some (subst (λ (ks : List KeptStep). AreStepsTo now ks) (played-drop _ s es) led.steps)
 
 -- the copy at a place where one is due
 pub copied_at : (k : ℕ) (es : List Noted) (e : Noted) → IsNoted es → slice_get es k ≡ Some e → k % 64 ≡ 0 → e.copy ≡ Some (at_boundary (played_to (start_of es) (take k es)))
-copied_at k es e noted is due = (noted_at k es e noted is).copy ∙ copy_due k (played_to (start_of es) (take k es)) due
+copied_at k es e noted is due = (noted_at k es e noted is).copy ∙ copy_due k _ due
 
 -- a step that is done again from where the trail leads
 pub can_at : (now : Configuration) (k : ℕ) (es : List Noted) (e : Noted) → IsNoted es → slice_get es k ≡ Some e → now ≡ at_boundary (played_to (start_of es) (take k es)) → CanStep e.step now.state
-can_at now k es e noted is here = subst (λ (m : Configuration). CanStep e.step m.state) (sym here) (noted_at k es e noted is).can
+can_at now k es e noted is here = grind (arith, noted_at)
 
 pub done_at : (now after : Configuration) (k : ℕ) (es : List Noted) (e : Noted) → slice_get es k ≡ Some e → now ≡ at_boundary (played_to (start_of es) (take k es)) → after ≡ at_boundary (stepped e.step now.state)
     → after ≡ at_boundary (played_to (start_of es) (take (k + 1) es))
 done_at now after k es e is here done =
-    done ∙ ap (λ (m : Configuration). at_boundary (stepped e.step m.state)) here ∙ ap at_boundary (sym (played_to-next (start_of es) es k e is))
+    grind (arith, played_to-next)
 
 -- no step is kept up to the first place that counts
 pub kept_to-none : (s : State) (es : List Noted) (passed : ℕ) → kept_to s es passed passed ≡ []
@@ -192,7 +188,7 @@ kept_to-all s es passed k h = ap (λ (ys : List Noted). drop passed (played s ys
 
 pub orders_to-next : (s : State) (es : List Noted) (passed k : ℕ) (e : Noted) → passed ≤ k → slice_get es k ≡ Some e → orders_in (kept_to s es passed (k + 1)) ≡ orders_in (kept_to s es passed k) + order_count e.step
 orders_to-next s es passed k e h is =
-    ap (λ (ks : List KeptStep). orders_in ks) (kept_to-next s es passed k e h is) ∙ orders_in-more (kept_to s es passed k) (step_from (played_to s (take k es)) e.step)
+    ap (λ (ks : List KeptStep). orders_in ks) (kept_to-next s es _ k e h is) ∙ orders_in-more _ _
 
 -- where an order is kept, the place is behind those that do not count
 pub some_kept : (s : State) (es : List Noted) (passed k : ℕ) → 1 ≤ orders_in (kept_to s es passed k) → passed < k
@@ -209,20 +205,20 @@ pub record IsPlaceBack (s : State) (es : List Noted) (passed k next : ℕ) (e : 
 one_back : (s : State) (es : List Noted) (passed k : ℕ) (e : Noted) (m : ℕ) → passed ≤ k → slice_get es k ≡ Some e → 1 ≤ m + order_count e.step → m + order_count e.step ≤ orders_in (kept_to s es passed (k + 1))
     → IsPlaceBack s es passed k (k + 1) e m
 one_back s es passed k e m h is some within =
-    let left : m ≤ orders_in (kept_to s es passed k) = omega (arith, orders_to-next s es passed k e h is) in
-    let next = kept_to-next s es passed k e h is in
+    let left : m ≤ orders_in (kept_to s es passed k) = omega (arith, orders_to-next s es _ k e h is) in
+    let next = kept_to-next s es _ k e h is in
     let at : KeptStep = (step_from (played_to s (take k es)) e.step) in
     record {
       kept = left;
-      state = ap (λ (ks : List KeptStep). state_back (m + order_count e.step) ks (played_to s (take (k + 1) es))) next ∙ state_back-more (kept_to s es passed k) at (played_to s (take (k + 1) es)) m some left;
-      steps = ap (λ (ks : List KeptStep). steps_back (m + order_count e.step) ks) next ∙ steps_back-more (kept_to s es passed k) at m some left;
+      state = ap (λ (ks : List KeptStep). state_back (m + order_count e.step) ks (played_to s (take (k + 1) es))) next ∙ state_back-more _ at (played_to s (take (k + 1) es)) m some left;
+      steps = ap (λ (ks : List KeptStep). steps_back (m + order_count e.step) ks) next ∙ steps_back-more _ at m some left;
     }
 
 pub place_back : (s : State) (es : List Noted) (passed k next : ℕ) (e : Noted) (m : ℕ) → next ≡ k + 1 → passed ≤ k → slice_get es k ≡ Some e → 1 ≤ m + order_count e.step → m + order_count e.step ≤ orders_in (kept_to s es passed next)
     → IsPlaceBack s es passed k next e m
 place_back s es passed k next e m same h is some within =
     subst (λ n. IsPlaceBack s es passed k n e m) (sym same)
-    (one_back s es passed k e m h is some (subst (λ n. m + order_count e.step ≤ orders_in (kept_to s es passed n)) same within))
+    (one_back s es _ k e m h is some (subst (λ n. m + order_count e.step ≤ orders_in (kept_to s es passed n)) same within))
 
 -- a trail begins with its first copy
 start-noted : (s : State) (es : List Noted) → 0 < length es → AreNotedFrom 0 s es → start_of es ≡ s
@@ -230,7 +226,7 @@ start-noted s [] h noted = absurd (omega arith)
 start-noted s (x ∷ xs) h noted = rw noted.0 refl
 
 noted_by : (s : State) (es : List Noted) → 0 < length es → AreNotedFrom 0 s es → IsNoted es
-noted_by s es h noted = record { noted = subst (λ (t : State). AreNotedFrom 0 t es) (sym (start-noted s es h noted)) noted }
+noted_by s es h noted = grind (arith, start-noted)
 
 start-take : (k : ℕ) (es : List Noted) → 0 < k → start_of (take k es) ≡ start_of es
 start-take zero es h = absurd (omega arith)
@@ -239,22 +235,22 @@ start-take (suc k) (x ∷ xs) h = refl
 
 -- a trail without any step
 pub empty_trail : (capacity : ℕ) → IsTrail [] 0 capacity
-empty_trail capacity = record { noted = record { noted = tt }; few = omega arith; some = omega arith; within = omega arith }
+empty_trail capacity = grind arith
 
 -- a trail cut behind one of its kept steps
 pub trail-take : (es : List Noted) (passed capacity place : ℕ) → IsTrail es passed capacity → passed < place → place < length es → IsTrail (take place es) passed capacity
 trail-take es passed capacity place trail some within =
     let cut : length (take place es) ≡ place = omega (arith, length-take place es) in
-    let start = start-take place es (omega arith) in
+    let start = start-take _ es (omega arith) in
     record {
-      noted = record { noted = subst (λ (t : State). AreNotedFrom 0 t (take place es)) (sym start) (noted-take place 0 (start_of es) es trail.noted.noted) };
+      noted = record { noted = subst (λ (t : State). AreNotedFrom 0 t (take place es)) (sym start) (noted-take _ 0 _ es trail.noted.noted) };
       few = trail.few;
       some = omega (arith, cut);
       within = omega (arith, cut, trail.within);
     }
 
 pub kept-take : (es : List Noted) (passed place : ℕ) → passed < place → drop passed (played (start_of (take place es)) (take place es)) ≡ drop passed (played (start_of es) (take place es))
-kept-take es passed place some = let h : 0 < place = omega arith in ap (λ (t : State). drop passed (played t (take place es))) (start-take place es h)
+kept-take es passed place some = grind (arith, start-take)
 
 -- one step more on a trail
 pub record IsMore (es after : List Noted) (before : State) (step : Step) : Type 0 where
@@ -267,27 +263,18 @@ first_more before step can e is = rw is (record { noted = record { noted = (refl
 next_more : (es : List Noted) (before : State) (step : Step) → 0 < length es → IsNoted es → played_to (start_of es) es ≡ before → CanStep step before → IsMore es (es ++ record { step = step; copy = copy_at (length es) before } ∷ []) before step
 next_more [] before step h noted here can = absurd (omega arith)
 next_more (x ∷ xs) before step h noted here can =
-    let es = x ∷ xs in
-    let s = start_of es in
-    let e : Noted = record { step = step; copy = copy_at (length es) before } in
-    let same : length es ≡ 0 + length es = omega arith in
-    let copy : e.copy ≡ copy_at (0 + length es) (played_to s es) = rw here (same_copy (length es) (0 + length es) before same) in
-    record {
-      noted = record { noted = noted-more 0 s es e noted.noted copy (subst (λ (t : State). CanStep step t) (sym here) can) };
-      played_more = played-more s es e ∙ ap (λ (t : State). played s es ++ step_from t step ∷ []) here;
-    }
+    grind (arith, same_copy, noted-more, played-more)
 
 more : (es : List Noted) (passed capacity : ℕ) (before : State) (step : Step) → IsTrail es passed capacity → Leads (drop passed (played (start_of es) es)) before → CanStep step before
     → IsMore es (es ++ record { step = step; copy = copy_at (passed + length (drop passed (played (start_of es) es))) before } ∷ []) before step
 more [] passed capacity before step trail led can =
-    let none : passed + length (drop passed (played (start_of []) [])) ≡ 0 = omega (arith, trail.some, length-drop {A = KeptStep} passed []) in
-    first_more before step can _ (ap (λ n. record { step = step; copy = copy_at n before }) none)
+    grind (arith, first_more)
 more (x ∷ xs) passed capacity before step trail led can =
     let es = x ∷ xs in
     let some : passed < length es = omega (arith, trail.some) in
     let all : passed + length (drop passed (played (start_of es) es)) ≡ length es = omega (arith, length-drop passed (played (start_of es) es), length-played (start_of es) es) in
-    let here = leads_to before (start_of es) es passed some led in
-    subst (λ n. IsMore es (es ++ record { step = step; copy = copy_at n before } ∷ []) before step) (sym all) (next_more es before step (omega arith) trail.noted here can)
+    let here = leads_to _ _ es _ some led in
+    subst (λ n. IsMore es (es ++ record { step = step; copy = copy_at n before } ∷ []) before step) (sym all) (next_more es _ _ (omega arith) trail.noted here can)
 
 -- the kept steps, one more
 kept_more : (played_before : List KeptStep) (passed after capacity : ℕ) (k : KeptStep) → passed ≤ length played_before → length played_before ≤ passed + capacity
@@ -334,18 +321,17 @@ pub record IsAfterNote (es after : List Noted) (passed passed_after capacity : �
 
 uncut : (es after : List Noted) (passed passed_after capacity : ℕ) (before : State) (step : Step) → IsPushed es after passed passed_after capacity before step → (passed_after == 64) ≡ false → IsAfterNote es after passed passed_after capacity before step
 uncut es after passed passed_after capacity before step p other =
-    let few : passed_after < 64 = grind (arith, nat_tests) in
-    record { trail = record { noted = p.noted; few = few; some = omega (arith, p.some); within = p.within }; kept = p.kept }
+    grind arith
 
 cut : (es after : List Noted) (passed passed_after capacity : ℕ) (before : State) (step : Step) → IsPushed es after passed passed_after capacity before step → passed_after ≡ 64 → IsAfterNote es (drop 64 after) passed 0 capacity before step
 cut es after passed passed_after capacity before step p is =
     let s = start_of after in
     let t = played_to s (take 64 after) in
     let some : 0 < length (drop 64 after) = omega (arith, p.some, length-drop 64 after) in
-    let noted : AreNotedFrom 0 t (drop 64 after) = noted-block 0 t (drop 64 after) (noted-drop 64 0 s after p.noted.noted) in
+    let noted : AreNotedFrom 0 t (drop 64 after) = noted-block 0 t _ (noted-drop 64 0 s _ p.noted.noted) in
     record {
-      trail = record { noted = noted_by t (drop 64 after) some noted; few = omega arith; some = omega (arith, some); within = omega (arith, p.within, length-drop 64 after) };
-      kept = ap (λ (u : State). played u (drop 64 after)) (start-noted t (drop 64 after) some noted) ∙ sym (played-drop 64 s after) ∙ ap (λ n. drop n (played s after)) (sym is) ∙ p.kept;
+      trail = record { noted = noted_by t _ some noted; few = omega arith; some = omega (arith, some); within = omega (arith, p.within, length-drop 64 after) };
+      kept = ap (λ (u : State). played u (drop 64 after)) (start-noted t _ some noted) ∙ sym (played-drop 64 s after) ∙ ap (λ n. drop n (played s after)) (sym is) ∙ p.kept;
     }
 
 pub after_note : (es after pushed_es : List Noted) (passed passed_pushed passed_after capacity : ℕ) (before : State) (step : Step) → IsPushed es pushed_es passed passed_pushed capacity before step
@@ -353,7 +339,7 @@ pub after_note : (es after pushed_es : List Noted) (passed passed_pushed passed_
 after_note es after pushed_es passed passed_pushed passed_after capacity before step p after_is passed_is =
     rw (after_is, passed_is)
     (elim (passed_pushed == 64) as (λ b. (passed_pushed == 64) ≡ b → IsAfterNote es (cond b (drop 64 pushed_es) pushed_es) passed (cond b 0 passed_pushed) capacity before step)
-    [ true ↦ λ e. cut es pushed_es passed passed_pushed capacity before step p (eqb-true _ _ e) | false ↦ λ e. uncut es pushed_es passed passed_pushed capacity before step p e ] refl)
+    [ true ↦ λ e. cut es pushed_es passed passed_pushed capacity before step p (eqb-true _ _ e) | false ↦ λ e. uncut es _ _ _ _ _ _ p e ] refl)
 
 -- what a trail shows
 abbrev pub shown_trail : List Noted → ℕ → ℕ → Trail
@@ -370,20 +356,20 @@ noted_trail es pushed_es after passed passed_pushed passed_after capacity v note
     let led_here : Leads (drop passed (played (start_of es) es)) before = subst (λ (t : Trail). Leads t.steps before) (sym shows) led in
     let p = pushed es passed passed_pushed capacity before step room trail led_here can count_is in
     let same = pushed_is ∙ ap (λ (n : Noted). es ++ n ∷ []) fits_here in
-    after_note es after pushed_es passed passed_pushed passed_after capacity before step (subst (λ (xs : List Noted). IsPushed es xs passed passed_pushed capacity before step) (sym same) p) after_is passed_is
+    after_note es _ _ _ _ _ _ _ _ (subst (λ (xs : List Noted). IsPushed es xs passed passed_pushed capacity before step) (sym same) p) after_is passed_is
 
 pub room_left : (es pushed_es : List Noted) (passed passed_pushed capacity : ℕ) (note : Noted) → IsTrail es passed capacity → 1 ≤ capacity → pushed_es ≡ es ++ note ∷ [] → passed_pushed ≡ cond (length es == passed + capacity) (passed + 1) passed
     → passed_pushed ≡ 64 → 64 ≤ length pushed_es
 room_left es pushed_es passed passed_pushed capacity note trail room pushed_is count_is all =
     let long : length pushed_es ≡ length es + 1 = ap (λ (xs : List Noted). length xs) pushed_is ∙ omega (arith, length-append es (note ∷ [])) in
-    let c = count_cases passed passed_pushed capacity (length es) trail.few trail.some trail.within room count_is in
+    let c = count_cases _ _ _ _ trail.few trail.some trail.within room count_is in
     omega (arith, c.1, long)
 
 -- the latest hit, one step more
 pub last_hit-more : (rules : List Rule) (kept : List KeptStep) (k : KeptStep) → last_hit rules (kept ++ k ∷ []) ≡ cond (is_order k.step) (hit_more (last_hit rules kept) (first_hit rules k.before)) (last_hit rules kept)
-last_hit-more rules [] k = one_hit (is_order k.step) (first_hit rules k.before)
+last_hit-more rules [] k = one_hit _ _
 last_hit-more rules (x ∷ xs) k =
-    rw (last_hit-more rules xs k, orders_in-more xs k) (hit_shift (is_order k.step) (is_order x.step) (orders_in xs) (last_hit rules xs) (first_hit rules k.before) (first_hit rules x.before))
+    grind (arith, orders_in-more, hit_shift, last_hit-more rules xs k)
 
 -- the rule of an order is read off its record
 pub first_hit-recorded : (r : Recorded) (rules : List Rule) (s : State) → r ≡ recorded Perform s → position (is_recorded_hit r) rules ≡ first_hit rules s
@@ -391,7 +377,7 @@ first_hit-recorded r rules s is =
     let p : Recorded = recorded Perform s in
     let back = undone-recorded Perform s in
     ap (λ (q : Recorded). position (is_recorded_hit q) rules) is
-    ∙ sym (first_hit_as_recorded p (stepped Perform s) rules refl (ap (λ (t : State). stepped Perform t) back))
+    ∙ sym (first_hit_as_recorded p _ _ refl (ap (λ (t : State). stepped Perform t) back))
     ∙ ap (λ (t : State). first_hit rules t) back
 
 -- a trail of which the steps before a place are kept
@@ -401,8 +387,8 @@ pub record IsShortened (es after : List Noted) (passed passed_after capacity pla
 
 emptied : (es : List Noted) (passed capacity place : ℕ) → place ≡ passed → IsShortened es [] passed 0 capacity place
 emptied es passed capacity place is = record {
-  trail = empty_trail capacity;
-  kept = sym (ap (λ n. drop passed (played (start_of es) (take n es))) is ∙ kept_to-none (start_of es) es passed);
+  trail = empty_trail _;
+  kept = sym (ap (λ n. drop passed (played (start_of es) (take n es))) is ∙ kept_to-none _ es _);
 }
 
 pub shortened : (es after : List Noted) (passed passed_after capacity place : ℕ) → IsTrail es passed capacity → passed ≤ place → place < length es
@@ -429,7 +415,7 @@ pub gone_back : (es after : List Noted) (passed passed_after capacity place orde
     → IsGoneBack v (shown_trail after passed_after capacity) now earlier orders
 gone_back es after passed passed_after capacity place orders v now earlier shows led some short state steps earlier_is =
     let led_here : Leads (drop passed (played (start_of es) es)) now = subst (λ (t : Trail). Leads t.steps now) (sym shows) led in
-    let here = leads_to now (start_of es) es passed some led_here in
+    let here = leads_to _ _ es _ some led_here in
     let same = ap (λ (t : Trail). t.steps) shows in
     let state_is : earlier ≡ state_back orders v.steps now =
     earlier_is ∙ sym state ∙ ap (λ (s : State). state_back orders (drop passed (played (start_of es) es)) s) here ∙ ap (λ (ks : List KeptStep). state_back orders ks now) same in
@@ -437,7 +423,7 @@ gone_back es after passed passed_after capacity place orders v now earlier shows
     record {
       state = state_is;
       steps = steps_is;
-      leads = rw (steps_is, state_is) (leads-back orders v.steps now led);
+      leads = rw (steps_is, state_is) (leads-back _ _ _ led);
       capacity = ap (λ (t : Trail). t.capacity) shows;
     }
 
@@ -450,13 +436,13 @@ shown_length es passed capacity v shows h =
 pub noted_here : (es : List Noted) (passed capacity long : ℕ) (v : Trail) (note : Noted) (before : State) (step : Step) → shown_trail es passed capacity ≡ v → IsTrail es passed capacity → long ≡ length es
     → note ≡ record { step = step; copy = copy_at long before } → note ≡ noted_after v before step
 noted_here es passed capacity long v note before step shows trail long_is note_is =
-    note_is ∙ ap (λ n. record { step = step; copy = copy_at n before }) (long_is ∙ sym (shown_length es passed capacity v shows (omega (arith, trail.some))))
+    note_is ∙ ap (λ n. record { step = step; copy = copy_at n before }) (long_is ∙ sym (shown_length es _ _ v shows (omega (arith, trail.some))))
 
 -- the latest hit, one place further
 pub latest_next : (rules : List Rule) (s : State) (es : List Noted) (passed k : ℕ) (e : Noted) → passed ≤ k → slice_get es k ≡ Some e
     → last_hit rules (kept_to s es passed (k + 1)) ≡ cond (is_order e.step) (hit_more (last_hit rules (kept_to s es passed k)) (first_hit rules (played_to s (take k es)))) (last_hit rules (kept_to s es passed k))
 latest_next rules s es passed k e h is =
-    ap (λ (ks : List KeptStep). last_hit rules ks) (kept_to-next s es passed k e h is) ∙ last_hit-more rules (kept_to s es passed k) (step_from (played_to s (take k es)) e.step)
+    ap (λ (ks : List KeptStep). last_hit rules ks) (kept_to-next s es _ k e h is) ∙ last_hit-more rules (kept_to s es passed k) (step_from (played_to s (take k es)) e.step)
 
 pub latest_passed : (rules : List Rule) (es : List Noted) (passed k : ℕ) (e : Noted) (now : Configuration) (before after : Option (ℕ × ℕ)) (hit : Option ℕ) → passed ≤ k → slice_get es k ≡ Some e → is_order e.step ≡ true
     → now ≡ at_boundary (played_to (start_of es) (take k es)) → before ≡ last_hit rules (kept_to (start_of es) es passed k) → hit ≡ first_hit rules now.state → after ≡ hit_more before hit
@@ -465,9 +451,9 @@ latest_passed rules es passed k e now before after hit h is order here before_is
     let s = start_of es in
     let hit_here : hit ≡ first_hit rules (played_to s (take k es)) = hit_is ∙ ap (λ (m : Configuration). first_hit rules m.state) here in
     after_is ∙ ap (λ (latest : Option (ℕ × ℕ)). hit_more latest hit) before_is ∙ ap (λ (o : Option ℕ). hit_more (last_hit rules (kept_to s es passed k)) o) hit_here
-    ∙ sym (latest_next rules s es passed k e h is ∙ rw order refl)
+    ∙ sym (latest_next _ s es _ k e h is ∙ rw order refl)
 
 pub latest_skipped : (rules : List Rule) (es : List Noted) (passed k : ℕ) (e : Noted) (before : Option (ℕ × ℕ)) → passed ≤ k → slice_get es k ≡ Some e → is_order e.step ≡ false
     → before ≡ last_hit rules (kept_to (start_of es) es passed k) → before ≡ last_hit rules (kept_to (start_of es) es passed (k + 1))
 latest_skipped rules es passed k e before h is order before_is =
-    before_is ∙ sym (latest_next rules (start_of es) es passed k e h is ∙ rw order refl)
+    before_is ∙ sym (latest_next _ _ es _ k e h is ∙ rw order refl)

@@ -25,16 +25,14 @@ loop-left-init g c =
 
 pub unreachable-requires : goal.unreachable-requires
 unreachable-requires g c =
-    let es = c.args.trail.now.items in
-    let some = some_kept (start_of es) es c.args.passed c.loop-left.place (omega arith) in
-    nothing_within es (c.loop-left.place - 1) (omega arith) c.in_default.ensures
+    grind (arith, some_kept, nothing_within)
 
 pub loop-left-preserved : goal.loop-left-preserved
 loop-left-preserved g c =
     let es = c.args.trail.now.items in
     let s = start_of es in
     let m = c.loop-left.left - c.from-left.result in
-    let count = bool_byte-order c.in-Some.noted.now.step c.is_order.result c.is_order.ensures in
+    let count = bool_byte-order _ _ c.is_order.ensures in
     let few = bool_byte-few c.is_order.result in
     let some = some_kept s es c.args.passed c.loop-left.place (omega arith) in
     let whole : m + order_count c.in-Some.noted.now.step ≡ c.loop-left.left = omega arith in
@@ -53,13 +51,8 @@ returns-clause-within g c = (c.loop-left.invariant.passed, c.loop-left.invariant
 
 pub returns-clause-state : goal.returns-clause-state
 returns-clause-state g c =
-    let done : c.loop-left.left ≡ 0 = omega arith in
-    let ks = kept_to (start_of c.args.trail.now.items) c.args.trail.now.items c.args.passed c.loop-left.place in
-    let s = played_to (start_of c.args.trail.now.items) (take c.loop-left.place c.args.trail.now.items) in
-    sym c.loop-left.invariant.state ∙ ap (λ n. state_back n ks s) done ∙ state_back-none ks s
+    grind (arith, state_back-none)
 
 pub returns-clause-steps : goal.returns-clause-steps
 returns-clause-steps g c =
-    let done : c.loop-left.left ≡ 0 = omega arith in
-    let ks = kept_to (start_of c.args.trail.now.items) c.args.trail.now.items c.args.passed c.loop-left.place in
-    sym c.loop-left.invariant.steps ∙ ap (λ n. steps_back n ks) done ∙ steps_back-none ks
+    grind (arith, steps_back-none)

@@ -6,7 +6,7 @@ pub take_step-requires-clause-boundary : goal.take_step-requires-clause-boundary
 take_step-requires-clause-boundary g c = at_its_boundary _ _ c.loop-index.invariant
 
 pub take_step-requires-clause-possible : goal.take_step-requires-clause-possible
-take_step-requires-clause-possible g c = can_at c.loop-index.machine c.loop-index.index c.args.trail.now.items c.in-Some.noted.now c.requires.noted (sym c.in-Some.ensures) c.loop-index.invariant
+take_step-requires-clause-possible g c = can_at _ _ _ _ c.requires.noted (sym c.in-Some.ensures) c.loop-index.invariant
 
 pub loop-index-preserved : goal.loop-index-preserved
-loop-index-preserved g c = done_at c.loop-index.machine _ c.loop-index.index c.args.trail.now.items c.in-Some.noted.now (sym c.in-Some.ensures) c.loop-index.invariant c.in_ok-take_step.ensures
+loop-index-preserved g c = done_at _ _ c.loop-index.index c.args.trail.now.items _ (sym c.in-Some.ensures) c.loop-index.invariant c.in_ok-take_step.ensures

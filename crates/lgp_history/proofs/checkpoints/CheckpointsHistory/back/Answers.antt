@@ -8,14 +8,14 @@ use Rattle.lgp_history.proofs.checkpoints.CheckpointsHistory.back.Given as given
 -- the trail after going back
 short : (g : given.Over) (c : goal.After-self-1 g) → IsShortened c.self.inside.trail.items c.shorten-self-inside.new.trail.items c.self.inside.passed c.shorten-self-inside.result (c.self.inside.trail.capacity - 64) c.place_of-place.result
 short g c =
-    shortened c.self.inside.trail.items c.shorten-self-inside.new.trail.items c.self.inside.passed c.shorten-self-inside.result (c.self.inside.trail.capacity - 64) c.place_of-place.result
+    shortened _ _ _ _ _ _
     c.self.invariant.0 c.place_of-place.ensures.within.0 c.place_of-place.ensures.within.1 c.shorten-self-inside.ensures.items c.shorten-self-inside.ensures.passed
 
 -- where the machine is then
 gone : (g : given.Over) (c : goal.After-self-1 g) → IsGoneBack c.args.self.now (shown_trail c.shorten-self-inside.new.trail.items c.shorten-self-inside.result (c.self.inside.trail.capacity - 64)) c.args.machine.now.state c.replace.new.machine.state c.args.orders
 gone g c =
     let earlier = ap (λ (m : Configuration). m.state) (c.replace.ensures ∙ c.in-Ok.ensures) in
-    gone_back c.self.inside.trail.items c.shorten-self-inside.new.trail.items c.self.inside.passed c.shorten-self-inside.result (c.self.inside.trail.capacity - 64) c.place_of-place.result c.args.orders c.args.self.now c.args.machine.now.state c.replace.new.machine.state
+    gone_back _ _ _ _ _ _ _ _ _ _
     c.self.view_is c.requires.leads (omega (arith, c.place_of-place.ensures.within.0, c.place_of-place.ensures.within.1)) (short g c) c.place_of-place.ensures.state c.place_of-place.ensures.steps earlier
 
 pub invariant_of-self : goal.invariant_of-self

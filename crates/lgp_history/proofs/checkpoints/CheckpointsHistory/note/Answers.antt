@@ -9,13 +9,13 @@ use Rattle.lgp_history.proofs.checkpoints.CheckpointsHistory.note.Goals as goal
 use Rattle.lgp_history.proofs.checkpoints.CheckpointsHistory.note.Given as given
 
 pub cut-self-inside-requires : goal.cut-self-inside-requires
-cut-self-inside-requires g c = room_left c.self.inside.trail.items c.push-passed.new.trail.items c.self.inside.passed c.push-passed.result (c.self.inside.trail.capacity - 64) c.args.note c.self.invariant.0 (omega arith) c.push-passed.ensures.items c.push-passed.ensures.passed
+cut-self-inside-requires g c = grind (arith, room_left)
 
 -- the trail after the step, whatever step the note fits
 after : (g : given.Over) (c : goal.After-self-1 g) (before : State) (step : Step) → CanStep step before → c.args.note ≡ noted_after c.args.self.now before step → Leads c.args.self.now.steps before
     → IsAfterNote c.self.inside.trail.items c.cut-self-inside.new.trail.items c.self.inside.passed c.cut-self-inside.result (c.self.inside.trail.capacity - 64) before step
 after g c before step can fits led =
-    noted_trail c.self.inside.trail.items c.push-passed.new.trail.items c.cut-self-inside.new.trail.items c.self.inside.passed c.push-passed.result c.cut-self-inside.result (c.self.inside.trail.capacity - 64) c.args.self.now c.args.note before step
+    noted_trail _ _ _ _ _ _ _ _ _ _ _
     c.self.view_is c.self.invariant.0 (omega arith) can fits led c.push-passed.ensures.items c.push-passed.ensures.passed c.cut-self-inside.ensures.items c.cut-self-inside.ensures.passed
 
 pub invariant_of-self : goal.invariant_of-self
@@ -31,4 +31,4 @@ returns-clause-kept g c = λ before step can fits led.
 pub returns-clause-leads : goal.returns-clause-leads
 returns-clause-leads g c = λ before step can fits led.
     let kept = (after g c before step can fits led).kept ∙ ap (λ (t : Trail). with_step t.capacity t.steps before step) c.self.view_is in
-    subst (λ (ks : List KeptStep). Leads ks (stepped step before)) (sym kept) (leads-more c.args.self.now.capacity c.args.self.now.steps before step led can)
+    subst (λ (ks : List KeptStep). Leads ks (stepped step before)) (sym kept) (leads-more _ _ _ _ led can)

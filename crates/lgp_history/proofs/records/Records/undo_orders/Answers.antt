@@ -11,7 +11,7 @@ pub undo-requires-clause-belongs : goal.undo-requires-clause-belongs
 undo-requires-clause-belongs g c =
     let r = c.in-Some.record in
     let m = c.loop-left.left - c.from-left.result in
-    let count = bool_byte-order r.step c.is_order.result c.is_order.ensures in
+    let count = bool_byte-order _ _ c.is_order.ensures in
     let few = bool_byte-few c.is_order.result in
     (undone-last c.loop-left.self.records.items r c.loop-left.machine.state m (sym c.in-Some.ensures.value) (omega arith) (omega arith) c.loop-left.invariant.leads).belongs_there
 
@@ -22,7 +22,7 @@ loop-left-preserved g c =
     let s = c.loop-left.machine.state in
     let m = c.loop-left.left - c.from-left.result in
     let popped : slice_get rs (length rs - 1) ≡ Some r = sym c.in-Some.ensures.value in
-    let count = bool_byte-order r.step c.is_order.result c.is_order.ensures in
+    let count = bool_byte-order _ _ c.is_order.ensures in
     let few = bool_byte-few c.is_order.result in
     let whole : m + order_count r.step ≡ c.loop-left.left = omega arith in
     let u = undone-last rs r s m popped (omega arith) (omega arith) c.loop-left.invariant.leads in

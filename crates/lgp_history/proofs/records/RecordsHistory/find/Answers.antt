@@ -9,8 +9,8 @@ loop-left-preserved-then-not-is_order g c =
     let some : 0 < c.loop-left.left = omega arith in
     let order : is_order c.in-Some.record.now.step ≡ false = sym c.if-not-is_order.ensures in
     let at = sym c.in-Some.ensures in
-    let none = last_hit-passed c.args.rules.now c.args.self.now.records.items c.args._now.now.state c.loop-left.left c.in-Some.record.now c.requires.leads some at c.loop-left.invariant.none_so_far order in
-    let count = orders_recorded-before c.args.self.now.records.items c.loop-left.left c.in-Some.record.now some at in
+    let none = last_hit-passed _ _ _ _ _ c.requires.leads some at c.loop-left.invariant.none_so_far order in
+    let count = orders_recorded-before _ _ _ some at in
     let zero : order_count c.in-Some.record.now.step ≡ 0 = rw order refl in
     record { within = omega arith; few = omega arith; orders_so_far = omega arith; none_so_far = none }
 
@@ -19,7 +19,7 @@ returns-in-Some-first_hit g c =
     let some : 0 < c.loop-left.left = omega arith in
     let order : is_order c.in-Some.record.now.step ≡ true = sym c.if-not-is_order.ensures in
     let at = sym c.in-Some.ensures in
-    let hit = last_hit-hit c.args.rules.now c.args.self.now.records.items c.args._now.now.state c.loop-left.left c.in-Some.record.now c.requires.leads some at c.loop-left.invariant.none_so_far order c.in-Some-first_hit.number (sym c.in-Some-first_hit.ensures) in
+    let hit = last_hit-hit _ _ _ _ _ c.requires.leads some at c.loop-left.invariant.none_so_far order c.in-Some-first_hit.number (sym c.in-Some-first_hit.ensures) in
     ap (λ (orders : ℕ). Some (orders + 1, c.in-Some-first_hit.number)) c.loop-left.invariant.orders_so_far ∙ sym hit
 
 pub loop-left-preserved : goal.loop-left-preserved
@@ -27,7 +27,7 @@ loop-left-preserved g c =
     let some : 0 < c.loop-left.left = omega arith in
     let order : is_order c.in-Some.record.now.step ≡ true = sym c.if-not-is_order.ensures in
     let at = sym c.in-Some.ensures in
-    let none = last_hit-missed c.args.rules.now c.args.self.now.records.items c.args._now.now.state c.loop-left.left c.in-Some.record.now c.requires.leads some at c.loop-left.invariant.none_so_far order (sym c.in_default-first_hit.ensures) in
-    let count = orders_recorded-before c.args.self.now.records.items c.loop-left.left c.in-Some.record.now some at in
+    let none = last_hit-missed _ _ _ _ _ c.requires.leads some at c.loop-left.invariant.none_so_far order (sym c.in_default-first_hit.ensures) in
+    let count = orders_recorded-before _ _ _ some at in
     let one : order_count c.in-Some.record.now.step ≡ 1 = rw order refl in
     record { within = omega arith; few = omega arith; orders_so_far = omega arith; none_so_far = none }

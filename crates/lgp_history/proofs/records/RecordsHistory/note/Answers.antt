@@ -19,4 +19,4 @@ returns-clause-kept g c = λ before step can fits led. noted _ _ _ before step f
 pub returns-clause-leads : goal.returns-clause-leads
 returns-clause-leads g c = λ before step can fits led.
     let kept = noted _ _ _ before step fits c.push_back-oldest.ensures.items in
-    subst (λ (ks : List KeptStep). Leads ks (stepped step before)) (sym kept) (leads-more c.args.self.now.records.capacity (read c.args.self.now.records.items before) before step led can)
+    subst (λ (ks : List KeptStep). Leads ks (stepped step before)) (sym kept) (leads-more _ _ _ _ led can)

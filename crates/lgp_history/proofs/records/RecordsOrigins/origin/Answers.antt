@@ -11,7 +11,6 @@ use Rattle.lgp_history.proofs.records.RecordsOrigins.origin.Goals as goal
 pub loop-unread-init : goal.loop-unread-init
 loop-unread-init g c =
     let rs = c.args.self.now.records.items in
-    let all : c.len-unread.result ≡ length rs = c.len-unread.ensures.len in
     let past : length rs ≤ c.len-unread.result = omega arith in
     let none = drop_of_length-le rs past in
     record {
@@ -19,7 +18,7 @@ loop-unread-init g c =
       few = omega arith;
       orders_so_far = sym (ap (λ (xs : List Recorded). orders_recorded xs) none);
       held = search rules ∙ sym (ap (λ (xs : List Recorded). (first_state (read xs c.args.now.now.state) c.args.now.now.state).core.panel.register) none);
-      none_so_far = ap (λ (xs : List Recorded). latest_change c.args.address (read xs c.args.now.now.state)) none ∙ no_change c.args.address;
+      none_so_far = ap (λ (xs : List Recorded). latest_change c.args.address (read xs c.args.now.now.state)) none ∙ no_change _;
     }
 
 pub returns-in-Some-lost_at : goal.returns-in-Some-lost_at
@@ -28,9 +27,9 @@ returns-in-Some-lost_at g c =
     let r = c.in-Some.record.now in
     let some : 0 < c.loop-unread.unread = omega arith in
     let at = sym c.in-Some.ensures in
-    let found = change-found c.args.address rs c.args.now.now.state c.loop-unread.unread r c.loop-unread.register c.requires.leads some at c.loop-unread.invariant.none_so_far c.loop-unread.invariant.held c.in-Some-lost_at.lost (sym c.in-Some-lost_at.ensures) in
-    let order = bool_byte-order r.step c.is_order.result c.is_order.ensures in
-    let count = orders_recorded-before rs c.loop-unread.unread r some at in
+    let found = change-found _ rs _ _ r _ c.requires.leads some at c.loop-unread.invariant.none_so_far c.loop-unread.invariant.held c.in-Some-lost_at.lost (sym c.in-Some-lost_at.ensures) in
+    let order = bool_byte-order _ _ c.is_order.ensures in
+    let count = orders_recorded-before rs _ r some at in
     let orders : c.loop-unread.orders + c.from.result ≡ orders_recorded (drop (c.loop-unread.unread - 1) rs) = omega arith in
     ap (λ (changer : Changer). Some (came changer c.in-Some-lost_at.lost)) (c.changer-changer.ensures ∙ ap (λ (n : ℕ). recorded_changer r c.loop-unread.register n) orders) ∙ sym found
 
@@ -40,7 +39,7 @@ loop-unread-preserved g c =
     let r = c.in-Some.record.now in
     let some : 0 < c.loop-unread.unread = omega arith in
     let at = sym c.in-Some.ensures in
-    let order = bool_byte-order r.step c.is_order.result c.is_order.ensures in
+    let order = bool_byte-order _ _ c.is_order.ensures in
     let few = bool_byte-few c.is_order.result in
     let count = orders_recorded-before rs c.loop-unread.unread r some at in
     record {
@@ -48,5 +47,5 @@ loop-unread-preserved g c =
       few = omega arith;
       orders_so_far = omega arith;
       held = c.register-register.ensures ∙ register-before rs c.args.now.now.state c.loop-unread.unread r c.requires.leads some at;
-      none_so_far = change-passed c.args.address rs c.args.now.now.state c.loop-unread.unread r c.loop-unread.register c.requires.leads some at c.loop-unread.invariant.none_so_far c.loop-unread.invariant.held (sym c.in_default-lost_at.ensures);
+      none_so_far = change-passed _ rs _ _ r _ c.requires.leads some at c.loop-unread.invariant.none_so_far c.loop-unread.invariant.held (sym c.in_default-lost_at.ensures);
     }
