@@ -3,6 +3,7 @@
 
 ghost use Rattle.std.specs.Prelude.{if◌then◌else◌, codes, not, ◌++◌};
 
+use lgp_desk::laws::{desk_takes_lines_before_quit, echo_asks_as_its_reply};
 use lgp_desk::{Attended, Bell, Manner, sit};
 use lgp_scarce::Scarce;
 use lgp_stream::{Answers, FeedOf, LineBytes, SinkOf, StreamFault};
@@ -550,4 +551,10 @@ fn each_growth_is_refused_in_turn(rt: HostRuntime) {
             .all(|count| count.is_some_and(|count| count > 2)),
         "{refused:?}"
     );
+}
+
+#[test]
+fn the_laws_do_nothing(_rt: HostRuntime) {
+    desk_takes_lines_before_quit::<u8>();
+    echo_asks_as_its_reply();
 }

@@ -10,6 +10,7 @@ mod origins;
 mod rows;
 
 use lgp_flexo::TAPE_LIMIT;
+use lgp_history::laws::{last_hits, orders_again, origins_go_back, words_come};
 use lgp_history::{BackFault, Checkpoints, History, Records, Step};
 use lgp_machine::Machine;
 use lgp_table::Status;
@@ -181,4 +182,12 @@ fn seen<A: Allocator, H: History<A>>(session: &Session<A, H>) -> Option<Seen> {
     let look = session.machine.look()?;
     let (steps, orders) = (session.history.kept(), session.history.orders_kept());
     Some((look.clock, look.status, steps, orders))
+}
+
+#[test]
+fn the_laws_do_nothing(_rt: HostRuntime) {
+    last_hits();
+    orders_again();
+    origins_go_back();
+    words_come();
 }

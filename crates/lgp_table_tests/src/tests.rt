@@ -1,7 +1,8 @@
 //! The plain types, and the laws and worked orders called once.
 
 use lgp_table::laws::{
-    costs, dead_actions, kept_actions, other_words, passed_codes, skipped_codes, waits,
+    activities_together, costs, dead_actions, kept_actions, other_words, passed_codes,
+    pressed_switches, skipped_codes, unseen_switches, waits,
 };
 use lgp_table::worked::{
     input, keys_in_manual, load, overflow, print, stop, store, stored_addresses, sum, test,
@@ -74,6 +75,9 @@ fn laws_and_worked_orders_do_nothing(_rt: HostRuntime) {
     skipped_codes();
     kept_actions();
     passed_codes();
+    activities_together();
+    unseen_switches();
+    pressed_switches();
     load();
     sum();
     overflow();
