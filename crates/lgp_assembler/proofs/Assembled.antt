@@ -30,7 +30,7 @@ module _ (source : List ℕ) (count place : ℕ) (ended : Bool) (names : List (L
   pub image_made : faults ++ end_fault ended count ≡ [] → ◌≡◌ {A = ImageParts} (record { cells = cells; start = start; symbols = symbols }) (image_of source)
   image_made none =
       let lines = all_lines source in
-      let image = d.image (first_none faults (end_fault ended count) none) in
+      let image = d.image (first_none _ _ none) in
       ap (λ cs. record { cells = cs; start = start; symbols = symbols }) (image.cells_are ∙ ap (λ ns. cells_in ns lines) s.names_are)
       ∙ ap (λ st. record { cells = cells_in (names_of lines) lines; start = st; symbols = symbols }) (image.start_is ∙ ap (λ ns. start_in ns lines) s.names_are)
       ∙ ap (λ sy. record { cells = cells_in (names_of lines) lines; start = start_in (names_of lines) lines; symbols = sy }) image.symbols_are
@@ -39,14 +39,14 @@ module _ (source : List ℕ) (count place : ℕ) (ended : Bool) (names : List (L
 pub cells_clear : (source : List ℕ) (names : List (List ℕ × ℕ)) (faults more all : List Fault) (cells : List (ℕ × ℕ)) (start : Option ℕ) (symbols : List (List ℕ × ℕ))
     → IsDraftOf names faults cells start symbols (all_lines source) → all ≡ faults ++ more → all ≡ [] → AreProgramCells cells
 cells_clear source names faults more all cells start symbols d e none =
-    (d.image (first_none faults more (sym e ∙ none))).program
+    (d.image (first_none _ _ (sym e ∙ none))).program
 
 -- which lie at places of their own
 pub cells_apart : (source : List ℕ) (names : List (List ℕ × ℕ)) (faults more all : List Fault) (cells : List (ℕ × ℕ)) (start : Option ℕ) (symbols : List (List ℕ × ℕ))
     → IsDraftOf names faults cells start symbols (all_lines source) → all ≡ faults ++ more → all ≡ [] → HaveOwnPlaces cells
 cells_apart source names faults more all cells start symbols d e none =
-    let clear = first_none faults more (sym e ∙ none) in
-    subst HaveOwnPlaces (sym (d.image clear).cells_are) (own_places names (all_lines source) (sym d.faults_are ∙ clear))
+    let clear = first_none _ _ (sym e ∙ none) in
+    subst HaveOwnPlaces (sym (d.image clear).cells_are) (own_places _ (all_lines source) (sym d.faults_are ∙ clear))
 
 -- what an image is, where it is that of a draft without faults
 pub ok_image : {E : Type 0} (r : Result ImageParts E) (draft image : ImageParts) (P : Type 0) → IfOk r (λ i. i ≡ draft) → OnOk r P → (P → draft ≡ image) → IfOk r (λ i. i ≡ image)

@@ -7,7 +7,7 @@ use Rattle.lgp_assembler.specs.declared.operands.Meaning.TheVariants.{Cell, Plac
 use Rattle.lgp_assembler.specs.declared.operands.OperandFault.{OperandFault}
 use Rattle.lgp_assembler.specs.Fields.{LineFields}
 use Rattle.lgp_assembler.specs.Places.{has_word, word_count, place_of, names_of}
-use Rattle.lgp_assembler.specs.Faults.{fault_of, faults_in, line_meaning, missing_end}
+use Rattle.lgp_assembler.specs.Faults.{fault_of, faults_in}
 use Rattle.lgp_assembler.specs.Image.{line_cell, all_lines, cell_at, cells_in, faults_of, image_of, passed_lines}
 use Rattle.lgp_word.specs.Address.{IsAddress}
 use Rattle.lgp_assembler.specs.Parts.{AreProgramCells, HaveOwnPlaces}
@@ -32,7 +32,7 @@ module _ (names : List (List ℕ × ℕ)) where
   -- a line without a fault has as many cells as words
   counted : (earlier : List LineFields) (line : LineFields) → fault_of names line earlier ≡ None → length (option_to_list (line_cell names earlier line)) ≡ word_count line
   counted earlier line faultless = ⊎_elim
-      (λ word. one_there (line_cell names earlier line) (cell_there names earlier line faultless word) ∙ sym (cond-true (has_word line) 1 0 word))
+      (λ word. one_there _ (cell_there names earlier line faultless word) ∙ sym (cond-true (has_word line) 1 0 word))
       (λ none. ap (λ o. length (option_to_list o)) (cell_missing names earlier line faultless none) ∙ sym (cond-false (has_word line) 1 0 none))
       (cases_Bool (has_word line))
 
@@ -48,7 +48,7 @@ module _ (names : List (List ℕ × ℕ)) where
 
   as_many_at_all : (lines : List LineFields) → faults_in names (passed_lines [] lines) ≡ [] → length (cells_in names (passed_lines [] lines)) ≡ word_total lines
   unfolding cells_in
-  as_many_at_all lines none = as_many [] lines (each_faultless names [] lines none) ∙ omega arith
+  as_many_at_all lines none = as_many [] lines (each_faultless _ [] _ none) ∙ omega arith
 
   cell_of_line : (earlier after : List LineFields) (line : LineFields) → faults_in names (passed_lines earlier (line ∷ after)) ≡ [] → has_word line ≡ true
       → (word : ℕ) × (cells_in names (passed_lines earlier (line ∷ after)) ≡ cells_in names earlier ++ (place_of line earlier, word) ∷ cells_behind names (line ∷ earlier) after)
@@ -56,7 +56,7 @@ module _ (names : List (List ℕ × ℕ)) where
   cell_of_line earlier after line none has =
       let place = place_of line earlier in
       let own = (each_faultless names earlier (line ∷ after) none).0 in
-      let (word, is) = the_cell place (line_meaning names place line) (cell_there names earlier line own has) in (
+      let (word, is) = the_cell _ _ (cell_there names earlier line own has) in (
         word,
         cells_in_order names (line ∷ earlier) after
             ∙ (ap (λ o. (cells_in names earlier ++ option_to_list o) ++ cells_behind names (line ∷ earlier) after) is
@@ -64,7 +64,7 @@ module _ (names : List (List ℕ × ℕ)) where
       )
 
 faultless_lines : (source : List ℕ) → faults_of source ≡ [] → faults_in (names_of (all_lines source)) (all_lines source) ≡ []
-faultless_lines source none = first_none (faults_in (names_of (all_lines source)) (all_lines source)) (missing_end (all_lines source)) none
+faultless_lines source none = grind (arith, first_none)
 
 each_cell : (source : List ℕ) (before after : List LineFields) (line : LineFields) → faults_of source ≡ [] → lines_in source ≡ before ++ line ∷ after → has_word line ≡ true
     → HasCellAt (image_of source).cells (place_after before line) (word_total before)
@@ -73,31 +73,31 @@ each_cell source before after line none parts has =
     let names = names_of (all_lines source) in
     let earlier = passed_lines [] before in
     let whole : all_lines source ≡ passed_lines earlier (line ∷ after) = ap (passed_lines []) parts ∙ passed-append [] before (line ∷ after) in
-    let clear : faults_in names (passed_lines earlier (line ∷ after)) ≡ [] = sym (ap (faults_in names) whole) ∙ faultless_lines source none in
-    let (word, cells) = cell_of_line names earlier after line clear has in (
+    let clear : faults_in names (passed_lines earlier (line ∷ after)) ≡ [] = sym (ap (faults_in names) whole) ∙ faultless_lines _ none in
+    let (word, cells) = cell_of_line _ _ after line clear has in (
       word,
       cells_in names earlier,
       cells_behind names (line ∷ earlier) after,
       ap (cells_in names) whole ∙ cells,
-      as_many_at_all names before (front_faultless names earlier (line ∷ after) clear),
+      as_many_at_all _ before (front_faultless _ _ (line ∷ after) clear),
     )
 
 pub cells_law : LinesHaveCells
 unfolding all_lines
 cells_law = record {
   each = each_cell;
-  count = λ source none. as_many_at_all (names_of (all_lines source)) (lines_in source) (faultless_lines source none);
+  count = λ source none. as_many_at_all _ (lines_in source) (faultless_lines _ none);
 }
 
 -- they lie at places of their own
 pub places_apart : (source : List ℕ) → faults_of source ≡ [] → HaveOwnPlaces (image_of source).cells
-places_apart source none = own_places (names_of (all_lines source)) (all_lines source) (faultless_lines source none)
+places_apart source none = own_places _ (all_lines source) (faultless_lines _ none)
 
 -- each is a word of a program
 pub places_filled : (source : List ℕ) → faults_of source ≡ [] → AreProgramCells (image_of source).cells
 places_filled source none =
-    let own = places_apart source none in
-    program_cells (image_of source).cells own.on_drum own.free (words_in (names_of (all_lines source)) (all_lines source))
+    let own = places_apart _ none in
+    program_cells _ own.on_drum own.free (words_in _ _)
 
 -- and a start is an address
 pub start_on_drum : (source : List ℕ) → IfSome (image_of source).start IsAddress

@@ -1,17 +1,16 @@
 -- What the lines of a source give: words, and a start that is an address.
-use Rattle.std.proofs.Common.{◌≡◌, ◌⊎◌, ◌<◌, ◌≤◌, ◌+◌, ◌-◌, ◌*◌, ◌%◌, ◌^◌, ◌++◌, ◌==◌, ℕ, ℤ, pos, ◌+ℤ◌, ◌*ℤ◌, unsigned_abs, Bool, true, false, cond, if◌then◌else◌, List, [], ◌∷◌, length, slice_index, take, drop, Option, None, Some, Result, Ok, Err, refl, sym, ap, subst, ⊎_elim, arith, nat_le, nat_lt, IfOk, IfSome, option_to_list, option_map, position}
-use Rattle.std.specs.List.{All, position_or_len}
+use Rattle.std.proofs.Common.{◌≡◌, ◌⊎◌, ◌<◌, ◌≤◌, ◌+◌, ◌*◌, ◌^◌, ◌++◌, ◌==◌, ℕ, ℤ, pos, ◌*ℤ◌, Bool, true, false, cond, if◌then◌else◌, List, [], ◌∷◌, length, Option, None, Some, Result, Ok, Err, refl, sym, subst, ⊎_elim, arith, nat_lt, IfOk, IfSome, option_to_list, option_map, position}
+use Rattle.std.specs.List.{All}
 use Rattle.std.specs.Option.{option_or}
 use Rattle.std.specs.Str.{byte}
 use Rattle.std.proofs.lemmas.Bool.Decides.{nat_tests}
-use Rattle.std.proofs.lemmas.Int.{int_rem_euclid_is, ints}
+use Rattle.std.proofs.lemmas.Int.{int_rem_euclid_is}
 use Rattle.std.proofs.lemmas.List.{append-nil}
 use Rattle.std.proofs.lemmas.List.Elements.{All-head, All-push, All-tail}
 use Rattle.std.proofs.lemmas.List.Quantifiers.{position-Some}
 use Rattle.lgp_word.specs.declared.order.Op.{Op}
 use Rattle.lgp_word.specs.declared.order.Op.TheVariants.{Z, B, Y, R, I, D, N, M, P, E, U, T, H, C, A, S}
 use Rattle.lgp_word.specs.Address.{IsAddress}
-use Rattle.lgp_word.specs.Decimal.{decimal_number}
 use Rattle.lgp_word.specs.Digits.{digits, word_of_digits}
 use Rattle.lgp_word.specs.Order.{letters, op_number}
 use Rattle.lgp_word.specs.Word.{IsWord}
@@ -19,7 +18,6 @@ use Rattle.lgp_word.proofs.TextLemmas.{IsWord-word_of_digits}
 use Rattle.lgp_fraction.specs.Arithmetic.{low_bits}
 use Rattle.lgp_fraction.specs.declared.fraction.FractionFault.{FractionFault}
 use Rattle.lgp_fraction.specs.declared.fraction.FractionFault.TheVariants.{Form, OutOfRange}
-use Rattle.lgp_fraction.specs.Decimal.{decimal_fraction}
 use Rattle.lgp_flexo.specs.Code.{code_at, code_in_row, other_signs, stop_code, stop_sign}
 use Rattle.lgp_assembler.specs.declared.operations.Operation.{Operation}
 use Rattle.lgp_assembler.specs.declared.operations.Operation.TheVariants.{Order, MinusT, Org, Word, Frac, Int, End}
@@ -27,9 +25,9 @@ use Rattle.lgp_assembler.specs.declared.operands.Meaning.{Meaning}
 use Rattle.lgp_assembler.specs.declared.operands.Meaning.TheVariants.{Cell, Place, Nothing}
 use Rattle.lgp_assembler.specs.declared.address_operands.Offset.{Offset}
 use Rattle.lgp_assembler.specs.declared.operands.OperandFault.{OperandFault}
-use Rattle.lgp_assembler.specs.declared.operands.OperandFault.TheVariants.{Misformed, Outside}
-use Rattle.lgp_assembler.specs.AddressOperands.{address_operand, base_number, in_range, is_sign, address_of_parts, offset_of}
-use Rattle.lgp_assembler.specs.Operands.{meaning_under, cell_of_fraction, cell_of_order, cell_of_digits, integer_word, meaning_of, order_operand, place_meaning, cell_of_sign, scaled_word, sign_operand, unsigned_part, word_of_parts}
+use Rattle.lgp_assembler.specs.declared.operands.OperandFault.TheVariants.{Outside}
+use Rattle.lgp_assembler.specs.AddressOperands.{address_operand, in_range, address_of_parts}
+use Rattle.lgp_assembler.specs.Operands.{meaning_under, cell_of_fraction, cell_of_order, cell_of_digits, integer_word, meaning_of, order_operand, place_meaning, cell_of_sign, scaled_word, sign_operand, word_of_parts}
 use Rattle.lgp_assembler.specs.Fields.{LineFields}
 use Rattle.lgp_assembler.specs.Faults.{line_meaning}
 use Rattle.lgp_assembler.specs.Image.{cell_at, cells_in, start_at, start_in}
@@ -44,20 +42,17 @@ found true one other first second = first refl
 found false one other first second = second refl
 
 ranged : (number : ℕ) → IfOk (in_range number) IsAddress
-ranged number = found (nat_lt number 4096) (Ok number) (Err Outside) (λ e. grind (arith, nat_tests)) (λ e. tt)
+ranged number = grind (arith, found)
 
 moved_address : (offset : Option Offset) (base : Result ℕ OperandFault) → IfOk (address_of_parts offset base) IsAddress
 moved_address None base = tt
 moved_address (Some offset) (Err fault) = tt
-moved_address (Some offset) (Ok number) = found offset.minus (cond (nat_le offset.number number) (in_range (number - offset.number)) (Err Outside)) (in_range (number + offset.number))
-    (λ e. found (nat_le offset.number number) (in_range (number - offset.number)) (Err Outside) (λ f. ranged (number - offset.number)) (λ f. tt))
-    (λ e. ranged (number + offset.number))
+moved_address (Some offset) (Ok number) = grind (arith, found, ranged)
 
 address_found : (names : List (List ℕ × ℕ)) (place : ℕ) (text : List ℕ) → IfOk (address_operand names place text) IsAddress
 unfolding address_operand
 address_found names place text =
-    let base = position_or_len is_sign text in
-    moved_address (offset_of (drop base text)) (base_number names place (take base text))
+    grind (arith, moved_address)
 
 -- ---- words
 
@@ -88,7 +83,7 @@ order_fits true number address op within = (omega (arith, op, within), omega ari
 order_fits false number address op within = (omega (arith, op, within), omega arith)
 
 order_cell : (minus : Bool) (op : Op) (r : Result ℕ OperandFault) → IfOk r IsAddress → IfCell (cell_of_order minus op r) IsWord
-order_cell minus op (Ok address) is = order_fits minus (op_number op) address (small_op op) is
+order_cell minus op (Ok address) is = order_fits _ _ _ (small_op op) is
 order_cell minus op (Err fault) is = tt
 
 row_code : (kind : ℕ) (signs : List ℕ) (sign : ℕ) → kind < 4 → length signs ≤ 16 → IfSome (code_in_row kind signs sign) (λ code. code < 64)
@@ -110,15 +105,15 @@ small_code : (sign : ℕ) → IfSome (code_at sign) (λ code. code < 64)
 unfolding code_at
 small_code sign = one_of (sign == byte "l") (code_in_row 2 digits (byte "1")) _ (row_code 2 digits (byte "1") (omega arith) (omega arith))
     (one_of (sign == stop_sign) (Some stop_code) _ (omega arith)
-    (one_or (code_in_row 1 letters sign) _ (row_code 1 letters sign (omega arith) (omega arith))
-    (one_or (code_in_row 2 digits sign) (code_in_row 3 other_signs sign) (row_code 2 digits sign (omega arith) (omega arith)) (row_code 3 other_signs sign (omega arith) (omega arith)))))
+    (one_or _ _ (row_code 1 letters sign (omega arith) (omega arith))
+    (one_or _ _ (row_code 2 digits sign (omega arith) (omega arith)) (row_code 3 other_signs sign (omega arith) (omega arith)))))
 
 printed_cell : (code : Option ℕ) → IfSome code (λ code. code < 64) → IfCell (cell_of_sign code) IsWord
 printed_cell (Some code) small = order_fits false 8 (64 * code) (omega arith) (omega (arith, small))
 printed_cell None small = tt
 
 sign_cell : (op : Op) (text : List ℕ) → IfCell (sign_operand op text) IsWord
-sign_cell P text = chosen (length text == 2) (cell_of_sign (code_at (slice_index text 1))) (Err Misformed) (λ e. printed_cell (code_at (slice_index text 1)) (small_code (slice_index text 1))) (λ e. tt)
+sign_cell P text = grind (arith, chosen, printed_cell, small_code)
 sign_cell Z text = tt
 sign_cell B text = tt
 sign_cell Y text = tt
@@ -138,12 +133,10 @@ sign_cell S text = tt
 operand_cell : (names : List (List ℕ × ℕ)) (place : ℕ) (minus : Bool) (op : Op) (text : List ℕ) → IfCell (order_operand names place minus op text) IsWord
 unfolding order_operand
 operand_cell names place minus op text =
-    let address = address_operand names place text in
-    chosen (slice_index text 0 == 61) (sign_operand op text) (cell_of_order minus op address)
-    (λ e. sign_cell op text) (λ e. order_cell minus op address (address_found names place text))
+    grind (arith, chosen, sign_cell, order_cell, address_found)
 
 scaled_cell : (minus : Bool) (scaled : ℕ) → IfCell (scaled_word minus scaled) IsWord
-scaled_cell true scaled = chosen (nat_le scaled (2 ^ 30)) (Ok (Cell ((2 ^ 32 - 2 * scaled) % 2 ^ 32))) (Err Outside) (λ e. (omega arith, omega arith)) (λ e. tt)
+scaled_cell true scaled = grind (arith, chosen)
 scaled_cell false scaled = chosen (nat_lt scaled (2 ^ 30)) (Ok (Cell (2 * scaled))) (Err Outside)
     (λ e. let less : scaled < 2 ^ 30 = grind (arith, nat_tests) in (omega (arith, less), omega arith)) (λ e. tt)
 
@@ -152,20 +145,15 @@ parts_cell minus None None = tt
 parts_cell minus None (Some point) = tt
 parts_cell minus (Some size) None = tt
 parts_cell minus (Some size) (Some point) =
-    let scaled = size * 2 ^ (30 - point) in
-    chosen (nat_le point 30) (scaled_word minus scaled) (Err Misformed) (λ e. scaled_cell minus scaled) (λ e. tt)
+    grind (arith, chosen, scaled_cell)
 
 integer_cell : (number point : List ℕ) → IfCell (integer_word number point) IsWord
 unfolding integer_word
-integer_cell number point = parts_cell (slice_index number 0 == 45) (decimal_number 10 (unsigned_part number)) (decimal_number 2 point)
+integer_cell number point = grind (arith, parts_cell)
 
 even_bits : (steps : ℤ) → IsWord (low_bits (pos 2 *ℤ steps))
 even_bits steps =
-    let turns = unsigned_abs steps in
-    let half = unsigned_abs (steps +ℤ pos (turns * 2 ^ 31)) in
-    let whole : pos 2 *ℤ steps +ℤ pos (turns * 2 ^ 32) ≡ pos (2 * half) = omega (arith, ints) in
-    let same : low_bits (pos 2 *ℤ steps) ≡ (2 * half) % 2 ^ 32 = ap unsigned_abs (int_rem_euclid_is (pos 2 *ℤ steps) (pos (2 ^ 32)) (2 ^ 32) turns (2 * half) (omega arith) refl whole) in
-    (omega (arith, same), omega (arith, same))
+    grind (arith, int_rem_euclid_is)
 
 fraction_cell : (r : Result ℤ FractionFault) → IfCell (cell_of_fraction r) IsWord
 fraction_cell (Ok steps) = even_bits steps
@@ -183,17 +171,17 @@ place_cell (Err fault) = tt
 module _ (names : List (List ℕ × ℕ)) (place : ℕ) where
   meaning_cell : (operation : Operation) (first second : Option (List ℕ)) → IfCell (meaning_of names place operation first second) IsWord
   unfolding meaning_of
-  meaning_cell (Order op) None second = order_fits false (op_number op) 0 (small_op op) (omega arith)
-  meaning_cell (Order op) (Some text) second = operand_cell names place false op text
+  meaning_cell (Order op) None second = order_fits false _ 0 (small_op op) (omega arith)
+  meaning_cell (Order op) (Some text) second = operand_cell _ _ _ op _
   meaning_cell MinusT None second = tt
-  meaning_cell MinusT (Some text) second = operand_cell names place true T text
+  meaning_cell MinusT (Some text) second = operand_cell _ _ _ T _
   meaning_cell Word None second = tt
-  meaning_cell Word (Some text) second = digits_cell text (word_of_digits text) refl
+  meaning_cell Word (Some text) second = digits_cell _ _ refl
   meaning_cell Frac None second = tt
-  meaning_cell Frac (Some text) second = fraction_cell (decimal_fraction text)
+  meaning_cell Frac (Some text) second = fraction_cell _
   meaning_cell Int None second = tt
   meaning_cell Int (Some number) None = tt
-  meaning_cell Int (Some number) (Some point) = integer_cell number point
+  meaning_cell Int (Some number) (Some point) = integer_cell _ _
   meaning_cell Org None second = tt
   meaning_cell Org (Some text) second = place_cell _
   meaning_cell End None second = tt
@@ -201,7 +189,7 @@ module _ (names : List (List ℕ × ℕ)) (place : ℕ) where
 
   line_word : (operation : Option Operation) (line : LineFields) → IfCell (meaning_under operation names place line.first line.second) IsWord
   line_word None line = tt
-  line_word (Some operation) line = meaning_cell operation line.first line.second
+  line_word (Some operation) line = meaning_cell _ _ _
 
 -- ---- cells
 
@@ -217,7 +205,7 @@ unfolding cells_in
 words_in names [] = λ k d less. absurd (let wrong : ⊥ = omega (arith, less) in wrong)
 words_in names (line ∷ earlier) =
     let place = place_of line earlier in
-    with_cell (cells_in names earlier) place (line_meaning names place line) (words_in names earlier) (line_word names place line.operation line)
+    with_cell (cells_in names earlier) place (line_meaning names place line) (words_in names earlier) (line_word _ _ line.operation line)
 
 free_place : (place : ℕ) → (place < 4032) ⊎ (4053 < place) → is_loaders place ≡ false
 free_place place free = ⊎_elim (λ below. grind (arith, nat_tests)) (λ above. grind (arith, nat_tests)) free
@@ -228,7 +216,7 @@ program_cells [] within free are = tt
 program_cells (cell ∷ cells) within free are = (
   (
     All-head (λ cell. cell.0 < 4096) cell cells within,
-    free_place cell.0 (All-head (λ cell. (cell.0 < 4032) ⊎ (4053 < cell.0)) cell cells free),
+    free_place _ (All-head (λ cell. (cell.0 < 4032) ⊎ (4053 < cell.0)) cell cells free),
     All-head (λ cell. IsWord cell.1) cell cells are,
   ),
   program_cells cells (All-tail (λ cell. cell.0 < 4096) cell cells within) (All-tail (λ cell. (cell.0 < 4032) ⊎ (4053 < cell.0)) cell cells free) (All-tail (λ cell. IsWord cell.1) cell cells are),
@@ -245,7 +233,7 @@ start_found (Some Org) names place line = tt
 start_found (Some Word) names place line = tt
 start_found (Some Frac) names place line = tt
 start_found (Some Int) names place line = tt
-start_found (Some End) names place line = by_operand line.first
+start_found (Some End) names place line = by_operand _
   where
     by_place : (r : Result ℕ OperandFault) → IfOk r IsAddress → IfSome (start_at (Some End) (place_meaning r)) IsAddress
     by_place (Ok address) is = is
@@ -253,7 +241,7 @@ start_found (Some End) names place line = by_operand line.first
 
     by_operand : (first : Option (List ℕ)) → IfSome (start_at (Some End) (meaning_of names place End first line.second)) IsAddress
     by_operand None = tt
-    by_operand (Some text) = by_place (address_operand names place text) (address_found names place text)
+    by_operand (Some text) = by_place _ (address_found _ _ _)
 
 one_start : (one other : Option ℕ) → IfSome one IsAddress → IfSome other IsAddress → IfSome (option_or one other) IsAddress
 one_start None other first second = second
@@ -262,4 +250,4 @@ one_start (Some address) other first second = first
 pub start_is : (names : List (List ℕ × ℕ)) (lines : List LineFields) → IfSome (start_in names lines) IsAddress
 unfolding start_in
 start_is names [] = tt
-start_is names (line ∷ earlier) = one_start (start_in names earlier) _ (start_is names earlier) (start_found line.operation names (place_of line earlier) line)
+start_is names (line ∷ earlier) = grind (arith, one_start, start_found, start_is names earlier)

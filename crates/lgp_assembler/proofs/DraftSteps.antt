@@ -1,11 +1,9 @@
 -- One line more in a draft.
-use Rattle.std.proofs.Common.{◌≡◌, ◌<◌, ◌≤◌, ◌+◌, ◌*◌, ◌&&◌, ◌||◌, ◌==◌, ◌++◌, ℕ, Bool, true, false, List, [], ◌∷◌, length, Option, None, Some, Result, Ok, Err, refl, sym, ap, subst, ◌∙◌, arith, ⊎_elim, nat_lt, nat_le, unwrap_or, option_to_list, option_map, is_some, slice_index_or}
+use Rattle.std.proofs.Common.{◌≡◌, ◌<◌, ◌≤◌, ◌+◌, ◌&&◌, ◌||◌, ◌==◌, ◌++◌, ℕ, Bool, true, false, List, [], ◌∷◌, length, Option, None, Some, Result, Ok, Err, refl, sym, ap, subst, ◌∙◌, arith, ⊎_elim, nat_lt, nat_le, unwrap_or, option_to_list, option_map, is_some, slice_index_or}
 use Rattle.std.specs.Option.{option_or}
-use Rattle.std.specs.Str.{bytes_eq}
 use Rattle.std.specs.List.{list_all}
-use Rattle.std.specs.Map.{lookup}
 use Rattle.std.specs.Char.{is_ascii_digit}
-use Rattle.std.proofs.lemmas.Bool.{le-leb, cases_Bool, cases_lt, cond-true, cond-false, ltb-true, leb-true, and_parts, and_from, true≢false, not-false}
+use Rattle.std.proofs.lemmas.Bool.{cases_Bool, cond-true, cond-false, ltb-true, and_parts, and_from, true≢false}
 use Rattle.std.proofs.lemmas.Option.{none-some, cond_some}
 use Rattle.lgp_word.specs.Digits.{address_text, two_at}
 use Rattle.lgp_assembler.specs.declared.operations.Operation.{Operation}
@@ -37,8 +35,8 @@ AllFail (row ∷ more) = (row.0 ≡ false) × AllFail more
 pub none_fails : (all : List (Bool × FaultKind)) → first_kind all ≡ None → AllFail all
 none_fails [] none = tt
 none_fails (row ∷ more) none = ⊎_elim
-    (λ yes. absurd (none-some row.1 (sym none ∙ kind_here row.0 row.1 more yes)))
-    (λ fails. (fails, none_fails more (sym (kind_behind row.0 row.1 more fails) ∙ none)))
+    (λ yes. absurd (none-some row.1 (sym none ∙ kind_here _ _ more yes)))
+    (λ fails. (fails, none_fails more (sym (kind_behind _ _ more fails) ∙ none)))
     (cases_Bool row.0)
 
 -- the rows that an image needs
@@ -50,8 +48,8 @@ record Clear (line : LineFields) (place : ℕ) (ended : Bool) (before : List (Li
   free : (has_word line && is_loaders place) ≡ false
 
 clear_rows : (line : LineFields) (meaning : Result Meaning OperandFault) (place : ℕ) (ended : Bool) (before : List (List ℕ × ℕ)) (taken : Bool) → first_kind (rows line meaning place ended before taken) ≡ None → Clear line place ended before
-clear_rows line meaning place ended before taken none =
-    let all = none_fails (rows line meaning place ended before taken) none in
+clear_rows line meaning place ended _ taken none =
+    let all = none_fails (rows line meaning place ended _ taken) none in
     record {
       live = all.1.0;
       label = all.1.1.1.0;
@@ -64,7 +62,7 @@ clear_rows line meaning place ended before taken none =
 
 address_small : (text : List ℕ) (n : ℕ) → address_text text ≡ Some n → n < 4096
 address_small text n e =
-    let parts = cond_some ((length text == 4) && list_all is_ascii_digit text && nat_lt (two_at text 0) 64 && nat_lt (two_at text 2) 64) (64 * two_at text 0 + two_at text 2) n e in
+    let parts = cond_some _ _ n e in
     let last = and_parts ((length text == 4) && list_all is_ascii_digit text && nat_lt (two_at text 0) 64) (nat_lt (two_at text 2) 64) parts.0 in
     let first = and_parts ((length text == 4) && list_all is_ascii_digit text) (nat_lt (two_at text 0) 64) last.0 in
     let low = ltb-true (two_at text 2) 64 last.1 in
@@ -89,24 +87,13 @@ or_place_small (Some n) place small within =
 
 place_small : (line : LineFields) (place : ℕ) → place ≤ 4096 → place_reached line place ≤ 4096
 place_small line place within =
-    or_place_small (org_address line.operation line.first) place (org_small line.operation line.first) within
+    grind (arith, or_place_small, org_small)
 
 pub word_within : (line : LineFields) (place : ℕ) → (has_word line && nat_le drum_size place) ≡ false → has_word line ≡ true → place < 4096
-word_within line place e word = ⊎_elim
-    (λ below. below)
-    (λ above. absurd (true≢false (sym (and_from (has_word line) (nat_le drum_size place) word (le-leb drum_size place (omega arith))) ∙ e)))
-    (cases_lt place 4096)
+word_within line place e word = grind (arith, and_from)
 
 next_small : (line : LineFields) (place : ℕ) → place ≤ 4096 → (has_word line ≡ true → place < 4096) → place + word_count line ≤ 4096
-next_small line place within small = ⊎_elim
-    (λ word.
-    let one : word_count line ≡ 1 = cond-true (has_word line) 1 0 word in
-    let below = small word in
-    omega arith)
-    (λ none.
-    let zero_words : word_count line ≡ 0 = cond-false (has_word line) 1 0 none in
-    omega arith)
-    (cases_Bool (has_word line))
+next_small line place within small = grind (arith, cond-true, cond-false)
 
 -- ---- a word comes from an operation that makes one
 
@@ -122,19 +109,19 @@ place_fits place (Err fault) = tt
 
 meaning_fits : (names : List (List ℕ × ℕ)) (here place : ℕ) (operation : Operation) (first second : Option (List ℕ)) → (makes_word operation ≡ true → place < 4096) → CellFits place (meaning_of names here operation first second)
 unfolding meaning_of
-meaning_fits names here place (Order op) first second small = any_fits place (meaning_of names here (Order op) first second) (small refl)
-meaning_fits names here place MinusT first second small = any_fits place (meaning_of names here MinusT first second) (small refl)
-meaning_fits names here place Word first second small = any_fits place (meaning_of names here Word first second) (small refl)
-meaning_fits names here place Frac first second small = any_fits place (meaning_of names here Frac first second) (small refl)
-meaning_fits names here place Int first second small = any_fits place (meaning_of names here Int first second) (small refl)
+meaning_fits names here place (Order op) first second small = any_fits _ _ (small refl)
+meaning_fits names here place MinusT first second small = any_fits _ _ (small refl)
+meaning_fits names here place Word first second small = any_fits _ _ (small refl)
+meaning_fits names here place Frac first second small = any_fits _ _ (small refl)
+meaning_fits names here place Int first second small = any_fits _ _ (small refl)
 meaning_fits names here place Org None second small = tt
-meaning_fits names here place Org (Some text) second small = place_fits place _
+meaning_fits names here place Org (Some text) second small = place_fits _ _
 meaning_fits names here place End None second small = tt
-meaning_fits names here place End (Some text) second small = place_fits place _
+meaning_fits names here place End (Some text) second small = place_fits _ _
 
 pub line_fits : (operation : Option Operation) (names : List (List ℕ × ℕ)) (here place : ℕ) (line : LineFields) → (option_makes_word operation ≡ true → place < 4096) → CellFits place (meaning_under operation names here line.first line.second)
 line_fits None names here place line small = tt
-line_fits (Some operation) names here place line small = meaning_fits names here place operation line.first line.second small
+line_fits (Some operation) names here place line small = meaning_fits _ _ _ _ _ _ small
 
 -- ---- the cell of a line is one of a program
 
@@ -159,11 +146,11 @@ place_free place (Err fault) = tt
 
 meaning_free : (names : List (List ℕ × ℕ)) (here place : ℕ) (operation : Operation) (first second : Option (List ℕ)) → (makes_word operation ≡ true → is_loaders place ≡ false) → IfCell (meaning_of names here operation first second) (λ word. is_loaders place ≡ false)
 unfolding meaning_of
-meaning_free names here place (Order op) first second free = cell_free place (meaning_of names here (Order op) first second) (free refl)
-meaning_free names here place MinusT first second free = cell_free place (meaning_of names here MinusT first second) (free refl)
-meaning_free names here place Word first second free = cell_free place (meaning_of names here Word first second) (free refl)
-meaning_free names here place Frac first second free = cell_free place (meaning_of names here Frac first second) (free refl)
-meaning_free names here place Int first second free = cell_free place (meaning_of names here Int first second) (free refl)
+meaning_free names here place (Order op) first second free = cell_free place _ (free refl)
+meaning_free names here place MinusT first second free = cell_free place _ (free refl)
+meaning_free names here place Word first second free = cell_free place _ (free refl)
+meaning_free names here place Frac first second free = cell_free place _ (free refl)
+meaning_free names here place Int first second free = cell_free place _ (free refl)
 meaning_free names here place Org None second free = tt
 meaning_free names here place Org (Some text) second free = place_free place _
 meaning_free names here place End None second free = tt
@@ -171,7 +158,7 @@ meaning_free names here place End (Some text) second free = place_free place _
 
 line_free : (operation : Option Operation) (names : List (List ℕ × ℕ)) (here place : ℕ) (line : LineFields) → (option_makes_word operation ≡ true → is_loaders place ≡ false) → IfCell (meaning_under operation names here line.first line.second) (λ word. is_loaders place ≡ false)
 line_free None names here place line free = tt
-line_free (Some operation) names here place line free = meaning_free names here place operation line.first line.second free
+line_free (Some operation) names here place line free = meaning_free _ _ place _ _ _ free
 
 cells_append : (one other : List (ℕ × ℕ)) → AreProgramCells one → AreProgramCells other → AreProgramCells (one ++ other)
 cells_append [] other all more = more
@@ -182,17 +169,15 @@ cells_append (cell ∷ one) other all more = (all.0, cells_append one other all.
 label_short : (label : List ℕ) → is_bad_label (Some label) ≡ false → length label ≤ 8
 unfolding is_name
 label_short label e =
-    let name : is_name label ≡ true = not-false (is_name label) e in
-    let parts = and_parts _ _ name in
-    leb-true (length label) 8 parts.1
+    grind arith
 
 symbol_fits : (label : Option (List ℕ)) (place : ℕ) → is_bad_label label ≡ false → place ≤ 4096 → SymbolFits label place
 symbol_fits None place e within = tt
-symbol_fits (Some label) place e within = (label_short label e, within)
+symbol_fits (Some label) place e within = (label_short _ e, within)
 
 symbol_is : (label : Option (List ℕ)) (place : ℕ) (ended : Bool) (before : List (List ℕ × ℕ)) (has_operation : Bool) → (ended && (is_some label || has_operation)) ≡ false → is_label_again label before ≡ false → symbol_at label place ≡ new_label label place ended before
-symbol_is None place ended before has_operation live fresh = refl
-symbol_is (Some label) place false before has_operation live fresh = sym (cond-false (is_some (lookup (bytes_eq label) before)) None (Some (label, place)) fresh)
+symbol_is None place ended _ has_operation live fresh = refl
+symbol_is (Some label) place false before has_operation live fresh = grind (arith, cond-false)
 symbol_is (Some label) place true before has_operation live fresh = absurd (true≢false live)
 
 -- ---- one line more

@@ -37,14 +37,14 @@ taken_from place earlier (line ∷ lines) taken = ⊎_elim
       makes_word = behind.makes_word;
       there = behind.there;
     }))
-    (taken_from place (line ∷ earlier) lines taken)
+    (taken_from _ _ _ taken)
 
 taken_stays : (place : ℕ) (earlier lines : List LineFields) → is_taken place earlier ≡ true → is_taken place (passed_lines earlier lines) ≡ true
 unfolding is_taken
 taken_stays place earlier [] taken = taken
 taken_stays place earlier (line ∷ lines) taken =
     let own = has_word line && place_of line earlier == place in
-    taken_stays place (line ∷ earlier) lines (ap (λ b. own || b) taken ∙ or-true own)
+    taken_stays place (line ∷ earlier) lines (ap (λ b. own || b) taken ∙ or-true _)
 
 word_among : (place : ℕ) (lines : List LineFields) → is_taken place (passed_lines [] lines) ≡ true → HasWordAt lines place
 unfolding is_taken
@@ -58,14 +58,14 @@ word_among place lines taken = ⊎_elim
       makes_word = behind.makes_word;
       there = behind.there;
     })
-    (taken_from place [] lines taken)
+    (taken_from _ [] _ taken)
 
 taken_by : (place : ℕ) (lines : List LineFields) → HasWordAt lines place → is_taken place (passed_lines [] lines) ≡ true
 unfolding is_taken
 taken_by place lines among =
     let earlier = passed_lines [] among.before in
     let here : (place_of among.line earlier == place) ≡ true = eq-eqb (place_of among.line earlier) place among.there in
-    let own : (has_word among.line && place_of among.line earlier == place) ≡ true = and_from (has_word among.line) (place_of among.line earlier == place) among.makes_word here in
+    let own : (has_word among.line && place_of among.line earlier == place) ≡ true = and_from _ _ among.makes_word here in
     ap (λ all. is_taken place (passed_lines [] all)) among.lines_are
     ∙ ap (is_taken place) (passed-append [] among.before (among.line ∷ among.after))
     ∙ taken_stays place (among.line ∷ earlier) among.after (ap (λ b. b || is_taken place earlier) own)
@@ -80,9 +80,9 @@ faults_law = record {
   all = λ source.
       let lines = lines_in source in
       let told = first_faults source lines in
-      ap (λ ended. told ++ end_fault ended (length (passed_lines [] lines))) (has_ended-in_order lines)
+      ap (λ ended. told ++ end_fault ended (length (passed_lines [] lines))) (has_ended-in_order _)
       ∙ ap (λ count. told ++ end_fault (has_ended lines) count) (length-passed [] lines ∙ omega arith);
   first_row = λ source before line. refl;
-  behind_end = λ source before line. has_ended-in_order before;
-  place_taken = λ source before line. (λ taken. word_among _ before taken, λ among. taken_by _ before among);
+  behind_end = λ source before line. has_ended-in_order _;
+  place_taken = λ source before line. (λ taken. word_among _ _ taken, λ among. taken_by _ _ among);
 }

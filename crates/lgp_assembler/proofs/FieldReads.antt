@@ -9,4 +9,4 @@ get_or_map f (x ∷ xs) zero d = refl
 get_or_map f (x ∷ xs) (suc i) d = get_or_map f xs i d
 
 pub operand_read : {X Y : Type 0} (f : X → Y) (xs : List (Option X)) (i : ℕ) (x : Option X) → x ≡ get_or xs i x → i < length xs → get_or (map (option_map f) xs) i None ≡ option_map f x
-operand_read f xs i x is within = get_or_map (option_map f) xs i None ∙ ap (option_map f) (get_or_default xs i None x within ∙ sym is)
+operand_read f xs i x is within = get_or_map _ xs i _ ∙ ap (option_map f) (get_or_default xs i None x within ∙ sym is)

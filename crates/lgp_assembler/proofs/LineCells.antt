@@ -9,7 +9,6 @@ use Rattle.lgp_word.specs.Decimal.{decimal_number}
 use Rattle.lgp_flexo.specs.Code.{code_at}
 use Rattle.lgp_fraction.specs.declared.fraction.FractionFault.{FractionFault}
 use Rattle.lgp_fraction.specs.declared.fraction.FractionFault.TheVariants.{Form, OutOfRange}
-use Rattle.lgp_fraction.specs.Decimal.{decimal_fraction}
 use Rattle.lgp_assembler.specs.declared.operations.Operation.{Operation}
 use Rattle.lgp_assembler.specs.declared.operations.Operation.TheVariants.{Order, MinusT, Org, Word, Frac, Int, End}
 use Rattle.lgp_assembler.specs.declared.operands.Meaning.{Meaning}
@@ -72,7 +71,7 @@ operand_gives : (names : List (List ℕ × ℕ)) (place : ℕ) (minus : Bool) (o
 unfolding order_operand
 operand_gives names place minus op text =
     let address = address_operand names place text in
-    chosen (slice_index text 0 == 61) (sign_operand op text) (cell_of_order minus op address) (sign_gives op text) (order_gives minus op address)
+    chosen _ _ _ (sign_gives op _) (order_gives minus op address)
 
 scaled_gives : (minus : Bool) (scaled : ℕ) → IsWordOrFault (scaled_word minus scaled)
 scaled_gives true scaled = chosen (nat_le scaled (2 ^ 30)) (Ok (Cell ((2 ^ 32 - 2 * scaled) % 2 ^ 32))) (Err Outside) tt tt
@@ -107,16 +106,16 @@ module _ (names : List (List ℕ × ℕ)) (place : ℕ) where
   makes : (operation : Operation) (first second : Option (List ℕ)) → makes_word operation ≡ true → IsWordOrFault (meaning_of names place operation first second)
   unfolding meaning_of
   makes (Order op) None second e = tt
-  makes (Order op) (Some text) second e = operand_gives names place false op text
+  makes (Order op) (Some text) second e = operand_gives _ _ _ op _
   makes MinusT None second e = tt
-  makes MinusT (Some text) second e = operand_gives names place true T text
+  makes MinusT (Some text) second e = operand_gives _ _ _ T _
   makes Word None second e = tt
   makes Word (Some text) second e = word_gives (word_of_digits text)
   makes Frac None second e = tt
-  makes Frac (Some text) second e = fraction_gives (decimal_fraction text)
+  makes Frac (Some text) second e = fraction_gives _
   makes Int None second e = tt
   makes Int (Some number) None e = tt
-  makes Int (Some number) (Some point) e = integer_gives number point
+  makes Int (Some number) (Some point) e = integer_gives _ _
   makes Org first second e = absurd (true≢false (sym e))
   makes End first second e = absurd (true≢false (sym e))
 
@@ -134,11 +133,11 @@ module _ (names : List (List ℕ × ℕ)) (place : ℕ) where
 
   line_makes : (operation : Option Operation) (line : LineFields) → option_makes_word operation ≡ true → IsWordOrFault (meaning_under operation names place line.first line.second)
   line_makes None line e = absurd (true≢false (sym e))
-  line_makes (Some operation) line e = makes operation line.first line.second e
+  line_makes (Some operation) line e = makes _ _ _ e
 
   pub line_makes_none : (operation : Option Operation) (line : LineFields) → option_makes_word operation ≡ false → IsNoWord (meaning_under operation names place line.first line.second)
   line_makes_none None line e = tt
-  line_makes_none (Some operation) line e = makes_none operation line.first line.second e
+  line_makes_none (Some operation) line e = makes_none _ _ _ e
 
 -- ---- a line without a fault
 
@@ -167,8 +166,7 @@ module _ (names : List (List ℕ × ℕ)) (earlier : List LineFields) (line : Li
 
   pub cell_missing : has_word line ≡ false → line_cell names earlier line ≡ None
   cell_missing none =
-      let place = place_of line earlier in
-      missing place (line_meaning names place line) (line_makes_none names place line.operation line none)
+      missing _ _ (line_makes_none _ _ line.operation line none)
 
 -- ---- the cells of lines behind others, in order of the source
 
@@ -198,6 +196,6 @@ pub each_faultless : (names : List (List ℕ × ℕ)) (earlier lines : List Line
 unfolding faults_in
 each_faultless names earlier [] none = tt
 each_faultless names earlier (line ∷ lines) none = (
-  list_none line.number (fault_of names line earlier) (append_none (faults_in names earlier) _ (front_faultless names (line ∷ earlier) lines none)).1,
+  list_none line.number _ (append_none (faults_in names earlier) _ (front_faultless names (line ∷ earlier) lines none)).1,
   each_faultless names (line ∷ earlier) lines none,
 )

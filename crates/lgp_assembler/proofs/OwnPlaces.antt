@@ -2,7 +2,7 @@
 use Rattle.std.proofs.Common.{◌≡◌, ◌≢◌, ◌⊎◌, ◌<◌, ◌≤◌, ◌-◌, ◌++◌, ◌&&◌, ◌||◌, ◌==◌, ℕ, Bool, true, false, if◌then◌else◌, List, [], ◌∷◌, length, map, slice_index_or, Option, None, Some, Result, Ok, Err, refl, sym, ap, ◌∙◌, arith, subst, inl, inr, ⊎_elim, nat_lt, option_to_list}
 use Rattle.std.specs.Prelude.{IfSome}
 use Rattle.std.specs.List.{All, AllPairs, list_any}
-use Rattle.std.proofs.lemmas.Bool.{cases_Bool, cases_lt, cond-true, cond-false, eqb-true, eq-eqb, lt-ltb, and_from, true≢false}
+use Rattle.std.proofs.lemmas.Bool.{cases_Bool, cases_lt, cond-true, cond-false, eqb-true, lt-ltb, and_from, true≢false}
 use Rattle.std.proofs.lemmas.Bool.Decides.{Decides-eqb, nat_tests}
 use Rattle.std.proofs.lemmas.List.{append-nil, get_or-map, length-map}
 use Rattle.std.proofs.lemmas.List.Elements.{All-push}
@@ -42,18 +42,18 @@ high place above = cond-false (nat_lt place 4032) place (place - 22) (grind (ari
 squeezed_below : (place : ℕ) → place < 4096 → IsFree place → squeezed place < 4074
 squeezed_below place within free = ⊎_elim
     (λ less. let e = low place less in omega (arith, e))
-    (λ above. let e = high place above in omega (arith, e))
+    (λ above. let e = high _ above in omega (arith, e))
     free
 
 squeezed_apart : (one other : ℕ) → IsFree one → IsFree other → one ≢ other → squeezed one ≢ squeezed other
 squeezed_apart one other free_one free_other apart same = ⊎_elim
     (λ less. let e = low one less in ⊎_elim
     (λ also. let f = low other also in apart (omega (arith, e, f, same)))
-    (λ above. let f = high other above in let wrong : ⊥ = omega (arith, e, f, same) in wrong)
+    (λ above. let f = high _ above in let wrong : ⊥ = omega (arith, e, f, same) in wrong)
     free_other)
-    (λ above. let e = high one above in ⊎_elim
+    (λ above. let e = high _ above in ⊎_elim
     (λ less. let f = low other less in let wrong : ⊥ = omega (arith, e, f, same) in wrong)
-    (λ also. let f = high other also in apart (omega (arith, e, f, same)))
+    (λ also. let f = high _ also in apart (omega (arith, e, f, same)))
     free_other)
     free_one
 
@@ -68,27 +68,27 @@ module _ (cells : List (ℕ × ℕ)) (apart : AllPairs (λ one other. one.0 ≢ 
   as_many = length-map cells (λ cell. squeezed cell.0)
 
   squeezed_at : (k d : ℕ) → k < length cells → slice_index_or squeezed_places k d ≡ squeezed (at k)
-  squeezed_at k d less = get_or-map (λ cell. squeezed cell.0) cells k (0, 0) d less
+  squeezed_at k d less = get_or-map _ _ k _ d less
 
   all_apart : AllPairs (λ one other. one ≢ other) squeezed_places
   all_apart i j d before less =
       let there : j < length cells = omega (arith, as_many, less) in
       let here : i < length cells = omega (arith, there, before) in
-      let different = squeezed_apart (at i) (at j) (free i (0, 0) here) (free j (0, 0) there) (apart i j (0, 0) before there) in
+      let different = squeezed_apart _ _ (free i (0, 0) here) (free j (0, 0) there) (apart i j (0, 0) before there) in
       λ same. different (sym (squeezed_at i d here) ∙ (same ∙ squeezed_at j d there))
 
   all_below : (q : ℕ) → list_any (λ p. q == p) squeezed_places ≡ true → q < 4074
   all_below q found =
       let (k, p, less, at_k, same) = Any-from_list_any (λ p. q == p) squeezed_places found in
       let there : k < length cells = omega (arith, as_many, less) in
-      let below = squeezed_below (at k) (on_drum k (0, 0) there) (free k (0, 0) there) in
+      let below = squeezed_below _ (on_drum k (0, 0) there) (free k (0, 0) there) in
       let is = sym (squeezed_at k p there) ∙ at_k in
       let equal = eqb-true q p same in
       omega (arith, below, is, equal)
 
   few_places : length cells ≤ 4074
   few_places =
-      let few = length-le_from_distinct_below squeezed_places 4074 (IsDistinct-from_AllPairs Decides-eqb squeezed_places all_apart) all_below in
+      let few = length-le_from_distinct_below _ _ (IsDistinct-from_AllPairs Decides-eqb squeezed_places all_apart) all_below in
       omega (arith, few, as_many)
 
 -- ---- a line more
@@ -107,14 +107,12 @@ or_true false = refl
 still_taken : (line : LineFields) (earlier : List LineFields) (place : ℕ) → is_taken place earlier ≡ true → is_taken place (line ∷ earlier) ≡ true
 unfolding is_taken
 still_taken line earlier place is =
-    let word = has_word line && (place_of line earlier == place) in
-    ap (λ b. word || b) is ∙ or_true word
+    grind (arith, or_true)
 
 now_taken : (line : LineFields) (earlier : List LineFields) → has_word line ≡ true → is_taken (place_of line earlier) (line ∷ earlier) ≡ true
 unfolding is_taken
 now_taken line earlier word =
-    let place = place_of line earlier in
-    ap (λ b. b || is_taken place earlier) (and_from (has_word line) (place == place) word (eq-eqb place place refl))
+    grind (arith, and_from)
 
 outside : (place : ℕ) → is_loaders place ≡ false → IsFree place
 outside place e = ⊎_elim (λ less. inl less) (λ le. inr (grind (arith, nat_tests))) (cases_lt place 4032)
@@ -127,7 +125,7 @@ its_place place (Err fault) = tt
 
 without : (line : LineFields) (earlier : List LineFields) (cells : List (ℕ × ℕ)) → LieApart earlier cells → LieApart (line ∷ earlier) cells
 without line earlier cells lie = record {
-  taken = λ k d less. still_taken line earlier (slice_index_or cells k d).0 (lie.taken k d less);
+  taken = λ k d less. still_taken _ _ _ (lie.taken k d less);
   apart = lie.apart;
   on_drum = lie.on_drum;
   free = lie.free;
@@ -137,14 +135,13 @@ with_one : (line : LineFields) (earlier : List LineFields) (cells : List (ℕ ×
     → has_word line ≡ true → place_of line earlier < 4096 → is_loaders (place_of line earlier) ≡ false → is_taken (place_of line earlier) earlier ≡ false
     → LieApart (line ∷ earlier) (cells ++ cell ∷ [])
 with_one line earlier cells cell lie at word within free fresh =
-    let place = place_of line earlier in
     record {
-      taken = All-push (λ cell. is_taken cell.0 (line ∷ earlier) ≡ true) cells cell (without line earlier cells lie).taken
-          (ap (λ p. is_taken p (line ∷ earlier)) at ∙ now_taken line earlier word);
+      taken = All-push (λ cell. is_taken cell.0 (line ∷ earlier) ≡ true) cells cell (without _ _ _ lie).taken
+          (ap (λ p. is_taken p (line ∷ earlier)) at ∙ now_taken _ _ word);
       apart = all_pairs_push (λ one other. one.0 ≢ other.0) cells cell lie.apart
           (λ k d less same. true≢false (sym (lie.taken k d less) ∙ (ap (λ p. is_taken p earlier) (same ∙ at) ∙ fresh)));
       on_drum = All-push (λ cell. cell.0 < 4096) cells cell lie.on_drum (subst (λ p. p < 4096) (sym at) within);
-      free = All-push (λ cell. IsFree cell.0) cells cell lie.free (subst IsFree (sym at) (outside place free));
+      free = All-push (λ cell. IsFree cell.0) cells cell lie.free (subst IsFree (sym at) (outside _ free));
     }
 
 module _ (names : List (List ℕ × ℕ)) where
@@ -160,13 +157,13 @@ module _ (names : List (List ℕ × ℕ)) where
       let within = word_within line place fails.1.1.1.1.1.1.1.1.1.1.0 word in
       let free = word_free line place fails.1.1.1.1.1.1.1.1.1.1.1.0 word in
       let fresh : is_taken place earlier ≡ false = sym (ap (λ w. w && is_taken place earlier) word) ∙ fails.1.1.1.1.1.1.1.1.1.1.1.1.0 in
-      either (cell_at place meaning) (its_place place meaning) (λ cell at. with_one line earlier cells cell lie at word within free fresh))
+      either _ (its_place _ _) (λ cell at. with_one _ _ _ _ lie at word within free fresh))
       (λ none. subst (λ o. LieApart (line ∷ earlier) (cells ++ option_to_list o)) (sym (cell_missing names earlier line faultless none))
-      (subst (LieApart (line ∷ earlier)) (sym (append-nil cells)) (without line earlier cells lie)))
+      (subst (LieApart (line ∷ earlier)) (sym (append-nil cells)) (without _ _ _ lie)))
       (cases_Bool (has_word line))
     where
       either : (o : Option (ℕ × ℕ)) → IfSome o (λ cell. cell.0 ≡ place_of line earlier) → ((cell : ℕ × ℕ) → cell.0 ≡ place_of line earlier → LieApart (line ∷ earlier) (cells ++ cell ∷ [])) → LieApart (line ∷ earlier) (cells ++ option_to_list o)
-      either None at some = subst (LieApart (line ∷ earlier)) (sym (append-nil cells)) (without line earlier cells lie)
+      either None at some = subst (LieApart (line ∷ earlier)) (sym (append-nil cells)) (without _ _ _ lie)
       either (Some cell) at some = some cell at
 
   lie_apart : (lines : List LineFields) → faults_in names lines ≡ [] → LieApart lines (cells_in names lines)
@@ -178,12 +175,12 @@ module _ (names : List (List ℕ × ℕ)) where
     free = λ k d less. absurd (let wrong : ⊥ = omega (arith, less) in wrong);
   }
   lie_apart (line ∷ earlier) none =
-      let both = append_none (faults_in names earlier) _ none in
-      one_more line earlier (cells_in names earlier) (lie_apart earlier both.0) (list_none line.number (fault_of names line earlier) both.1)
+      let both = append_none _ _ none in
+      one_more line earlier (cells_in names earlier) (lie_apart _ both.0) (list_none _ _ both.1)
 
   pub own_places : (lines : List LineFields) → faults_in names lines ≡ [] → HaveOwnPlaces (cells_in names lines)
   own_places lines none =
-      let lie = lie_apart lines none in
+      let lie = lie_apart _ none in
       record {
         apart = lie.apart;
         on_drum = lie.on_drum;

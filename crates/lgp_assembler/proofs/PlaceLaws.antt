@@ -1,5 +1,5 @@
 -- The laws on places and names.
-use Rattle.std.proofs.Common.{◌≡◌, ◌≢◌, length, ◌+◌, ◌++◌, ◌||◌, ℕ, Bool, true, false, cond, List, [], ◌∷◌, Option, None, Some, refl, sym, ap, ◌∙◌, arith, ⊎_elim, is_some, unwrap_or, option_to_list}
+use Rattle.std.proofs.Common.{◌≡◌, ◌≢◌, length, ◌+◌, ◌++◌, ◌||◌, ℕ, Bool, true, false, cond, List, [], ◌∷◌, Option, None, Some, refl, ap, ◌∙◌, arith, ⊎_elim, is_some, unwrap_or, option_to_list}
 use Rattle.std.specs.Option.{option_or}
 use Rattle.std.specs.Str.{bytes_eq}
 use Rattle.std.specs.Map.{lookup}
@@ -36,7 +36,7 @@ has_ended-passed : (earlier lines : List LineFields) → has_ended (passed_lines
 unfolding has_ended
 has_ended-passed earlier [] = or_none (has_ended earlier)
 has_ended-passed earlier (line ∷ lines) =
-    has_ended-passed (line ∷ earlier) lines ∙ ended-swapped (is_end line.operation) (has_ended earlier) (has_ended lines)
+    grind (arith, ended-swapped, has_ended-passed (line ∷ earlier) lines)
 
 pub has_ended-in_order : (lines : List LineFields) → has_ended (passed_lines [] lines) ≡ has_ended lines
 unfolding has_ended
@@ -68,8 +68,7 @@ no_word None first address e = absurd (none-some address e)
 after_org : (earlier : List LineFields) (org : LineFields) (address : ℕ) → org_of org ≡ Some address → next_place (org ∷ earlier) ≡ address
 unfolding next_place
 after_org earlier org address e =
-    let none : word_count org ≡ 0 = cond-false (option_makes_word org.operation) 1 0 (no_word org.operation org.first address e) in
-    ap (λ a. unwrap_or a (next_place earlier) + word_count org) e ∙ omega arith
+    grind (arith, cond-false)
 
 pub places_law : PlacesCountFromOrgs
 unfolding next_place
@@ -79,7 +78,7 @@ places_law = record {
       ap (λ a. unwrap_or a (next_place (passed_lines [] (before ++ org ∷ between)))) other
       ∙ ap next_place (passed-append [] before (org ∷ between))
       ∙ run (org ∷ passed_lines [] before) between none
-      ∙ ap (λ p. p + word_total between) (after_org (passed_lines [] before) org address e);
+      ∙ ap (λ p. p + word_total between) (after_org (passed_lines [] before) org _ e);
   none = λ before line none other.
       ap (λ a. unwrap_or a (next_place (passed_lines [] before))) other ∙ run [] before none ∙ omega arith;
 }
@@ -93,7 +92,7 @@ pick false value both one other e = e
 lookup-append : (name : List ℕ) (one other : List (List ℕ × ℕ)) → lookup (bytes_eq name) (one ++ other) ≡ option_or (lookup (bytes_eq name) one) (lookup (bytes_eq name) other)
 lookup-append name [] other = refl
 lookup-append name (e ∷ one) other =
-    pick (bytes_eq name e.0) e.1 (lookup (bytes_eq name) (one ++ other)) (lookup (bytes_eq name) one) (lookup (bytes_eq name) other) (lookup-append name one other)
+    grind (arith, lookup-append name one other)
 
 or_stays : (o : Option ℕ) (value : ℕ) (p : Option ℕ) → o ≡ Some value → option_or o p ≡ Some value
 or_stays None value p e = absurd (none-some value e)
@@ -102,15 +101,15 @@ or_stays (Some x) value p e = e
 -- the name that a line adds is not another
 other_name : (name label : List ℕ) (value : ℕ) → (Some label ≡ Some name → ⊥) → lookup (bytes_eq name) ((label, value) ∷ []) ≡ None
 other_name name label value apart =
-    cond-false (bytes_eq name label) (Some value) None (false_from_ne_true (bytes_eq name label) (λ e. apart (ap Some (sym ((bytes_eq-Decides name label).0 e)))))
+    grind (arith, cond-false, false_from_ne_true, bytes_eq-Decides)
 
 adds_no : (name : List ℕ) (label : Option (List ℕ)) (place : ℕ) (ended : Bool) (names : List (List ℕ × ℕ)) → (label ≡ Some name → ⊥) → lookup (bytes_eq name) (option_to_list (new_label label place ended names)) ≡ None
-adds_no name None place ended names apart = refl
+adds_no name None place ended _ apart = refl
 adds_no name (Some label) place ended names apart = pick (ended || is_some (lookup (bytes_eq label) names))
   where
     pick : (b : Bool) → lookup (bytes_eq name) (option_to_list (cond b None (Some (label, place)))) ≡ None
     pick true = refl
-    pick false = other_name name label place apart
+    pick false = other_name _ _ _ apart
 
 not_there : (name : List ℕ) (earlier lines : List LineFields) → HasNotLabel name lines → lookup (bytes_eq name) (names_of earlier) ≡ None → lookup (bytes_eq name) (names_of (passed_lines earlier lines)) ≡ None
 unfolding names_of
@@ -118,7 +117,7 @@ not_there name earlier [] apart none = none
 not_there name earlier (line ∷ lines) apart none =
     let added = option_to_list (new_label line.label (place_of line earlier) (has_ended earlier) (names_of earlier)) in
     let step : lookup (bytes_eq name) (names_of (line ∷ earlier)) ≡ None =
-    lookup-append name (names_of earlier) added ∙ ap (λ o. option_or o (lookup (bytes_eq name) added)) none ∙ adds_no name line.label (place_of line earlier) (has_ended earlier) (names_of earlier) (All-head (λ l. l.label ≢ Some name) line lines apart) in
+    lookup-append name (names_of earlier) added ∙ ap (λ o. option_or o (lookup (bytes_eq name) added)) none ∙ adds_no _ _ _ _ _ (All-head (λ l. l.label ≢ Some name) line lines apart) in
     not_there name (line ∷ earlier) lines (All-tail (λ l. l.label ≢ Some name) line lines apart) step
 
 stays : (name : List ℕ) (value : ℕ) (earlier lines : List LineFields) → lookup (bytes_eq name) (names_of earlier) ≡ Some value → lookup (bytes_eq name) (names_of (passed_lines earlier lines)) ≡ Some value
@@ -126,7 +125,7 @@ unfolding names_of
 stays name value earlier [] there = there
 stays name value earlier (line ∷ lines) there =
     let added = option_to_list (new_label line.label (place_of line earlier) (has_ended earlier) (names_of earlier)) in
-    stays name value (line ∷ earlier) lines (lookup-append name (names_of earlier) added ∙ or_stays (lookup (bytes_eq name) (names_of earlier)) value (lookup (bytes_eq name) added) there)
+    stays name value (line ∷ earlier) lines (lookup-append name (names_of earlier) added ∙ or_stays _ _ (lookup (bytes_eq name) added) there)
 
 or_true : (b : Bool) → (b || true) ≡ true
 or_true true = refl
@@ -136,10 +135,10 @@ after_end : (earlier lines : List LineFields) → has_ended earlier ≡ true →
 unfolding names_of has_ended
 after_end earlier [] ended = refl
 after_end earlier (line ∷ lines) ended =
-    let still : has_ended (line ∷ earlier) ≡ true = ap (λ b. is_end line.operation || b) ended ∙ or_true (is_end line.operation) in
+    let still : has_ended (line ∷ earlier) ≡ true = ap (λ b. is_end line.operation || b) ended ∙ or_true _ in
     let none : names_of (line ∷ earlier) ≡ names_of earlier =
     ap (λ b. names_of earlier ++ option_to_list (new_label line.label (place_of line earlier) b (names_of earlier))) ended
-    ∙ ap (λ o. names_of earlier ++ option_to_list o) (none_new line.label (place_of line earlier) (names_of earlier)) ∙ append-nil (names_of earlier) in
+    ∙ ap (λ o. names_of earlier ++ option_to_list o) (none_new _ _ _) ∙ append-nil (names_of earlier) in
     after_end (line ∷ earlier) lines still ∙ none
   where
     none_new : (label : Option (List ℕ)) (place : ℕ) (names : List (List ℕ × ℕ)) → new_label label place true names ≡ None
@@ -149,9 +148,9 @@ after_end earlier (line ∷ lines) ended =
 itself : (name : List ℕ) (place : ℕ) (names : List (List ℕ × ℕ)) (label : Option (List ℕ)) (ended : Bool) → label ≡ Some name → ended ≡ false → lookup (bytes_eq name) names ≡ None
     → lookup (bytes_eq name) (names ++ option_to_list (new_label label place ended names)) ≡ Some place
 itself name place names label ended is live none =
-    let new : new_label label place ended names ≡ Some (name, place) =
+    let new : new_label label place ended _ ≡ Some (name, place) =
     ap (λ l. new_label l place ended names) is ∙ ap (λ b. new_label (Some name) place b names) live ∙ cond-false (is_some (lookup (bytes_eq name) names)) None (Some (name, place)) (ap is_some none) in
-    let one : lookup (bytes_eq name) ((name, place) ∷ []) ≡ Some place = cond-true (bytes_eq name name) (Some place) None ((bytes_eq-Decides name name).1 refl) in
+    let one : lookup (bytes_eq name) ((name, place) ∷ []) ≡ Some place = cond-true (bytes_eq name name) (Some place) None ((bytes_eq-Decides name _).1 refl) in
     ap (λ o. lookup (bytes_eq name) (names ++ option_to_list o)) new ∙ lookup-append name names ((name, place) ∷ []) ∙ ap (λ o. option_or o (lookup (bytes_eq name) ((name, place) ∷ []))) none ∙ one
 
 none_at_all : (name : List ℕ) → lookup (bytes_eq name) (names_of []) ≡ None
@@ -163,15 +162,15 @@ unfolding names_of
 names_law = record {
   first = λ name before after line live apart is.
       let earlier = passed_lines [] before in
-      let absent = not_there name [] before apart (none_at_all name) in
+      let absent = not_there _ [] _ apart (none_at_all name) in
       ap (λ ls. lookup (bytes_eq name) (names_of ls)) (passed-append [] before (line ∷ after))
-      ∙ stays name (place_of line earlier) (line ∷ earlier) after (itself name (place_of line earlier) (names_of earlier) line.label (has_ended earlier) is (has_ended-in_order before ∙ live) absent);
+      ∙ stays name _ (line ∷ earlier) after (itself name (place_of line earlier) (names_of earlier) line.label (has_ended earlier) is (has_ended-in_order _ ∙ live) absent);
   none = λ name before after apart over.
       let earlier = passed_lines [] before in
-      let absent = not_there name [] before apart (none_at_all name) in
+      let absent = not_there _ [] _ apart (none_at_all name) in
       ap (λ ls. lookup (bytes_eq name) (names_of ls)) (passed-append [] before after)
       ∙ ⊎_elim
-      (λ ended. ap (lookup (bytes_eq name)) (after_end earlier after (has_ended-in_order before ∙ ended)) ∙ absent)
+      (λ ended. ap (lookup (bytes_eq name)) (after_end _ after (has_ended-in_order _ ∙ ended)) ∙ absent)
       (λ empty. ap (λ ls. lookup (bytes_eq name) (names_of (passed_lines earlier ls))) empty ∙ absent)
       over;
 }

@@ -1,5 +1,5 @@
 -- The first row of the table that holds.
-use Rattle.std.proofs.Common.{◌≡◌, ◌<◌, ◌&&◌, ℕ, Bool, true, false, List, [], ◌∷◌, ◌++◌, Some, Result, sym, ap, ◌∙◌, arith, ⊎_elim, nat_lt, nat_le, find, option_map, slice_index_or, is_none}
+use Rattle.std.proofs.Common.{◌≡◌, ◌<◌, ◌&&◌, ℕ, Bool, true, false, List, [], ◌∷◌, ◌++◌, Some, Result, sym, ap, ◌∙◌, arith, ⊎_elim, nat_lt, nat_le, slice_index_or, is_none}
 use Rattle.std.proofs.lemmas.Bool.{le-leb, cases_Bool, cases_lt, cond-true, cond-false, and_from}
 use Rattle.lgp_assembler.specs.declared.operands.Meaning.{Meaning}
 use Rattle.lgp_assembler.specs.declared.operands.OperandFault.{OperandFault}
@@ -14,19 +14,16 @@ use Rattle.lgp_assembler.specs.ScanInside.{rows, Stands, ArePlacesTaken, coming_
 
 -- the kind of a row that holds, and of those behind one that does not
 pub kind_here : (holds : Bool) (kind : FaultKind) (more : List (Bool × FaultKind)) → holds ≡ true → first_kind ((holds, kind) ∷ more) ≡ Some kind
-kind_here holds kind more e = ap (option_map (λ row. row.1)) (cond-true holds (Some (holds, kind)) (find (λ row. row.0) more) e)
+kind_here holds kind more e = grind (arith, cond-true)
 
 pub kind_behind : (holds : Bool) (kind : FaultKind) (more : List (Bool × FaultKind)) → holds ≡ false → first_kind ((holds, kind) ∷ more) ≡ first_kind more
-kind_behind holds kind more e = ap (option_map (λ row. row.1)) (cond-false holds (Some (holds, kind)) (find (λ row. row.0) more) e)
+kind_behind holds kind more e = grind (arith, cond-false)
 
 -- what comes after a row that holds does not matter
 cut_at : (front : List (Bool × FaultKind)) (holds : Bool) (kind : FaultKind) (one other : List (Bool × FaultKind)) → holds ≡ true
     → first_kind (front ++ (holds, kind) ∷ one) ≡ first_kind (front ++ (holds, kind) ∷ other)
-cut_at [] holds kind one other e = kind_here holds kind one e ∙ sym (kind_here holds kind other e)
-cut_at ((first, told) ∷ front) holds kind one other e = ⊎_elim
-    (λ yes. kind_here first told (front ++ (holds, kind) ∷ one) yes ∙ sym (kind_here first told (front ++ (holds, kind) ∷ other) yes))
-    (λ no. kind_behind first told (front ++ (holds, kind) ∷ one) no ∙ cut_at front holds kind one other e ∙ sym (kind_behind first told (front ++ (holds, kind) ∷ other) no))
-    (cases_Bool first)
+cut_at [] holds kind one other e = kind_here _ _ one e ∙ sym (kind_here _ _ other e)
+cut_at ((first, told) ∷ front) holds kind one other e = grind (arith, kind_here, kind_behind, cut_at front holds kind one other e)
 
 -- the rows before those on places
 abbrev front_rows : LineFields → Result Meaning OperandFault → Bool → List (List ℕ × ℕ) → List (Bool × FaultKind)
@@ -53,8 +50,8 @@ same_taken : (line : LineFields) (meaning : Result Meaning OperandFault) (place 
 same_taken line meaning place ended before one other agree = ⊎_elim
     (λ word. ⊎_elim
     (λ within. ap (λ t. first_kind (front_rows line meaning ended before ++ (has_word line && nat_le drum_size place, PastEnd) ∷ last_rows line place (has_word line && t))) (agree within))
-    (λ past. cut_at (front_rows line meaning ended before) (has_word line && nat_le drum_size place) PastEnd (last_rows line place (has_word line && one)) (last_rows line place (has_word line && other))
-    (and_from (has_word line) (nat_le drum_size place) word (le-leb drum_size place (omega arith))))
+    (λ past. cut_at (front_rows line meaning ended _) _ PastEnd (last_rows line place (has_word line && one)) (last_rows line place (has_word line && other))
+    (and_from _ _ word (le-leb drum_size place (omega arith))))
     (cases_lt place 4096))
     (λ none.
     let gone : (t : Bool) → (has_word line && t) ≡ false = λ t. ap (λ w. w && t) none in

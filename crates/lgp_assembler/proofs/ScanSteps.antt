@@ -35,10 +35,10 @@ pub taken_step : (taken taken' : List Bool) (earlier : List LineFields) (line : 
     → taken' ≡ (if has_word line then slice_set taken (place_of line earlier) true else taken) → ArePlacesTaken taken' (line ∷ earlier)
 unfolding is_taken
 taken_step taken taken' earlier line marks e = record {
-  length_is = ap length e ∙ size_kept (has_word line) (place_of line earlier) taken ∙ marks.length_is;
+  length_is = ap length e ∙ size_kept _ _ _ ∙ marks.length_is;
   places_are = λ p small.
       let within : p < length taken = omega (arith, marks.length_is) in
-      ap (λ t. slice_index_or t p false) e ∙ marked (has_word line) (place_of line earlier) p taken (is_taken p earlier) within (marks.places_are p small);
+      ap (λ t. slice_index_or t p false) e ∙ marked _ _ p _ _ within (marks.places_are p small);
 }
 
 pub stands_step : (lines place : ℕ) (ended : Bool) (names : List (List ℕ × ℕ)) (earlier : List LineFields) (line : LineFields) (lines' place' : ℕ) (ended' : Bool) (names' : List (List ℕ × ℕ))
@@ -49,16 +49,8 @@ pub stands_step : (lines place : ℕ) (ended : Bool) (names : List (List ℕ × 
     → ended' ≡ (is_end line.operation || ended)
     → Stands lines' place' ended' names' (line ∷ earlier)
 unfolding next_place has_ended names_of
-stands_step lines place ended names earlier line lines' place' ended' names' s lines_e names_e place_e ended_e =
-    let here_is : place_reached line place ≡ place_of line earlier = ap (place_reached line) s.place_is in
-    record {
-      lines_are = omega (arith, s.lines_are);
-      place_is = place_e ∙ ap (λ h. h + word_count line) here_is;
-      ended_is = ended_e ∙ ap (λ b. is_end line.operation || b) s.ended_is;
-      names_are = names_e ∙ ap (λ h. names ++ option_to_list (new_label line.label h ended names)) here_is
-          ∙ ap (λ b. names ++ option_to_list (new_label line.label (place_of line earlier) b names)) s.ended_is
-          ∙ ap (λ ns. ns ++ option_to_list (new_label line.label (place_of line earlier) (has_ended earlier) ns)) s.names_are;
-    }
+stands_step lines place ended _ earlier line lines' place' ended' names' s lines_e names_e place_e ended_e =
+    grind (arith, ended)
 
 -- what a pass adds, in the place of the line
 pub names_at : (line : LineFields) (here place : ℕ) (ended : Bool) (names : List (List ℕ × ℕ)) → here ≡ place_reached line place

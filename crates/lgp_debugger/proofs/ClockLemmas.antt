@@ -1,5 +1,5 @@
 -- What is left of a tape is within the limit, and the clock is within its end.
-use Rattle.std.proofs.Common.{◌≡◌, ◌≤◌, ◌∙◌, ℕ, Option, Some, IfSome, ap, arith, length, subst}
+use Rattle.std.proofs.Common.{◌≡◌, ◌≤◌, ℕ, Option, IfSome, arith, length}
 use Rattle.std.proofs.lemmas.List.{length-append}
 use Rattle.lgp_flexo.specs.Tape.{Tape, all_codes}
 use Rattle.lgp_table.specs.State.{State}
@@ -15,6 +15,4 @@ left_few tape limit few = omega (arith, few, length-append tape.passed tape.left
 -- the clock of a machine whose mark can be taken
 pub mark_within : (s : State) (now : Configuration) (found : Option Mark) → now ≡ at_boundary s → found ≡ seen_at_boundary now (mark_of now.state) → IfSome found (λ mark. mark.clock ≤ clock_end) → s.clock ≤ clock_end
 mark_within s now found here is within =
-    let some : found ≡ Some (mark_of s) = is ∙ ap (λ (n : Configuration). seen_at_boundary n (mark_of n.state)) here in
-    let P : Option Mark → Type 0 = λ o. IfSome o (λ mark. mark.clock ≤ clock_end) in
-    subst P some within
+    grind (arith, found)

@@ -2,8 +2,8 @@
 use Rattle.std.proofs.Common.{◌≡◌, ◌≤◌, ◌+◌, ℕ, Bool, true, false, List, [], ◌∷◌, Option, None, Some, ap, arith, option_map}
 use Rattle.std.specs.Prelude.{if◌then◌else◌}
 use Rattle.std.specs.Option.{option_or}
-use Rattle.lgp_history.specs.Hits.{first_hit, last_hit}
-use Rattle.lgp_history.specs.Steps.{is_order, orders_in}
+use Rattle.lgp_history.specs.Hits.{last_hit}
+use Rattle.lgp_history.specs.Steps.{orders_in}
 use Rattle.lgp_history.specs.declared.rule.Rule.{Rule}
 use Rattle.lgp_history.specs.Step.{KeptStep}
 
@@ -25,12 +25,11 @@ step_within (Some hit) true first m n i within e = let w = within e in (w.0, ome
 step_within (Some hit) false first m n i within e = let w = within e in (w.0, omega (arith, w.1))
 step_within None true (Some number) m n i within e =
     let back : m + 1 ≡ n = ap orders_back e in (omega (arith, back), omega (arith, back))
-step_within None true None m n i within e = let bad : false ≡ true = ap is_found e in cc
-step_within None false first m n i within e = let bad : false ≡ true = ap is_found e in cc
+step_within None true None m n i within e = cc
+step_within None false first m n i within e = cc
 
 pub last_hit-within : (rules : List Rule) (kept : List KeptStep) (n i : ℕ)
     → last_hit rules kept ≡ Some (n, i) → (1 ≤ n) × (n ≤ orders_in kept)
-last_hit-within rules [] n i e = let bad : false ≡ true = ap is_found e in cc
+last_hit-within rules [] n i e = cc
 last_hit-within rules (k ∷ later) n i e =
-    step_within (last_hit rules later) (is_order k.step) (first_hit rules k.before) (orders_in later) n i
-    (last_hit-within rules later n i) e
+    grind (arith, step_within, last_hit-within rules later n i)

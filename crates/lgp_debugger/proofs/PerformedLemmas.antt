@@ -1,5 +1,5 @@
 -- A debugger after orders that were performed one after another.
-use Rattle.std.proofs.Common.{◌≡◌, ◌∙◌, ◌+◌, ℕ, zero, suc, ap, arith, refl, sym}
+use Rattle.std.proofs.Common.{◌≡◌, ◌+◌, ℕ, zero, suc, ap, arith, refl}
 use Rattle.lgp_table.specs.Activity.{next}
 use Rattle.lgp_table.specs.After.{after}
 use Rattle.lgp_history.specs.Step.{Perform}
@@ -12,8 +12,7 @@ performed_none first = refl
 pub performed_more : (first now new : Debugging) (done : ℕ) → now ≡ performed first done → new ≡ after_step now Perform → new ≡ performed first (done + 1)
 unfolding performed
 performed_more first now new done reached moved =
-    let count : done + 1 ≡ suc done = omega arith in
-    moved ∙ ap (λ (d : Debugging). after_step d Perform) reached ∙ sym (ap (λ (n : ℕ). performed first n) count)
+    grind arith
 
 -- and the state that they lead to
 pub performed_state : (first : Debugging) (done : ℕ) → (performed first done).state ≡ after first.state done

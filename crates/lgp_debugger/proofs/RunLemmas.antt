@@ -33,11 +33,9 @@ no_more (Err fault) = ap (λ (n : ℕ). Err (record fault { orders = n })) (add-
 
 more_one : (done : ℕ) (run : Result Ran RunFault) → more done (one_order_more run) ≡ more (done + 1) run
 more_one done (Ok ran) =
-    let count : ran.orders + 1 + done ≡ ran.orders + (done + 1) = omega arith in
-    ap (λ (n : ℕ). Ok (record ran { orders = n })) count
+    grind arith
 more_one done (Err fault) =
-    let count : fault.orders + 1 + done ≡ fault.orders + (done + 1) = omega arith in
-    ap (λ (n : ℕ). Err (record fault { orders = n })) count
+    grind arith
 
 module _ (rules : List Rule) where
   at_rest : (n : ℕ) (s : State) → rests s ≡ true → run_of rules n s ≡ ended_for reasons.Rest
@@ -65,7 +63,7 @@ pub record HasRun (by_rules : Bool) (first now : Debugging) (done : ℕ) : Type 
 
 pub run_begun : (by_rules : Bool) (d : Debugging) → HasRun by_rules d d 0
 run_begun by_rules d = record {
-  goes_on = λ n. ap (λ (k : ℕ). run_of (rules_in_force by_rules d.rules) k d.state) (zero-add n) ∙ sym (no_more (run_of (rules_in_force by_rules d.rules) n d.state));
+  goes_on = λ n. ap (λ (k : ℕ). run_of (rules_in_force by_rules d.rules) k d.state) (zero-add n) ∙ sym (no_more _);
   reached = performed_none d;
   same_rules = refl;
 }
@@ -98,35 +96,35 @@ module _ (by_rules : Bool) (first now new : Debugging) (done limit : ℕ) (h : H
 
   pub run_step : (answer : Result (Option ℕ) StepFault) → answer ≡ Ok None → IsOrder answer → HasRun by_rules first new (done + 1)
   run_step answer is order =
-      let here = by_these answer (Ok None) is order in
+      let here = by_these _ _ is order in
       record {
         goes_on = λ n.
             let shift : done + 1 + n ≡ done + suc n = omega arith in
-            ap (λ (k : ℕ). run_of rules k first.state) shift ∙ an_order_on n None here ∙ more_one done (run_of rules n new.state);
-        reached = performed_more first now new done h.reached here.2;
+            ap (λ (k : ℕ). run_of rules k first.state) shift ∙ an_order_on n _ here ∙ more_one _ _;
+        reached = performed_more _ _ _ _ h.reached here.2;
         same_rules = ap (λ (d : Debugging). d.rules) here.2 ∙ h.same_rules;
       }
 
   pub run_stopped : (answer : Result (Option ℕ) StepFault) (number : ℕ) → answer ≡ Ok (Some number) → IsOrder answer → done < limit
       → IsRun rules limit first new (Ok (record { orders = done + 1; reason = reasons.Rule number }))
   run_stopped answer number is order below =
-      let here = by_these answer (Ok (Some number)) is order in
+      let here = by_these _ _ is order in
       let shift : limit ≡ done + suc (limit - done - 1) = omega arith in
       let count : 0 + 1 + done ≡ done + 1 = omega arith in
-      ended _ (ap (λ (k : ℕ). run_of rules k first.state) shift ∙ an_order_on (limit - done - 1) (Some number) here
+      ended _ (ap (λ (k : ℕ). run_of rules k first.state) shift ∙ an_order_on _ _ here
       ∙ ap (λ (k : ℕ). Ok (record { orders = k; reason = reasons.Rule number })) count)
-      (performed_more first now new done h.reached here.2)
+      (performed_more _ _ _ _ h.reached here.2)
 
   pub run_rested : done ≤ limit → rests now.state ≡ true → new ≡ now → IsRun rules limit first new (Ok (record { orders = done; reason = reasons.Rest }))
   run_rested within rest same =
-      ended _ (from_here (limit - done) (omega arith) ∙ ap (more done) (at_rest rules (limit - done) now.state rest)
+      ended _ (from_here (limit - done) (omega arith) ∙ ap (more done) (at_rest _ _ now.state rest)
       ∙ ap (λ (k : ℕ). Ok (record { orders = k; reason = reasons.Rest })) (zero-add done))
       (same ∙ h.reached)
 
   -- at rest no order is performed
   pub run_refused_at_rest : (answer : Result (Option ℕ) StepFault) → answer ≡ Err AtRest → IsOrder answer → done < limit
       → IsRun rules limit first new (Ok (record { orders = done; reason = reasons.Rest }))
-  run_refused_at_rest answer is order below = let here = by_these answer (Err AtRest) is order in run_rested (omega arith) here.0 here.1
+  run_refused_at_rest answer is order below = let here = by_these _ _ is order in run_rested (omega arith) here.0 here.1
 
   done_all : rests now.state ≡ false → run_of rules done first.state ≡ Ok (record { orders = done; reason = reasons.Limit })
   done_all busy =
@@ -141,12 +139,12 @@ module _ (by_rules : Bool) (first now new : Debugging) (done limit : ℕ) (h : H
   pub run_refused_at_clock_end : (answer : Result (Option ℕ) StepFault) → answer ≡ Err ClockEnd → IsOrder answer → done < limit
       → IsRun rules limit first new (Err (record { orders = done; fault = refusals.ClockEnd }))
   run_refused_at_clock_end answer is order below =
-      let here = by_these answer (Err ClockEnd) is order in
+      let here = by_these _ _ is order in
       let past : clock_end < new.state.clock + cost new.state = subst (λ (d : Debugging). clock_end < d.state.clock + cost d.state) (sym here.2) here.1 in
       record {
         ran = tt;
         broken_off = λ _. from_here (suc (limit - done - 1)) (omega arith)
-            ∙ ap (more done) (passing rules (limit - done - 1) now.state here.0 (lt-ltb clock_end (now.state.clock + cost now.state) here.1))
+            ∙ ap (more done) (passing _ _ now.state here.0 (lt-ltb clock_end (now.state.clock + cost now.state) here.1))
             ∙ ap (λ (k : ℕ). Err (record { orders = k; fault = refusals.ClockEnd })) (zero-add done);
         stands = done_all here.0;
         within = below;
@@ -157,7 +155,7 @@ module _ (by_rules : Bool) (first now new : Debugging) (done limit : ℕ) (h : H
   pub run_refused_memory : (answer : Result (Option ℕ) StepFault) → answer ≡ Err Memory → IsOrder answer → done < limit
       → IsRun rules limit first new (Err (record { orders = done; fault = refusals.Memory }))
   run_refused_memory answer is order below =
-      let here = by_these answer (Err Memory) is order in
+      let here = by_these _ _ is order in
       let room : new.state.clock + cost new.state ≤ clock_end = subst (λ (d : Debugging). d.state.clock + cost d.state ≤ clock_end) (sym here.1) here.0.1 in
       record {
         ran = tt;

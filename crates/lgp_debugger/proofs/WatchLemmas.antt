@@ -1,5 +1,5 @@
 -- The first watch that stops a run is that of the first rule that does.
-use Rattle.std.proofs.Common.{◌≡◌, ◌+◌, ℕ, Bool, List, [], ◌∷◌, ap₂, refl, cond}
+use Rattle.std.proofs.Common.{◌≡◌, ℕ, List, [], ◌∷◌, ap₂, refl, cond}
 use Rattle.std.specs.Prelude.{not, position, nat_lt, Some, None}
 use Rattle.std.specs.List.{prefix_len}
 use Rattle.std.proofs.lemmas.List.{length-map}
@@ -18,9 +18,9 @@ prefix-watched : (before : State) (rules : List Rule)
     → prefix_len (λ watch. not (stops_now (next before) watch)) (watches_of before rules) ≡ prefix_len (λ rule. not (stops_run before rule)) rules
 prefix-watched before [] = refl
 prefix-watched before (rule ∷ rules) =
-    ap₂ (λ (b : Bool) (n : ℕ). cond (not b) (1 + n) 0) (stops-watched before rule) (prefix-watched before rules)
+    search (rules, stops-watched, prefix-watched before rules)
 
 pub watched_stop : (before : State) (rules : List Rule)
     → position (stops_now (next before)) (watches_of before rules) ≡ first_stop rules before
 watched_stop before rules =
-    ap₂ (λ (at all : ℕ). cond (nat_lt at all) (Some at) None) (prefix-watched before rules) (length-map rules (watch_of before))
+    ap₂ (λ (at all : ℕ). cond (nat_lt at all) (Some at) None) (prefix-watched before _) (length-map rules (watch_of before))

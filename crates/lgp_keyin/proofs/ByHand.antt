@@ -5,20 +5,19 @@ use Rattle.std.specs.List.{list_any}
 use Rattle.std.proofs.lemmas.Bool.{or_parts}
 use Rattle.std.proofs.lemmas.List.Sums.{fold-append}
 use Rattle.lgp_word.specs.Address.{IsAddress}
-use Rattle.lgp_word.specs.Order.{address_at, op_at, op_of, sign_of}
+use Rattle.lgp_word.specs.Order.{address_at, op_at, op_of}
 use Rattle.lgp_word.specs.Word.{IsWord, stored}
 use Rattle.lgp_word.specs.declared.order.Op.{Op}
 use Rattle.lgp_word.specs.declared.order.Op.TheVariants.{H, U}
 use Rattle.lgp_flexo.specs.Code.{is_skipped, is_stop}
 use Rattle.lgp_flexo.specs.Input.{accumulator_after}
 use Rattle.lgp_flexo.specs.Tape.{Tape}
-use Rattle.lgp_flexo.specs.WordCodes.{word_codes}
 use Rattle.lgp_flexo.proofs.WordCodes.{word_keyed, word_no_stop, word_not_skipped}
 use Rattle.lgp_table.specs.State.{Core, State, core_of}
 use Rattle.lgp_table.specs.Rows.{row}
 use Rattle.lgp_table.specs.Activity.{core_after, next, print_of}
 use Rattle.lgp_table.specs.Console.{Desk, desk_after, is_at_rest, status_in_mode}
-use Rattle.lgp_table.specs.Interleaving.{Configuration, after_actions, at_boundary, desk_of, with_desk}
+use Rattle.lgp_table.specs.Interleaving.{Configuration, at_boundary, desk_of, with_desk}
 use Rattle.lgp_table.specs.declared.action.Action.{Action}
 use Rattle.lgp_table.specs.declared.action.Action.TheVariants as actions
 use Rattle.lgp_table.specs.declared.panel.Cause.{Cause}
@@ -27,8 +26,8 @@ use Rattle.lgp_table.specs.declared.panel.Mode.TheVariants.{OneOperation, Manual
 use Rattle.lgp_table.specs.declared.panel.Panel.{Panel}
 use Rattle.lgp_table.specs.declared.panel.Status.{Status}
 use Rattle.lgp_table.specs.declared.panel.Status.TheVariants.{Halted, Going, Executing, Waiting, Reading}
-use Rattle.lgp_keyin.specs.KeyIn.{keyed, words_keyed, with_four_bit_input, about_to_jump, about_to_store, going_actions, jump_order, started, store_order, word_keys}
-use Rattle.lgp_keyin.specs.Keyed.{panel_after_store, state_after_words, started_panel, state_when_started}
+use Rattle.lgp_keyin.specs.KeyIn.{keyed, words_keyed, with_four_bit_input, about_to_jump, about_to_store, jump_order, started, store_order, word_keys}
+use Rattle.lgp_keyin.specs.Keyed.{panel_after_store, state_after_words, state_when_started}
 
 -- the orders that are keyed in
 pub store_op : (address : ℕ) → address < 4096 → op_at (store_order address) ≡ H
@@ -80,23 +79,21 @@ keys_struck : (panel : Panel) (tape : Tape) (cause : Cause) (accumulator : ℕ) 
     ≡ manual_desk panel tape cause (fold (accumulator_after false) accumulator codes)
 keys_struck panel tape cause accumulator [] no_stop not_skipped = refl
 keys_struck panel tape cause accumulator (code ∷ codes) no_stop not_skipped =
-    let (stop, stops) = or_parts (is_stop code) (list_any is_stop codes) no_stop in
-    let (skip, skips) = or_parts (is_skipped code) (list_any is_skipped codes) not_skipped in
-    ap (λ (desk : Desk). fold desk_after desk (map (λ code. actions.Key code) codes)) (key_struck panel tape cause accumulator code stop skip)
+    let (stop, stops) = or_parts _ _ no_stop in
+    let (skip, skips) = or_parts _ _ not_skipped in
+    ap (λ (desk : Desk). fold desk_after desk (map (λ code. actions.Key code) codes)) (key_struck panel _ _ _ _ stop skip)
     ∙ keys_struck panel tape cause (accumulator_after false accumulator code) codes stops skips
 
 word_struck : (panel : Panel) (tape : Tape) (cause : Cause) (accumulator word : ℕ) → IsWord word
     → fold desk_after (manual_desk panel tape cause accumulator) (word_keys word) ≡ manual_desk panel tape cause word
 word_struck panel tape cause accumulator word is =
-    keys_struck panel tape cause accumulator (word_codes word) (word_no_stop word) (word_not_skipped word)
-    ∙ ap (λ n. manual_desk panel tape cause n) (word_keyed word accumulator is.0)
+    grind (arith, keys_struck, word_no_stop, word_not_skipped, word_keyed)
 
 -- a word struck, and whatever is pressed after it
 word_struck_then : (panel : Panel) (tape : Tape) (cause : Cause) (accumulator word : ℕ) (rest : List Action) → IsWord word
     → fold desk_after (manual_desk panel tape cause accumulator) (word_keys word ++ rest) ≡ fold desk_after (manual_desk panel tape cause word) rest
 word_struck_then panel tape cause accumulator word rest is =
-    fold-append desk_after (manual_desk panel tape cause accumulator) (word_keys word) rest
-    ∙ ap (λ (desk : Desk). fold desk_after desk rest) (word_struck panel tape cause accumulator word is)
+    grind (arith, fold-append, word_struck)
 
 -- the button Manual halts a machine that has not halted
 cause_in_manual : Status → Cause
@@ -118,18 +115,14 @@ manual_in desk status six_bit =
 manual_pressed : (desk : Desk) → desk.panel.switches.six_bit ≡ false
     → desk_after desk (actions.Mode Manual) ≡ manual_desk desk.panel desk.tape (cause_in_manual desk.panel.status) desk.panel.accumulator
 manual_pressed desk up =
-    ap (λ status. manual_in desk status desk.panel.switches.six_bit) (manual_halts desk.panel.status)
-    ∙ ap (λ six_bit. manual_in desk (Halted (cause_in_manual desk.panel.status)) six_bit) up
+    grind (arith, manual_halts, cause_in_manual)
 
 -- an order filled into the instruction register, and whatever is pressed after it
 order_filled : (desk : Desk) (order : ℕ) (rest : List Action) → desk.panel.switches.six_bit ≡ false → IsWord order
     → fold desk_after desk (actions.Mode Manual ∷ (word_keys order ++ (actions.Fill ∷ rest)))
     ≡ fold desk_after (manual_desk (record desk.panel { register = order }) desk.tape (cause_in_manual desk.panel.status) order) rest
 order_filled desk order rest up is =
-    let cause = cause_in_manual desk.panel.status in
-    ap (λ (desk : Desk). fold desk_after desk (word_keys order ++ (actions.Fill ∷ rest))) (manual_pressed desk up)
-    ∙ (word_struck_then desk.panel desk.tape cause desk.panel.accumulator order (actions.Fill ∷ rest) is
-    ∙ ap (λ n. fold desk_after (manual_desk (record desk.panel { register = n }) desk.tape cause order) rest) (stored_word order is))
+    grind (arith, cause_in_manual, manual_pressed, word_struck_then, stored_word)
 
 -- about to perform an order from the instruction register
 abbrev executing : Panel → ℕ → ℕ → Panel
@@ -148,33 +141,27 @@ pub store_keyed : (s : State) (address word : ℕ) → s.core.panel.switches.six
     → about_to_store s address word ≡ about_to s (store_order address) word
 store_keyed s address word up within is =
     let order = store_order address in
-    let cause = cause_in_manual s.core.panel.status in
-    let rest = actions.Mode OneOperation ∷ actions.Execute ∷ [] in
     ap (λ (desk : Desk). with_desk s desk)
-    (order_filled (desk_of s) order (word_keys word ++ rest) up (store_is_word address within)
-    ∙ word_struck_then (record s.core.panel { register = order }) s.core.tape cause order word rest is)
+    (order_filled (desk_of s) _ _ up (store_is_word _ within)
+    ∙ word_struck_then (record s.core.panel { register = order }) _ _ _ _ _ is)
 
 -- what the panel shows then
 pub shows_store : (now : Configuration) (s : State) (address word : ℕ) → now ≡ at_boundary (about_to_store s address word) → s.core.panel.switches.six_bit ≡ false → IsAddress address → IsWord word
     → (now.state.core.panel.status ≡ Executing) × (now.state.core.panel.register ≡ store_order address)
 shows_store now s address word at up within is =
-    let panel : now.state.core.panel ≡ executing s.core.panel (store_order address) word =
-    ap (λ (c : Configuration). c.state.core.panel) at ∙ ap (λ (t : State). t.core.panel) (store_keyed s address word up within is) in
-    (ap (λ (p : Panel). p.status) panel, ap (λ (p : Panel). p.register) panel)
+    grind (arith, store_keyed)
 
 pub jump_keyed : (s : State) (address : ℕ) → s.core.panel.switches.six_bit ≡ false → IsAddress address
     → about_to_jump s address ≡ about_to s (jump_order address) (jump_order address)
 jump_keyed s address up within =
-    let order = jump_order address in
-    let rest = actions.Mode OneOperation ∷ actions.Execute ∷ [] in
-    ap (λ (desk : Desk). with_desk s desk) (order_filled (desk_of s) order rest up (jump_is_word address within))
+    ap (λ (desk : Desk). with_desk s desk) (order_filled (desk_of s) _ _ up (jump_is_word _ within))
 
 -- the order in the instruction register performed: a store
 pub core_stored : (core : Core) (address word : ℕ) → IsAddress address → IsWord word
     → core_after (record core { panel = executing core.panel (store_order address) word })
     ≡ core_of (panel_after_store core.panel address word) (slice_set core.words address word) core.tape
 unfolding core_after
-core_stored core address word within is = rw (store_op address within, store_address address within, stored_word word is) refl
+core_stored core address word within is = rw (store_op _ within, store_address _ within, stored_word _ is) refl
 
 -- neither h nor u prints
 silent_h : (op : Op) (minus : Bool) (m : ℕ) (core : Core) → op ≡ H → (row op minus m core).prints ≡ None
@@ -187,23 +174,19 @@ pub silent_store : (core : Core) (address word : ℕ) → IsAddress address
     → print_of (record core { panel = executing core.panel (store_order address) word }) ≡ None
 unfolding print_of
 silent_store core address word within =
-    let order = store_order address in
-    let now : Core = record core { panel = executing core.panel order word } in
-    silent_h (op_at order) (sign_of order) (address_at order) now (store_op address within)
+    grind (arith, silent_h, store_op)
 
 silent_jump : (core : Core) (address word : ℕ) → IsAddress address
     → print_of (record core { panel = executing core.panel (jump_order address) word }) ≡ None
 unfolding print_of
 silent_jump core address word within =
-    let order = jump_order address in
-    let now : Core = record core { panel = executing core.panel order word } in
-    silent_u (op_at order) (sign_of order) (address_at order) now (jump_op address within)
+    grind (arith, silent_u, jump_op)
 
 core_jumped : (core : Core) (address : ℕ) → IsAddress address
     → core_after (record core { panel = executing core.panel (jump_order address) (jump_order address) })
     ≡ record core { panel = record (executing core.panel (jump_order address) (jump_order address)) { counter = address; status = Halted Step } }
 unfolding core_after
-core_jumped core address within = rw (jump_op address within, jump_address address within) refl
+core_jumped core address within = rw (jump_op _ within, jump_address _ within) refl
 
 -- an activity whose core is known, and that prints nothing
 pub settled : (s : State) (core : Core) → core_after s.core ≡ core → print_of s.core ≡ None
@@ -225,11 +208,10 @@ after_store s address word clock = record {
 pub stored_by_hand : (s : State) (address word : ℕ) → s.core.panel.switches.six_bit ≡ false → IsAddress address → IsWord word
     → next (about_to_store s address word) ≡ after_store s address word (next (about_to_store s address word)).clock
 stored_by_hand s address word up within is =
-    let keyed = store_keyed s address word up within is in
-    let now = about_to s (store_order address) word in
+    let keyed = store_keyed s _ _ up within is in
     let core = core_of (panel_after_store s.core.panel address word) (slice_set s.core.words address word) s.core.tape in
     ap next keyed
-    ∙ (settled now core (core_stored s.core address word within is) (silent_store s.core address word within)
+    ∙ (settled _ _ (core_stored s.core _ _ within is) (silent_store s.core _ _ within)
     ∙ ap (λ (t : State). after_store s address word (next t).clock) (sym keyed))
 
 jumped_by_hand : (s : State) (address : ℕ) → s.core.panel.switches.six_bit ≡ false → IsAddress address
@@ -240,31 +222,26 @@ jumped_by_hand : (s : State) (address : ℕ) → s.core.panel.switches.six_bit �
       clock = (next (about_to_jump s address)).clock;
     }
 jumped_by_hand s address up within =
-    let keyed = jump_keyed s address up within in
-    let now = about_to s (jump_order address) (jump_order address) in
+    let keyed = jump_keyed s _ up within in
     let core : Core = record s.core { panel = record (executing s.core.panel (jump_order address) (jump_order address)) { counter = address; status = Halted Step } } in
     ap next keyed
-    ∙ (settled now core (core_jumped s.core address within) (silent_jump s.core address (jump_order address) within)
+    ∙ (settled _ _ (core_jumped s.core _ within) (silent_jump s.core _ _ within)
     ∙ ap (λ (t : State). record { core = core; printed = s.printed; clock = (next t).clock }) (sym keyed))
 
 pub started_by_hand : (s : State) (address : ℕ) → s.core.panel.switches.six_bit ≡ false → IsAddress address
     → started s address ≡ state_when_started s address (next (about_to_jump s address)).clock
 started_by_hand s address up within =
-    ap (λ (t : State). after_actions t going_actions) (jumped_by_hand s address up within)
-    ∙ ap (λ six_bit. record s {
-      core = record s.core { panel = record (started_panel s.core.panel address) { switches = record s.core.panel.switches { six_bit = six_bit } } };
-      clock = (next (about_to_jump s address)).clock;
-    }) (sym up)
+    grind (arith, jumped_by_hand)
 
 words_are : (s : State) (base : ℕ) (words : List ℕ) → s.core.panel.switches.six_bit ≡ false → All IsWord words → base + length words ≤ 4096
     → words_keyed s base words ≡ state_after_words s base words (words_keyed s base words).clock
 unfolding words_keyed
-words_are s base [] up all within = ap (λ six_bit. record s { core = record s.core { panel = record s.core.panel { switches = record s.core.panel.switches { six_bit = six_bit } } } }) up
+words_are s base [] up all within = grind arith
 words_are s base (word ∷ words) up all within =
     let is : IsWord word = all 0 0 (omega arith) in
     let others : All IsWord words = λ k d less. all (suc k) d (omega (arith, less)) in
     let now = next (about_to_store s base word) in
-    let here = stored_by_hand s base word up (omega (arith, within)) is in
+    let here = stored_by_hand s _ _ up (omega (arith, within)) is in
     let rest = words_are (after_store s base word now.clock) (base + 1) words refl others (omega (arith, within)) in
     ap (λ t. words_keyed t (base + 1) words) here
     ∙ (rest ∙ ap (λ (t : State). state_after_words s base (word ∷ words) (words_keyed t (base + 1) words).clock) (sym here))
@@ -277,27 +254,27 @@ keyed_are s base (word ∷ words) all within = words_are (with_four_bit_input s)
 -- the machine may go on with the order that stores: it is not at rest, and nothing is printed
 pub about_to_store_works : (s : State) (address word : ℕ) → s.core.panel.switches.six_bit ≡ false → IsAddress address → IsWord word
     → is_at_rest (about_to_store s address word).core.panel.status ≡ false
-about_to_store_works s address word up within is = ap (λ (t : State). is_at_rest t.core.panel.status) (store_keyed s address word up within is)
+about_to_store_works s address word up within is = grind (arith, store_keyed)
 
 pub about_to_store_is_silent : (s : State) (address word : ℕ) → s.core.panel.switches.six_bit ≡ false → IsAddress address → IsWord word
     → print_of (about_to_store s address word).core ≡ None
 about_to_store_is_silent s address word up within is =
-    ap (λ (t : State). print_of t.core) (store_keyed s address word up within is) ∙ silent_store s.core address word within
+    ap (λ (t : State). print_of t.core) (store_keyed s _ _ up within is) ∙ silent_store s.core _ _ within
 
 pub up_after_store : (s : State) (address word : ℕ) → s.core.panel.switches.six_bit ≡ false → IsAddress address → IsWord word
     → (next (about_to_store s address word)).core.panel.switches.six_bit ≡ false
-up_after_store s address word up within is = ap (λ (t : State). t.core.panel.switches.six_bit) (stored_by_hand s address word up within is)
+up_after_store s address word up within is = grind (arith, stored_by_hand)
 
 pub ruleset storing = (about_to_store_works, about_to_store_is_silent, up_after_store)
 
 -- the same of the order that jumps
 pub about_to_jump_works : (s : State) (address : ℕ) → s.core.panel.switches.six_bit ≡ false → IsAddress address
     → is_at_rest (about_to_jump s address).core.panel.status ≡ false
-about_to_jump_works s address up within = ap (λ (t : State). is_at_rest t.core.panel.status) (jump_keyed s address up within)
+about_to_jump_works s address up within = ap (λ (t : State). is_at_rest t.core.panel.status) (jump_keyed s _ up within)
 
 pub about_to_jump_is_silent : (s : State) (address : ℕ) → s.core.panel.switches.six_bit ≡ false → IsAddress address
     → print_of (about_to_jump s address).core ≡ None
 about_to_jump_is_silent s address up within =
-    ap (λ (t : State). print_of t.core) (jump_keyed s address up within) ∙ silent_jump s.core address (jump_order address) within
+    ap (λ (t : State). print_of t.core) (jump_keyed s _ up within) ∙ silent_jump s.core _ _ within
 
 pub ruleset jumping = (about_to_jump_works, about_to_jump_is_silent)

@@ -20,9 +20,7 @@ last_shows_over panel first word base (next ∷ words) last = refl
 pub last_shows : (panel : Panel) (base : ℕ) (words : List ℕ) (last : ℕ) → panel_after_words panel base (words ++ last ∷ []) ≡ panel_after_store panel (base + length words) last
 last_shows panel base [] last = ap (λ n. panel_after_store panel n last) (let e : base ≡ base + 0 = omega arith in e)
 last_shows panel base (word ∷ words) last =
-    last_shows_over panel base word (base + 1) words last
-    ∙ (last_shows panel (base + 1) words last
-    ∙ ap (λ n. panel_after_store panel n last) (next_base base (length words)))
+    grind (arith, last_shows_over, last_shows panel (base + 1) words last)
 
 -- a place before the words is as it was, and one after them too
 pub before_words : (words drum : List ℕ) (base place : ℕ) → place < base → slice_index (words_from drum base words) place ≡ slice_index drum place

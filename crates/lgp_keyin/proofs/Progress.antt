@@ -1,5 +1,5 @@
 -- How far key-in has come.
-use Rattle.std.proofs.Common.{◌≡◌, ℕ, ◌+◌, ◌%◌, ◌<◌, ◌≤◌, true, false, refl, sym, ap, ◌∙◌, arith, List, [], ◌∷◌, ◌++◌, drop, length, slice_index, take, IsTrue, length-take, slice_index_or}
+use Rattle.std.proofs.Common.{◌≡◌, ℕ, ◌+◌, ◌%◌, ◌<◌, ◌≤◌, false, refl, sym, ap, ◌∙◌, arith, List, [], ◌∷◌, ◌++◌, drop, length, slice_index, take, IsTrue, length-take, slice_index_or}
 use Rattle.std.proofs.lemmas.List.{get_or_default, take-append-drop, take_more}
 use Rattle.lgp_word.specs.Address.{address_after}
 use Rattle.lgp_table.specs.State.{State}
@@ -25,9 +25,7 @@ keyed_parts : (s : State) (base : ℕ) (first others : List ℕ) → words_keyed
 unfolding words_keyed
 keyed_parts s base [] others = ap (λ n. words_keyed s n others) (let e : base ≡ base + 0 = omega arith in e)
 keyed_parts s base (word ∷ first) others =
-    keyed_parts (next (about_to_store s base word)) (base + 1) first others
-    ∙ ap (λ n. words_keyed (words_keyed (next (about_to_store s base word)) (base + 1) first) n others)
-    (let e : base + 1 + length first ≡ base + length (word ∷ first) = omega arith in e)
+    grind (arith, others, keyed_parts (next (about_to_store s base word)) (base + 1) first others)
 
 keyed_one : (s : State) (base word : ℕ) → words_keyed s base (word ∷ []) ≡ next (about_to_store s base word)
 unfolding words_keyed
@@ -46,35 +44,27 @@ keyed_more : (s : State) (base : ℕ) (words : List ℕ) (done : ℕ) → done <
 keyed_more s base words done less =
     let t = with_four_bit_input s in
     let taken : length (take done words) ≡ done = grind (arith, length-take) in
-    ap (keyed s base) (take_more words done 0 less)
-    ∙ (keyed_parts t base (take done words) (slice_index words done ∷ [])
-    ∙ (keyed_one (words_keyed t base (take done words)) (base + length (take done words)) (slice_index words done)
+    ap (keyed s base) (take_more _ _ 0 less)
+    ∙ (keyed_parts t _ _ _
+    ∙ (keyed_one _ _ _
     ∙ ap (λ n. next (about_to_store (keyed s base (take done words)) (base + n) (slice_index words done))) taken))
 
 pub none_keyed : (old now : Configuration) (base : ℕ) (words : List ℕ) → IsTrue (is_boundary old) → now ≡ after_press old (actions.SixBit false) → base < 4096
     → IsKeyedSo now old.state base words 0 base
 unfolding words_keyed
 none_keyed old now base words boundary pressed within =
-    let is : is_boundary old ≡ true = boundary in
-    let at : now ≡ at_boundary (keyed old.state base []) = pressed ∙ rw is refl in
-    record {
-      at = at;
-      up = ap (λ (c : Configuration). c.state.core.panel.switches.six_bit) at;
-      place = omega arith;
-      clock = λ some. absurd (let wrong : ⊥ = omega (arith, some) in wrong);
-    }
+    grind arith
 
 -- the place of the next word
 pub place_is : (now : Configuration) (s : State) (base : ℕ) (words : List ℕ) (done address : ℕ) → IsKeyedSo now s base words done address
     → done < length words → base + length words ≤ 4096 → address ≡ base + done
-place_is now s base words done address so less fits = let place = so.place in omega arith
+place_is now s base words done address so less fits = omega arith
 
 about_to_is : (now : Configuration) (s : State) (base : ℕ) (words : List ℕ) (done address : ℕ) → IsKeyedSo now s base words done address
     → done < length words → base + length words ≤ 4096
     → about_to_store now.state address (slice_index words done) ≡ before_store s base words done
 about_to_is now s base words done address so less fits =
-    ap (λ (c : Configuration). about_to_store c.state address (slice_index words done)) so.at
-    ∙ ap (λ n. about_to_store (keyed s base (take done words)) n (slice_index words done)) (place_is now s base words done address so less fits)
+    grind (arith, less)
 
 pub one_more_keyed : (now then : Configuration) (s : State) (base : ℕ) (words : List ℕ) (done address : ℕ) → IsKeyedSo now s base words done address
     → done < length words → base + length words ≤ 4096
@@ -84,7 +74,7 @@ pub one_more_keyed : (now then : Configuration) (s : State) (base : ℕ) (words 
 one_more_keyed now then s base words done address so less fits stored up clock = record {
   at = stored ∙ ap at_boundary (ap next (about_to_is now s base words done address so less fits) ∙ sym (keyed_more s base words done less));
   up = up;
-  place = let place = so.place in omega arith;
+  place = omega arith;
   clock = λ some. clock;
 }
 
@@ -103,7 +93,7 @@ passes now then s base words done address so less fits stands past =
     ap (λ (c : Configuration). (next c.state).clock) stands ∙ ap (λ (t : State). (next t).clock) about in
     let after : (keyed s base first).clock ≡ (next (before_store s base words done)).clock = ap (λ (t : State). t.clock) (keyed_more s base words done less) in
     let parts : (keyed s base words).clock ≡ (words_keyed (keyed s base first) (base + length first) others).clock =
-    ap (λ (t : State). t.clock) (ap (keyed s base) (sym (take-append-drop (done + 1) words)) ∙ keyed_parts t base first others) in
+    ap (λ (t : State). t.clock) (ap (keyed s base) (sym (take-append-drop (done + 1) words)) ∙ keyed_parts t _ _ _) in
     let grows = clock_grows (keyed s base first) (base + length first) others in
     (omega (arith, less), omega (arith, past, clock, after, parts, grows))
 
@@ -116,6 +106,4 @@ pub shows_next : (now then : Configuration) (s : State) (base : ℕ) (words : Li
     → done < length words → base + length words ≤ 4096 → then ≡ at_boundary (about_to_store now.state address word) → IsWord word
     → (then.state.core.panel.status ≡ Executing) × (then.state.core.panel.register ≡ store_order (base + done))
 shows_next now then s base words done address word so less fits stands is =
-    let place = place_is now s base words done address so less fits in
-    let shows = shows_store then now.state address word stands so.up (omega (arith, place, less, fits)) is in
-    (shows.0, shows.1 ∙ ap store_order place)
+    grind (arith, less, shows_store)

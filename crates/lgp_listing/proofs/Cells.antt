@@ -1,6 +1,6 @@
 -- The lines of a dump read back.
 use Rattle.std.proofs.Common.{◌≡◌, ◌≢◌, ◌++◌, ◌&&◌, ◌==◌, ℕ, Bool, true, false, List, [], ◌∷◌, length, take, drop, get_or, Option, Some, None, refl, sym, ap, ◌∙◌, arith, cond, slice_index}
-use Rattle.std.proofs.lemmas.Bool.{and_parts, eqb-true, ne_eqb, cond-false}
+use Rattle.std.proofs.lemmas.Bool.{and_parts, eqb-true, cond-false}
 use Rattle.std.proofs.lemmas.List.{append_assoc, drop_more, drop-drop, take-append-drop, drop_all}
 use Rattle.lgp_word.specs.Address.{IsAddress}
 use Rattle.lgp_word.specs.Word.{IsWord}
@@ -14,9 +14,7 @@ use Rattle.lgp_listing.specs.Laws.{IsLineOf}
 pub cell_in-cell_line : (address word : ℕ) → IsAddress address → IsWord word → word ≢ 0 → cell_in (cell_line address word) ≡ Some (address, word)
 unfolding cell_in digits_of four_digits
 cell_in-cell_line address word is_address is_word some =
-    ap (λ a. used_cell a (word_of_digits (digits_of word))) (address_text-address_digits address is_address)
-    ∙ ap (used_cell (Some address)) (word_of_digits-digits_of word is_word)
-    ∙ cond-false (word == 0) None (Some (address, word)) (ne_eqb word 0 some)
+    grind (arith, address_text-address_digits, word_of_digits-digits_of, cond-false)
 
 -- the two that a line in form has
 cell_parts : (a w : Option ℕ) (cell : ℕ × ℕ) → used_cell a w ≡ Some cell → (a ≡ Some cell.0) × (w ≡ Some cell.1) × (cell.1 ≢ 0)
@@ -58,16 +56,16 @@ cell_line-cell_in line cell read =
     let form = kept (length line == 14 && slice_index line 4 == 32 && slice_index line 13 == 10) (used_cell (address_text (take 4 line)) (word_of_digits (take 8 (drop 5 line)))) cell read in
     let two = and_parts (length line == 14 && slice_index line 4 == 32) (slice_index line 13 == 10) form.0 in
     let one = and_parts (length line == 14) (slice_index line 4 == 32) two.0 in
-    let parts = cell_parts (address_text (take 4 line)) (word_of_digits (take 8 (drop 5 line))) cell form.1 in
-    let address = address_digits-address_text (take 4 line) cell.0 parts.0 in
-    let digits = digits_of-word_of_digits (take 8 (drop 5 line)) cell.1 parts.1 in
+    let parts = cell_parts _ _ _ form.1 in
+    let address = address_digits-address_text _ _ parts.0 in
+    let digits = digits_of-word_of_digits _ _ parts.1 in
     let space : get_or line 4 0 ≡ 32 = eqb-true _ _ one.1 in
     let feed : get_or line 13 0 ≡ 10 = eqb-true _ _ two.1 in
     record {
       address_is = address.0;
       word_is = IsWord-word_of_digits (take 8 (drop 5 line)) cell.1 parts.1;
       some = parts.2;
-      line_is = line_parts line (eqb-true _ _ one.0)
+      line_is = line_parts _ (eqb-true _ _ one.0)
           ∙ ap (λ b. take 4 line ++ b ∷ [] ++ take 8 (drop 5 line) ++ get_or line 13 0 ∷ []) space
           ∙ ap (λ b. take 4 line ++ 32 ∷ [] ++ take 8 (drop 5 line) ++ b ∷ []) feed
           ∙ ap (λ t. t ++ 32 ∷ [] ++ take 8 (drop 5 line) ++ 10 ∷ []) (sym address.1)

@@ -1,5 +1,5 @@
 -- Each drum's dump is read back: it has no fault, and no other drum has it.
-use Rattle.std.proofs.Common.{◌≡◌, ◌≢◌, ◌<◌, ◌≤◌, ◌+◌, ◌/◌, ◌%◌, ◌++◌, ◌==◌, ℕ, suc, List, [], ◌∷◌, length, take, drop, Some, None, refl, sym, ap, ◌∙◌, arith, ⊎_elim, codes, rules}
+use Rattle.std.proofs.Common.{◌≡◌, ◌≢◌, ◌<◌, ◌≤◌, ◌+◌, ◌%◌, ◌++◌, ◌==◌, ℕ, suc, List, [], ◌∷◌, length, take, drop, Some, None, refl, sym, ap, ◌∙◌, arith, ⊎_elim, codes, rules}
 use Rattle.std.specs.List.{All}
 use Rattle.std.proofs.lemmas.Bool.{cond-true, cond-false, cases_eq, eq-eqb, ne_eqb}
 use Rattle.std.proofs.lemmas.List.{append_assoc, take_at, drop_at, length-append}
@@ -25,7 +25,7 @@ HasNoFeed (b ∷ bytes) = (b ≢ 10) × HasNoFeed bytes
 len_to_feed : (bytes rest : List ℕ) → HasNoFeed bytes → line_len (bytes ++ 10 ∷ rest) ≡ length bytes + 1
 unfolding line_len
 len_to_feed [] rest none = refl
-len_to_feed (b ∷ bytes) rest none = cond-false (b == 10) 1 (suc (line_len (bytes ++ 10 ∷ rest))) (ne_eqb b 10 none.0) ∙ ap suc (len_to_feed bytes rest none.1) ∙ omega arith
+len_to_feed (b ∷ bytes) rest none = grind (arith, cond-false, len_to_feed bytes rest none.1)
 
 -- the lines of a text that begins with a line
 line_first : (bytes rest : List ℕ) → HasNoFeed bytes → lines_of (bytes ++ 10 ∷ rest) ≡ (bytes ++ 10 ∷ []) ∷ lines_of rest
@@ -34,7 +34,7 @@ line_first bytes rest none =
     let text = bytes ++ 10 ∷ rest in
     let whole : text ≡ line ++ rest = sym (append_assoc bytes (10 ∷ []) rest) in
     let size : length line ≡ length bytes + 1 = length-append bytes (10 ∷ []) in
-    let len : line_len text ≡ length line = len_to_feed bytes rest none ∙ sym size in
+    let len : line_len text ≡ length line = len_to_feed _ _ none ∙ sym size in
     let some : 0 < length text = omega (arith, length-append bytes (10 ∷ rest)) in
     lines-step text some ∙ ap (λ n. take n text ∷ lines_of (drop n text)) len
     ∙ ap (λ t. take (length line) t ∷ lines_of (drop (length line) t)) whole
@@ -66,14 +66,14 @@ front_no_feed address word is_address is_word =
             (
               λ e. absurd (omega arith),
               (
-                digit (word / 65536 / 4096),
+                digit _,
                 (
-                  digit (word / 65536 / 256),
+                  digit _,
                   (
-                    digit (word / 65536 / 16),
+                    digit _,
                     (
-                      digit (word / 65536),
-                      (digit (word % 65536 / 4096), (digit (word % 65536 / 256), (digit (word % 65536 / 16), (digit (word % 65536), tt)))),
+                      digit _,
+                      (digit _, (digit _, (digit _, (digit _, tt)))),
                     ),
                   ),
                 ),
@@ -86,7 +86,7 @@ front_no_feed address word is_address is_word =
 
 cell_first : (address word : ℕ) (rest : List ℕ) → IsAddress address → IsWord word → lines_of (cell_line address word ++ rest) ≡ cell_line address word ∷ lines_of rest
 cell_first address word rest is_address is_word =
-    ap lines_of (append_assoc (front address word) (10 ∷ []) rest) ∙ line_first (front address word) rest (front_no_feed address word is_address is_word)
+    ap lines_of (append_assoc (front address word) (10 ∷ []) rest) ∙ line_first (front address word) rest (front_no_feed _ _ is_address is_word)
 
 -- ---- no line is faulty
 
@@ -105,25 +105,25 @@ rest_of word words all = λ k d small. all (suc k) d (omega arith)
 faultless_from : (number least from : ℕ) (words : List ℕ) → least ≤ from → from + length words ≤ 4096 → All IsWord words
     → fault_from number least (lines_of (dump_from from words)) ≡ None
 unfolding fault_from
-faultless_from number least from [] low high all = ap (fault_from number least) lines-nil
+faultless_from number least from [] low high _ = ap (fault_from number least) lines-nil
 faultless_from number least from (word ∷ words) low high all =
     let rest = dump_from (from + 1) words in
     ⊎_elim
-    (λ none. ap (λ l. fault_from number least (lines_of (l ++ rest))) (word_no from word none)
-    ∙ faultless_from number least (from + 1) words (omega arith) (omega arith) (rest_of word words all))
+    (λ none. ap (λ l. fault_from number least (lines_of (l ++ rest))) (word_no _ _ none)
+    ∙ faultless_from number least (from + 1) words (omega arith) (omega arith) (rest_of _ _ all))
     (λ some.
     let is_address : IsAddress from = omega arith in
     let is_word : IsWord word = first_of word words all in
-    ap (λ l. fault_from number least (lines_of (l ++ rest))) (word_yes from word some)
-    ∙ ap (fault_from number least) (cell_first from word rest is_address is_word)
-    ∙ onward (cell_line from word) (lines_of rest) number least (from, word) (cell_in-cell_line from word is_address is_word some) low
-    ∙ faultless_from (number + 1) (from + 1) (from + 1) words (omega arith) (omega arith) (rest_of word words all))
+    ap (λ l. fault_from number least (lines_of (l ++ rest))) (word_yes _ _ some)
+    ∙ ap (fault_from number least) (cell_first _ _ _ is_address is_word)
+    ∙ onward (cell_line from _) (lines_of rest) number least (from, word) (cell_in-cell_line _ _ is_address is_word some) low
+    ∙ faultless_from (number + 1) (from + 1) (from + 1) words (omega arith) (omega arith) (rest_of _ _ all))
     (cases_eq word 0)
 
 pub dump_faultless : (words text : List ℕ) → IsDrum words → text ≡ dump_of words → first_fault text ≡ None
 unfolding dump_of
 dump_faultless words text is_drum is =
-    ap first_fault is ∙ faultless_from 1 0 0 words (omega arith) (omega (arith, is_drum.size)) is_drum.words_are
+    grind (arith, faultless_from)
 
 -- ---- no two drums have one dump
 
@@ -193,4 +193,4 @@ same_from from (x ∷ xs) (y ∷ ys) size high all_x all_y e =
 
 pub one_drum : (xs ys : List ℕ) → IsDrum xs → IsDrum ys → dump_of xs ≡ dump_of ys → xs ≡ ys
 unfolding dump_of
-one_drum xs ys is_x is_y e = same_from 0 xs ys (is_x.size ∙ sym is_y.size) (omega (arith, is_x.size)) is_x.words_are is_y.words_are e
+one_drum xs ys is_x is_y e = grind (arith, same_from)

@@ -1,7 +1,6 @@
 -- The law on the first fault of a text.
 use Rattle.std.proofs.Common.{◌≡◌, ◌+◌, ◌++◌, ◌⊎◌, ℕ, List, [], ◌∷◌, length, Some, None, refl, sym, ap, ◌∙◌, arith, inl, inr, ⊎_elim}
 use Rattle.std.proofs.lemmas.Option.{none-some}
-use Rattle.bstr.specs.Text.{lines_of}
 use Rattle.lgp_listing.specs.declared.reading.DumpFault.TheVariants.{Form, Order}
 use Rattle.lgp_listing.specs.Dump.{cell_in, fault_from}
 use Rattle.lgp_listing.specs.Laws.{IsLineOf, AreSound, FirstFaultsAreFirst}
@@ -14,15 +13,15 @@ sound_from number least [] e = tt
 sound_from number least (line ∷ rest) e = ⊎_elim
     (λ none. absurd (none-some (Form number) (sym e ∙ at_form line rest number least none)))
     (⊎_elim
-    (λ low. absurd (none-some (Order number) (sym e ∙ at_order line rest number least low.cell low.read low.below)))
+    (λ low. absurd (none-some (Order number) (sym e ∙ at_order _ rest number least low.cell low.read low.below)))
     (λ high. (
       high.cell.0,
       high.cell.1,
-      cell_line-cell_in line high.cell high.read,
+      cell_line-cell_in _ _ high.read,
       high.above,
       sound_from (number + 1) (high.cell.0 + 1) rest (sym (onward line rest number least high.cell high.read high.above) ∙ e),
     )))
-    (cases_line line least)
+    (cases_line _ _)
 
 -- ---- a fault of form
 
@@ -89,7 +88,7 @@ order_from number least (line ∷ rest) told e = ⊎_elim
     (λ none. (let same : Some (Order told) ≡ Some (Form number) = sym e ∙ at_form line rest number least none in cc (same)))
     (⊎_elim
     (λ low.
-    let same : Some (Order told) ≡ Some (Order number) = sym e ∙ at_order line rest number least low.cell low.read low.below in
+    let same : Some (Order told) ≡ Some (Order number) = sym e ∙ at_order _ rest number least low.cell low.read low.below in
     inl (record { line = line; behind = rest; lines_are = refl; told_is = cc (same); low = low }))
     (λ high. ⊎_elim
     (λ once. inr (record {
@@ -99,7 +98,7 @@ order_from number least (line ∷ rest) told e = ⊎_elim
       behind = once.behind;
       lines_are = ap (λ t. line ∷ t) once.lines_are;
       told_is = omega (arith, once.told_is);
-      sound = (high.cell.0, high.cell.1, cell_line-cell_in line high.cell high.read, high.above, tt);
+      sound = (high.cell.0, high.cell.1, cell_line-cell_in _ _ high.read, high.above, tt);
       cell = high.cell;
       last_is = high.read;
       low = once.low;
@@ -111,35 +110,35 @@ order_from number least (line ∷ rest) told e = ⊎_elim
       behind = later.behind;
       lines_are = ap (λ t. line ∷ t) later.lines_are;
       told_is = omega (arith, later.told_is);
-      sound = (high.cell.0, high.cell.1, cell_line-cell_in line high.cell high.read, high.above, later.sound);
+      sound = (high.cell.0, high.cell.1, cell_line-cell_in _ _ high.read, high.above, later.sound);
       cell = later.cell;
       last_is = later.last_is;
       low = later.low;
     }))
     (order_from (number + 1) (high.cell.0 + 1) rest told (sym (onward line rest number least high.cell high.read high.above) ∙ e))))
-    (cases_line line least)
+    (cases_line _ _)
 
 -- a line that is not read is no line of a word
 no_line : (line : List ℕ) → cell_in line ≡ None → (address word : ℕ) → IsLineOf address word line → ⊥
 no_line line none address word is =
-    none-some (address, word) (sym none ∙ ap cell_in is.line_is ∙ cell_in-cell_line address word is.address_is is.word_is is.some)
+    grind (arith, cell_in-cell_line)
 
 pub faults_law : FirstFaultsAreFirst
 faults_law = record {
-  form = λ text number e. (let at = form_from 1 0 (lines_of text) number e in record {
+  form = λ text number e. (let at = form_from 1 0 _ _ e in record {
     before = at.before;
     line = at.line;
     behind = at.behind;
     lines_are = at.lines_are;
     number_is = omega (arith, at.told_is);
     sound = at.sound;
-    misformed = no_line at.line at.misformed;
+    misformed = no_line _ at.misformed;
   });
   order = λ text number e. ⊎_elim
       (λ once. absurd (omega (arith, once.low.below)))
       (λ at.
-      let last = cell_line-cell_in at.last at.cell at.last_is in
-      let line = cell_line-cell_in at.line at.low.cell at.low.read in
+      let last = cell_line-cell_in _ _ at.last_is in
+      let line = cell_line-cell_in _ _ at.low.read in
       record {
         before = at.before;
         last = at.last;
@@ -156,6 +155,6 @@ faults_law = record {
         line_is = line;
         not_above = omega (arith, at.low.below);
       })
-      (order_from 1 0 (lines_of text) number e);
-  none = λ text e. sound_from 1 0 (lines_of text) e;
+      (order_from 1 0 _ _ e);
+  none = λ text e. sound_from 1 0 _ e;
 }

@@ -1,12 +1,11 @@
 -- A listing whose lines are added one by one.
-use Rattle.std.proofs.Common.{◌≡◌, ◌++◌, ℕ, true, false, List, [], ◌∷◌, map, Option, Some, None, is_some, option_to_list, refl, sym, ap, ◌∙◌, arith, ◌+◌, length, MatchOption}
+use Rattle.std.proofs.Common.{◌≡◌, ◌++◌, ℕ, true, false, List, [], ◌∷◌, map, Option, Some, None, is_some, option_to_list, refl, sym, ap, ◌∙◌, arith, length, MatchOption}
 use Rattle.std.specs.Borrow.{Bor}
 use Rattle.std.specs.Option.{option_copied}
 use Rattle.std.proofs.lemmas.List.{append_assoc, append-nil}
 use Rattle.lgp_source.specs.Source.{SourceLine, lines_of}
 use Rattle.lgp_assembler.specs.Fields.{LineFields, fields_of}
 use Rattle.lgp_assembler.specs.Places.{has_word, names_of}
-use Rattle.lgp_assembler.specs.Faults.{faults_in, missing_end}
 use Rattle.lgp_assembler.specs.Image.{line_cell, cells_in, all_lines, faults_of, image_of}
 use Rattle.lgp_assembler.proofs.DraftSteps.{append_none}
 use Rattle.lgp_assembler.proofs.LineCells.{cell_there, cell_missing, cells_behind, cells_in_order, AreFaultless, each_faultless}
@@ -22,13 +21,7 @@ pub listed_none : (source : List ℕ) (cells : List (ℕ × ℕ)) → faults_of 
     → IsListedSo (names_of (all_lines source)) [] (lines_of source) cells [] (listing_of source)
 unfolding all_lines listing_of cells_in
 listed_none source cells none is =
-    let names = names_of (all_lines source) in
-    let lines = map fields_of (lines_of source) in
-    record {
-      faultless = each_faultless names [] lines (append_none (faults_in names (all_lines source)) (missing_end (all_lines source)) none).0;
-      cells_are = is ∙ cells_in_order names [] lines;
-      text_is = refl;
-    }
+    grind (arith, each_faultless, append_none, cells_in_order)
 
 module _ (names : List (List ℕ × ℕ)) (earlier : List LineFields) (line : SourceLine) (lines : List SourceLine) (cells : List (ℕ × ℕ)) (text whole : List ℕ)
     (so_far : IsListedSo names earlier (line ∷ lines) cells text whole) where
@@ -72,8 +65,6 @@ listed_all names earlier lines cells text whole so_far none =
 pub taken_first : {X : Type 0} (cells : List X) (found : Option (Bor X)) (Same : Type 0) (after : List X) (answer : Option X) (cell : X) (rest : List X)
     → MatchOption found ((length cells ≡ 0) × Same) (λ b. cells ≡ b.now ∷ after) → answer ≡ option_copied found → cells ≡ cell ∷ rest → (answer ≡ Some cell) × (after ≡ rest)
 taken_first cells None Same after answer cell rest none answered is =
-    let some : length cells ≡ length rest + 1 = ap length is ∙ omega arith in
-    absurd (omega (arith, none.0))
+    grind arith
 taken_first cells (Some b) Same after answer cell rest step answered is =
-    let both : b.now ∷ after ≡ cell ∷ rest = sym step ∙ is in
-    (cc (both, answered), cc (both))
+    grind arith

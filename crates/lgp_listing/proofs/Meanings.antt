@@ -70,12 +70,12 @@ module _ (names : List (List ℕ × ℕ)) (place address : ℕ) (is_address : Is
   base_is =
       let star = codes "*" in
       let first = 48 + address / 64 / 10 in
-      let no_star : bytes_eq text star ≡ false = false_from_ne_true (bytes_eq text star) (λ e. absurd (omega (arith, ap length ((bytes_eq-Decides text star).0 e)))) in
-      let no_letter : nat_le 97 first ≡ false = false_from_ne_true (nat_le 97 first) (λ e. absurd (omega (arith, leb-true 97 first e))) in
+      let no_star : bytes_eq text star ≡ false = false_from_ne_true _ (λ e. absurd (omega (arith, ap length ((bytes_eq-Decides text star).0 e)))) in
+      let no_letter : nat_le 97 first ≡ false = false_from_ne_true _ (λ e. absurd (omega (arith, leb-true 97 first e))) in
       let no_name : is_name text ≡ false = ap (λ b. b && nat_le first 122 && list_all is_name_byte text && nat_le (length text) 8) no_letter in
       cond-false (bytes_eq text star) (Ok place) (cond (is_name text) (ok_or (lookup (bytes_eq text) names) Unknown) (ok_or (address_text text) Misformed)) no_star
       ∙ cond-false (is_name text) (ok_or (lookup (bytes_eq text) names) Unknown) (ok_or (address_text text) Misformed) no_name
-      ∙ ap (λ o. ok_or o Misformed) (address_text-address_digits address is_address)
+      ∙ ap (λ o. ok_or o Misformed) (address_text-address_digits _ is_address)
 
   pub address_means : address_operand names place text ≡ Ok address
   unfolding address_operand offset_of
@@ -103,7 +103,7 @@ module _ (names : List (List ℕ × ℕ)) (place address : ℕ) (is_address : Is
 
 pub word_means : (names : List (List ℕ × ℕ)) (place word : ℕ) → IsWord word → meaning_of names place Word (Some (digits_of word)) None ≡ Ok (Cell word)
 unfolding meaning_of
-word_means names place word is_word = ap cell_of_digits (word_of_digits-digits_of word is_word)
+word_means names place word is_word = ap cell_of_digits (word_of_digits-digits_of _ is_word)
 
 pub end_means : (names : List (List ℕ × ℕ)) (place : ℕ) → meaning_of names place End None None ≡ Ok Nothing
 unfolding meaning_of

@@ -3,13 +3,12 @@ use Rattle.std.proofs.Common.{◌≡◌, ◌≢◌, ◌<◌, ◌≤◌, ◌+◌,
 use Rattle.std.specs.Option.{option_map_or}
 use Rattle.std.proofs.lemmas.Bool.{and_parts, eqb-true, leb-true, eq-eqb, true≢false}
 use Rattle.std.proofs.lemmas.Option.{cond_some}
-use Rattle.std.proofs.lemmas.List.Elements.{All-get_or, All-from_recursion}
 use Rattle.lgp_word.specs.declared.order.Op.{Op}
 use Rattle.lgp_word.specs.declared.order.Op.TheVariants.{Z, B, Y, R, I, D, N, M, P, E, U, T, H, C, A, S}
 use Rattle.lgp_word.specs.Address.{IsAddress}
 use Rattle.lgp_word.specs.Word.{IsWord}
 use Rattle.lgp_word.specs.Order.{OrderParts, op_letter, order_word, parts_of, takes_minus, decoded}
-use Rattle.lgp_word.specs.Digits.{digits, digit_byte, digits_of, four_digits, address_digits}
+use Rattle.lgp_word.specs.Digits.{digit_byte, digits_of, four_digits, address_digits}
 use Rattle.lgp_source.specs.Source.{text_of, line_of, numbered_lines, lines_of}
 use Rattle.lgp_source.proofs.PlainLines.{IsPlain, ArePlain, AreVisible, plain_visible, plain_append, piece_first, text_whole, statement_line}
 use Rattle.lgp_assembler.specs.declared.operations.Operation.{Operation}
@@ -38,10 +37,10 @@ decimal_visible d small = ((omega arith, omega arith, λ e. absurd (omega arith)
 
 address_visible : (address : ℕ) → IsAddress address → AreVisible (address_digits address)
 address_visible address is = (
-  decimal_visible (address / 64 / 10) (omega arith),
+  decimal_visible _ (omega arith),
   (
-    decimal_visible (address / 64 % 10) (omega arith),
-    (decimal_visible (address % 64 / 10) (omega arith), (decimal_visible (address % 64 % 10) (omega arith), tt)),
+    decimal_visible _ (omega arith),
+    (decimal_visible _ (omega arith), (decimal_visible _ (omega arith), tt)),
   ),
 )
 
@@ -55,8 +54,7 @@ visible b e =
 
 digit_visible : (value : ℕ) → value < 16 → IsVisible (digit_byte value)
 unfolding digit_byte
-digit_visible value small = All-get_or IsVisible digits value 0 small (All-from_recursion IsVisible digits
-    (visible _ refl, (visible _ refl, (visible _ refl, (visible _ refl, (visible _ refl, (visible _ refl, (visible _ refl, (visible _ refl, (visible _ refl, (visible _ refl, (visible _ refl, (visible _ refl, (visible _ refl, (visible _ refl, (visible _ refl, (visible _ refl, tt)))))))))))))))))
+digit_visible value small = grind arith
 
 letter_visible : (op : Op) → IsVisible (op_letter op)
 unfolding op_letter
@@ -81,14 +79,14 @@ digits_visible : (word : ℕ) → AreVisible (digits_of word)
 unfolding digits_of four_digits
 digits_visible word =
     let digit = λ (n : ℕ). digit_visible (n % 16) (omega arith) in (
-      digit (word / 65536 / 4096),
+      digit _,
       (
-        digit (word / 65536 / 256),
+        digit _,
         (
-          digit (word / 65536 / 16),
+          digit _,
           (
-            digit (word / 65536),
-            (digit (word % 65536 / 4096), (digit (word % 65536 / 256), (digit (word % 65536 / 16), (digit (word % 65536), tt)))),
+            digit _,
+            (digit _, (digit _, (digit _, (digit _, tt)))),
           ),
         ),
       ),
@@ -131,7 +129,7 @@ module _ (n o : ℕ) (name operand : List ℕ) (operation : Operation) (named : 
   first_line : fields_of (line_of 1 (32 ∷ text)) ≡ line_fields operation (o ∷ operand)
   unfolding fields_of
   first_line =
-      let statement = statement_line 1 n o name operand is_name is_operand in
+      let statement = statement_line 1 n o _ _ is_name is_operand in
       ap fields_of statement.line_is
       ∙ ap (λ t. fields_with (operation_of t) statement.second.text) statement.name_is
       ∙ ap (fields_with (operation_of (n ∷ name))) statement.operand_is
@@ -222,20 +220,19 @@ digits_assemble word is_word =
     let behind = digit_byte (high / 256 % 16) ∷ digit_byte (high / 16 % 16) ∷ digit_byte (high % 16) ∷ four_digits low in
     let name = codes "ord" in
     let named : AreVisible (119 ∷ name) = (visible _ refl, (visible _ refl, (visible _ refl, (visible _ refl, tt)))) in
-    assembles (one_line (digits_text word)) Word (digits_of word) word
-    (both_lines 119 first name behind Word (word_named) named (digits_visible word))
-    (word_gives (digits_of word) word (word_means [] 0 word is_word))
+    assembles _ _ _ _
+    (both_lines 119 first name behind Word (word_named) named (digits_visible _))
+    (word_gives (digits_of word) word (word_means [] 0 _ is_word))
 
 minus_assembles : (address : ℕ) → IsAddress address
     → let order : OrderParts = record { minus = true; op = T; address = address } in AssemblesTo (one_line (order_text order)) (order_word order)
 unfolding op_letter
 minus_assembles address is_address =
-    let order : OrderParts = record { minus = true; op = T; address = address } in
     let first = 48 + address / 64 / 10 in
     let behind = (48 + address / 64 % 10) ∷ (48 + address % 64 / 10) ∷ (48 + address % 64 % 10) ∷ [] in
-    assembles (one_line (order_text order)) MinusT (address_digits address) (order_word order)
-    (both_lines 45 first (116 ∷ []) behind MinusT minus_named (visible _ refl, (visible _ refl, tt)) (address_visible address is_address))
-    (minus_gives (address_digits address) (order_word order) (minus_means [] 0 address is_address))
+    assembles _ _ _ _
+    (both_lines 45 first (116 ∷ []) behind MinusT minus_named (visible _ refl, (visible _ refl, tt)) (address_visible _ is_address))
+    (minus_gives _ _ (minus_means [] 0 address is_address))
 
 order_assembles : (minus : Bool) (op : Op) (address : ℕ) → IsAddress address → (takes_minus op || not minus) ≡ true
     → let order : OrderParts = record { minus = minus; op = op; address = address } in AssemblesTo (one_line (order_text order)) (order_word order)
@@ -243,10 +240,10 @@ order_assembles false op address is_address allowed =
     let order : OrderParts = record { minus = false; op = op; address = address } in
     let first = 48 + address / 64 / 10 in
     let behind = (48 + address / 64 % 10) ∷ (48 + address % 64 / 10) ∷ (48 + address % 64 % 10) ∷ [] in
-    assembles (one_line (order_text order)) (Order op) (address_digits address) (order_word order)
-    (both_lines (op_letter op) first [] behind (Order op) (order_named op) (letter_visible op, tt) (address_visible address is_address))
+    assembles _ _ _ _
+    (both_lines (op_letter op) first [] behind (Order op) (order_named op) (letter_visible op, tt) (address_visible _ is_address))
     (order_gives op (address_digits address) (order_word order) (order_means [] 0 address is_address op))
-order_assembles true T address is_address allowed = minus_assembles address is_address
+order_assembles true T address is_address allowed = minus_assembles _ is_address
 order_assembles true Z address is_address allowed = absurd (true≢false (sym allowed))
 order_assembles true B address is_address allowed = absurd (true≢false (sym allowed))
 order_assembles true Y address is_address allowed = absurd (true≢false (sym allowed))
@@ -268,12 +265,12 @@ unfolding disassembly
 each_word word is_word = pick (decoded word) refl
   where
     pick : (order : Option OrderParts) → decoded word ≡ order → AssemblesTo (one_line (disassembly word)) word
-    pick None none = subst (λ t. AssemblesTo (one_line t) word) (sym (ap (λ o. option_map_or order_text o (digits_text word)) none)) (digits_assemble word is_word)
+    pick None none = subst (λ t. AssemblesTo (one_line t) word) (sym (ap (λ o. option_map_or order_text o (digits_text word)) none)) (digits_assemble _ is_word)
     pick (Some order) some =
         let parts = parts_of word in
-        let kept = cond_some (order_word parts == word && (takes_minus parts.op || not parts.minus)) parts order some in
+        let kept = cond_some _ _ _ some in
         let test = and_parts (order_word parts == word) (takes_minus parts.op || not parts.minus) kept.0 in
         let word_is : order_word parts ≡ word = eqb-true (order_word parts) word test.0 in
         let text_is : disassembly word ≡ order_text parts = ap (λ o. option_map_or order_text o (digits_text word)) (some ∙ ap Some (sym kept.1)) in
         subst (λ t. AssemblesTo (one_line t) word) (sym text_is)
-        (subst (AssemblesTo (one_line (order_text parts))) word_is (order_assembles parts.minus parts.op parts.address (omega arith) test.1))
+        (subst (AssemblesTo (one_line (order_text parts))) word_is (order_assembles _ _ _ (omega arith) test.1))

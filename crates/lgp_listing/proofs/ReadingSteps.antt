@@ -30,7 +30,7 @@ joined_from (suc fuel) (b ∷ rest) few =
     ∙ take-append-drop (line_len text) text
 
 pub joined_lines : (text : List ℕ) → joined (lines_of text) ≡ text
-joined_lines text = joined_from (length text) text (omega arith)
+joined_lines text = joined_from _ _ (omega arith)
 
 -- zeros have no lines
 zeros_dump : (from : ℕ) (words : List ℕ) → ((k : ℕ) → get_or words k 0 ≡ 0) → dump_from from words ≡ []
@@ -82,7 +82,7 @@ read_none words text is sound =
       };
       above = λ k _. zeros k;
       sound = sound;
-      text_is = ap (λ t. t ++ joined (lines_of text)) (zeros_dump 0 words zeros) ∙ joined_lines text;
+      text_is = ap (λ t. t ++ joined (lines_of text)) (zeros_dump 0 _ zeros) ∙ joined_lines _;
     }
 
 module _ (number least : ℕ) (words line : List ℕ) (rest : List (List ℕ)) (text : List ℕ) (so_far : IsReadSo number least words (line ∷ rest) text) where
@@ -92,15 +92,15 @@ module _ (number least : ℕ) (words line : List ℕ) (rest : List (List ℕ)) (
 
   line_above : (cell : ℕ × ℕ) → cell_in line ≡ Some cell → least ≤ cell.0
   line_above cell read = ⊎_elim
-      (λ below. absurd (none-some (Order number) (sym so_far.sound ∙ at_order line rest number least cell read below)))
+      (λ below. absurd (none-some (Order number) (sym so_far.sound ∙ at_order _ rest number least cell read below)))
       (λ high. high)
       (cases_lt cell.0 least)
 
   pub read_more : (cell : ℕ × ℕ) → cell_in line ≡ Some cell → IsReadSo (number + 1) (cell.0 + 1) (set words cell.0 cell.1) rest text
   unfolding dump_of
   read_more cell read =
-      let is_line = cell_line-cell_in line cell read in
-      let low = line_above cell read in
+      let is_line = cell_line-cell_in _ _ read in
+      let low = line_above _ read in
       let within : cell.0 < length words = omega (arith, so_far.is_drum.size, is_line.address_is) in
       let lined : word_line cell.0 cell.1 ≡ line = cond-false (eqb cell.1 0) [] (cell_line cell.0 cell.1) (ne_eqb cell.1 0 is_line.some) ∙ sym is_line.line_is in
       let from_zero : 0 + cell.0 ≡ cell.0 = omega arith in
@@ -111,7 +111,7 @@ module _ (number least : ℕ) (words line : List ℕ) (rest : List (List ℕ)) (
         };
         above = λ k high. get_or-set_other words cell.0 k cell.1 0 (λ e. absurd (omega arith)) ∙ so_far.above k (omega arith);
         sound = sym (onward line rest number least cell read low) ∙ so_far.sound;
-        text_is = ap (λ t. t ++ joined rest) (dump_set 0 cell.0 cell.1 words within (λ j high. so_far.above j (omega arith))
+        text_is = ap (λ t. t ++ joined rest) (dump_set 0 _ _ _ within (λ j high. so_far.above j (omega arith))
             ∙ ap (λ a. dump_from 0 words ++ word_line a cell.1) from_zero ∙ ap (λ t. dump_from 0 words ++ t) lined)
             ∙ append_assoc (dump_from 0 words) line (joined rest) ∙ so_far.text_is;
       }

@@ -17,7 +17,7 @@ pub count_more : (words : List ℕ) (number word count counted whole : ℕ) → 
     → counted ≡ count + cond (is_used word) 1 0 → count + count_by is_used (drop number words) ≡ whole → counted + count_by is_used (drop (number + 1) words) ≡ whole
 count_more words number word count counted whole within read added e =
     let first : count_by is_used (drop number words) ≡ (0 + cond (is_used word) 1 0) + count_by is_used (drop (number + 1) words) =
-    rw read (ap (count_by is_used) (drop_more words number 0 within) ∙ count_by-cons (get_or words number 0) (drop (number + 1) words)) in
+    rw read (ap (count_by is_used) (drop_more words number 0 within) ∙ count_by-cons _ (drop (number + 1) words)) in
     omega (arith, first, added, e)
 
 pub count_within : (number word count counted : ℕ) → counted ≡ count + cond (is_used word) 1 0 → count ≤ number → counted ≤ number + 1

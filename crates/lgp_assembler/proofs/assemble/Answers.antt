@@ -1,6 +1,4 @@
 use Rattle.std.proofs.Common.{refl}
-use Rattle.lgp_assembler.specs.Parts.{ImageParts}
-use Rattle.lgp_assembler.specs.Image.{image_of, faults_of}
 use Rattle.lgp_assembler.proofs.Assembled.{faults_told, image_made, ok_image, ok_faultless, err_faults, cells_apart, cells_clear}
 use Rattle.lgp_assembler.proofs.assemble.Goals as goal
 
@@ -13,21 +11,17 @@ returns g c =
     let made = image_made source scan.lines scan.place scan.ended scan.names draft.faults.items draft.parts.cells.items draft.parts.start draft.parts.symbols.items c.in_ok-scan.ensures.stands c.in_ok-draft.ensures in
     let r = c.image_or_faults.result in
     let answer = c.image_or_faults.ensures in
-    let parts : ImageParts = record { cells = draft.parts.cells.items; start = draft.parts.start; symbols = draft.parts.symbols.items } in
     record {
-      image = ok_image r parts (image_of source) _ answer.image answer.faultless made;
-      faultless = ok_faultless r _ (faults_of source) answer.faultless told;
-      faults = err_faults r _ (faults_of source) answer.faults told;
+      image = ok_image r _ _ _ answer.image answer.faultless made;
+      faultless = ok_faultless r _ _ answer.faultless told;
+      faults = err_faults r _ _ answer.faults told;
       faulty = answer.faulty;
     }
 
 pub image_or_faults-requires-clause-program : goal.image_or_faults-requires-clause-program
 image_or_faults-requires-clause-program g c =
-    let scan = c.in_ok-scan.scan in
-    let draft = c.in_ok-draft.draft in
-    λ none. cells_clear c.args.source.now scan.names draft.faults.items _ _ draft.parts.cells.items draft.parts.start draft.parts.symbols.items c.in_ok-draft.ensures refl none
+    λ none. cells_clear _ _ _ _ _ _ _ _ c.in_ok-draft.ensures refl none
 
 pub image_or_faults-requires-clause-places : goal.image_or_faults-requires-clause-places
 image_or_faults-requires-clause-places g c =
-    let draft = c.in_ok-draft.draft in
-    λ none. cells_apart c.args.source.now c.in_ok-scan.scan.names draft.faults.items _ _ draft.parts.cells.items draft.parts.start draft.parts.symbols.items c.in_ok-draft.ensures refl none
+    λ none. cells_apart _ _ _ _ _ _ _ _ c.in_ok-draft.ensures refl none

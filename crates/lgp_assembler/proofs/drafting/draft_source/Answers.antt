@@ -1,9 +1,8 @@
-use Rattle.std.proofs.Common.{[], ◌∷◌, true, if◌then◌else◌, slice_set, length, map, arith, sym, ap, subst, ◌∙◌}
+use Rattle.std.proofs.Common.{◌∷◌, true, if◌then◌else◌, slice_set, length, map, arith, sym, ap, subst, ◌∙◌}
 use Rattle.lgp_source.specs.Seen.{line_seen}
 use Rattle.lgp_assembler.specs.Fields.{fields_of}
 use Rattle.lgp_assembler.specs.FieldsSeenInside.{fields_seen}
 use Rattle.lgp_assembler.specs.Places.{has_word, next_place, place_reached, names_of}
-use Rattle.lgp_assembler.specs.Parts.{AreProgramCells}
 use Rattle.lgp_assembler.specs.Faults.{faults_in}
 use Rattle.lgp_assembler.specs.Image.{all_lines, passed_lines, cells_in, start_in}
 use Rattle.lgp_assembler.specs.ScanInside.{Stands, ArePlacesTaken, IsDraftOf}
@@ -14,27 +13,7 @@ use Rattle.lgp_assembler.proofs.drafting.draft_source.Goals as goal
 pub loop-line-init : goal.loop-line-init
 unfolding all_lines next_place names_of faults_in cells_in start_in
 loop-line-init g c =
-    let same = c.into_iter-line-iterator.ensures.into_iter_gives in
-    record {
-      can = tt;
-      finite = tt;
-      few = omega (arith, ap length same, c.new-line-items.ensures.len, c.new-scan.ensures.lines_are);
-      room = omega (arith, ap length same, c.new-line-items.ensures.len, c.new-scan.ensures.place_is);
-      earlier = [];
-      stands = c.new-scan.ensures;
-      marks = c.in_ok-draft.ensures.taken;
-      draft = record {
-        faults_are = c.in_ok-draft.ensures.faults;
-        image = λ _. record {
-          cells_are = c.in_ok-draft.ensures.cells;
-          start_is = c.in_ok-draft.ensures.start;
-          symbols_are = c.in_ok-draft.ensures.symbols;
-          within = omega arith;
-          program = subst AreProgramCells (sym c.in_ok-draft.ensures.cells) tt;
-        };
-      };
-      rest = ap (λ lines. passed_lines [] (map fields_of lines)) (same ∙ c.new-line-items.ensures.lines);
-    }
+    grind arith
 
 pub loop-line-preserved : goal.loop-line-preserved
 loop-line-preserved g c =
@@ -55,22 +34,19 @@ loop-line-preserved g c =
       room = omega (arith, ap length step, now.place, word_count_small line);
       earlier = fields_of (line_seen c.in-Some.line) ∷ before.earlier;
       stands = subst (λ f. Stands scan.lines scan.place scan.ended scan.names (f ∷ before.earlier)) c.fields_of-fields.ensures
-          (stands_step _ _ _ _ before.earlier line _ _ _ _ before.stands now.lines
-          (now.names ∙ names_at line c.place_of-place.result c.loop-line.scan.place c.loop-line.scan.ended c.loop-line.scan.names place_is)
-          (now.place ∙ place_at line c.place_of-place.result c.loop-line.scan.place place_is) now.ended);
+          (stands_step _ _ _ _ _ _ _ _ _ _ before.stands now.lines
+          (now.names ∙ names_at line _ c.loop-line.scan.place _ _ place_is)
+          (now.place ∙ place_at line _ _ place_is) now.ended);
       marks = subst (λ f. ArePlacesTaken draft.taken.items (f ∷ before.earlier)) c.fields_of-fields.ensures
-          (taken_step old.taken.items draft.taken.items before.earlier line before.marks
+          (taken_step _ _ _ _ before.marks
           (added.taken ∙ ap (λ h. if has_word line then slice_set old.taken.items h true else old.taken.items) (place_is ∙ ap (place_reached line) before.stands.place_is)));
       draft = subst (λ f. IsDraftOf names draft.faults.items draft.parts.cells.items draft.parts.start draft.parts.symbols.items (f ∷ before.earlier)) c.fields_of-fields.ensures
-          (draft_step names line c.loop-line.scan.lines c.loop-line.scan.place c.loop-line.scan.ended c.loop-line.scan.names old.taken.items before.earlier
-          old.faults.items draft.faults.items old.parts.cells.items draft.parts.cells.items old.parts.start draft.parts.start old.parts.symbols.items draft.parts.symbols.items
-          c.place_of-place.result place_is before.stands before.marks before.draft added.faults added.cells added.start added.symbols added.words);
+          (draft_step _ _ _ _ _ _ _ _
+          _ _ _ _ _ _ _ _
+          _ place_is before.stands before.marks before.draft added.faults added.cells added.start added.symbols added.words);
       rest = ap (λ lines. passed_lines before.earlier (map fields_of lines)) (sym step) ∙ before.rest;
     }
 
 pub returns : goal.returns
 returns g c =
-    let done = c.loop-line.invariant in
-    let draft = c.loop-line.draft in
-    let all = ap (λ lines. passed_lines done.earlier (map fields_of lines)) (sym c.in-None.ensures.steps.0) ∙ done.rest in
-    subst (IsDraftOf c.args.names.now draft.faults.items draft.parts.cells.items draft.parts.start draft.parts.symbols.items) all done.draft
+    grind arith

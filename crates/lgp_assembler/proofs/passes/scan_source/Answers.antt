@@ -1,4 +1,4 @@
-use Rattle.std.proofs.Common.{[], ◌∷◌, length, map, arith, sym, ap, subst, ◌∙◌}
+use Rattle.std.proofs.Common.{◌∷◌, length, map, arith, sym, ap, subst, ◌∙◌}
 use Rattle.lgp_source.specs.Seen.{line_seen}
 use Rattle.lgp_assembler.specs.Fields.{fields_of}
 use Rattle.lgp_assembler.specs.FieldsSeenInside.{fields_seen}
@@ -11,16 +11,7 @@ use Rattle.lgp_assembler.proofs.passes.scan_source.Goals as goal
 pub loop-line-init : goal.loop-line-init
 unfolding all_lines next_place
 loop-line-init g c =
-    let same = c.into_iter-line-iterator.ensures.into_iter_gives in
-    record {
-      can = tt;
-      finite = tt;
-      few = omega (arith, ap length same, c.new-line-items.ensures.len, c.new-scan.ensures.lines_are);
-      room = omega (arith, ap length same, c.new-line-items.ensures.len, c.new-scan.ensures.place_is);
-      earlier = [];
-      stands = c.new-scan.ensures;
-      rest = ap (λ lines. passed_lines [] (map fields_of lines)) (same ∙ c.new-line-items.ensures.lines);
-    }
+    grind arith
 
 pub loop-line-preserved : goal.loop-line-preserved
 loop-line-preserved g c =
@@ -36,15 +27,12 @@ loop-line-preserved g c =
       room = omega (arith, ap length step, now.place, word_count_small line);
       earlier = fields_of (line_seen c.in-Some.line) ∷ before.earlier;
       stands = subst (λ f. Stands scan.lines scan.place scan.ended scan.names (f ∷ before.earlier)) c.fields_of-fields.ensures
-          (stands_step _ _ _ _ before.earlier line _ _ _ _ before.stands now.lines
-          (now.names ∙ names_at line c.place_of-place.result c.loop-line.scan.place c.loop-line.scan.ended c.loop-line.scan.names c.place_of-place.ensures.value)
-          (now.place ∙ place_at line c.place_of-place.result c.loop-line.scan.place c.place_of-place.ensures.value) now.ended);
+          (stands_step _ _ _ _ _ _ _ _ _ _ before.stands now.lines
+          (now.names ∙ names_at line _ c.loop-line.scan.place _ _ c.place_of-place.ensures.value)
+          (now.place ∙ place_at line _ _ c.place_of-place.ensures.value) now.ended);
       rest = ap (λ lines. passed_lines before.earlier (map fields_of lines)) (sym step) ∙ before.rest;
     }
 
 pub returns-clause-stands : goal.returns-clause-stands
 returns-clause-stands g c =
-    let done = c.loop-line.invariant in
-    let scan = c.loop-line.scan in
-    let all = ap (λ lines. passed_lines done.earlier (map fields_of lines)) (sym c.in-None.ensures.steps.0) ∙ done.rest in
-    subst (Stands scan.lines scan.place scan.ended scan.names) all done.stands
+    grind arith

@@ -27,14 +27,14 @@ loop-number-preserved g c =
     let read : c.word_at.result ≡ get_or words number 0 = c.word_at.ensures.word ∙ ap (λ a. get_or words a 0) here in
     let line : word_line c.unwrap-address.result c.word_at.result ≡ word_line number (get_or words number 0) =
     ap (λ a. word_line a c.word_at.result) here ∙ ap (word_line number) read in
-    let one : c.from.result ≡ cond (is_used c.word_at.result) 1 0 = c.from.ensures ∙ bool_byte-count c.in_ok-push_word.field-0 ∙ ap (λ b. cond b 1 0) c.in_ok-push_word.ensures.used in
+    let one : c.from.result ≡ cond (is_used c.word_at.result) 1 0 = c.from.ensures ∙ bool_byte-count _ ∙ ap (λ b. cond b 1 0) c.in_ok-push_word.ensures.used in
     let added : c.loop-number.count + c.from.result ≡ c.loop-number.count + cond (is_used c.word_at.result) 1 0 = ap (λ n. c.loop-number.count + n) one in
     record {
       size = λ _. c.word_at.ensures.drum;
       text = ap (λ t. t ++ dump_from (number + 1) (drop (number + 1) words)) (c.in_ok-push_word.ensures.text ∙ ap (λ l. c.loop-number.text.items ++ l) line)
-          ∙ dump_more c.loop-number.text.items words _ number within c.loop-number.invariant.text;
-      count = count_more words number c.word_at.result c.loop-number.count _ _ within read added c.loop-number.invariant.count;
-      small = count_within number c.word_at.result c.loop-number.count _ added c.loop-number.invariant.small;
+          ∙ dump_more _ _ _ _ within c.loop-number.invariant.text;
+      count = count_more _ _ _ _ _ _ within read added c.loop-number.invariant.count;
+      small = count_within _ _ _ _ added c.loop-number.invariant.small;
       words = All-more IsWord words number 0 within c.loop-number.invariant.words (subst IsWord read c.in_ok-push_word.ensures.word);
     }
 

@@ -24,7 +24,7 @@ loop-line-init g c =
       earlier = [];
       so_far = subst (λ ls. IsListedSo names [] ls cells c.new-text.result.items (listing_of source)) (sym lines)
           (subst (λ t. IsListedSo names [] (lines_of source) cells t (listing_of source)) (sym c.new-text.ensures.items)
-          (listed_none source cells c.requires.faultless is));
+          (listed_none _ _ c.requires.faultless is));
     }
 
 pub loop-line-preserved : goal.loop-line-preserved
@@ -41,23 +41,21 @@ loop-line-preserved g c =
       | then-has_word w ↦ (
           let found = first_cell names before.earlier line c.next.new.self cells c.loop-line.text.items (listing_of source) so_far (sym c.has_word.ensures ∙ w.if-has_word.true) in
           let next = w.next-cell.ensures.steps in
-          let taken = taken_first cells next.0 _ w.next-cell.new.self.iter.rest.now w.next-cell.result found.0 behind next.1 next.2 found.2 in
+          let taken = taken_first _ _ _ _ _ _ _ next.1 next.2 found.2 in
           (w.cell-is ∙ taken.0 ∙ sym found.1, ap (λ i. i.iter.rest.now) w.cells-is ∙ taken.1))
       | else-has_word w ↦ (
           let none = no_cell names before.earlier line c.next.new.self cells c.loop-line.text.items (listing_of source) so_far (sym c.has_word.ensures ∙ w.if-has_word.false) in
-          (w.cell-is ∙ sym none, ap (λ i. i.iter.rest.now) w.cells-is ∙ no_more names before.earlier line c.next.new.self cells c.loop-line.text.items (listing_of source) so_far none))
+          (w.cell-is ∙ sym none, ap (λ i. i.iter.rest.now) w.cells-is ∙ no_more _ before.earlier line c.next.new.self cells c.loop-line.text.items (listing_of source) so_far none))
     ] in
     record {
       can = tt;
       finite = tt;
       earlier = fields ∷ before.earlier;
       so_far = subst (λ t. IsListedSo names (fields ∷ before.earlier) c.next.new.self c.if-has_word.cells.iter.rest.now t (listing_of source)) (sym c.in_ok-add_line.ensures)
-          (listed_more names before.earlier line c.next.new.self cells c.loop-line.text.items (listing_of source) so_far c.if-has_word.cell c.if-has_word.cells.iter.rest.now step.0 step.1);
+          (listed_more _ _ line c.next.new.self cells c.loop-line.text.items (listing_of source) so_far c.if-has_word.cell c.if-has_word.cells.iter.rest.now step.0 step.1);
     }
 
 pub returns : goal.returns
 returns g c =
-    let source = c.args.source.now in
-    let names = names_of (all_lines source) in
     let done = c.loop-line.invariant in
-    listed_all names done.earlier c.loop-line.line-iterator c.loop-line.cells.iter.rest.now c.loop-line.text.items (listing_of source) done.so_far c.in-None.ensures.steps.0
+    listed_all _ _ _ _ _ _ done.so_far c.in-None.ensures.steps.0

@@ -5,15 +5,11 @@ use Rattle.lgp_listing.proofs.reading.first_fault.Goals as goal
 
 pub returns-in_default : goal.returns-in_default
 returns-in_default c =
-    let number = c.loop-line.number + 1 in
-    sym (at_form c.in-Some.line.now c.next.new.self number c.loop-line.least (sym c.cell_in.ensures ∙ c.in_default.is))
-    ∙ ap (fault_from number c.loop-line.least) (sym c.in-Some.ensures.steps) ∙ c.loop-line.invariant.fault
+    grind (arith, at_form)
 
 pub returns-then-address-least : goal.returns-then-address-least
 returns-then-address-least c =
-    let number = c.loop-line.number + 1 in
-    sym (at_order c.in-Some.line.now c.next.new.self number c.loop-line.least c.in-Some-cell_in.cell (sym c.cell_in.ensures ∙ c.in-Some-cell_in.is) (omega arith))
-    ∙ ap (fault_from number c.loop-line.least) (sym c.in-Some.ensures.steps) ∙ c.loop-line.invariant.fault
+    grind (arith, at_order)
 
 pub loop-line-preserved : goal.loop-line-preserved
 loop-line-preserved c =
@@ -30,4 +26,4 @@ loop-line-preserved c =
 
 pub returns : goal.returns
 unfolding fault_from
-returns c = ap (fault_from (c.loop-line.number + 1) c.loop-line.least) (sym c.in-None.ensures.steps.0) ∙ c.loop-line.invariant.fault
+returns c = grind arith

@@ -12,7 +12,7 @@ loop-line-init g c =
       least = 0;
       so_far = subst (λ lines. IsReadSo 1 0 c.args.drum.now lines text)
           (sym (c.into_iter-line-iterator.ensures.into_iter_gives ∙ c.lines_with_terminator-line-items.ensures.value))
-          (read_none c.args.drum.now text c.requires.blank c.requires.faultless);
+          (read_none _ _ c.requires.blank c.requires.faultless);
     }
 
 pub loop-line-preserved-in-Some-cell_in : goal.loop-line-preserved-in-Some-cell_in
@@ -27,7 +27,7 @@ loop-line-preserved-in-Some-cell_in g c =
       number = before.number + 1;
       least = cell.0 + 1;
       so_far = subst (λ words. IsReadSo (before.number + 1) (cell.0 + 1) words c.next.new.self text) (sym c.put.ensures.put)
-          (read_more before.number before.least c.loop-line.drum c.in-Some.line.now c.next.new.self text so_far cell (sym c.cell_in.ensures ∙ c.in-Some-cell_in.is));
+          (read_more _ before.least c.loop-line.drum c.in-Some.line.now c.next.new.self text so_far cell (sym c.cell_in.ensures ∙ c.in-Some-cell_in.is));
     }
 
 pub loop-line-preserved : goal.loop-line-preserved

@@ -9,4 +9,4 @@ pub returns-clause-ok : goal.returns-clause-ok
 returns-clause-ok g c =
     let entries = c.self.inside.entries.entries in
     let none : lookup (bytes_eq c.args.name.now) (names_seen entries) ≡ None = ap (lookup (bytes_eq c.args.name.now)) {x = names_seen entries} c.self.view_is ∙ c.requires in
-    ap names_seen c.in_ok-insert.ensures.entries ∙ insert_seen c.args.name c.args.value entries none ∙ ap (λ names. names ++ (c.args.name.now, c.args.value) ∷ []) {x = names_seen entries} c.self.view_is
+    ap names_seen c.in_ok-insert.ensures.entries ∙ insert_seen _ _ _ none ∙ ap (λ names. names ++ (c.args.name.now, c.args.value) ∷ []) {x = names_seen entries} c.self.view_is

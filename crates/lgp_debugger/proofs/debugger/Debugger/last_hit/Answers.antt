@@ -6,7 +6,7 @@ use Rattle.lgp_debugger.proofs.debugger.Debugger.last_hit.Goals as goal
 pub back-requires-clause-some : goal.back-requires-clause-some
 back-requires-clause-some g c =
     let kept = g.H.History.steps c.self.inside.history c.self.inside.machine.state in
-    (last_hit-within c.as_slice.result.now kept c.in-Some.hit.0 c.in-Some.hit.1 (sym c.in-Ok.ensures ∙ c.in-Some.is)).0
+    (last_hit-within c.as_slice.result.now kept _ _ (sym c.in-Ok.ensures ∙ c.in-Some.is)).0
 
 pub unreachable-requires : goal.unreachable-requires
 unreachable-requires g c =
