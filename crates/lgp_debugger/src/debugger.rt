@@ -120,7 +120,8 @@ impl<H: History<A>, A: Allocator> Debugger<H, A> {
         if self.goes_freely() {
             return self.perform();
         }
-        self.step_with_care()
+        self.check_order()?;
+        self.perform()
     }
 
     /// Whether the machine goes, and no order that begins here can pass the clock's end, of which none takes 2^32 word times.
@@ -137,22 +138,17 @@ impl<H: History<A>, A: Allocator> Debugger<H, A> {
         matches!(look.status, Status::Going) && look.clock <= CLOCK_END - LONGEST_ORDER
     }
 
-    /// The same as a step, where the machine is at rest, in the midst of an input, or near the clock's end.
+    /// Whether the order that begins here can be performed, and why not.
     #[cold]
     #[inline(never)]
-    fn step_with_care(&mut self) -> Result<Outcome, StepFault>
-        ensures performed { OnOk result (self.new ≡ after_step self.old Perform) }
-        ensures cost { IfOk result (λ outcome. outcome.cost ≡ cost self.old.state) }
-        ensures status { IfOk result (λ outcome.
-            outcome.status ≡ self.new.state.core.panel.status) }
-        ensures printed { IfOk result (λ outcome.
-            outcome.printed ≡ print_of self.old.state.core) }
+    fn check_order(&self) -> Result<(), StepFault>
+        ensures at_work { OnOk result (is_at_rest self.now.state.core.panel.status ≡ false) }
+        ensures within { OnOk result (self.now.state.clock + cost self.now.state ≤ clock_end) }
         ensures at_rest { (result ≡ Err StepFault.AtRest)
-            ↔ IsTrue (is_at_rest self.old.state.core.panel.status) }
+            ↔ IsTrue (is_at_rest self.now.state.core.panel.status) }
         ensures clock_end { (result ≡ Err StepFault.ClockEnd)
-            ↔ ((is_at_rest self.old.state.core.panel.status ≡ false)
-            × (clock_end < self.old.state.clock + cost self.old.state)) }
-        ensures unchanged { OnErr result (self.new ≡ self.old) }
+            ↔ ((is_at_rest self.now.state.core.panel.status ≡ false)
+            × (clock_end < self.now.state.clock + cost self.now.state)) }
     {
         let look = self.look();
         if look.status.is_at_rest() {
@@ -164,7 +160,7 @@ impl<H: History<A>, A: Allocator> Debugger<H, A> {
         if passes_end(look.clock, ahead.cost) {
             return Err(StepFault::ClockEnd);
         }
-        self.perform()
+        Ok(())
     }
 
     /// The activity that begins here, which can be performed.
@@ -208,8 +204,10 @@ impl<H: History<A>, A: Allocator> Debugger<H, A> {
     pub fn go_on(&mut self) -> Result<Option<u8>, StepFault>
         ensures { IsOrderOfRun self.old.rules self.old self.new result }
     {
-        let by_rules = self.has_rules();
-        self.go_on_so(by_rules)
+        if self.has_rules() {
+            return self.go_on_by_rules();
+        }
+        self.go_on_freely()
     }
 
     /// Whether a run has to look at the rules: where there are none, it is one without them.
@@ -218,17 +216,6 @@ impl<H: History<A>, A: Allocator> Debugger<H, A> {
         ensures { rules_in_force result self.now.rules ≡ self.now.rules }
     {
         !self.rules.is_empty()
-    }
-
-    /// One order of a run by the rules or without them.
-    #[inline(always)]
-    fn go_on_so(&mut self, by_rules: bool) -> Result<Option<u8>, StepFault>
-        ensures { IsOrderOfRun (rules_in_force by_rules self.old.rules) self.old self.new result }
-    {
-        if by_rules {
-            return self.go_on_by_rules();
-        }
-        self.go_on_freely()
     }
 
     /// One order of a run that no rule stops.
@@ -240,6 +227,27 @@ impl<H: History<A>, A: Allocator> Debugger<H, A> {
         Ok(None)
     }
 
+    /// The same in a loop: what is no order that can be performed at once stands apart from it.
+    #[inline(always)]
+    fn run_on_freely(&mut self) -> Result<Option<u8>, StepFault>
+        ensures { IsOrderOfRun [] self.old self.new result }
+    {
+        if !self.goes_freely() {
+            return self.go_on_apart();
+        }
+        self.perform()?;
+        Ok(None)
+    }
+
+    /// One order of a run that no rule stops, out of the way of those that can be performed at once.
+    #[cold]
+    #[inline(never)]
+    fn go_on_apart(&mut self) -> Result<Option<u8>, StepFault>
+        ensures { IsOrderOfRun [] self.old self.new result }
+    {
+        self.go_on_freely()
+    }
+
     /// One order of a run by the rules, out of the way of a run without any.
     #[inline(never)]
     #[tactic(auto, using(crate::proofs::WatchLemmas::watched_stop))]
@@ -249,6 +257,17 @@ impl<H: History<A>, A: Allocator> Debugger<H, A> {
         let watches = self.watches();
         self.step()?;
         Ok(first_stop_now(&self.machine, watches.as_slice()))
+    }
+
+    /// One order in the loop of a run, by the rules or without them.
+    #[inline(always)]
+    fn run_on(&mut self, by_rules: bool) -> Result<Option<u8>, StepFault>
+        ensures { IsOrderOfRun (rules_in_force by_rules self.old.rules) self.old self.new result }
+    {
+        if by_rules {
+            return self.go_on_by_rules();
+        }
+        self.run_on_freely()
     }
 
     /// Performs orders until the machine is at rest, a rule stops it or as many orders as the limit allows are done. Where an order
@@ -290,7 +309,7 @@ impl<H: History<A>, A: Allocator> Debugger<H, A> {
         ensures { IsRun (rules_in_force by_rules self.old.rules) limit self.old self.new result }
     {
         for orders in 0..limit {
-            match self.go_on_so(by_rules) {
+            match self.run_on(by_rules) {
                 Ok(None) => {}
                 Ok(Some(rule)) => {
                     return Ok(Ran {
