@@ -1,9 +1,8 @@
 -- A text stands for no more codes than it has bytes.
-use Rattle.std.proofs.Common.{ℕ, suc, ◌+◌, ◌≤◌, ◌==◌, ◌&&◌, Bool, true, false, cond, Option, Some, None, Result, Ok, Err, IfOk, IfSome, List, [], ◌∷◌, length, length-append, arith}
+use Rattle.std.proofs.Common.{ℕ, suc, ◌+◌, ◌≤◌, Bool, true, false, cond, Option, Some, None, Result, Ok, Err, IfOk, IfSome, List, [], ◌∷◌, length, length-append, arith}
 use Rattle.std.specs.Option.{option_map}
-use Rattle.std.specs.Str.{byte}
 use Rattle.lgp_flexo.specs.Code.{code_at}
-use Rattle.lgp_flexo.specs.TapeText.{code_of_group, codes_of_sign, codes_of_text, is_line_end, joined, single, text_from}
+use Rattle.lgp_flexo.specs.TapeText.{code_of_group, codes_of_sign, codes_of_text, joined, single, text_from}
 
 IsShort : Result (List ℕ) ℕ → ℕ → Type 0
 IsShort r n = IfOk r (λ codes. length codes ≤ n)
@@ -17,7 +16,7 @@ One-single None = tt
 One-single (Some code) = omega arith
 
 One-codes_of_sign : (sign : ℕ) → One (codes_of_sign sign)
-One-codes_of_sign sign = by_end (is_line_end sign) where
+One-codes_of_sign sign = by_end _ where
   by_end : (b : Bool) → One (cond b (Some []) (option_map single (code_at sign)))
   by_end true = omega arith
   by_end false = One-single (code_at sign)
@@ -38,20 +37,20 @@ either-short : (t : Bool) (place n : ℕ) (group sign : Option (List ℕ)) (behi
     → One group → One sign → IsShort behind_group n → IsShort behind_sign (suc (suc (suc n)))
     → IsShort (cond t (joined place group behind_group) (joined place sign behind_sign)) (suc (suc (suc (suc n))))
 either-short true place n group sign behind_group behind_sign one_group one_sign short_group short_sign =
-    longer (joined place group behind_group) (suc n) (suc (suc (suc (suc n)))) (omega arith) (joined-short place group behind_group n one_group short_group)
+    longer (joined place group behind_group) (suc n) (suc (suc (suc (suc n)))) (omega arith) (joined-short _ _ _ n one_group short_group)
 either-short false place n group sign behind_group behind_sign one_group one_sign short_group short_sign =
-    joined-short place sign behind_sign (suc (suc (suc n))) one_sign short_sign
+    joined-short _ _ _ _ one_sign short_sign
 
 text_from-short : (place : ℕ) (text : List ℕ) → IsShort (text_from place text) (length text)
 unfolding IsShort text_from
 text_from-short place [] = omega arith
-text_from-short place (a ∷ []) = joined-short place (codes_of_sign a) (text_from (place + 1) []) 0 (One-codes_of_sign a) (text_from-short (place + 1) [])
-text_from-short place (a ∷ b ∷ []) = joined-short place (codes_of_sign a) (text_from (place + 1) (b ∷ [])) 1 (One-codes_of_sign a) (text_from-short (place + 1) (b ∷ []))
-text_from-short place (a ∷ b ∷ c ∷ []) = joined-short place (codes_of_sign a) (text_from (place + 1) (b ∷ c ∷ [])) 2 (One-codes_of_sign a) (text_from-short (place + 1) (b ∷ c ∷ []))
+text_from-short place (a ∷ []) = joined-short _ _ _ 0 (One-codes_of_sign a) (text_from-short (place + 1) [])
+text_from-short place (a ∷ b ∷ []) = joined-short _ _ _ 1 (One-codes_of_sign a) (text_from-short (place + 1) (b ∷ []))
+text_from-short place (a ∷ b ∷ c ∷ []) = joined-short _ _ _ 2 (One-codes_of_sign a) (text_from-short (place + 1) (b ∷ c ∷ []))
 text_from-short place (a ∷ b ∷ c ∷ d ∷ rest) =
-    either-short ((a == byte "[") && (d == byte "]")) place (length rest) (option_map single (code_of_group b c)) (codes_of_sign a) (text_from (place + 4) rest) (text_from (place + 1) (b ∷ c ∷ d ∷ rest))
+    either-short _ _ _ _ _ _ _
     (One-single (code_of_group b c)) (One-codes_of_sign a) (text_from-short (place + 4) rest) (text_from-short (place + 1) (b ∷ c ∷ d ∷ rest))
 
 pub codes_of_text-short : (text : List ℕ) → IfOk (codes_of_text text) (λ codes. length codes ≤ length text)
 unfolding IsShort
-codes_of_text-short text = text_from-short 0 text
+codes_of_text-short text = text_from-short 0 _

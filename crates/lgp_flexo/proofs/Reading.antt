@@ -1,7 +1,6 @@
 -- Reading a text from a place on.
-use Rattle.std.proofs.Common.{◌≡◌, ℕ, ◌+◌, ◌<◌, ◌≤◌, ◌==◌, ◌&&◌, Bool, true, false, cond, List, [], ◌∷◌, ◌++◌, length, drop, take, ◌-◌, Some, None, Result, Ok, Err, refl, ap, sym, ◌∙◌, append_assoc, arith, length-drop}
+use Rattle.std.proofs.Common.{◌≡◌, ℕ, ◌+◌, ◌<◌, ◌≤◌, Bool, true, false, cond, List, [], ◌∷◌, ◌++◌, length, drop, take, ◌-◌, Some, None, Result, Ok, Err, refl, ap, sym, ◌∙◌, append_assoc, arith, length-drop}
 use Rattle.std.specs.Option.{option_map}
-use Rattle.std.specs.Str.{byte}
 use Rattle.std.proofs.Math.ListN.{drop_of_length-le}
 use Rattle.std.proofs.lemmas.List.{drop-drop, take_rest}
 use Rattle.lgp_flexo.specs.TapeText.{before, code_of_group, codes_of_sign, joined, single, text_from}
@@ -25,7 +24,7 @@ text_from-piece place [] some = absurd (omega arith)
 text_from-piece place (a ∷ []) some = refl
 text_from-piece place (a ∷ b ∷ []) some = refl
 text_from-piece place (a ∷ b ∷ c ∷ []) some = refl
-text_from-piece place (a ∷ b ∷ c ∷ d ∷ rest) some = by_group ((a == byte "[") && (d == byte "]")) where
+text_from-piece place (a ∷ b ∷ c ∷ d ∷ rest) some = by_group _ where
   by_group : (t : Bool)
       → cond t (joined place (option_map single (code_of_group b c)) (text_from (place + 4) rest)) (joined place (codes_of_sign a) (text_from (place + 1) (b ∷ c ∷ d ∷ rest)))
       ≡ joined place (cond t (option_map single (code_of_group b c)) (codes_of_sign a)) (text_from (place + cond t 4 1) (drop (cond t 4 1) (a ∷ b ∷ c ∷ d ∷ rest)))
@@ -34,14 +33,14 @@ text_from-piece place (a ∷ b ∷ c ∷ d ∷ rest) some = by_group ((a == byte
 
 -- behind its end a text stands for nothing
 pub rest_from_end : (text : List ℕ) (place : ℕ) → length text ≤ place → rest_from text place ≡ Ok []
-rest_from_end text place past = ap (text_from place) (drop_of_length-le text past) ∙ text_from-nothing place
+rest_from_end text place past = ap (text_from place) (drop_of_length-le text past) ∙ text_from-nothing _
 
 -- the same from a place on
 pub rest_from-piece : (text : List ℕ) (place : ℕ) → place < length text
     → rest_from text place ≡ joined place (first_codes (drop place text)) (rest_from text (place + piece_length (drop place text)))
 rest_from-piece text place within =
     let some : 0 < length (drop place text) = omega (arith, length-drop place text) in
-    text_from-piece place (drop place text) some
+    text_from-piece _ _ some
     ∙ ap (λ bytes. joined place (first_codes (drop place text)) (text_from (place + piece_length (drop place text)) bytes))
     (drop-drop (piece_length (drop place text)) place text)
 
@@ -54,7 +53,7 @@ rest_from-some text codes place past within piece is =
     let whole : take (length text - place) (drop place text) ≡ drop place text = take_rest text place in
     let found : first_codes (drop place text) ≡ Some codes = ap first_codes (sym whole) ∙ sym piece in
     let long : piece_length (drop place text) ≡ past = ap piece_length (sym whole) ∙ sym is in
-    rest_from-piece text place within
+    rest_from-piece _ _ within
     ∙ ap (λ p. joined place p (rest_from text (place + piece_length (drop place text)))) found
     ∙ ap (λ n. before codes (rest_from text (place + n))) long
 
@@ -63,7 +62,7 @@ pub rest_from-none : (text : List ℕ) (place : ℕ) → place < length text
     → rest_from text place ≡ Err place
 rest_from-none text place within none =
     let found : first_codes (drop place text) ≡ None = ap first_codes (sym (take_rest text place)) ∙ sym none in
-    rest_from-piece text place within
+    rest_from-piece _ _ within
     ∙ ap (λ p. joined place p (rest_from text (place + piece_length (drop place text)))) found
 
 -- codes in front of codes

@@ -20,8 +20,8 @@ both false b h = absurd (false≢true h)
 pub all_below-at : (test : ℕ → Bool) (n k : ℕ) → all_below test n ≡ true → k < n → test k ≡ true
 all_below-at test zero k h within = absurd (omega arith)
 all_below-at test (suc n) k h within =
-    let parts = both (test n) (all_below test n) h in
-    ⊎_elim (λ below. all_below-at test n k parts.1 below)
+    let parts = both (test n) (all_below _ n) h in
+    ⊎_elim (λ below. all_below-at _ n k parts.1 below)
     (λ above. let e : n ≡ k = omega arith in subst (λ (i : ℕ). test i ≡ true) e parts.0)
     (cases_lt k n)
 
@@ -40,7 +40,7 @@ unfolding sign_at code_at
 all_read_back = refl
 
 pub found-code : (code : ℕ) (found : Option ℕ) → is_piece code found ≡ true → found ≡ Some code
-found-code code (Some found) h = ap Some (eqb-true found code h)
+found-code code (Some found) h = ap Some (eqb-true found _ h)
 found-code code None h = absurd (false≢true h)
 
 -- the code of its group, seen group by group
@@ -53,8 +53,8 @@ all_groups_read_back = refl
 
 group-written : (code : ℕ) → code < 64 → code_of_group (decimal_digit (code / 10)) (decimal_digit (code % 10)) ≡ Some code
 group-written code h =
-    found-code code (code_of_group (decimal_digit (code / 10)) (decimal_digit (code % 10)))
-    (all_below-at group_reads_back 64 code all_groups_read_back h)
+    found-code _ _
+    (all_below-at group_reads_back 64 _ all_groups_read_back h)
 
 -- a sign that is not [ is a piece by itself
 text_from-sign : (place sign : ℕ) (following : List ℕ) → eqb sign 91 ≡ false
@@ -79,10 +79,10 @@ ReadsBack-piece code (Some sign) small h = λ following place.
     let line = (eqb sign 10) || (eqb sign 13) in
     let parts = both (not bracket && not line) (is_piece code (code_at sign)) h in
     let tests = both (not bracket) (not line) parts.0 in
-    text_from-sign place sign following (not-true bracket tests.0)
-    ∙ ap (λ p. joined place p (text_from (place + 1) following)) (codes_of_sign-written code sign (not-true line tests.1) parts.1)
+    text_from-sign _ _ _ (not-true bracket tests.0)
+    ∙ ap (λ p. joined place p (text_from (place + 1) following)) (codes_of_sign-written _ _ (not-true line tests.1) parts.1)
 ReadsBack-piece code None small h = λ following place.
-    ap (λ p. joined place (option_map single p) (text_from (place + 4) following)) (group-written code small)
+    ap (λ p. joined place (option_map single p) (text_from (place + 4) following)) (group-written _ small)
 
 -- nothing reads back as nothing
 before-nothing : (place : ℕ) (following : List ℕ) → text_from place following ≡ before [] (text_from place following)
@@ -95,13 +95,13 @@ pub ReadsBack-nothing : (text : List ℕ) → text ≡ [] → ReadsBack text []
 ReadsBack-nothing text empty = subst (λ (t : List ℕ). ReadsBack t []) (sym empty)
     (λ following place.
     let e : place ≡ place + 0 = omega arith in
-    before-nothing place following ∙ ap (λ n. before [] (text_from n following)) e)
+    before-nothing _ _ ∙ ap (λ n. before [] (text_from n following)) e)
 
 -- each code reads back as it is written
 pub ReadsBack-code : (code : ℕ) → code ≤ 63 → ReadsBack (written_code code) (code ∷ [])
 ReadsBack-code code small =
     let below : code < 64 = omega arith in
-    ReadsBack-piece code (sign_at code) below (all_below-at (λ c. reads_back c (sign_at c)) 64 code all_read_back below)
+    ReadsBack-piece code (sign_at code) below (all_below-at (λ c. reads_back c (sign_at c)) 64 _ all_read_back below)
 
 -- two texts that read back, one behind the other
 pub ReadsBack-append : (text more codes behind : List ℕ) → ReadsBack text codes → ReadsBack more behind → ReadsBack (text ++ more) (codes ++ behind)
@@ -110,7 +110,7 @@ ReadsBack-append text more codes behind first second = λ following place.
     ap (text_from place) (append_assoc text more following)
     ∙ first (more ++ following) place
     ∙ ap (before codes) (second following (place + length text))
-    ∙ before-before codes behind (text_from ((place + length text) + length more) following)
+    ∙ before-before _ _ _
     ∙ ap (λ n. before (codes ++ behind) (text_from n following)) e
 
 -- with nothing behind it
@@ -124,7 +124,7 @@ pub ReadsBack-more : (text longer codes : List ℕ) (i code : ℕ) → i < lengt
     → longer ≡ text ++ written_code code → ReadsBack text (take i codes) → ReadsBack longer (take (i + 1) codes)
 ReadsBack-more text longer codes i code within here small written so_far =
     let taken : take (i + 1) codes ≡ take i codes ++ code ∷ [] =
-    take_more codes i code within ∙ ap (λ c. take i codes ++ c ∷ []) (sym here) in
+    take_more _ i _ within ∙ ap (λ c. take i codes ++ c ∷ []) (sym here) in
     subst (λ (t : List ℕ). ReadsBack t (take (i + 1) codes)) (sym written)
     (subst (λ (cs : List ℕ). ReadsBack (text ++ written_code code) cs) (sym taken)
     (ReadsBack-append text (written_code code) (take i codes) (code ∷ []) so_far (ReadsBack-code code small)))

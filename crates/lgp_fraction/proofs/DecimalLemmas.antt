@@ -1,10 +1,10 @@
 -- Powers of ten, and that a fraction's text is read back.
-use Rattle.std.proofs.Common.{◌≡◌, ℕ, ◌+◌, ◌-◌, ◌*◌, ◌/◌, ◌%◌, ◌<◌, ◌≤◌, ◌^◌, Bool, true, false, if◌then◌else◌, ◌==◌, ℤ, pos, negsuc, neg_ℤ, int_le, int_lt, unsigned_abs, ◌*ℤ◌, ⊎_elim, append-nil, lit<, List, [], ◌∷◌, ◌++◌, length, slice_index, Ok, arith, fold, zero-add, refl, sym, ap, ◌∙◌, codes, IsTrue}
+use Rattle.std.proofs.Common.{◌≡◌, ℕ, ◌+◌, ◌*◌, ◌/◌, ◌%◌, ◌<◌, ◌≤◌, ◌^◌, Bool, true, false, if◌then◌else◌, ◌==◌, ℤ, pos, negsuc, neg_ℤ, int_le, int_lt, unsigned_abs, ⊎_elim, append-nil, List, [], ◌∷◌, ◌++◌, length, slice_index, Ok, arith, fold, refl, sym, ap, ◌∙◌, codes, IsTrue}
 use mathlib.Core.Bool.{xor}
 use Rattle.std.specs.Char.{is_ascii_digit}
 use Rattle.lgp_word.specs.Decimal.{decimal_of, is_decimal, with_digit}
 use Rattle.std.specs.Int.{is_negative}
-use Rattle.std.proofs.Math.Nat.{one-le-pow, pow-le-pow_right, div-lt_iff_lt-mul}
+use Rattle.std.proofs.Math.Nat.{one-le-pow, pow-le-pow_right}
 use Rattle.std.proofs.lemmas.Bool.{and_parts, cases_Bool}
 use Rattle.std.proofs.lemmas.Int.{ints, unsigned_abs-mul}
 use Rattle.lgp_fraction.specs.Decimal.{decimal_fraction, decimal_text, five_digits, is_fraction, is_fraction_text, places, places_text, steps_of_text, ten_places, units_of}
@@ -19,7 +19,7 @@ power_of_ten-size places short = pow-le-pow_right (omega arith) short
 
 -- a number below 2 has less than 2^32 steps
 pub nearest_size-units : (units unit : ℕ) → 0 < unit → units < 2 * unit → nearest_size (units * 2 ^ 30) unit < 2 ^ 32
-nearest_size-units units unit nonzero less = (div-lt_iff_lt-mul {k = 2 * unit} {x = 2 * (units * 2 ^ 30) + unit} {y = 2 ^ 32} (omega arith)).1 (omega arith)
+nearest_size-units units unit nonzero less = grind arith
 
 -- ---- what is written is read back
 
@@ -48,25 +48,22 @@ is_minus-text_of false number = refl
 number-five_digits : (before number : ℕ) (rest : List ℕ) → number < 100000 → fold with_digit before (five_digits number ++ rest) ≡ fold with_digit (100000 * before + number) rest
 unfolding five_digits
 number-five_digits before number rest small =
-    let sum : 10 * (10 * (10 * (10 * (10 * before + (48 + number / 10000 % 10 - 48)) + (48 + number / 1000 % 10 - 48)) + (48 + number / 100 % 10 - 48)) + (48 + number / 10 % 10 - 48)) + (48 + number % 10 - 48) ≡ 100000 * before + number = omega arith in
-    ap (λ n. fold with_digit n rest) sum
+    grind arith
 
 number-last_digits : (before number : ℕ) → number < 100000 → fold with_digit before (five_digits number) ≡ 100000 * before + number
 number-last_digits before number small =
-    ap (fold with_digit before) (sym (append-nil (five_digits number))) ∙ number-five_digits before number [] small
+    ap (fold with_digit before) (sym (append-nil (five_digits number))) ∙ number-five_digits _ _ [] small
 
 number-ten_digits : (number : ℕ) → number < 10 ^ 10 → decimal_of (five_digits (number / 100000) ++ five_digits (number % 100000)) ≡ number
 unfolding decimal_of
 number-ten_digits number small =
-    let sum : 100000 * (100000 * 0 + number / 100000) + number % 100000 ≡ number = omega arith in
-    number-five_digits 0 (number / 100000) (five_digits (number % 100000)) (omega arith)
-    ∙ (number-last_digits (100000 * 0 + number / 100000) (number % 100000) (omega arith) ∙ sum)
+    grind (arith, number-five_digits, number-last_digits)
 
 units_of-text_of : (negative : Bool) (number : ℕ) → number < 10 ^ 10 → units_of (text_of negative number) ≡ number
 units_of-text_of true number small =
-    zero-add (decimal_of (five_digits (number / 100000) ++ five_digits (number % 100000))) ∙ number-ten_digits number small
+    grind (arith, number-ten_digits)
 units_of-text_of false number small =
-    zero-add (decimal_of (five_digits (number / 100000) ++ five_digits (number % 100000))) ∙ number-ten_digits number small
+    grind (arith, number-ten_digits)
 
 -- a fraction above -1, rounded to ten digits and back
 comes_back : (size : ℕ) → size < 2 ^ 30 → nearest_size (nearest_size (size * 10 ^ 10) (2 ^ 30) * 2 ^ 30) (10 ^ 10) ≡ size
@@ -86,27 +83,21 @@ value_of negative number places = nearest (with_sign negative (number * 2 ^ 30))
 value-text_of : (negative : Bool) (number : ℕ) → number < 10 ^ 10 → steps_of_text (text_of negative number) ≡ with_sign negative (nearest_size (number * 2 ^ 30) (10 ^ 10))
 unfolding steps_of_text
 value-text_of negative number small =
-    let text : List ℕ = text_of negative number in
-    ap (λ (minus : Bool). value_of minus (units_of text) (length (places text))) (is_minus-text_of negative number)
-    ∙ (ap (λ (digits : ℕ). value_of negative digits (length (places text))) (units_of-text_of negative number small)
-    ∙ (ap (λ (count : ℕ). value_of negative number count) (length-text_of negative number)
-    ∙ nearest-with_sign negative (number * 2 ^ 30) (10 ^ 10) (lit< tt)))
+    grind (arith, is_minus-text_of, units_of-text_of, length-text_of, nearest-with_sign)
 
 -- the ten digits of a fraction above -1
 ten_places-size : (steps : ℤ) → ten_places steps ≡ nearest_size (unsigned_abs steps * 10 ^ 10) (2 ^ 30)
 ten_places-size steps =
-    size-nearest (steps *ℤ pos (10 ^ 10)) (pos (2 ^ 30)) ∙ ap (λ size. nearest_size size (2 ^ 30)) (unsigned_abs-mul steps (pos (10 ^ 10)))
+    grind (arith, size-nearest, unsigned_abs-mul)
 
 value-places_text : (steps : ℤ) → unsigned_abs steps < 2 ^ 30 → steps_of_text (text_of (is_negative steps) (ten_places steps)) ≡ steps
 value-places_text steps small =
-    let few : ten_places steps < 10 ^ 10 = rw (ten_places-size steps) (below_ten_digits (unsigned_abs steps) small) in
-    let size : nearest_size (ten_places steps * 2 ^ 30) (10 ^ 10) ≡ unsigned_abs steps = rw (ten_places-size steps) (comes_back (unsigned_abs steps) small) in
-    value-text_of (is_negative steps) (ten_places steps) few ∙ (ap (with_sign (is_negative steps)) size ∙ with_own_sign steps)
+    grind (arith, ten_places-size, below_ten_digits, comes_back, value-text_of, with_own_sign)
 
 above_minus_one : (steps : ℤ) → unsigned_abs steps < 2 ^ 30 → IsTrue (is_fraction steps) → decimal_fraction (places_text steps) ≡ Ok steps
 unfolding decimal_fraction places_text
 above_minus_one steps small fraction =
-    rw (is_fraction_text-text_of (is_negative steps) (ten_places steps), value-places_text steps small, fraction) refl
+    grind (arith, is_fraction_text-text_of, value-places_text)
 
 minus_one : decimal_fraction (codes "-1.000000000") ≡ Ok (neg_ℤ (pos (2 ^ 30)))
 unfolding decimal_fraction steps_of_text nearest xor is_decimal decimal_of
@@ -122,5 +113,5 @@ decimal_fraction-decimal_text steps fraction =
     rw same minus_one)
     (λ (above : int_le steps (neg_ℤ (pos (2 ^ 30))) ≡ false).
     let small : unsigned_abs steps < 2 ^ 30 = omega (arith, ints, parts.0, parts.1) in
-    rw above (above_minus_one steps small fraction))
+    rw above (above_minus_one _ small fraction))
     (cases_Bool (int_le steps (neg_ℤ (pos (2 ^ 30)))))

@@ -1,8 +1,8 @@
 -- That the nearest is nearest, and that rounding twice comes back.
-use Rattle.std.proofs.Common.{◌≡◌, ℕ, zero, suc, ◌+◌, ◌-◌, ◌*◌, ◌<◌, ◌≤◌, Bool, true, false, ℤ, pos, negsuc, neg_ℤ, ◌-ℤ◌, ◌*ℤ◌, unsigned_abs, refl, arith, ⊎_elim, ap, ◌∙◌}
+use Rattle.std.proofs.Common.{◌≡◌, ℕ, zero, suc, ◌+◌, ◌-◌, ◌*◌, ◌<◌, ◌≤◌, Bool, true, false, ℤ, pos, negsuc, neg_ℤ, ◌-ℤ◌, ◌*ℤ◌, unsigned_abs, refl, arith, ⊎_elim}
 use mathlib.Core.Bool.{xor}
 use Rattle.std.specs.Int.{is_negative}
-use Rattle.std.proofs.Math.Nat.{div-mul-le_self, lt-div-mul-add, div-eq_of_lt, mul-le-mul_right, zero-mul}
+use Rattle.std.proofs.Math.Nat.{div-mul-le_self, lt-div-mul-add, div-eq_of_lt, zero-mul}
 use Rattle.std.proofs.lemmas.Bool.{cases_lt}
 use Rattle.std.proofs.lemmas.Int.{ints, unsigned_abs-mul}
 use Rattle.lgp_fraction.specs.Rounding.{IsNearest, deviation, nearest, nearest_size, with_sign}
@@ -16,14 +16,12 @@ apart m n = (m - n) + (n - m)
 -- a lower number is further away
 lower : (n d q j : ℕ) → q * (2 * d) ≤ 2 * n + d → 2 * n + d < q * (2 * d) + 2 * d → j < q → apart n (q * d) ≤ apart n (j * d)
 lower n d q j low high less =
-    let step : (j + 1) * d ≤ q * d = mul-le-mul_right {m = j + 1} {n = q} d (omega arith) in
-    omega arith
+    grind arith
 
 -- a higher number is further away, and not as near
 higher : (n d q j : ℕ) → q * (2 * d) ≤ 2 * n + d → 2 * n + d < q * (2 * d) + 2 * d → q < j → apart n (q * d) < apart n (j * d)
 higher n d q j low high less =
-    let step : (q + 1) * d ≤ j * d = mul-le-mul_right {m = q + 1} {n = j} d (omega arith) in
-    omega arith
+    grind arith
 
 nearest_of_sizes : (n d q j : ℕ) → q * (2 * d) ≤ 2 * n + d → 2 * n + d < q * (2 * d) + 2 * d → (apart n (q * d) ≤ apart n (j * d)) × (apart n (j * d) ≤ apart n (q * d) → j ≤ q)
 nearest_of_sizes n d q j low high =
@@ -62,10 +60,10 @@ not_negative n = grind (arith, ints)
 -- a quotient with the right sign is as far from the dividend as the sizes are
 with_sign_apart : (dividend divisor : ℤ) (size : ℕ) → deviation dividend divisor (with_sign (xor (is_negative dividend) (is_negative divisor)) size) ≡ apart (unsigned_abs dividend) (size * unsigned_abs divisor)
 unfolding xor
-with_sign_apart (pos n) (pos d) size = rw (not_negative n, not_negative d) (positives_apart n (size * d))
-with_sign_apart (pos n) (negsuc d) size = rw not_negative (ap (λ z. unsigned_abs (pos n -ℤ z)) (negative_times_negative size d) ∙ positives_apart n (size * suc d))
-with_sign_apart (negsuc n) (pos d) size = rw not_negative (ap (λ z. unsigned_abs (negsuc n -ℤ z)) (negative_times_positive size d) ∙ negatives_apart (suc n) (size * d))
-with_sign_apart (negsuc n) (negsuc d) size = negatives_apart (suc n) (size * suc d)
+with_sign_apart (pos n) (pos d) size = rw (not_negative n, not_negative d) (positives_apart n _)
+with_sign_apart (pos n) (negsuc d) size = grind (arith, not_negative, negative_times_negative, positives_apart)
+with_sign_apart (negsuc n) (pos d) size = grind (arith, not_negative, negative_times_positive, negatives_apart)
+with_sign_apart (negsuc n) (negsuc d) size = negatives_apart _ _
 
 pub size_of_with_sign : (negative : Bool) (size : ℕ) → unsigned_abs (with_sign negative size) ≡ size
 size_of_with_sign true zero = refl
@@ -80,9 +78,9 @@ nearest-is_nearest dividend divisor nonzero other =
     let q : ℕ = nearest_size n d in
     let low : q * (2 * d) ≤ 2 * n + d = div-mul-le_self (2 * n + d) (2 * d) in
     let high : 2 * n + d < q * (2 * d) + 2 * d = lt-div-mul-add {a = 2 * n + d} {b = 2 * d} (omega arith) in
-    let sizes = nearest_of_sizes n d q (unsigned_abs other) low high in
+    let sizes = nearest_of_sizes n d q _ low high in
     let number : ℤ = with_sign (xor (is_negative dividend) (is_negative divisor)) q in
-    let here : deviation dividend divisor number ≡ apart n (q * d) = with_sign_apart dividend divisor q in
+    let here : deviation dividend divisor number ≡ apart n (q * d) = with_sign_apart _ divisor q in
     let there : apart n (unsigned_abs (other *ℤ divisor)) ≤ deviation dividend divisor other = sizes_apart dividend (other *ℤ divisor) in
     let product : unsigned_abs (other *ℤ divisor) ≡ unsigned_abs other * d = unsigned_abs-mul other divisor in
     let away : apart n (unsigned_abs other * d) ≤ deviation dividend divisor other = rw product at there in
@@ -94,12 +92,12 @@ nearest-is_nearest dividend divisor nonzero other =
 pub size-nearest : (dividend divisor : ℤ) → unsigned_abs (nearest dividend divisor) ≡ nearest_size (unsigned_abs dividend) (unsigned_abs divisor)
 unfolding nearest
 size-nearest dividend divisor =
-    size_of_with_sign (xor (is_negative dividend) (is_negative divisor)) (nearest_size (unsigned_abs dividend) (unsigned_abs divisor))
+    grind (arith, size_of_with_sign)
 
 pub nearest-with_sign : (negative : Bool) (dividend divisor : ℕ) → 0 < divisor → nearest (with_sign negative dividend) (pos divisor) ≡ with_sign negative (nearest_size dividend divisor)
 unfolding nearest xor
 nearest-with_sign true zero divisor nonzero =
     let none : nearest_size 0 divisor ≡ 0 = (div-eq_of_lt {n = 2 * 0 + divisor} {m = 2 * divisor} (omega arith)) in
-    rw (not_negative 0, not_negative divisor, none) refl
-nearest-with_sign true (suc dividend) divisor nonzero = rw (not_negative divisor) refl
-nearest-with_sign false dividend divisor nonzero = rw (not_negative dividend, not_negative divisor) refl
+    rw (not_negative 0, not_negative _, none) refl
+nearest-with_sign true (suc dividend) divisor nonzero = rw (not_negative _) refl
+nearest-with_sign false dividend divisor nonzero = rw (not_negative _, not_negative _) refl

@@ -54,12 +54,12 @@ rests_after (word ∷ words) panel base rests = rests_after words (panel_after_s
 pub keyed_rests : (s : State) (words : List ℕ) → IsLoader words → is_at_rest (keyed s loader_base words).core.panel.status ≡ true
 keyed_rests s [] (all, some, fits) = absurd (let wrong : ⊥ = omega (arith, some) in wrong)
 keyed_rests s (word ∷ words) (all, some, fits) =
-    ap (λ (t : State). is_at_rest t.core.panel.status) (keyed_are s loader_base (word ∷ words) all fits)
+    ap (λ (t : State). is_at_rest t.core.panel.status) (keyed_are s _ _ all fits)
     ∙ rests_after words (panel_after_store s.core.panel loader_base word) (loader_base + 1) refl
 
 pub keyed_up : (s : State) (words : List ℕ) → IsLoader words → (keyed s loader_base words).core.panel.switches.six_bit ≡ false
 keyed_up s words (all, some, fits) =
-    ap (λ (t : State). t.core.panel.switches.six_bit) (keyed_are s loader_base words all fits)
+    ap (λ (t : State). t.core.panel.switches.six_bit) (keyed_are s _ _ all fits)
     ∙ ap (λ (switches : Switches). switches.six_bit) (switches_after words s.core.panel loader_base)
 
 -- the state in which a loader begins
@@ -70,12 +70,12 @@ first_core s load =
 begun_is : (s : State) (load : TapeLoad) → IsLoader load.loader
     → begun s load ≡ record { core = first_core s load; printed = s.printed; clock = (begun s load).clock }
 begun_is s load (all, some, fits) =
-    let keyed_s = keyed_are s loader_base load.loader all fits in
+    let keyed_s = keyed_are s _ _ all fits in
     let clock = (keyed s loader_base load.loader).clock in
     let there = after_mount (state_after_words s loader_base load.loader clock) load.codes in
     let prepared_is : prepared s load ≡ there = ap (λ t. after_mount t load.codes) keyed_s in
     let switches = switches_after load.loader s.core.panel loader_base in
-    let by_hand = started_by_hand there loader_base (ap (λ (switches : Switches). switches.six_bit) switches) (omega arith) in
+    let by_hand = started_by_hand there _ (ap (λ (switches : Switches). switches.six_bit) switches) (omega arith) in
     let begun_there : begun s load ≡ started there loader_base = ap (λ t. started t loader_base) prepared_is in
     let time : (next (about_to_jump there loader_base)).clock ≡ (begun s load).clock = ap (λ (t : State). t.clock) (sym by_hand) ∙ ap (λ (t : State). t.clock) (sym begun_there) in
     begun_there ∙ (by_hand ∙ (ap (λ n. state_when_started there loader_base n) time
@@ -92,17 +92,17 @@ pub left_by_run : (s : State) (load : TapeLoad) (last : Core) → IsLoader load.
     → loaded s load ≡ record { core = last; printed = s.printed; clock = (loaded s load).clock }
 left_by_run s load last is runs =
     let printed : (begun s load).printed ≡ s.printed = ap (λ (t : State). t.printed) (begun_is s load is) in
-    state_after_run (begun s load) load.orders last runs
+    state_after_run _ _ _ runs
     ∙ ap (λ printed. record { core = last; printed = printed; clock = (loaded s load).clock }) printed
 
 pub calm_in_run : (s : State) (load : TapeLoad) (last : Core) → Runs load.orders (begun s load).core last
     → (before : ℕ) → before < load.orders → IsCalm (after (begun s load) before).core
-calm_in_run s load last runs before less = calm_at (begun s load) load.orders last runs before less
+calm_in_run s load last runs before less = calm_at _ _ _ runs _ less
 
 pub undisturbed_run : (s : State) (load : TapeLoad) (last : Core) (events : List Event) → Runs load.orders (begun s load).core last
     → list_all is_time_or_switch events ≡ true
     → count_by is_word_time events ≡ total_cost (begun s load) load.orders
     → (switches : Switches) × (after_events (at_boundary (begun s load)) events ≡ at_boundary (with_switches (loaded s load) switches))
 undisturbed_run s load last events runs such times =
-    switches_pressed (begun s load) load.orders events
-    (λ before less. let calm = calm_in_run s load last runs before less in calm.blind) such times
+    switches_pressed _ _ events
+    (λ before less. let calm = calm_in_run s _ _ runs _ less in calm.blind) such times

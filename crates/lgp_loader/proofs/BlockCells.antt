@@ -48,7 +48,7 @@ pub adds : (switches : Switches) (counter accumulator register : ℕ) (words : L
     → Fetches words counter word A address → added accumulator (slice_index words address) ≡ sum_of sum
     → Leads (core_at switches counter accumulator register words tape) (core_at switches (address_after counter) sum word words tape)
 adds switches counter accumulator register words tape word address sum fetches is =
-    performs switches counter accumulator register words tape word A address fetches refl refl
+    performs switches _ _ _ _ _ _ A _ fetches refl refl
     (core_at switches (address_after counter) sum word words tape)
     (ap (λ result. after_order (arithmetic_effect (core_at switches (address_after counter) accumulator word words tape) result) Going) is)
 
@@ -85,8 +85,8 @@ with_cells words store count = slice_set (slice_set words block_store_cell store
 
 pub has_with_cells : (words : List ℕ) (store count : ℕ) → HasBlockLoader words → HasBlockLoader (with_cells words store count)
 has_with_cells words store count has =
-    block_loader_stays (slice_set words block_store_cell store) count_cell count
-    (block_loader_stays words block_store_cell store has store_cell_elsewhere) count_cell_elsewhere
+    block_loader_stays _ _ _
+    (block_loader_stays _ _ _ has store_cell_elsewhere) count_cell_elsewhere
 
 -- what the cells hold
 pub store_held : (words : List ℕ) (store count : ℕ) → length words ≡ 4096 → slice_index (with_cells words store count) block_store_cell ≡ store
@@ -126,7 +126,7 @@ pub fetch_store : (words : List ℕ) (place count : ℕ) → length words ≡ 40
     → Fetches (with_cells words (control_word place) count) block_store_cell (control_word place) C place
 unfolding op_of
 fetch_store words place count long within = record {
-  here = store_held words (control_word place) count long;
+  here = store_held _ _ _ long;
   is_op = let number : control_word place / 65536 % 16 ≡ 13 = omega arith in rw number refl;
   is_at = omega arith;
 }
@@ -145,7 +145,7 @@ counted_up zero few = refl
 counted_up (suc more) few = one_up_negative (count_word (suc (suc more))) (omega (arith, few)) (omega (arith, few)) ∙ ap sum_of (omega (arith, few))
 
 pub control_up : (place : ℕ) → place < 4096 → added (control_word place) one_up ≡ sum_of (control_word (place + 1))
-control_up place within = one_up_positive (control_word place) (omega arith) ∙ ap sum_of (omega arith)
+control_up place within = one_up_positive _ (omega arith) ∙ ap sum_of (omega arith)
 
 pub count_is_word : (more : ℕ) → more ≤ 4096 → IsWord (count_left more)
 unfolding count_left

@@ -30,14 +30,14 @@ loader_lies drum k long within = words_lie block_loader_words drum loader_base k
 
 has_loader : (drum : List ℕ) → length drum ≡ 4096 → HasBlockLoader (with_words drum block_loader_words)
 has_loader drum long = record {
-  drum = length_from block_loader_words drum loader_base ∙ long;
-  fixed = λ k within store end count. loader_lies drum k long within;
+  drum = length_from block_loader_words _ loader_base ∙ long;
+  fixed = λ k within store end count. loader_lies _ k long within;
 }
 
 cells_empty : (drum : List ℕ) → length drum ≡ 4096 → with_cells (with_words drum block_loader_words) 0 0 ≡ with_words drum block_loader_words
 cells_empty drum long =
-    let store_is : slice_index (with_words drum block_loader_words) block_store_cell ≡ 0 = loader_lies drum 9 long (omega arith) in
-    let count_is : slice_index (with_words drum block_loader_words) count_cell ≡ 0 = loader_lies drum 21 long (omega arith) in
+    let store_is : slice_index (with_words drum block_loader_words) block_store_cell ≡ 0 = loader_lies _ 9 long (omega arith) in
+    let count_is : slice_index (with_words drum block_loader_words) count_cell ≡ 0 = loader_lies _ 21 long (omega arith) in
     let store_same : slice_set (with_words drum block_loader_words) block_store_cell 0 ≡ with_words drum block_loader_words =
     ap (λ word. slice_set (with_words drum block_loader_words) block_store_cell word) (sym store_is) ∙ set-get_or (with_words drum block_loader_words) block_store_cell 0 in
     let count_same : slice_set (with_words drum block_loader_words) count_cell 0 ≡ with_words drum block_loader_words =

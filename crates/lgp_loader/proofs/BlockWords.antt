@@ -38,13 +38,13 @@ tested : (switches : Switches) (words passed rest : List ℕ) (more : ℕ) → H
     → Runs (suc count) (core_at switches (loader_base + 16) (count_left more) (plain_order H count_cell) words (off passed rest)) last
 unfolding op_of behind_word count_left
 tested switches words passed rest zero has few count last runs =
-    one_then count (core_at switches (loader_base + 16) 0 (plain_order H count_cell) words (off passed rest)) (core_at switches (loader_base + 17) 0 (plain_order T next_word) words (off passed rest)) last
+    one_then _ _ _ _
     (goes_on switches (loader_base + 16) 0 (plain_order H count_cell) words (off passed rest) (plain_order T next_word) next_word
-    (fetches words 16 (plain_order T next_word) T next_word has (omega arith) (omega arith) (omega arith) (omega arith) refl refl refl) refl refl) runs
+    (fetches _ 16 _ T _ has (omega arith) (omega arith) (omega arith) (omega arith) refl refl refl) refl refl) runs
 tested switches words passed rest (suc more) has few count last runs =
-    one_then count (core_at switches (loader_base + 16) (count_word (suc more)) (plain_order H count_cell) words (off passed rest)) (core_at switches next_word (count_word (suc more)) (plain_order T next_word) words (off passed rest)) last
-    (transfers_to switches (loader_base + 16) (count_word (suc more)) (plain_order H count_cell) words (off passed rest) (plain_order T next_word) next_word
-    (fetches words 16 (plain_order T next_word) T next_word has (omega arith) (omega arith) (omega arith) (omega arith) refl refl refl) refl (count_is_negative more (omega (arith, few)))) runs
+    one_then _ _ _ _
+    (transfers_to switches _ _ _ _ _ _ _
+    (fetches _ 16 _ T _ has (omega arith) (omega arith) (omega arith) (omega arith) refl refl refl) refl (count_is_negative _ (omega (arith, few)))) runs
 
 -- the count goes up, and is tested
 counted : (switches : Switches) (register : ℕ) (words passed rest : List ℕ) (store more : ℕ) → HasBlockLoader words → more < 4096
@@ -57,26 +57,21 @@ counted switches register words passed rest store more has few count last runs a
     let old = count_word (suc more) in
     let new = count_left more in
     let ws = with_cells words store old in
-    let ws1 = with_cells words store new in
     let tape = off passed rest in
-    let has0 = has_with_cells words store old has in
-    let has1 = has_with_cells words store new has in
-    let at13 = core_at switches (loader_base + 13) accumulator register ws tape in
-    let at14 = core_at switches (loader_base + 14) old (plain_order B count_cell) ws tape in
-    let at15 = core_at switches (loader_base + 15) new (plain_order A one_up_place) ws tape in
-    let at16 = core_at switches (loader_base + 16) new (plain_order H count_cell) ws1 tape in
-    let test = tested switches ws1 passed rest more has1 few count last runs in
+    let has0 = has_with_cells _ _ _ has in
+    let has1 = has_with_cells _ _ _ has in
+    let test = tested switches _ _ _ _ has1 few _ _ runs in
     let held_there = held switches (loader_base + 15) new (plain_order A one_up_place) ws tape (plain_order H count_cell) count_cell
-    (fetches ws 15 (plain_order H count_cell) H count_cell has0 (omega arith) (omega arith) (omega arith) (omega arith) refl refl refl) (count_is_word more (omega (arith, few))) in
-    let third = one_then (suc count) at15 (core_at switches (loader_base + 16) new (plain_order H count_cell) (slice_set ws count_cell new) tape) last held_there
-    (subst (λ w. Runs (suc count) (core_at switches (loader_base + 16) new (plain_order H count_cell) w tape) last) (sym (count_set words store old new)) test) in
-    let sum = ap (λ n. added old n) (one_up_there ws has0) ∙ counted_up more few in
-    let second = one_then (suc (suc count)) at14 at15 last
-    (adds switches (loader_base + 14) old (plain_order B count_cell) ws tape (plain_order A one_up_place) one_up_place new
-    (fetches ws 14 (plain_order A one_up_place) A one_up_place has0 (omega arith) (omega arith) (omega arith) (omega arith) refl refl refl) sum) third in
-    one_then (suc (suc (suc count))) at13 at14 last
-    (brings switches (loader_base + 13) accumulator register ws tape (plain_order B count_cell) count_cell old
-    (fetches ws 13 (plain_order B count_cell) B count_cell has0 (omega arith) (omega arith) (omega arith) (omega arith) refl refl refl) (count_held words store old has.drum)) second
+    (fetches ws 15 _ H _ has0 (omega arith) (omega arith) (omega arith) (omega arith) refl refl refl) (count_is_word _ (omega (arith, few))) in
+    let third = one_then (suc count) _ _ last held_there
+    (subst (λ w. Runs (suc count) (core_at switches (loader_base + 16) new (plain_order H count_cell) w tape) last) (sym (count_set _ _ old _)) test) in
+    let sum = ap (λ n. added old n) (one_up_there ws has0) ∙ counted_up _ few in
+    let second = one_then (suc (suc count)) _ _ last
+    (adds switches _ _ (plain_order B count_cell) ws tape _ _ _
+    (fetches ws 14 _ A _ has0 (omega arith) (omega arith) (omega arith) (omega arith) refl refl refl) sum) third in
+    one_then (suc (suc (suc count))) _ _ last
+    (brings switches _ _ _ ws _ _ _ _
+    (fetches ws 13 _ B _ has0 (omega arith) (omega arith) (omega arith) (omega arith) refl refl refl) (count_held _ _ _ has.drum)) second
 
 -- the order in the store cell goes up
 moved_up : (switches : Switches) (register : ℕ) (words passed rest : List ℕ) (place count_now : ℕ) → HasBlockLoader words → place < 4096
@@ -89,21 +84,18 @@ moved_up switches register words passed rest place count_now has within count la
     let new = control_word (place + 1) in
     let ws = with_cells words old count_now in
     let tape = off passed rest in
-    let has0 = has_with_cells words old count_now has in
-    let at10 = core_at switches (loader_base + 10) 0 register ws tape in
-    let at11 = core_at switches (loader_base + 11) old (plain_order B block_store_cell) ws tape in
-    let at12 = core_at switches (loader_base + 12) new (plain_order A one_up_place) ws tape in
+    let has0 = has_with_cells _ _ _ has in
     let held_there = held switches (loader_base + 12) new (plain_order A one_up_place) ws tape (plain_order H block_store_cell) block_store_cell
-    (fetches ws 12 (plain_order H block_store_cell) H block_store_cell has0 (omega arith) (omega arith) (omega arith) (omega arith) refl refl refl) (next_control_is_word place within) in
-    let third = one_then count at12 (core_at switches (loader_base + 13) new (plain_order H block_store_cell) (slice_set ws block_store_cell new) tape) last held_there
-    (subst (λ w. Runs count (core_at switches (loader_base + 13) new (plain_order H block_store_cell) w tape) last) (sym (store_set words old count_now new)) runs) in
-    let sum = ap (λ n. added old n) (one_up_there ws has0) ∙ control_up place within in
-    let second = one_then (suc count) at11 at12 last
-    (adds switches (loader_base + 11) old (plain_order B block_store_cell) ws tape (plain_order A one_up_place) one_up_place new
-    (fetches ws 11 (plain_order A one_up_place) A one_up_place has0 (omega arith) (omega arith) (omega arith) (omega arith) refl refl refl) sum) third in
-    one_then (suc (suc count)) at10 at11 last
-    (brings switches (loader_base + 10) 0 register ws tape (plain_order B block_store_cell) block_store_cell old
-    (fetches ws 10 (plain_order B block_store_cell) B block_store_cell has0 (omega arith) (omega arith) (omega arith) (omega arith) refl refl refl) (store_held words old count_now has.drum)) second
+    (fetches ws 12 _ H _ has0 (omega arith) (omega arith) (omega arith) (omega arith) refl refl refl) (next_control_is_word _ within) in
+    let third = one_then _ _ _ _ held_there
+    (subst (λ w. Runs count (core_at switches (loader_base + 13) new (plain_order H block_store_cell) w tape) last) (sym (store_set _ _ _ _)) runs) in
+    let sum = ap (λ n. added old n) (one_up_there ws has0) ∙ control_up _ within in
+    let second = one_then (suc count) _ _ last
+    (adds switches _ _ (plain_order B block_store_cell) ws tape _ _ _
+    (fetches ws 11 _ A _ has0 (omega arith) (omega arith) (omega arith) (omega arith) refl refl refl) sum) third in
+    one_then (suc (suc count)) _ _ last
+    (brings switches _ 0 _ ws _ _ _ _
+    (fetches ws 10 _ B _ has0 (omega arith) (omega arith) (omega arith) (omega arith) refl refl refl) (store_held _ _ _ has.drum)) second
 
 -- one word: it is read and stored, and the order that stores and the count go up
 pub one_word : (switches : Switches) (accumulator register : ℕ) (words passed rest : List ℕ) (place word more : ℕ)
@@ -119,25 +111,23 @@ one_word switches accumulator register words passed rest place word more has wit
     let old = count_word (suc more) in
     let ws = with_cells words control old in
     let words1 = slice_set words place word in
-    let ws1 = with_cells words1 control old in
     let passed1 = passed ++ read_codes [] word in
-    let has0 = has_with_cells words control old has in
-    let has1 = block_loader_stays words place word has (program_elsewhere place free) in
+    let has0 = has_with_cells _ _ _ has in
+    let has1 = block_loader_stays _ _ _ has (program_elsewhere _ free) in
     let behind = counted switches (plain_order H block_store_cell) words1 passed1 rest (control_word (place + 1)) more has1 few count last runs (control_word (place + 1)) in
-    let up = moved_up switches control words1 passed1 rest place old has1 within (suc (suc (suc (suc count)))) last behind in
-    let at9 = core_at switches block_store_cell word (plain_order I 0) ws (off passed1 rest) in
-    let stored_there = cleared switches block_store_cell word (plain_order I 0) ws (off passed1 rest) control place (fetch_store words place old has.drum within) is in
-    let third = one_then (suc (suc (suc (suc (suc (suc (suc count))))))) at9 (core_at switches (loader_base + 10) 0 control (slice_set ws place word) (off passed1 rest)) last stored_there
+    let up = moved_up switches _ _ _ _ _ old has1 within (suc (suc (suc (suc count)))) last behind in
+    let stored_there = cleared switches _ _ (plain_order I 0) ws (off passed1 rest) _ _ (fetch_store words place old has.drum within) is in
+    let third = one_then (suc (suc (suc (suc (suc (suc (suc count))))))) _ _ last stored_there
     (subst (λ w. Runs (suc (suc (suc (suc (suc (suc (suc count))))))) (core_at switches (loader_base + 10) 0 control w (off passed1 rest)) last)
-    (sym (word_set words control old place word (store_apart place free) (count_apart place free))) up) in
-    two_orders switches next_word accumulator register ws passed [] rest word (suc (suc (suc (suc (suc (suc (suc (suc count)))))))) last
-    (fetches ws 7 (plain_order P 0) P 0 has0 (omega arith) (omega arith) (omega arith) (omega arith) refl refl refl)
-    (fetches ws 8 (plain_order I 0) I 0 has0 (omega arith) (omega arith) (omega arith) (omega arith) refl refl refl)
+    (sym (word_set _ _ _ _ _ (store_apart _ free) (count_apart _ free))) up) in
+    two_orders switches _ _ _ ws _ [] _ _ (suc (suc (suc (suc (suc (suc (suc (suc count)))))))) last
+    (fetches ws 7 _ P 0 has0 (omega arith) (omega arith) (omega arith) (omega arith) refl refl refl)
+    (fetches ws 8 _ I 0 has0 (omega arith) (omega arith) (omega arith) (omega arith) refl refl refl)
     (omega arith) nothing_skipped is third
 
 -- the codes of some words, the first of them and the others
 word_shape : (word others rest : List ℕ) → ((word ++ stop_code ∷ []) ++ others) ++ rest ≡ word ++ stop_code ∷ (others ++ rest)
-word_shape word others rest = simp append_assoc refl
+word_shape word others _ = simp append_assoc refl
 
 abbrev pub words_codes : List (ℕ × ℕ) → List ℕ
 words_codes cells = concat (map word_of_cell cells)
@@ -164,7 +154,7 @@ block_words switches accumulator register words passed rest place word [] behind
     let orders : suc (suc (suc (suc (suc (suc (suc (suc (suc (suc count))))))))) ≡ 10 * length block + count = omega arith in
     let counted_all = subst (λ n. Runs n (core_at switches next_word accumulator register (with_cells words (control_word place) (count_word 1)) (off passed (word_codes word ++ stop_code ∷ rest))) last) orders all in
     subst (λ codes. Runs (10 * length block + count) (core_at switches next_word accumulator register (with_cells words (control_word place) (count_word 1)) (off passed codes)) last)
-    (sym (word_shape (word_codes word) [] rest)) counted_all
+    (sym (word_shape _ [] _)) counted_all
 block_words switches accumulator register words passed rest place word ((p, w) ∷ cells) behind has ((within, free, is), others) (next, follow) few same count last runs =
     let words1 = slice_set words place word in
     let passed1 = passed ++ read_codes [] word in
@@ -174,11 +164,11 @@ block_words switches accumulator register words passed rest place word ((p, w) �
     let here = subst (λ codes. Runs count (core_at switches (loader_base + 17) 0 (plain_order T next_word) (with_cells (overlay words1 ((p, w) ∷ cells)) (control_word behind) 0) (off codes rest)) last)
     (sym shape) runs in
     let later = block_words switches (count_word more) (plain_order T next_word) words1 passed1 rest p w cells behind
-    (block_loader_stays words place word has (program_elsewhere place free)) others (subst (λ n. FollowFrom (n + 1) cells) (sym next) follow) (omega (arith, few)) (omega (arith, same, next)) count last here in
+    (block_loader_stays _ _ _ has (program_elsewhere _ free)) others (subst (λ n. FollowFrom (n + 1) cells) (sym next) follow) (omega (arith, few)) (omega (arith, same, next)) count last here in
     let from_place = subst (λ n. Runs (10 * more + count) (core_at switches next_word (count_word more) (plain_order T next_word) (with_cells words1 (control_word n) (count_word more)) (off passed1 (later_codes ++ rest))) last)
     next later in
-    let all = one_word switches accumulator register words passed (later_codes ++ rest) place word more has within free is (omega (arith, few)) (10 * more + count) last from_place in
+    let all = one_word switches _ _ _ _ _ _ _ _ has within free is (omega (arith, few)) _ _ from_place in
     let orders : suc (suc (suc (suc (suc (suc (suc (suc (suc (suc (10 * more + count)))))))))) ≡ 10 * length ((place, word) ∷ (p, w) ∷ cells) + count = omega arith in
     let counted_all = subst (λ n. Runs n (core_at switches next_word accumulator register (with_cells words (control_word place) (count_word (suc more))) (off passed (word_codes word ++ stop_code ∷ (later_codes ++ rest)))) last) orders all in
     subst (λ codes. Runs (10 * length ((place, word) ∷ (p, w) ∷ cells) + count) (core_at switches next_word accumulator register (with_cells words (control_word place) (count_word (suc more))) (off passed codes)) last)
-    (sym (word_shape (word_codes word) later_codes rest)) counted_all
+    (sym (word_shape _ _ _)) counted_all

@@ -1,5 +1,5 @@
 -- The block loader's way through a tape of blocks, and what it leaves.
-use Rattle.std.proofs.Common.{◌≡◌, ℕ, suc, ◌+◌, ◌*◌, ◌<◌, ◌≤◌, refl, sym, ap, ◌∙◌, subst, arith, true, false, List, [], ◌∷◌, ◌++◌, append_assoc, length, length-append, slice_set, map, Option}
+use Rattle.std.proofs.Common.{◌≡◌, ℕ, suc, ◌+◌, ◌*◌, ◌<◌, ◌≤◌, refl, sym, ap, ◌∙◌, subst, arith, true, List, [], ◌∷◌, ◌++◌, append_assoc, length, length-append, slice_set, map, Option}
 use Rattle.std.specs.List.{concat}
 use Rattle.std.specs.Prelude.{IfSome}
 use Rattle.std.proofs.lemmas.Bool.{and_parts}
@@ -52,45 +52,37 @@ one_block switches accumulator register words passed skipped rest store0 count0 
     let codes = words_codes ((place, word) ∷ cells) in
     let end = carriage_return ∷ rest in
     let left1 = word_codes number ++ stop_code ∷ (codes ++ end) in
-    let passed1 = passed ++ read_codes skipped control in
+    let passed1 = passed ++ read_codes skipped _ in
     let passed2 = passed1 ++ read_codes [] number in
     let ws0 = with_cells words store0 count0 in
     let ws1 = with_cells words control count0 in
-    let ws2 = with_cells words control number in
-    let ws3 = with_cells (overlay words ((place, word) ∷ cells)) (control_word behind) 0 in
-    let has0 = has_with_cells words store0 count0 has in
-    let has1 = has_with_cells words control count0 has in
-    let has3 = has_with_cells (overlay words ((place, word) ∷ cells)) (control_word behind) 0 has_after in
-    let all_passed = passed2 ++ codes in
-    let out = core_at switches (loader_base + 17) 0 (plain_order T next_word) ws3 (off all_passed end) in
-    let back = core_at switches loader_base 0 (plain_order U loader_base) ws3 (off all_passed end) in
-    let seventh = one_then count out back last
-    (jumps switches (loader_base + 17) 0 (plain_order T next_word) ws3 (off all_passed end) (plain_order U loader_base) loader_base
-    (fetches ws3 17 (plain_order U loader_base) U loader_base has3 (omega arith) (omega arith) (omega arith) (omega arith) refl refl refl)) runs in
-    let sixth = block_words switches number (plain_order H count_cell) words passed2 end place word cells behind has program follow few same (suc count) last seventh in
+    let has0 = has_with_cells _ _ _ has in
+    let has1 = has_with_cells _ _ _ has in
+    let has3 = has_with_cells _ _ 0 has_after in
+    let seventh = one_then _ _ _ _
+    (jumps switches _ 0 _ _ _ _ _
+    (fetches _ 17 _ U _ has3 (omega arith) (omega arith) (omega arith) (omega arith) refl refl refl)) runs in
+    let sixth = block_words switches _ _ _ _ _ _ _ _ _ has program follow few same _ _ seventh in
     let m = 10 * n + suc count in
-    let at6 = core_at switches (loader_base + 6) number (plain_order I 0) ws1 (off passed2 (codes ++ end)) in
-    let fifth = one_then m at6 (core_at switches next_word number (plain_order H count_cell) (slice_set ws1 count_cell number) (off passed2 (codes ++ end))) last
+    let fifth = one_then m _ _ _
     (held switches (loader_base + 6) number (plain_order I 0) ws1 (off passed2 (codes ++ end)) (plain_order H count_cell) count_cell
-    (fetches ws1 6 (plain_order H count_cell) H count_cell has1 (omega arith) (omega arith) (omega arith) (omega arith) refl refl refl) (block_count_is_word (length cells) few))
-    (subst (λ w. Runs m (core_at switches next_word number (plain_order H count_cell) w (off passed2 (codes ++ end))) last) (sym (count_set words control count0 number)) sixth) in
-    let fourth = two_orders switches (loader_base + 4) control (plain_order H block_store_cell) ws1 passed1 [] (codes ++ end) number (suc m) last
-    (fetches ws1 4 (plain_order P 0) P 0 has1 (omega arith) (omega arith) (omega arith) (omega arith) refl refl refl)
-    (fetches ws1 5 (plain_order I 0) I 0 has1 (omega arith) (omega arith) (omega arith) (omega arith) refl refl refl)
-    (omega arith) nothing_skipped (block_count_is_word (length cells) few) fifth in
-    let at3 = core_at switches (loader_base + 3) control (plain_order T block_end_place) ws0 (off passed1 left1) in
-    let third = one_then (suc (suc (suc m))) at3 (core_at switches (loader_base + 4) control (plain_order H block_store_cell) (slice_set ws0 block_store_cell control) (off passed1 left1)) last
+    (fetches _ 6 _ H _ has1 (omega arith) (omega arith) (omega arith) (omega arith) refl refl refl) (block_count_is_word _ few))
+    (subst (λ w. Runs m (core_at switches next_word number (plain_order H count_cell) w (off passed2 (codes ++ end))) last) (sym (count_set _ _ _ _)) sixth) in
+    let fourth = two_orders switches _ _ _ _ _ [] _ _ (suc m) last
+    (fetches _ 4 _ P 0 has1 (omega arith) (omega arith) (omega arith) (omega arith) refl refl refl)
+    (fetches _ 5 _ I 0 has1 (omega arith) (omega arith) (omega arith) (omega arith) refl refl refl)
+    (omega arith) nothing_skipped (block_count_is_word _ few) fifth in
+    let third = one_then (suc (suc (suc m))) _ _ last
     (held switches (loader_base + 3) control (plain_order T block_end_place) ws0 (off passed1 left1) (plain_order H block_store_cell) block_store_cell
-    (fetches ws0 3 (plain_order H block_store_cell) H block_store_cell has0 (omega arith) (omega arith) (omega arith) (omega arith) refl refl refl) (control_is_word place within))
-    (subst (λ w. Runs (suc (suc (suc m))) (core_at switches (loader_base + 4) control (plain_order H block_store_cell) w (off passed1 left1)) last) (sym (store_set words store0 count0 control)) fourth) in
-    let at2 = core_at switches (loader_base + 2) control (plain_order I 0) ws0 (off passed1 left1) in
-    let second = one_then (suc (suc (suc (suc m)))) at2 at3 last
+    (fetches _ 3 _ H _ has0 (omega arith) (omega arith) (omega arith) (omega arith) refl refl refl) (control_is_word _ within))
+    (subst (λ w. Runs (suc (suc (suc m))) (core_at switches (loader_base + 4) control (plain_order H block_store_cell) w (off passed1 left1)) last) (sym (store_set _ store0 _ _)) fourth) in
+    let second = one_then (suc (suc (suc (suc m)))) _ _ last
     (goes_on switches (loader_base + 2) control (plain_order I 0) ws0 (off passed1 left1) (plain_order T block_end_place) block_end_place
-    (fetches ws0 2 (plain_order T block_end_place) T block_end_place has0 (omega arith) (omega arith) (omega arith) (omega arith) refl refl refl) refl (control_is_positive place within)) third in
-    let first = two_orders switches loader_base accumulator register ws0 passed skipped left1 control (suc (suc (suc (suc (suc m))))) last
-    (fetches ws0 0 (plain_order P 0) P 0 has0 (omega arith) (omega arith) (omega arith) (omega arith) refl refl refl)
-    (fetches ws0 1 (plain_order I 0) I 0 has0 (omega arith) (omega arith) (omega arith) (omega arith) refl refl refl)
-    (omega arith) are (control_is_word place within) second in
+    (fetches _ 2 _ T _ has0 (omega arith) (omega arith) (omega arith) (omega arith) refl refl refl) refl (control_is_positive _ within)) third in
+    let first = two_orders switches _ _ _ _ _ _ _ _ (suc (suc (suc (suc (suc m))))) last
+    (fetches _ 0 _ P 0 has0 (omega arith) (omega arith) (omega arith) (omega arith) refl refl refl)
+    (fetches _ 1 _ I 0 has0 (omega arith) (omega arith) (omega arith) (omega arith) refl refl refl)
+    (omega arith) are (control_is_word _ within) second in
     let orders : suc (suc (suc (suc (suc (suc (suc m)))))) ≡ 8 + 10 * n + count = omega arith in
     subst (λ k. Runs k (core_at switches loader_base accumulator register ws0 (off passed ((skipped ++ word_codes control) ++ stop_code ∷ left1))) last) orders first
 
@@ -106,16 +98,16 @@ unfolding op_of
 the_end switches accumulator register words passed skipped start has are is =
     end_read block_end_place switches accumulator register words passed skipped start
     (fetches words 0 (plain_order P 0) P 0 has (omega arith) (omega arith) (omega arith) (omega arith) refl refl refl)
-    (fetches words 1 (plain_order I 0) I 0 has (omega arith) (omega arith) (omega arith) (omega arith) refl refl refl)
-    (fetches words 2 (plain_order T block_end_place) T block_end_place has (omega arith) (omega arith) (omega arith) (omega arith) refl refl refl)
-    (fetches words 18 (plain_order H block_end_cell) H block_end_cell has (omega arith) (omega arith) (omega arith) (omega arith) refl refl refl)
+    (fetches _ 1 _ I 0 has (omega arith) (omega arith) (omega arith) (omega arith) refl refl refl)
+    (fetches _ 2 _ T _ has (omega arith) (omega arith) (omega arith) (omega arith) refl refl refl)
+    (fetches _ 18 _ H _ has (omega arith) (omega arith) (omega arith) (omega arith) refl refl refl)
     (omega arith) has.drum are is
 
 -- the program's cells leave the loader where it is
 pub overlay_stays : (words : List ℕ) (cells : List (ℕ × ℕ)) → HasBlockLoader words → AreProgramCells cells → HasBlockLoader (overlay words cells)
 overlay_stays words [] has are = has
 overlay_stays words ((place, word) ∷ cells) has ((within, free, is), others) =
-    overlay_stays (slice_set words place word) cells (block_loader_stays words place word has (program_elsewhere place free)) others
+    overlay_stays (slice_set words place word) cells (block_loader_stays _ _ _ has (program_elsewhere _ free)) others
 
 program_parts : (cells more : List (ℕ × ℕ)) → AreProgramCells (cells ++ more) → AreProgramCells cells × AreProgramCells more
 program_parts [] more are = (tt, are)
@@ -127,15 +119,15 @@ blocks_left skipped blocks start = skipped ++ (concat (map block_codes blocks) +
 block_shape : (skipped control count codes rest end : List ℕ)
     → skipped ++ (((((control ++ stop_code ∷ []) ++ ((count ++ stop_code ∷ []) ++ (codes ++ carriage_return ∷ [])))) ++ rest) ++ end)
     ≡ (skipped ++ control) ++ stop_code ∷ (count ++ stop_code ∷ (codes ++ (carriage_return ∷ (rest ++ end))))
-block_shape skipped control count codes rest end = simp append_assoc refl
+block_shape skipped _ _ _ _ _ = simp append_assoc refl
 
 block_passed : (passed skipped control count codes rest : List ℕ)
     → (((passed ++ ((skipped ++ control) ++ stop_code ∷ [])) ++ (([] ++ count) ++ stop_code ∷ [])) ++ codes) ++ (carriage_return ∷ rest)
     ≡ passed ++ ((skipped ++ control) ++ stop_code ∷ (count ++ stop_code ∷ (codes ++ (carriage_return ∷ rest))))
-block_passed passed skipped control count codes rest = simp append_assoc refl
+block_passed passed skipped _ _ _ _ = simp append_assoc refl
 
 end_shape : (skipped word : List ℕ) → skipped ++ (word ++ stop_code ∷ []) ≡ (skipped ++ word) ++ stop_code ∷ []
-end_shape skipped word = sym (append_assoc skipped word (stop_code ∷ []))
+end_shape skipped _ = sym (append_assoc skipped _ _)
 
 -- how many orders the loader performs for blocks
 abbrev orders_for_blocks : List (List (ℕ × ℕ)) → ℕ
@@ -152,7 +144,7 @@ through_blocks switches accumulator register words passed skipped store [] start
     (block_final_core switches start (slice_set ws block_end_cell (end_word start)) (passed ++ left)))
     (sym (end_shape skipped (word_codes (end_word start))))
     (the_end switches accumulator register ws passed skipped start (has_with_cells words store 0 has) are is)
-through_blocks switches accumulator register words passed skipped store ([] ∷ blocks) start has are blocks_are cells few is = absurd (let wrong : false ≡ true = blocks_are in let no : ⊥ = cc in no)
+through_blocks switches accumulator register words passed skipped store ([] ∷ blocks) start has are blocks_are cells few is = absurd (let no : ⊥ = cc in no)
 through_blocks switches accumulator register words passed skipped store (((place, word) ∷ block) ∷ blocks) start has are blocks_are cells few is =
     let whole : List (ℕ × ℕ) = (place, word) ∷ block in
     let (is_one, others) = and_parts (is_block whole) (are_blocks blocks) blocks_are in

@@ -82,7 +82,7 @@ fetch_8 words has = record { here = has.fixed 8 (omega arith) (omega arith) (ome
 pub fetch_store : (words : List ℕ) (place : ℕ) → HasLoader words → place < 4096 → Fetches (slice_set words single_store_cell (control_word place)) single_store_cell (control_word place) C place
 unfolding op_of
 fetch_store words place has within = record {
-  here = get_or-set_same words single_store_cell (control_word place) 0 (let drum = has.drum in omega arith);
+  here = get_or-set_same words single_store_cell (control_word place) 0 (omega arith);
   is_op = let number : control_word place / 65536 % 16 ≡ 13 = omega arith in rw number refl;
   is_at = omega arith;
 }
@@ -125,13 +125,13 @@ two_orders switches counter accumulator register words passed skipped rest word 
     let started : (counter + 1) % 4096 ≡ counter + 1 = omega arith in
     let read : (counter + 1 + 1) % 4096 ≡ counter + 2 = omega arith in
     let next = core_at switches (counter + 1) accumulator (plain_order P 0) words (on passed left) in
-    let then = core_at switches (counter + 2) word (plain_order I 0) words (off (passed ++ read_codes skipped word) rest) in
+    let then = core_at switches (counter + 2) word (plain_order I 0) words (off (passed ++ read_codes skipped _) rest) in
     let first : Leads (core_at switches counter accumulator register words (off passed left)) next =
     subst (λ n. Leads (core_at switches counter accumulator register words (off passed left)) (core_at switches n accumulator (plain_order P 0) words (on passed left))) started
-    (reader_starts switches counter accumulator register words passed left (plain_order P 0) p) in
+    (reader_starts switches _ _ _ _ _ _ _ p) in
     let second : Leads next then =
     subst (λ n. Leads next (core_at switches n word (plain_order I 0) words (off (passed ++ read_codes skipped word) rest))) read
-    (word_read switches (counter + 1) accumulator (plain_order P 0) words passed (skipped ++ word_codes word) rest (plain_order I 0) word i
-    (no_stop_before skipped word are) (word_enters skipped word are) is) in
-    one_then (suc count) (core_at switches counter accumulator register words (off passed left)) next last first
-    (one_then count next then last second runs)
+    (word_read switches _ _ _ _ _ _ _ _ _ i
+    (no_stop_before skipped _ are) (word_enters skipped _ are) is) in
+    one_then (suc count) _ _ last first
+    (one_then _ _ _ last second runs)

@@ -36,7 +36,7 @@ all_adjacent cell (next ∷ cells) all =
 
 some_adjacent : (cell : ℕ × ℕ) (cells : List (ℕ × ℕ)) (k : ℕ) → k + 1 < length (cell ∷ cells)
     → ((d : ℕ × ℕ) → false ≡ follows (slice_index_or (cell ∷ cells) k d) (slice_index_or (cell ∷ cells) (k + 1) d)) → is_block (cell ∷ cells) ≡ false
-some_adjacent cell [] k less apart = absurd (let wrong : ⊥ = omega (arith, less) in wrong)
+some_adjacent cell [] k less _ = absurd (let wrong : ⊥ = omega (arith, less) in wrong)
 some_adjacent cell (next ∷ cells) zero less apart = ap (λ b. b && is_block (next ∷ cells)) (sym (apart cell))
 some_adjacent cell (next ∷ cells) (suc k) less apart =
     let others = some_adjacent next cells k (omega (arith, less)) (λ d. subst (λ n. false ≡ follows (slice_index_or (next ∷ cells) k d) (slice_index_or (cell ∷ (next ∷ cells)) n d))
@@ -47,13 +47,13 @@ some_adjacent cell (next ∷ cells) (suc k) less apart =
       never false = refl
 
 pub by_neighbours : (cells : List (ℕ × ℕ)) (answer : Bool) → (length cells == 0) ≡ false → IsAllAdjacentAnswer (λ x y b. b ≡ follows x y) cells answer → answer ≡ is_block cells
-by_neighbours [] answer some is = absurd (let wrong : true ≡ false = some in let no : ⊥ = cc in no)
-by_neighbours (cell ∷ cells) true some all = sym (all_adjacent cell cells all)
-by_neighbours (cell ∷ cells) false some (k, less, apart) = sym (some_adjacent cell cells k less apart)
+by_neighbours [] answer some is = absurd (let no : ⊥ = cc in no)
+by_neighbours (cell ∷ cells) true some all = sym (all_adjacent _ _ all)
+by_neighbours (cell ∷ cells) false some (k, less, apart) = sym (some_adjacent cell _ k less apart)
 
 -- a block has a cell, so there are no more blocks than cells
 some_cell : (block : List (ℕ × ℕ)) → is_block block ≡ true → 0 < length block
-some_cell [] is = absurd (let wrong : false ≡ true = is in let no : ⊥ = cc in no)
+some_cell [] is = absurd (let no : ⊥ = cc in no)
 some_cell (cell ∷ cells) is = omega arith
 
 pub no_more_blocks : (blocks : List (List (ℕ × ℕ))) → are_blocks blocks ≡ true → length blocks ≤ length (cells_of blocks)
@@ -73,9 +73,9 @@ with_block_blocks cell ([] ∷ blocks) are = are
 with_block_blocks cell ((next ∷ block) ∷ blocks) are = by_test (follows cell next) refl where
   by_test : (joins : Bool) → follows cell next ≡ joins → are_blocks (with_block cell ((next ∷ block) ∷ blocks)) ≡ true
   by_test true same =
-      ap are_blocks (with_block_is cell next block blocks true same)
+      ap are_blocks (with_block_is _ _ _ _ _ same)
       ∙ (ap (λ b. (b && is_block (next ∷ block)) && are_blocks blocks) same ∙ are)
-  by_test false same = ap are_blocks (with_block_is cell next block blocks false same) ∙ are
+  by_test false same = ap are_blocks (with_block_is _ _ _ _ _ same) ∙ are
 
 pub longest_are_blocks : (cells : List (ℕ × ℕ)) → are_blocks (longest_blocks cells) ≡ true
 longest_are_blocks [] = refl
@@ -92,27 +92,27 @@ apart_longer cell next block (other ∷ blocks) (no_block, others) = (ap (λ b. 
 
 with_block_apart : (cell : ℕ × ℕ) (blocks : List (List (ℕ × ℕ))) → are_blocks blocks ≡ true → StandApart blocks → StandApart (with_block cell blocks)
 with_block_apart cell [] are apart = tt
-with_block_apart cell ([] ∷ blocks) are apart = absurd (let wrong : false ≡ true = are in let no : ⊥ = cc in no)
+with_block_apart cell ([] ∷ blocks) are apart = absurd (let no : ⊥ = cc in no)
 with_block_apart cell ((next ∷ block) ∷ blocks) are apart = by_test (follows cell next) refl where
   by_test : (joins : Bool) → follows cell next ≡ joins → StandApart (with_block cell ((next ∷ block) ∷ blocks))
-  by_test true same = subst StandApart (sym (with_block_is cell next block blocks true same)) (apart_longer cell next block blocks apart)
-  by_test false same = subst StandApart (sym (with_block_is cell next block blocks false same)) (ap (λ b. b && is_block (next ∷ block)) same, apart)
+  by_test true same = subst StandApart (sym (with_block_is _ _ _ _ _ same)) (apart_longer cell next _ _ apart)
+  by_test false same = subst StandApart (sym (with_block_is _ _ _ _ _ same)) (ap (λ b. b && is_block (next ∷ block)) same, apart)
 
 pub longest_stand_apart : (cells : List (ℕ × ℕ)) → StandApart (longest_blocks cells)
 longest_stand_apart [] = tt
-longest_stand_apart (cell ∷ cells) = with_block_apart cell (longest_blocks cells) (longest_are_blocks cells) (longest_stand_apart cells)
+longest_stand_apart (cell ∷ cells) = with_block_apart _ _ (longest_are_blocks cells) (longest_stand_apart cells)
 
 with_block_cells : (cell : ℕ × ℕ) (blocks : List (List (ℕ × ℕ))) → cells_of (with_block cell blocks) ≡ cell ∷ cells_of blocks
 with_block_cells cell [] = refl
 with_block_cells cell ([] ∷ blocks) = refl
 with_block_cells cell ((next ∷ block) ∷ blocks) = by_test (follows cell next) refl where
   by_test : (joins : Bool) → follows cell next ≡ joins → cells_of (with_block cell ((next ∷ block) ∷ blocks)) ≡ cell ∷ cells_of ((next ∷ block) ∷ blocks)
-  by_test true same = ap cells_of (with_block_is cell next block blocks true same)
-  by_test false same = ap cells_of (with_block_is cell next block blocks false same)
+  by_test true same = ap cells_of (with_block_is _ _ _ _ _ same)
+  by_test false same = ap cells_of (with_block_is _ _ _ _ _ same)
 
 pub longest_have_cells : (cells : List (ℕ × ℕ)) → cells_of (longest_blocks cells) ≡ cells
 longest_have_cells [] = refl
-longest_have_cells (cell ∷ cells) = with_block_cells cell (longest_blocks cells) ∙ ap (λ more. cell ∷ more) (longest_have_cells cells)
+longest_have_cells (cell ∷ cells) = with_block_cells _ _ ∙ ap (λ more. cell ∷ more) (longest_have_cells _)
 
 -- the first of the longest blocks begins with the first cell
 record Begins (cell : ℕ × ℕ) (blocks : List (List (ℕ × ℕ))) : Type 0 where
@@ -125,8 +125,8 @@ with_block_begins cell [] = record { block = []; behind = []; same = refl }
 with_block_begins cell ([] ∷ blocks) = record { block = []; behind = [] ∷ blocks; same = refl }
 with_block_begins cell ((next ∷ block) ∷ blocks) = by_test (follows cell next) refl where
   by_test : (joins : Bool) → follows cell next ≡ joins → Begins cell (with_block cell ((next ∷ block) ∷ blocks))
-  by_test true same = record { block = next ∷ block; behind = blocks; same = with_block_is cell next block blocks true same }
-  by_test false same = record { block = []; behind = (next ∷ block) ∷ blocks; same = with_block_is cell next block blocks false same }
+  by_test true same = record { block = next ∷ block; behind = blocks; same = with_block_is _ _ _ _ _ same }
+  by_test false same = record { block = []; behind = (next ∷ block) ∷ blocks; same = with_block_is _ _ _ _ _ same }
 
 -- cells that follow one another, and behind which the next cell does not, are the first of the longest blocks
 pub first_longest : (block rest : List (ℕ × ℕ)) → 0 < length block → IsChunkByPrefix follows (block ++ rest) (length block)
@@ -134,21 +134,21 @@ pub first_longest : (block rest : List (ℕ × ℕ)) → 0 < length block → Is
 first_longest [] rest some is = absurd (let wrong : ⊥ = omega (arith, some) in wrong)
 first_longest (cell ∷ []) [] some is = refl
 first_longest (cell ∷ []) (next ∷ rest) some (all, ends) =
-    let begins = with_block_begins next (longest_blocks rest) in
+    let begins = with_block_begins _ _ in
     let apart : follows cell next ≡ false = ends (omega arith) cell in
     ap (λ blocks. with_block cell blocks) begins.same
-    ∙ (with_block_is cell next begins.block begins.behind false apart
+    ∙ (with_block_is _ _ _ _ _ apart
     ∙ ap (λ blocks. (cell ∷ []) ∷ blocks) (sym begins.same))
 first_longest (cell ∷ (next ∷ block)) rest some (all, ends) =
     let on : longest_blocks ((next ∷ block) ++ rest) ≡ (next ∷ block) ∷ longest_blocks rest =
-    first_longest (next ∷ block) rest (omega arith) (
+    first_longest _ _ (omega arith) (
       (λ k d less. subst (λ n. follows (slice_index_or ((next ∷ block) ++ rest) k d) (slice_index_or (cell ∷ ((next ∷ block) ++ rest)) n d) ≡ true)
           (let e : suc k + 1 ≡ suc (k + 1) = omega arith in e) (all (suc k) d (omega (arith, less)))),
       (λ less d. subst (λ n. follows (slice_index_or (cell ∷ ((next ∷ block) ++ rest)) n d) (slice_index_or ((next ∷ block) ++ rest) (length (next ∷ block)) d) ≡ false)
           (let e : length (cell ∷ (next ∷ block)) - 1 ≡ suc (length (next ∷ block) - 1) = omega arith in e) (ends (omega (arith, less)) d)),
     ) in
     let joins : follows cell next ≡ true = all 0 cell (omega arith) in
-    ap (λ blocks. with_block cell blocks) on ∙ with_block_is cell next block (longest_blocks rest) true joins
+    ap (λ blocks. with_block cell blocks) on ∙ with_block_is _ _ _ _ _ joins
 
 pub first_chunk : (cells chunks block behind front back : List (ℕ × ℕ)) → chunks ≡ cells → chunks ≡ block ++ behind → 0 < length block
     → IsChunkByPrefix follows chunks (length block) → front ≡ take (length block) cells → back ≡ drop (length block) cells
@@ -158,7 +158,7 @@ first_chunk cells chunks block behind front back same parts some is front_is bac
     let front_block : front ≡ block = front_is ∙ (ap (λ cells. take (length block) cells) whole ∙ take_at block behind (length block) refl) in
     let back_behind : back ≡ behind = back_is ∙ (ap (λ cells. drop (length block) cells) whole ∙ drop_at block behind (length block) refl) in
     ap longest_blocks whole
-    ∙ (first_longest block behind some (subst (λ cells. IsChunkByPrefix follows cells (length block)) parts is)
+    ∙ (first_longest _ _ some (subst (λ cells. IsChunkByPrefix follows cells (length block)) parts is)
     ∙ (ap (λ b. b ∷ longest_blocks behind) (sym front_block) ∙ ap (λ b. front ∷ longest_blocks b) (sym back_behind)))
 
 no_longest : (cells : List (ℕ × ℕ)) → length cells ≡ 0 → length (longest_blocks cells) ≡ 0
@@ -168,16 +168,16 @@ no_longest (cell ∷ cells) none = absurd (let wrong : ⊥ = omega (arith, none)
 -- how many chunks there are
 pub as_many_chunks : {F : Type 0} (g : Mut F (Bor (ℕ × ℕ) × (Bor (ℕ × ℕ) × Unit {0})) Bool) (s t u : ChunkBy (ℕ × ℕ) F) (chunks : List (Bor (List (ℕ × ℕ)))) → ComputesOnPairs g follows (chunk_by_callee s)
     → Yields (chunk_by_steps g) s chunks t → chunk_by_steps g t None u → length chunks ≡ length (longest_blocks (chunk_by_rest s))
-as_many_chunks g s t u [] by same (none, stays) = sym (no_longest (chunk_by_rest s) (ap (λ s. length (chunk_by_rest s)) same ∙ none))
+as_many_chunks g s t u [] by same (none, stays) = sym (no_longest _ (ap (λ s. length (chunk_by_rest s)) same ∙ none))
 as_many_chunks g s t u (chunk ∷ chunks) by (next, (parts, some, tests), others) ends =
     let (by_next, prefix) = tests follows by in
     let here : longest_blocks (chunk_by_rest s) ≡ chunk.now ∷ longest_blocks (chunk_by_rest next) =
-    ap longest_blocks parts ∙ first_longest chunk.now (chunk_by_rest next) some (subst (λ cells. IsChunkByPrefix follows cells (length chunk.now)) parts prefix) in
+    ap longest_blocks parts ∙ first_longest _ _ some (subst (λ cells. IsChunkByPrefix follows cells (length chunk.now)) parts prefix) in
     ap suc (as_many_chunks g next t u chunks by_next others ends) ∙ sym (ap length here)
 
 -- the pieces of a cutting
 sum_more : (count : ℕ) (counts : List ℕ) → sum (count ∷ counts) ≡ count + sum counts
-sum_more count counts = sum_by-cons (λ x. x) count counts
+sum_more count counts = sum_by-cons _ _ counts
 
 pub too_long_a_piece : (count : ℕ) (counts : List ℕ) (cells : List (ℕ × ℕ)) → length cells < count → is_cutting (count ∷ counts) cells ≡ false
 too_long_a_piece count counts cells over =
@@ -209,7 +209,7 @@ pub one_piece_more : (count : ℕ) (more counts : List ℕ) (left front back : L
     → (new ++ concat (map block_codes (pieces_of more back)) ≡ whole) × (is_cutting more back ≡ true)
 one_piece_more count more counts left front back codes new whole same all is within front_is back_is new_is =
     let cuts : is_block (take count left) && is_cutting more (drop count left) ≡ true =
-    sym (cutting_more count more left within) ∙ (ap (λ counts. is_cutting counts left) (sym same) ∙ is) in
+    sym (cutting_more _ more _ within) ∙ (ap (λ counts. is_cutting counts left) (sym same) ∙ is) in
     let behind = concat (map block_codes (pieces_of more back)) in
     let punched : new ++ behind ≡ codes ++ (block_codes (take count left) ++ behind) =
     ap (λ new. new ++ behind) (new_is ∙ ap (λ front. codes ++ block_codes front) front_is) ∙ append_assoc codes (block_codes (take count left)) behind in (

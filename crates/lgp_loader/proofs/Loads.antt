@@ -9,7 +9,7 @@ use Rattle.lgp_loader.specs.Cutting.{are_blocks, cells_of, is_cutting, longest_b
 use Rattle.lgp_loader.specs.LoadedOver.{IsLoadedOver}
 use Rattle.lgp_loader.specs.Loading.{TapeLoad, load_with, loaded}
 use Rattle.lgp_loader.specs.ReadyInside.{IsReady}
-use Rattle.lgp_loader.specs.SingleLoading.{left_by_single, single_load}
+use Rattle.lgp_loader.specs.SingleLoading.{single_load}
 use Rattle.lgp_loader.proofs.Begun.{calm_in_run}
 use Rattle.lgp_loader.proofs.BlockLaw.{block_is_loader, blocks_run}
 use Rattle.lgp_loader.proofs.Cuts.{as_many_pieces, longest_are_blocks, longest_have_cells, no_more_blocks, pieces_are_blocks, pieces_have_cells}
@@ -44,13 +44,13 @@ cut_ready s image counts long cut program few is =
 pub single_ready : (s : State) (image : ImageParts) → length s.core.words ≡ 4096 → AreProgramCells image.cells → length image.cells ≤ 4096 → IfSome image.start IsAddress
     → IsReady s (single_load image)
 single_ready s image long program few is =
-    let runs = single_runs s image long program is in
+    let runs = single_runs s _ long program is in
     record {
       fits = single_is_loader;
       some = omega arith;
-      work = λ before less. let calm = calm_in_run s (single_load image) (left_by_single s image 0).core runs before less in calm.works;
-      silent = λ before less. let calm = calm_in_run s (single_load image) (left_by_single s image 0).core runs before less in calm.silent;
-      short = short_single_tape image few;
+      work = λ before less. let calm = calm_in_run s _ _ runs _ less in calm.works;
+      silent = λ before less. let calm = calm_in_run s _ _ runs _ less in calm.silent;
+      short = short_single_tape _ few;
     }
 
 -- what they leave
@@ -59,7 +59,7 @@ cells_over : (s : State) (blocks : List (List (ℕ × ℕ))) (start : Option ℕ
     → IsLoadedOver s.core.words (loaded s (block_load blocks start)).core.words cells
 cells_over s blocks start cells long are same program own is =
     subst (IsLoadedOver s.core.words (loaded s (block_load blocks start)).core.words) same
-    (blocks_over s blocks start long are (subst AreProgramCells (sym same) program) (subst HaveOwnPlaces (sym same) own) is)
+    (blocks_over s _ _ long are (subst AreProgramCells (sym same) program) (subst HaveOwnPlaces (sym same) own) is)
 
 pub longest_over : (s : State) (image : ImageParts) → length s.core.words ≡ 4096 → AreProgramCells image.cells → HaveOwnPlaces image.cells → IfSome image.start IsAddress
     → IsLoadedOver s.core.words (loaded s (longest_load image)).core.words image.cells
@@ -83,14 +83,14 @@ pub longest_orders : (image : ImageParts) (cells : List (ℕ × ℕ)) (blocks or
 longest_orders image cells blocks orders same count is =
     is ∙ (ap (λ blocks. orders_for (length cells) blocks) count
     ∙ (ap (λ cells. orders_for (length cells) (length (longest_blocks cells))) same
-    ∙ ap (λ words. orders_for words (length (longest_blocks image.cells))) (sym (ap length (longest_have_cells image.cells)))))
+    ∙ ap (λ words. orders_for words (length (longest_blocks image.cells))) (sym (ap length (longest_have_cells _)))))
 
 pub cut_orders : (image : ImageParts) (counts : List ℕ) (cells : List (ℕ × ℕ)) (orders : ℕ) → is_cutting counts image.cells ≡ true → cells ≡ image.cells
     → orders ≡ orders_for (length cells) (length counts) → orders ≡ (cut_load image counts).orders
 cut_orders image counts cells orders cut same is =
     is ∙ (ap (λ cells. orders_for (length cells) (length counts)) same
-    ∙ (ap (λ words. orders_for words (length counts)) (sym (ap length (pieces_have_cells counts image.cells cut)))
-    ∙ ap (λ blocks. orders_for (length (cells_of (pieces_of counts image.cells))) blocks) (sym (as_many_pieces counts image.cells))))
+    ∙ (ap (λ words. orders_for words (length counts)) (sym (ap length (pieces_have_cells counts _ cut)))
+    ∙ ap (λ blocks. orders_for (length (cells_of (pieces_of counts image.cells))) blocks) (sym (as_many_pieces _ _))))
 
 pub few_counts : (counts : List ℕ) (cells : List (ℕ × ℕ)) → is_cutting counts cells ≡ true → length counts ≤ length cells
 few_counts counts cells cut =

@@ -102,7 +102,7 @@ pub reader_starts : (switches : Switches) (counter accumulator register : ℕ) (
     → Fetches words counter word P 0
     → Leads (core_at switches counter accumulator register words (off passed left)) (core_at switches (address_after counter) accumulator word words (on passed left))
 reader_starts switches counter accumulator register words passed left word fetches =
-    performs switches counter accumulator register words (off passed left) word P 0 fetches refl refl
+    performs switches _ _ _ _ _ _ P 0 fetches refl refl
     (core_at switches (address_after counter) accumulator word words (on passed left)) refl
 
 or_true : (b : Bool) → (b || true) ≡ true
@@ -124,14 +124,14 @@ leaves_rest (code ∷ codes) rest none =
 
 meets_stop : (codes rest : List ℕ) → met_stop (codes ++ stop_code ∷ rest) ≡ true
 meets_stop [] rest = refl
-meets_stop (code ∷ codes) rest = ap (λ met. is_stop code || met) (meets_stop codes rest) ∙ or_true (is_stop code)
+meets_stop (code ∷ codes) rest = ap (λ met. is_stop code || met) (meets_stop codes rest) ∙ or_true _
 
 -- codes that enter as a word, and the conditional stop behind them
 enters_word : (codes : List ℕ) (word accumulator : ℕ) → filter enters codes ≡ word_codes word → IsWord word
     → accumulator_after_all false accumulator (codes ++ stop_code ∷ []) ≡ word
 enters_word codes word accumulator same is =
     let entered : filter enters (codes ++ stop_code ∷ []) ≡ word_codes word = filter-append enters codes (stop_code ∷ []) ∙ (append-nil (filter enters codes) ∙ same) in
-    rw entered (word_keyed word accumulator is.0)
+    rw entered (word_keyed _ _ is.0)
 
 -- the core after codes have been read
 input_core : Switches → ℕ → ℕ → ℕ → List ℕ → List ℕ → List ℕ → Bool → Core
@@ -178,24 +178,24 @@ pub held : (switches : Switches) (counter accumulator register : ℕ) (words : L
     → Fetches words counter word H address → IsWord accumulator
     → Leads (core_at switches counter accumulator register words tape) (core_at switches (address_after counter) accumulator word (slice_set words address accumulator) tape)
 held switches counter accumulator register words tape word address fetches is =
-    performs switches counter accumulator register words tape word H address fetches refl refl
+    performs switches _ _ _ _ _ _ H _ fetches refl refl
     (core_at switches (address_after counter) accumulator word (slice_set words address accumulator) tape)
-    (ap (λ n. core_at switches (address_after counter) accumulator word (slice_set words address n) tape) (stored_word accumulator is))
+    (ap (λ n. core_at switches (address_after counter) accumulator word (slice_set words address n) tape) (stored_word _ is))
 
 pub cleared : (switches : Switches) (counter accumulator register : ℕ) (words : List ℕ) (tape : Tape) (word address : ℕ)
     → Fetches words counter word C address → IsWord accumulator
     → Leads (core_at switches counter accumulator register words tape) (core_at switches (address_after counter) 0 word (slice_set words address accumulator) tape)
 cleared switches counter accumulator register words tape word address fetches is =
-    performs switches counter accumulator register words tape word C address fetches refl refl
+    performs switches _ _ _ _ _ _ C _ fetches refl refl
     (core_at switches (address_after counter) 0 word (slice_set words address accumulator) tape)
-    (ap (λ n. core_at switches (address_after counter) 0 word (slice_set words address n) tape) (stored_word accumulator is))
+    (ap (λ n. core_at switches (address_after counter) 0 word (slice_set words address n) tape) (stored_word _ is))
 
 -- u jumps
 pub jumps : (switches : Switches) (counter accumulator register : ℕ) (words : List ℕ) (tape : Tape) (word address : ℕ)
     → Fetches words counter word U address
     → Leads (core_at switches counter accumulator register words tape) (core_at switches address accumulator word words tape)
 jumps switches counter accumulator register words tape word address fetches =
-    performs switches counter accumulator register words tape word U address fetches refl refl (core_at switches address accumulator word words tape) refl
+    performs switches _ _ _ _ _ _ U _ fetches refl refl (core_at switches address accumulator word words tape) refl
 
 -- no BREAK POINT switch passes over a stop at track 0
 no_stop_passed : (switches : Switches) → passes_stop (record switches { six_bit = false }) 0 ≡ false
@@ -207,5 +207,5 @@ pub stops : (switches : Switches) (counter accumulator register : ℕ) (words : 
     → Leads (core_at switches counter accumulator register words tape)
     (with_status (core_at switches (address_after counter) accumulator word words tape) (Halted Stop))
 stops switches counter accumulator register words tape word fetches =
-    performs switches counter accumulator register words tape word Z 0 fetches refl refl
+    performs switches _ _ _ _ _ _ Z 0 fetches refl refl
     (with_status (core_at switches (address_after counter) accumulator word words tape) (Halted Stop)) (ap (λ b. after_order (record { core = core_at switches (address_after counter) accumulator word words tape; ending = cond b Plain Stopped; prints = None }) Going) (no_stop_passed switches))

@@ -16,18 +16,17 @@ use Rattle.lgp_keyin.specs.KeyIn.{about_to_jump, keyed, words_keyed}
 use Rattle.lgp_keyin.specs.Keyed.{before_store}
 use Rattle.lgp_keyin.proofs.Placed.{after_words, before_words}
 use Rattle.lgp_assembler.specs.Parts.{AreProgramCells, HaveOwnPlaces, ImageParts}
-use Rattle.lgp_loader.specs.BlockLoading.{block_load, store_after, words_after_blocks}
-use Rattle.lgp_loader.specs.BlockPlaces.{block_end_cell, block_loader_words, block_store_cell, count_cell}
+use Rattle.lgp_loader.specs.BlockLoading.{block_load, words_after_blocks}
+use Rattle.lgp_loader.specs.BlockPlaces.{block_loader_words}
 use Rattle.lgp_loader.specs.Cutting.{are_blocks, cells_of}
 use Rattle.lgp_loader.specs.LoadedOver.{IsLoadedOver}
-use Rattle.lgp_loader.specs.LoaderTape.{end_word}
 use Rattle.lgp_loader.specs.Loading.{TapeLoad, begun, loaded, loading_cost, order_states, overlay, prepared, store_states}
 use Rattle.lgp_loader.specs.Loads.{IsLoad}
 use Rattle.lgp_assembler.specs.Parts.{loader_base}
 use Rattle.lgp_loader.specs.declared.loading.LoadFault.{LoadFault}
 use Rattle.lgp_loader.specs.ReadyInside.{LeavesProgram}
-use Rattle.lgp_loader.specs.SingleLoading.{last_control, single_load, words_after_single}
-use Rattle.lgp_loader.specs.SinglePlaces.{single_end_cell, single_loader_words, single_store_cell}
+use Rattle.lgp_loader.specs.SingleLoading.{single_load, words_after_single}
+use Rattle.lgp_loader.specs.SinglePlaces.{single_loader_words}
 use Rattle.lgp_loader.proofs.Begun.{keyed_up, length_from, with_words}
 use Rattle.lgp_loader.proofs.BlockLaw.{blocks_leave}
 use Rattle.lgp_loader.proofs.Ready.{past_by_keying}
@@ -46,7 +45,7 @@ overlay_lies : (cells : List (ℕ × ℕ)) (words : List ℕ) → AllPairs (λ o
     → All (λ cell. slice_index (overlay words cells) cell.0 ≡ cell.1) cells
 overlay_lies [] words apart within k d less = absurd (let wrong : ⊥ = omega (arith, less) in wrong)
 overlay_lies (cell ∷ cells) words apart within zero d less =
-    overlay_misses cells (slice_set words cell.0 cell.1) cell.0 (λ k e there same. apart 0 (suc k) e (omega arith) (omega (arith, there)) (sym same))
+    overlay_misses _ _ _ (λ k e there same. apart 0 (suc k) e (omega arith) (omega (arith, there)) (sym same))
     ∙ get_or-set_same words cell.0 cell.1 0 (within 0 d less)
 overlay_lies (cell ∷ cells) words apart within (suc k) d less =
     overlay_lies cells (slice_set words cell.0 cell.1)
@@ -58,11 +57,11 @@ overlay_lies (cell ∷ cells) words apart within (suc k) d less =
 over_loader : (words loader : List ℕ) (cells : List (ℕ × ℕ)) → length words ≡ 4096 → length loader ≤ 22 → HaveOwnPlaces cells
     → IsLoadedOver words (overlay (with_words words loader) cells) cells
 over_loader words loader cells long fits own =
-    let drum : length (with_words words loader) ≡ 4096 = length_from loader words loader_base ∙ long in
+    let drum : length (with_words words loader) ≡ 4096 = length_from loader _ loader_base ∙ long in
     record {
-      words = overlay_lies cells (with_words words loader) own.apart (λ k d less. subst (λ n. (slice_index_or cells k d).0 < n) (sym drum) (own.on_drum k d less));
-      others = λ place free apart. overlay_misses cells (with_words words loader) place apart ∙ ⊎_elim
-          (λ less. before_words loader words loader_base place less)
+      words = overlay_lies _ _ own.apart (λ k d less. subst (λ n. (slice_index_or cells k d).0 < n) (sym drum) (own.on_drum k d less));
+      others = λ place free apart. overlay_misses _ _ _ apart ∙ ⊎_elim
+          (λ less. before_words loader _ _ _ less)
           (λ above. after_words loader words loader_base place (omega (arith, above, fits)))
           free;
     }
@@ -85,21 +84,17 @@ words_over_blocks : (words : List ℕ) (blocks : List (List (ℕ × ℕ))) (star
     → IsLoadedOver words (words_after_blocks words blocks start) (cells_of blocks)
 words_over_blocks words blocks start long own =
     let cells = cells_of blocks in
-    let drum = overlay (with_words words block_loader_words) cells in
-    let store = store_after 0 blocks in
-    put_in_loader words (slice_set (slice_set drum block_store_cell store) count_cell 0) cells block_end_cell (end_word start) (omega arith) (omega arith) own
-    (put_in_loader words (slice_set drum block_store_cell store) cells count_cell 0 (omega arith) (omega arith) own
-    (put_in_loader words drum cells block_store_cell store (omega arith) (omega arith) own
+    put_in_loader _ _ _ _ _ (omega arith) (omega arith) own
+    (put_in_loader _ _ _ _ 0 (omega arith) (omega arith) own
+    (put_in_loader _ _ _ _ _ (omega arith) (omega arith) own
     (over_loader words block_loader_words cells long (omega arith) own)))
 
 words_over_single : (words : List ℕ) (image : ImageParts) → length words ≡ 4096 → HaveOwnPlaces image.cells
     → IsLoadedOver words (words_after_single words image) image.cells
 words_over_single words image long own =
     let cells = image.cells in
-    let drum = overlay (with_words words single_loader_words) cells in
-    let store = last_control cells in
-    put_in_loader words (slice_set drum single_store_cell store) cells single_end_cell (end_word image.start) (omega arith) (omega arith) own
-    (put_in_loader words drum cells single_store_cell store (omega arith) (omega arith) own
+    put_in_loader _ _ _ _ _ (omega arith) (omega arith) own
+    (put_in_loader _ _ _ _ _ (omega arith) (omega arith) own
     (over_loader words single_loader_words cells long (omega arith) own))
 
 -- ---- what loading leaves
@@ -115,7 +110,7 @@ blocks_over s blocks start long are program own is =
 pub single_over : (s : State) (image : ImageParts) → length s.core.words ≡ 4096 → AreProgramCells image.cells → HaveOwnPlaces image.cells → IfSome image.start IsAddress
     → IsLoadedOver s.core.words (loaded s (single_load image)).core.words image.cells
 single_over s image long program own is =
-    subst (λ (ws : List ℕ). IsLoadedOver s.core.words ws image.cells) (sym (ap (λ (t : State). t.core.words) (single_leaves s image long program is))) (words_over_single s.core.words image long own)
+    subst (λ (ws : List ℕ). IsLoadedOver s.core.words ws image.cells) (sym (ap (λ (t : State). t.core.words) (single_leaves s _ long program is))) (words_over_single _ image long own)
 
 -- ---- how long it takes
 
@@ -125,7 +120,7 @@ costs_between : (f : ℕ → State) (clock : ℕ → ℕ) (first count : ℕ) �
 costs_between f clock first zero each = let same : clock first ≡ clock (first + 0) = ap clock (let e : first ≡ first + 0 = omega arith in e) in omega (arith, same)
 costs_between f clock first (suc count) each =
     let others = map f (range_with_len (first + 1) count) in
-    let parts : sum_by cost (f first ∷ others) ≡ cost (f first) + sum_by cost others = sum_by-cons cost (f first) others in
+    let parts : sum_by cost (f first ∷ others) ≡ cost (f first) + sum_by cost others = sum_by-cons _ (f first) others in
     let here : clock first + cost (f first) ≡ clock (first + 1) =
     ap (λ n. clock n + cost (f n)) (let e : first ≡ first + 0 = omega arith in e) ∙ (each 0 (omega arith) ∙ ap clock (let e : first + 0 + 1 ≡ first + 1 = omega arith in e)) in
     let later = costs_between f clock (first + 1) count
@@ -164,7 +159,7 @@ loading_clock s load =
     let jump = about_to_jump (prepared s load) loader_base in
     let orders = order_states (begun s load) load.orders in
     let whole : sum_by cost (stores ++ jump ∷ orders) ≡ sum_by cost stores + sum_by cost (jump ∷ orders) = sum_by-append cost stores (jump ∷ orders) in
-    let behind : sum_by cost (jump ∷ orders) ≡ cost jump + sum_by cost orders = sum_by-cons cost jump orders in
+    let behind : sum_by cost (jump ∷ orders) ≡ cost jump + sum_by cost orders = sum_by-cons _ jump orders in
     let storing = stores_cost s loader_base load.loader in
     let jumping : (keyed s loader_base load.loader).clock + cost jump ≡ (begun s load).clock = refl in
     let performing = orders_cost (begun s load) load.orders in
@@ -172,7 +167,7 @@ loading_clock s load =
 
 -- the same of the machine that has loaded
 pub time_loaded : (now : Configuration) (s : State) (load : TapeLoad) → now ≡ at_boundary (loaded s load) → now.state.clock ≡ s.clock + loading_cost s load
-time_loaded now s load at = ap (λ (c : Configuration). c.state.clock) at ∙ loading_clock s load
+time_loaded now s load at = ap (λ (c : Configuration). c.state.clock) at ∙ loading_clock s _
 
 pub program_loaded : (now : Configuration) (s : State) (load : TapeLoad) (cells : List (ℕ × ℕ)) → now ≡ at_boundary (loaded s load) → length s.core.words ≡ 4096
     → LeavesProgram load cells → IsLoadedOver s.core.words now.state.core.words cells
@@ -183,6 +178,6 @@ pub program_read : (load : TapeLoad) (cells : List (ℕ × ℕ)) (before after :
     → IsLoad load before after answer → length before.state.core.words ≡ 4096 → LeavesProgram load cells
     → OnOk answer (IsLoadedOver before.state.core.words after.state.core.words cells)
 program_read load cells before after answer is long leaves =
-    on_ok_weaker answer (λ at. program_loaded after before.state load cells at long leaves) is.leaves
+    on_ok_weaker answer (λ at. program_loaded _ before.state _ _ at long leaves) is.leaves
 
 pub ruleset tape_loaded = (keyed_up, past_by_keying, time_loaded)

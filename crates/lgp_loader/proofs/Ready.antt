@@ -21,14 +21,14 @@ pub clock_later : (s : State) (first then : ℕ) → first ≤ then → (after s
 clock_later s first then le =
     let same : first + (then - first) ≡ then = omega (arith, le) in
     let parts : (after s then).clock ≡ (after (after s first) (then - first)).clock =
-    ap (λ n. (after s n).clock) (sym same) ∙ ap (λ (t : State). t.clock) (after_sum s first (then - first)) in
+    ap (λ n. (after s n).clock) (sym same) ∙ ap (λ (t : State). t.clock) (after_sum s _ _) in
     omega (arith, parts, clock_after (after s first) (then - first))
 
 pub begun_later : (s : State) (load : TapeLoad) → (keyed s loader_base load.loader).clock ≤ (begun s load).clock
 begun_later s load = omega arith
 
 pub loading_time : (s : State) (load : TapeLoad) → (loaded s load).clock ≡ (begun s load).clock + total_cost (begun s load) load.orders
-loading_time s load = clock_after (begun s load) load.orders
+loading_time s load = clock_after _ _
 
 -- so many orders are performed
 pub record HasPerformed (now : Configuration) (s : State) (done : ℕ) : Type 0 where
@@ -44,7 +44,7 @@ none_performed now s at = record {
 pub one_more_performed : (now then : Configuration) (s : State) (done : ℕ) → HasPerformed now s done → then ≡ at_boundary (next now.state) → then.state.clock ≤ clock_end
     → HasPerformed then s (done + 1)
 one_more_performed now then s done so is clock = record {
-  at = is ∙ (ap (λ (c : Configuration). at_boundary (next c.state)) so.at ∙ ap at_boundary (sym (after_one_more s done)));
+  at = is ∙ (ap (λ (c : Configuration). at_boundary (next c.state)) so.at ∙ ap at_boundary (sym (after_one_more s _)));
   clock = λ some. clock;
 }
 
@@ -71,7 +71,7 @@ past_by_jump now s load at past =
 pub past_by_order : (now : Configuration) (s : State) (load : TapeLoad) → (done : ℕ) × (done < load.orders) × (now ≡ at_boundary (after (begun s load) done)) → clock_end < now.state.clock + cost now.state → clock_end < (loaded s load).clock
 past_by_order now s load (done, less, at) past =
     let same : now.state.clock + cost now.state ≡ (after (begun s load) (done + 1)).clock =
-    ap (λ (c : Configuration). (next c.state).clock) at ∙ ap (λ (t : State). t.clock) (sym (after_one_more (begun s load) done)) in
+    ap (λ (c : Configuration). (next c.state).clock) at ∙ ap (λ (t : State). t.clock) (sym (after_one_more _ _)) in
     let later = clock_later (begun s load) (done + 1) load.orders (omega (arith, less)) in
     omega (arith, past, same, later)
 

@@ -30,7 +30,7 @@ state_after_run s zero last same =
     let none = after_none s in
     none ∙ (ap (λ core. record s { core = core }) same ∙ ap (λ (t : State). record { core = last; printed = s.printed; clock = t.clock }) (sym none))
 state_after_run s (suc count) last (calm, runs) =
-    let first = after_first s count in
+    let first = after_first s _ in
     let now = calm_next s calm in
     let core : (next s).core ≡ core_after s.core = refl in
     first
@@ -43,4 +43,4 @@ pub calm_at : (s : State) (count : ℕ) (last : Core) → Runs count s.core last
 calm_at s zero last same before less = absurd (let wrong : ⊥ = omega (arith, less) in wrong)
 calm_at s (suc count) last (calm, runs) zero less = subst (λ (t : State). IsCalm t.core) (sym (after_none s)) calm
 calm_at s (suc count) last (calm, runs) (suc before) less =
-    subst (λ (t : State). IsCalm t.core) (sym (after_first s before)) (calm_at (next s) count last runs before (omega (arith, less)))
+    subst (λ (t : State). IsCalm t.core) (sym (after_first s _)) (calm_at (next s) count last runs before (omega (arith, less)))

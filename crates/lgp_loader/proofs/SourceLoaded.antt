@@ -24,6 +24,6 @@ cut_source s source counts long none cut =
 pub single_source : (s : State) (source : List ℕ) → length s.core.words ≡ 4096 → faults_of source ≡ []
     → IsLoadedOver s.core.words (loaded s (single_load (image_of source))).core.words (image_of source).cells
 single_source s source long none =
-    single_over s (image_of source) long (places_filled source none) (places_apart source none) (start_on_drum source)
+    single_over s _ long (places_filled _ none) (places_apart _ none) (start_on_drum _)
 
 pub ruleset source_loaded = (longest_source, cut_source, single_source)

@@ -10,7 +10,7 @@ use Rattle.lgp_table.specs.After.{after}
 use Rattle.lgp_table.specs.Interleaving.{Configuration, at_boundary}
 use Rattle.lgp_table.proofs.After.{after_none, after_one_more}
 use Rattle.lgp_machine.specs.Answers.{clock_end, passes_clock_end}
-use Rattle.lgp_keyin.specs.KeyIn.{about_to_jump, about_to_store, keyed, with_four_bit_input, words_keyed}
+use Rattle.lgp_keyin.specs.KeyIn.{about_to_jump, about_to_store, keyed, words_keyed}
 use Rattle.lgp_keyin.specs.Keyed.{before_store}
 use Rattle.lgp_loader.specs.Loading.{TapeLoad, begun, loaded, loading_stopped, order_states, prepared, store_states}
 use Rattle.lgp_assembler.specs.Parts.{loader_base}
@@ -35,7 +35,7 @@ module _ (f : ℕ → State) where
 
   first_of : (first count done : ℕ) → done < count → ((k : ℕ) → k < done → passes_clock_end (f (first + k)) ≡ false) → passes_clock_end (f (first + done)) ≡ true
       → find passes_clock_end (map f (range_with_len first count)) ≡ Some (f (first + done))
-  first_of first zero done less calm past = absurd (let wrong : ⊥ = omega (arith, less) in wrong)
+  first_of first zero done less _ _ = absurd (let wrong : ⊥ = omega (arith, less) in wrong)
   first_of first (suc count) zero less calm past =
       let same : first ≡ first + 0 = omega arith in
       ap (λ b. cond b (Some (f first)) (find passes_clock_end (map f (range_with_len (first + 1) count)))) (ap (λ n. passes_clock_end (f n)) same ∙ past)
@@ -54,7 +54,7 @@ no_store : (s : State) (base : ℕ) (words : List ℕ) → ((k : ℕ) → k < le
     → find passes_clock_end (store_states s base words) ≡ None
 unfolding store_states
 no_store s base words calm =
-    none_of (before_store s base words) 0 (length words) (λ k less. ap (λ n. passes_clock_end (before_store s base words n)) (let e : 0 + k ≡ k = omega arith in e) ∙ calm k less)
+    none_of _ 0 (length words) (λ k less. ap (λ n. passes_clock_end (before_store s base words n)) (let e : 0 + k ≡ k = omega arith in e) ∙ calm k less)
 
 first_store : (s : State) (base : ℕ) (words : List ℕ) (done : ℕ) → done < length words → ((k : ℕ) → k < done → passes_clock_end (before_store s base words k) ≡ false)
     → passes_clock_end (before_store s base words done) ≡ true → find passes_clock_end (store_states s base words) ≡ Some (before_store s base words done)
@@ -67,7 +67,7 @@ first_store s base words done less calm past =
 
 no_order : (s : State) (count : ℕ) → ((k : ℕ) → k < count → passes_clock_end (after s k) ≡ false) → find passes_clock_end (order_states s count) ≡ None
 unfolding order_states
-no_order s count calm = none_of (after s) 0 count (λ k less. ap (λ n. passes_clock_end (after s n)) (let e : 0 + k ≡ k = omega arith in e) ∙ calm k less)
+no_order s count calm = none_of _ 0 count (λ k less. ap (λ n. passes_clock_end (after s n)) (let e : 0 + k ≡ k = omega arith in e) ∙ calm k less)
 
 first_order : (s : State) (count done : ℕ) → done < count → ((k : ℕ) → k < done → passes_clock_end (after s k) ≡ false) → passes_clock_end (after s done) ≡ true
     → find passes_clock_end (order_states s count) ≡ Some (after s done)
@@ -86,14 +86,14 @@ store_more s base [] k less = absurd (let wrong : ⊥ = omega (arith, less) in w
 store_more s base (word ∷ words) zero less = ap (λ n. next (about_to_store s n word)) (let e : base ≡ base + 0 = omega arith in e)
 store_more s base (word ∷ words) (suc k) less =
     let t = next (about_to_store s base word) in
-    store_more t (base + 1) words k (omega (arith, less))
+    store_more t _ _ k (omega (arith, less))
     ∙ ap (λ n. next (about_to_store (words_keyed t (base + 1) (take k words)) n (slice_index words k))) (let e : base + 1 + k ≡ base + suc k = omega arith in e)
 
 -- the clock while words are stored
 pub keyed_clock : (s : State) (base : ℕ) (words : List ℕ) (k : ℕ) → k < length words
     → (before_store s base words k).clock + cost (before_store s base words k) ≡ (keyed s base (take (k + 1) words)).clock
 keyed_clock s base words k less =
-    ap (λ (t : State). t.clock) (sym (store_more (with_four_bit_input s) base words k less))
+    ap (λ (t : State). t.clock) (sym (store_more _ _ _ k less))
     ∙ ap (λ n. (keyed s base (take n words)).clock) (let e : suc k ≡ k + 1 = omega arith in e)
 
 keyed_grows : (s : State) (base : ℕ) (words : List ℕ) (k more : ℕ) → k + more ≤ length words
@@ -115,7 +115,7 @@ store_fits : (s : State) (base : ℕ) (words : List ℕ) (k done : ℕ) → k < 
 store_fits s base words k done below within clock =
     let left : k + 1 + (done - (k + 1)) ≡ done = omega (arith, below) in
     let later : (keyed s base (take (k + 1) words)).clock ≤ (keyed s base (take (k + 1 + (done - (k + 1))) words)).clock =
-    keyed_grows s base words (k + 1) (done - (k + 1)) (omega (arith, left, within)) in
+    keyed_grows s _ _ _ _ (omega (arith, left, within)) in
     let same : (keyed s base (take (k + 1 + (done - (k + 1))) words)).clock ≡ (keyed s base (take done words)).clock = ap (λ n. (keyed s base (take n words)).clock) left in
     fits (before_store s base words k) (omega (arith, keyed_clock s base words k (omega (arith, below, within)), later, same, clock))
 
@@ -127,7 +127,7 @@ order_fits s k done below clock =
 
 -- no store of the loader passes the end where the clock after them all is within it
 stores_fit : (s : State) (load : TapeLoad) → (keyed s loader_base load.loader).clock ≤ clock_end → find passes_clock_end (store_states s loader_base load.loader) ≡ None
-stores_fit s load clock = no_store s loader_base load.loader (λ k less. store_fits s loader_base load.loader k (length load.loader) less (omega arith)
+stores_fit s load clock = no_store s _ _ (λ k less. store_fits s _ _ k _ less (omega arith)
     (subst (λ words. (keyed s loader_base words).clock ≤ clock_end) (sym (take_all (length load.loader) load.loader (omega arith))) clock))
 
 jump_fits : (s : State) (load : TapeLoad) → (begun s load).clock ≤ clock_end → passes_clock_end (about_to_jump (prepared s load) loader_base) ≡ false
@@ -147,7 +147,7 @@ behind_jump : (s : State) (load : TapeLoad) → (begun s load).clock ≤ clock_e
 behind_jump s load clock =
     let jump = about_to_jump (prepared s load) loader_base in
     let stores : (keyed s loader_base load.loader).clock ≤ clock_end = omega (arith, begun_later s load, clock) in
-    behind_stores s load stores
+    behind_stores s _ stores
     ∙ ap (λ b. cond b (Some jump) (find passes_clock_end (order_states (begun s load) load.orders))) (jump_fits s load clock)
 
 stopped_in_store : (s : State) (load : TapeLoad) (done : ℕ) → done < length load.loader
@@ -164,7 +164,7 @@ stopped_in_jump : (s : State) (load : TapeLoad)
     → loading_stopped s load ≡ Some (about_to_jump (prepared s load) loader_base)
 stopped_in_jump s load clock past =
     let jump = about_to_jump (prepared s load) loader_base in
-    behind_stores s load clock ∙ ap (λ b. cond b (Some jump) (find passes_clock_end (order_states (begun s load) load.orders))) past
+    behind_stores s _ clock ∙ ap (λ b. cond b (Some jump) (find passes_clock_end (order_states (begun s load) load.orders))) past
 
 stopped_in_order : (s : State) (load : TapeLoad) (done : ℕ) → done < load.orders
     → (after (begun s load) done).clock ≤ clock_end → passes_clock_end (after (begun s load) done) ≡ true
@@ -189,19 +189,19 @@ pub stops_in_store : (s : State) (load : TapeLoad) (now : Configuration)
     → (done : ℕ) × (done < length load.loader) × (now ≡ at_boundary (before_store s loader_base load.loader done))
     → now.state.clock ≤ clock_end → clock_end < now.state.clock + cost now.state → loading_stopped s load ≡ Some now.state
 stops_in_store s load now (done, less, at) within past =
-    found_at now (before_store s loader_base load.loader done) (loading_stopped s load) at within past (stopped_in_store s load done less)
+    found_at _ _ _ at within past (stopped_in_store s _ _ less)
 
 pub stops_in_jump : (s : State) (load : TapeLoad) (now : Configuration)
     → now ≡ at_boundary (about_to_jump (prepared s load) loader_base)
     → now.state.clock ≤ clock_end → clock_end < now.state.clock + cost now.state → loading_stopped s load ≡ Some now.state
 stops_in_jump s load now at within past =
-    found_at now (about_to_jump (prepared s load) loader_base) (loading_stopped s load) at within past (stopped_in_jump s load)
+    found_at _ _ _ at within past (stopped_in_jump s _)
 
 pub stops_in_order : (s : State) (load : TapeLoad) (now : Configuration)
     → (done : ℕ) × (done < load.orders) × (now ≡ at_boundary (after (begun s load) done))
     → now.state.clock ≤ clock_end → clock_end < now.state.clock + cost now.state → loading_stopped s load ≡ Some now.state
 stops_in_order s load now (done, less, at) within past =
-    found_at now (after (begun s load) done) (loading_stopped s load) at within past (stopped_in_order s load done less)
+    found_at _ _ _ at within past (stopped_in_order s _ _ less)
 
 -- a boundary of some state is one of the machine's own
 pub own_boundary : (now : Configuration) (s : State) → now ≡ at_boundary s → now ≡ at_boundary now.state
@@ -212,6 +212,6 @@ pub stopped_nowhere : (s : State) (load : TapeLoad) → (loaded s load).clock �
 stopped_nowhere s load clock =
     let time = loading_time s load in
     behind_jump s load (omega (arith, time, clock))
-    ∙ no_order (begun s load) load.orders (λ k less. order_fits (begun s load) k load.orders less clock)
+    ∙ no_order (begun s load) load.orders (λ k less. order_fits _ k _ less clock)
 
 pub ruleset loading_stops = (stopped_nowhere)

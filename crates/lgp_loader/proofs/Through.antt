@@ -42,22 +42,14 @@ one_cell switches accumulator register words passed skipped rest place word coun
     let left = word_codes word ++ stop_code ∷ (carriage_return ∷ rest) in
     let passed1 = passed ++ read_codes skipped control in
     let passed2 = passed1 ++ read_codes [] word in
-    let words1 = slice_set words single_store_cell control in
-    let words2 = slice_set words1 place word in
-    let has1 = loader_stays words single_store_cell control has store_cell_elsewhere in
-    let has2 = loader_stays words1 place word has1 (program_elsewhere place free) in
-    let at3 = core_at switches (loader_base + 2) control (plain_order I 0) words (off passed1 left) in
-    let at4 = core_at switches (loader_base + 3) control (plain_order T single_end_place) words (off passed1 left) in
-    let at5 = core_at switches (loader_base + 4) control (plain_order H single_store_cell) words1 (off passed1 left) in
-    let at7 = core_at switches single_store_cell word (plain_order I 0) words1 (off passed2 (carriage_return ∷ rest)) in
-    let at8 = core_at switches (loader_base + 7) 0 control words2 (off passed2 (carriage_return ∷ rest)) in
-    let at9 = core_at switches loader_base 0 (plain_order U loader_base) words2 (off passed2 (carriage_return ∷ rest)) in
-    let eighth = one_then count at8 at9 last (jumps switches (loader_base + 7) 0 control words2 (off passed2 (carriage_return ∷ rest)) (plain_order U loader_base) loader_base (fetch_7 words2 has2)) runs in
-    let seventh = one_then (suc count) at7 at8 last (cleared switches single_store_cell word (plain_order I 0) words1 (off passed2 (carriage_return ∷ rest)) control place (fetch_store words place has within) is) eighth in
-    let fifth = two_orders switches (loader_base + 4) control (plain_order H single_store_cell) words1 passed1 [] (carriage_return ∷ rest) word (suc (suc count)) last (fetch_4 words1 has1) (fetch_5 words1 has1) (omega arith) nothing_skipped is seventh in
-    let fourth = one_then (suc (suc (suc (suc count)))) at4 at5 last (held switches (loader_base + 3) control (plain_order T single_end_place) words (off passed1 left) (plain_order H single_store_cell) single_store_cell (fetch_3 words has) (control_is_word place within)) fifth in
-    let third = one_then (suc (suc (suc (suc (suc count))))) at3 at4 last (goes_on switches (loader_base + 2) control (plain_order I 0) words (off passed1 left) (plain_order T single_end_place) single_end_place (fetch_2 words has) refl (control_is_positive place within)) fourth in
-    two_orders switches loader_base accumulator register words passed skipped left control (suc (suc (suc (suc (suc (suc count)))))) last (fetch_0 words has) (fetch_1 words has) (omega arith) are (control_is_word place within) third
+    let has1 = loader_stays _ _ _ has store_cell_elsewhere in
+    let has2 = loader_stays _ _ _ has1 (program_elsewhere _ free) in
+    let eighth = one_then _ _ _ _ (jumps switches _ 0 control _ _ _ _ (fetch_7 _ has2)) runs in
+    let seventh = one_then (suc count) _ _ last (cleared switches _ _ (plain_order I 0) _ (off passed2 (carriage_return ∷ rest)) _ _ (fetch_store words place has within) is) eighth in
+    let fifth = two_orders switches _ control (plain_order H single_store_cell) _ passed1 [] (carriage_return ∷ rest) _ (suc (suc count)) last (fetch_4 _ has1) (fetch_5 _ has1) (omega arith) nothing_skipped is seventh in
+    let fourth = one_then (suc (suc (suc (suc count)))) _ _ last (held switches (loader_base + 3) control (plain_order T single_end_place) words (off passed1 left) (plain_order H single_store_cell) single_store_cell (fetch_3 _ has) (control_is_word _ within)) fifth in
+    let third = one_then (suc (suc (suc (suc (suc count))))) _ _ last (goes_on switches (loader_base + 2) control (plain_order I 0) words (off passed1 left) (plain_order T single_end_place) single_end_place (fetch_2 _ has) refl (control_is_positive _ within)) fourth in
+    two_orders switches _ _ _ _ _ _ _ _ (suc (suc (suc (suc (suc (suc count)))))) last (fetch_0 _ has) (fetch_1 _ has) (omega arith) are (control_is_word _ within) third
 
 -- the end word
 end_is_word : (start : Option ℕ) → IfSome start IsAddress → IsWord (end_word start)
@@ -94,13 +86,11 @@ end_jumps words cell address here within = record {
 end_performed : (switches : Switches) (start : Option ℕ) (words passed : List ℕ) (cell register : ℕ) → IfSome start IsAddress → slice_index words cell ≡ end_word start
     → Runs 1 (core_at switches cell (end_word start) register words (off passed [])) (core_at_end (address_after cell) switches start words passed)
 end_performed switches None words passed cell register is here =
-    let last = core_at_end (address_after cell) switches None words passed in
-    one_then 0 (core_at switches cell (end_word None) register words (off passed [])) last last
-    (stops switches cell (end_word None) register words (off passed []) (end_word None) (end_stops words cell here)) refl
+    one_then 0 _ _ _
+    (stops switches _ _ _ _ _ _ (end_stops _ _ here)) refl
 end_performed switches (Some address) words passed cell register is here =
-    let last = core_at_end (address_after cell) switches (Some address) words passed in
-    one_then 0 (core_at switches cell (end_word (Some address)) register words (off passed [])) last last
-    (jumps switches cell (end_word (Some address)) register words (off passed []) (end_word (Some address)) address (end_jumps words cell address here is)) refl
+    one_then 0 _ _ _
+    (jumps switches _ _ _ _ _ _ _ (end_jumps _ _ _ here is)) refl
 
 -- the end word is read at the base, put into the end cell, and performed
 pub end_read : (place : ℕ) (switches : Switches) (accumulator register : ℕ) (words passed skipped : List ℕ) (start : Option ℕ)
@@ -112,18 +102,13 @@ pub end_read : (place : ℕ) (switches : Switches) (accumulator register : ℕ) 
 end_read place switches accumulator register words passed skipped start p i t h within long are is =
     let word = end_word start in
     let cell = address_after place in
-    let passed1 = passed ++ read_codes skipped word in
-    let words1 = slice_set words cell word in
-    let last = core_at_end (address_after cell) switches start words1 passed1 in
-    let at3 = core_at switches (loader_base + 2) word (plain_order I 0) words (off passed1 []) in
-    let at4 = core_at switches place word (plain_order T place) words (off passed1 []) in
-    let at5 = core_at switches cell word (plain_order H cell) words1 (off passed1 []) in
+    let passed1 = passed ++ read_codes skipped _ in
     let here = get_or-set_same words cell word 0 (omega (arith, long)) in
-    let fifth = end_performed switches start words1 passed1 cell (plain_order H cell) is here in
-    let fourth = one_then 1 at4 at5 last (held switches place word (plain_order T place) words (off passed1 []) (plain_order H cell) cell h (end_is_word start is)) fifth in
+    let fifth = end_performed switches _ _ _ _ _ is here in
+    let fourth = one_then 1 _ _ _ (held switches place word (plain_order T place) words (off passed1 []) (plain_order H cell) cell h (end_is_word _ is)) fifth in
     let plus : sign_of (plain_order T place) ≡ false = grind (arith, nat_tests) in
-    let third = one_then 2 at3 at4 last (transfers_to switches (loader_base + 2) word (plain_order I 0) words (off passed1 []) (plain_order T place) place t plus (end_is_negative start)) fourth in
-    two_orders switches loader_base accumulator register words passed skipped [] word 3 last p i (omega arith) are (end_is_word start is) third
+    let third = one_then 2 _ _ _ (transfers_to switches _ _ _ _ _ _ _ t plus (end_is_negative _)) fourth in
+    two_orders switches _ _ _ _ _ _ [] _ 3 _ p i (omega arith) are (end_is_word _ is) third
 
 -- the core at the end of the ten words
 abbrev pub final_core : Switches → Option ℕ → List ℕ → List ℕ → Core
@@ -148,15 +133,15 @@ tape_left skipped cells start = skipped ++ (concat (map cell_codes cells) ++ sto
 shape : (skipped control word rest end : List ℕ)
     → skipped ++ ((((control ++ stop_code ∷ []) ++ ((word ++ stop_code ∷ []) ++ carriage_return ∷ [])) ++ rest) ++ end)
     ≡ (skipped ++ control) ++ stop_code ∷ (word ++ stop_code ∷ (carriage_return ∷ (rest ++ end)))
-shape skipped control word rest end = simp append_assoc refl
+shape skipped _ _ _ _ = simp append_assoc refl
 
 passed_shape : (passed skipped control word rest : List ℕ)
     → ((passed ++ ((skipped ++ control) ++ stop_code ∷ [])) ++ (([] ++ word) ++ stop_code ∷ [])) ++ (carriage_return ∷ rest)
     ≡ passed ++ ((skipped ++ control) ++ stop_code ∷ (word ++ stop_code ∷ (carriage_return ∷ rest)))
-passed_shape passed skipped control word rest = simp append_assoc refl
+passed_shape passed skipped _ _ _ = simp append_assoc refl
 
 end_shape : (skipped word : List ℕ) → skipped ++ (word ++ stop_code ∷ []) ≡ (skipped ++ word) ++ stop_code ∷ []
-end_shape skipped word = sym (append_assoc skipped word (stop_code ∷ []))
+end_shape skipped _ = sym (append_assoc skipped _ _)
 
 pub through_tape : (switches : Switches) (accumulator register : ℕ) (words passed skipped : List ℕ) (cells : List (ℕ × ℕ)) (start : Option ℕ)
     → HasLoader words → AreSkipped skipped → AreProgramCells cells → IfSome start IsAddress
@@ -167,21 +152,20 @@ through_tape switches accumulator register words passed skipped [] start has are
     subst (λ left. Runs 5 (core_at switches loader_base accumulator register words (off passed left))
     (final_core switches start (slice_set words single_end_cell (end_word start)) (passed ++ left)))
     (sym (end_shape skipped (word_codes (end_word start))))
-    (the_end switches accumulator register words passed skipped start has are is)
+    (the_end switches _ _ _ _ _ _ has are is)
 through_tape switches accumulator register words passed skipped ((place, word) ∷ cells) start has are ((within, free, is_word), others) is =
-    let control = control_word place in
     let words2 = words_after_cell words place word in
-    let has2 = loader_stays (slice_set words single_store_cell control) place word (loader_stays words single_store_cell control has store_cell_elsewhere) (program_elsewhere place free) in
-    let passed2 = (passed ++ read_codes skipped control) ++ read_codes [] word in
+    let has2 = loader_stays _ _ _ (loader_stays _ _ _ has store_cell_elsewhere) (program_elsewhere _ free) in
+    let passed2 = (passed ++ read_codes skipped _) ++ read_codes [] word in
     let rest = concat (map cell_codes cells) ++ stopped_word (end_word start) in
     let words_last = slice_set (words_after_cells words2 cells) single_end_cell (end_word start) in
     let later = through_tape switches 0 (plain_order U loader_base) words2 passed2 (carriage_return ∷ []) cells start has2 return_skipped others is in
-    let left = shape skipped (word_codes control) (word_codes word) (concat (map cell_codes cells)) (stopped_word (end_word start)) in
+    let left = shape _ _ _ _ _ in
     let whole : passed2 ++ (carriage_return ∷ rest) ≡ passed ++ tape_left skipped ((place, word) ∷ cells) start =
-    passed_shape passed skipped (word_codes control) (word_codes word) rest ∙ ap (λ codes. passed ++ codes) (sym left) in
+    passed_shape _ skipped _ _ _ ∙ ap (λ codes. passed ++ codes) (sym left) in
     let last = final_core switches start words_last (passed ++ tape_left skipped ((place, word) ∷ cells) start) in
     let onward = subst (λ codes. Runs (8 * length cells + 5) (core_at switches loader_base 0 (plain_order U loader_base) words2 (off passed2 (carriage_return ∷ rest))) (final_core switches start words_last codes)) whole later in
-    let all = one_cell switches accumulator register words passed skipped rest place word (8 * length cells + 5) last has are within free is_word onward in
+    let all = one_cell switches accumulator register words passed skipped _ _ _ _ _ has are within free is_word onward in
     let count : suc (suc (suc (suc (suc (suc (suc (suc (8 * length cells + 5)))))))) ≡ 8 * length ((place, word) ∷ cells) + 5 = omega arith in
     let there = subst (λ n. Runs n (core_at switches loader_base accumulator register words (off passed (cell_left skipped place word rest))) last) count all in
     subst (λ codes. Runs (8 * length ((place, word) ∷ cells) + 5) (core_at switches loader_base accumulator register words (off passed codes)) last) (sym left) there

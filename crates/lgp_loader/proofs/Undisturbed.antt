@@ -13,7 +13,7 @@ use Rattle.lgp_assembler.specs.Parts.{AreProgramCells, ImageParts}
 use Rattle.lgp_loader.specs.BlockLoading.{block_load, left_by_blocks}
 use Rattle.lgp_loader.specs.Cutting.{are_blocks, cells_of}
 use Rattle.lgp_loader.specs.Loading.{begun, loaded}
-use Rattle.lgp_loader.specs.SingleLoading.{left_by_single, single_load}
+use Rattle.lgp_loader.specs.SingleLoading.{single_load}
 use Rattle.lgp_loader.proofs.Begun.{calm_in_run, undisturbed_run}
 use Rattle.lgp_loader.proofs.BlockLaw.{blocks_run}
 use Rattle.lgp_loader.proofs.SingleLaw.{single_runs}
@@ -32,7 +32,7 @@ pub single_undisturbed : (s : State) (image : ImageParts) (events : List Event)
     → count_by is_word_time events ≡ total_cost (begun s (single_load image)) (single_load image).orders
     → (switches : Switches) × (after_events (at_boundary (begun s (single_load image))) events ≡ at_boundary (with_switches (loaded s (single_load image)) switches))
 single_undisturbed s image events long are is such times =
-    undisturbed_run s (single_load image) (left_by_single s image 0).core events (single_runs s image long are is) such times
+    undisturbed_run s _ _ events (single_runs s _ long are is) such times
 
 -- no order of theirs looks at them
 pub blocks_blind : (s : State) (blocks : List (List (ℕ × ℕ))) (start : Option ℕ) (before : ℕ) → length s.core.words ≡ 4096
@@ -45,7 +45,7 @@ blocks_blind s blocks start before long are program few is less =
 pub single_blind : (s : State) (image : ImageParts) (before : ℕ) → length s.core.words ≡ 4096 → AreProgramCells image.cells → IfSome image.start IsAddress
     → before < (single_load image).orders → looks_at_switches (after (begun s (single_load image)) before) ≡ false
 single_blind s image before long are is less =
-    let calm = calm_in_run s (single_load image) (left_by_single s image 0).core (single_runs s image long are is) before less in
+    let calm = calm_in_run s _ _ (single_runs s _ long are is) _ less in
     calm.blind
 
 pub ruleset blind_laws = (blocks_blind, single_blind)

@@ -43,7 +43,7 @@ module _ (whole : List ℕ) where
       let size : m ≡ place + m - place = omega arith in
       record {
         some = omega arith;
-        within = omega (arith, inside place b rest e);
+        within = omega (arith, inside _ b _ e);
         slice = ap (λ k. take k body) size ∙ ap (take (place + m - place)) e;
         visible = λ k low high.
             let at : place + (k - place) ≡ k = omega arith in
@@ -58,12 +58,12 @@ module _ (whole : List ℕ) where
   pub all_runs : (place : ℕ) (fresh : Bool) (rest : List ℕ) → rest ≡ drop place whole → (fresh ≡ true → follows_blank whole place ≡ true) → AreLongestRuns whole (tokens_from place fresh rest)
   all_runs place fresh [] e starts = tt
   all_runs place true (b ∷ rest) e starts = ⊎_elim
-      (λ blank. subst (AreLongestRuns whole) (sym (after_blank place b true rest blank)) (all_runs (place + 1) true rest (onward place b rest e) (λ _. follows place b rest e ∙ blank)))
-      (λ visible. subst (AreLongestRuns whole) (sym (at_token place b rest visible))
-      (one_run place b rest e visible (starts refl), all_runs (place + 1) false rest (onward place b rest e) (λ f. absurd (false≢true f))))
+      (λ blank. subst (AreLongestRuns whole) (sym (after_blank place b true rest blank)) (all_runs (place + 1) true rest (onward place b rest e) (λ _. follows _ b _ e ∙ blank)))
+      (λ visible. subst (AreLongestRuns whole) (sym (at_token _ b rest visible))
+      (one_run _ b _ e visible (starts refl), all_runs (place + 1) false rest (onward place b rest e) (λ f. absurd (false≢true f))))
       (cases_Bool (is_blank b))
   all_runs place false (b ∷ rest) e starts = ⊎_elim
-      (λ blank. subst (AreLongestRuns whole) (sym (after_blank place b false rest blank)) (all_runs (place + 1) true rest (onward place b rest e) (λ _. follows place b rest e ∙ blank)))
+      (λ blank. subst (AreLongestRuns whole) (sym (after_blank place b false rest blank)) (all_runs (place + 1) true rest (onward place b rest e) (λ _. follows _ b _ e ∙ blank)))
       (λ visible. subst (AreLongestRuns whole) (sym (after_visible place b rest visible)) (all_runs (place + 1) false rest (onward place b rest e) (λ f. absurd (false≢true f))))
       (cases_Bool (is_blank b))
 
@@ -76,7 +76,7 @@ module _ (whole : List ℕ) where
 
   pub all_spanned : (place : ℕ) (fresh : Bool) (rest : List ℕ) → rest ≡ drop place whole → (k : ℕ) → place ≤ k → k < length whole → is_blank (slice_index whole k) ≡ false
       → (fresh ≡ false → place + position_or_len is_blank rest ≤ k) → IsSpanned k (tokens_from place fresh rest)
-  all_spanned place fresh [] e k low high visible past =
+  all_spanned place fresh [] e k low high _ past =
       let none : 0 ≡ length (drop place whole) = ap length e in
       absurd (omega (arith, length-drop place whole))
   all_spanned place true (b ∷ rest) e k low high visible past = ⊎_elim
@@ -99,16 +99,16 @@ module _ (whole : List ℕ) where
       (cases_Bool (is_blank b))
 
 pub in_order : (place : ℕ) (fresh : Bool) (rest : List ℕ) (from : ℕ) → (fresh ≡ true → from ≤ place) → (fresh ≡ false → from ≤ place + position_or_len is_blank rest + 1) → AreInOrder from (tokens_from place fresh rest)
-in_order place fresh [] from if_fresh if_not = tt
+in_order place fresh [] from _ if_not = tt
 in_order place true (b ∷ rest) from if_fresh if_not =
     let low : from ≤ place = if_fresh refl in
     ⊎_elim
     (λ blank. subst (AreInOrder from) (sym (after_blank place b true rest blank)) (in_order (place + 1) true rest from (λ _. omega arith) (λ f. absurd (true≢false f))))
-    (λ seen. subst (AreInOrder from) (sym (at_token place b rest seen))
+    (λ seen. subst (AreInOrder from) (sym (at_token _ b rest seen))
     (let more : position_or_len is_blank (b ∷ rest) ≡ suc (position_or_len is_blank rest) = run_more b rest seen in
     (low, in_order (place + 1) false rest (place + position_or_len is_blank (b ∷ rest) + 1) (λ f. absurd (false≢true f)) (λ _. omega arith))))
     (cases_Bool (is_blank b))
-in_order place false (b ∷ rest) from if_fresh if_not =
+in_order place false (b ∷ rest) from _ if_not =
     let low : from ≤ place + position_or_len is_blank (b ∷ rest) + 1 = if_not refl in
     ⊎_elim
     (λ blank. subst (AreInOrder from) (sym (after_blank place b false rest blank))
@@ -166,7 +166,7 @@ module _ (whole : List ℕ) where
 
 pub up_to_comment : (text : List ℕ) → IsUpToComment text (before_comment text)
 up_to_comment text =
-    let h = rest_to_comment text 0 true text refl refl in
+    let h = rest_to_comment _ 0 _ text refl refl in
     record {
       front = h.front;
       none_before = λ k high.
@@ -180,10 +180,10 @@ up_to_comment text =
 -- ---- the tokens of a text
 
 pub longest_runs : (text : List ℕ) → AreLongestRuns (before_comment text) (tokens_of text)
-longest_runs text = all_runs (before_comment text) 0 true (before_comment text) refl (λ _. refl)
+longest_runs text = all_runs _ 0 _ (before_comment text) refl (λ _. refl)
 
 pub each_spanned : (text : List ℕ) → AllAreSpanned (before_comment text) (tokens_of text)
-each_spanned text = λ k high visible. all_spanned (before_comment text) 0 true (before_comment text) refl k (omega arith) high visible (λ f. absurd (true≢false f))
+each_spanned text = λ k high visible. all_spanned _ 0 _ (before_comment text) refl k (omega arith) high visible (λ f. absurd (true≢false f))
 
 pub tokens_in_order : (text : List ℕ) → AreInOrder 0 (tokens_of text)
 tokens_in_order text = in_order 0 true (before_comment text) 0 (λ _. omega arith) (λ f. absurd (true≢false f))
@@ -197,13 +197,9 @@ part_of_front text n first past order within =
 runs_are_slices : (text body : List ℕ) (tokens : List SourceToken) → body ≡ take (length body) text → AreLongestRuns body tokens → AreSlices text tokens
 runs_are_slices text body [] front runs = tt
 runs_are_slices text body (token ∷ tokens) front runs =
-    let one = runs.0 in (
-      one.slice ∙ ap (λ c. take (token.past - token.first) (drop token.first c)) front
-          ∙ part_of_front text (length body) token.first token.past (omega (arith, one.some)) one.within,
-      runs_are_slices text body tokens front runs.1,
-    )
+    grind (arith, part_of_front, runs_are_slices text body tokens front runs.1)
 
 pub token_slices : (text : List ℕ) → AreSlices text (tokens_of text)
-token_slices text = runs_are_slices text (before_comment text) (tokens_of text) (up_to_comment text).front (longest_runs text)
+token_slices text = grind (arith, runs_are_slices, up_to_comment, longest_runs)
 
 pub ruleset token_laws = (up_to_comment, longest_runs, token_slices, each_spanned, tokens_in_order)

@@ -17,7 +17,7 @@ pub without_last_no : (bytes : List ℕ) (mark : ℕ) → (0 < length bytes → 
 without_last_no [] mark other = refl
 without_last_no (b ∷ []) mark other = cond-false _ _ _ (ne_eqb b mark (other (omega arith)))
 without_last_no (b ∷ c ∷ rest) mark other =
-    ap (λ t. b ∷ t) (without_last_no (c ∷ rest) mark (λ some e. other (omega arith) (simp unary_clauses (simp unary_clauses at e))))
+    ap (λ t. b ∷ t) (without_last_no _ _ (λ some e. other (omega arith) (simp unary_clauses (simp unary_clauses at e))))
 
 first_line : (b : ℕ) (rest : List ℕ) → cut_lines (b ∷ rest) ≡ take (line_len (b ∷ rest)) (b ∷ rest) ∷ cut_lines (drop (line_len (b ∷ rest)) (b ∷ rest))
 first_line b rest = lines-step (b ∷ rest) (omega arith)
@@ -54,16 +54,16 @@ opened b (c ∷ more) e =
 
 -- the first line, where a line feed stands in front
 feed_first : (b : ℕ) (rest : List ℕ) → (b == 10) ≡ true → cut_lines (b ∷ rest) ≡ (b ∷ []) ∷ cut_lines rest
-feed_first b rest e = first_line b rest ∙ ap (λ n. take n (b ∷ rest) ∷ cut_lines (drop n (b ∷ rest))) (len_feed b rest e)
+feed_first b rest e = first_line b rest ∙ ap (λ n. take n (b ∷ rest) ∷ cut_lines (drop n (b ∷ rest))) (len_feed b _ e)
 
 other_first : (b : ℕ) (rest : List ℕ) → (b == 10) ≡ false → cut_lines (b ∷ rest) ≡ (b ∷ take (line_len rest) rest) ∷ cut_lines (drop (line_len rest) rest)
-other_first b rest e = first_line b rest ∙ ap (λ n. take n (b ∷ rest) ∷ cut_lines (drop n (b ∷ rest))) (len_other b rest e)
+other_first b rest e = first_line b rest ∙ ap (λ n. take n (b ∷ rest) ∷ cut_lines (drop n (b ∷ rest))) (len_other b _ e)
 
 -- the first byte before the rest
 with_first : (b : ℕ) (rest : List ℕ) → map (without_last 10) (cut_lines rest) ≡ pieces rest → map (without_last 10) (cut_lines (b ∷ rest)) ≡ pieces (b ∷ rest)
 with_first b rest so_far = ⊎_elim
-    (λ feed. ap (map (without_last 10)) (feed_first b rest feed) ∙ ap (λ t. t ∷ map (without_last 10) (cut_lines rest)) (cond-true (b == 10) [] (b ∷ []) feed) ∙ ap (λ t. [] ∷ t) so_far ∙ sym (cond-true (b == 10) ([] ∷ pieces rest) (before_pieces b (pieces rest)) feed))
-    (λ other. ap (map (without_last 10)) (other_first b rest other) ∙ opened b rest other ∙ ap (before_pieces b) so_far ∙ sym (cond-false (b == 10) ([] ∷ pieces rest) (before_pieces b (pieces rest)) other))
+    (λ feed. ap (map (without_last 10)) (feed_first b _ feed) ∙ ap (λ t. t ∷ map (without_last 10) (cut_lines rest)) (cond-true (b == 10) [] (b ∷ []) feed) ∙ ap (λ t. [] ∷ t) so_far ∙ sym (cond-true (b == 10) ([] ∷ pieces rest) (before_pieces b (pieces rest)) feed))
+    (λ other. ap (map (without_last 10)) (other_first b _ other) ∙ opened b rest other ∙ ap (before_pieces b) so_far ∙ sym (cond-false (b == 10) ([] ∷ pieces rest) (before_pieces b (pieces rest)) other))
     (cases_Bool (b == 10))
 
 pub pieces_are : (bytes : List ℕ) → map (without_last 10) (cut_lines bytes) ≡ pieces bytes

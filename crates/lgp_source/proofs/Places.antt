@@ -1,10 +1,10 @@
 -- How the tokens of a text come one after the other.
-use Rattle.std.proofs.Common.{◌≡◌, ◌<◌, ◌≤◌, ◌+◌, ◌-◌, ℕ, suc, Bool, true, false, not, List, [], ◌∷◌, length, take, drop, get_or, refl, sym, ap, subst, ◌∙◌, arith, ⊎_elim, Some, None, unwrap_or, nat_lt, cond, length-drop}
+use Rattle.std.proofs.Common.{◌≡◌, ◌<◌, ◌≤◌, ◌+◌, ◌-◌, ℕ, suc, Bool, true, false, not, List, [], ◌∷◌, length, take, drop, get_or, refl, sym, ap, subst, ◌∙◌, arith, ⊎_elim, Some, None, unwrap_or, cond, length-drop}
 use Rattle.std.specs.List.{position, position_or_len}
-use Rattle.std.proofs.lemmas.Bool.{cases_Bool, cases_lt, cond-true, cond-false, lt-ltb, le-ltb, ltb-true, not-true}
+use Rattle.std.proofs.lemmas.Bool.{cases_Bool, cases_lt, cond-true, cond-false, lt-ltb, le-ltb, not-true}
 use Rattle.std.proofs.lemmas.List.{take_rest, get_or-drop, drop-drop, drop_all, drop_more}
 use Rattle.std.proofs.lemmas.List.Sums.{prefix_len-le-length, passes_at_first}
-use Rattle.std.proofs.lemmas.Option.{cond_some, none-some}
+use Rattle.std.proofs.lemmas.Option.{cond_some}
 use Rattle.lgp_source.specs.CuttingInside.{is_visible}
 use Rattle.lgp_source.specs.Source.{SourceToken, is_blank, tokens_from, token_at}
 
@@ -24,16 +24,11 @@ place_within p xs = prefix_len-le-length (λ x. not (p x)) xs
 
 place_some : (p : ℕ → Bool) (xs : List ℕ) (k : ℕ) → position p xs ≡ Some k → (position_or_len p xs ≡ k) × (k < length xs)
 place_some p xs k e =
-    let parts = cond_some (nat_lt (position_or_len p xs) (length xs)) (position_or_len p xs) k e in
-    (parts.1, subst (λ n. n < length xs) parts.1 (ltb-true _ _ parts.0))
+    grind (arith, cond_some)
 
 place_none : (p : ℕ → Bool) (xs : List ℕ) → position p xs ≡ None → length xs ≤ position_or_len p xs
 place_none p xs e =
-    let n = position_or_len p xs in
-    ⊎_elim
-    (λ below. absurd (none-some n (sym e ∙ ap (λ t. cond t (Some n) None) (lt-ltb n (length xs) below))))
-    (λ above. above)
-    (cases_lt n (length xs))
+    grind arith
 
 -- ---- one byte
 
@@ -48,13 +43,11 @@ at_token place b rest e = cond-false _ _ _ e
 
 at_zero : (place : ℕ) (body : List ℕ) (n : ℕ) → n ≡ 0 → tokens_from place true body ≡ tokens_from (place + n) true (drop n body)
 at_zero place body n e =
-    let p : place ≡ place + n = omega arith in
-    ap (λ k. tokens_from k true body) p ∙ ap (λ m. tokens_from (place + n) true (drop m body)) (sym e)
+    grind arith
 
 at_suc : (place b : ℕ) (rest : List ℕ) (m n : ℕ) → n ≡ suc m → tokens_from (place + 1 + m) true (drop m rest) ≡ tokens_from (place + n) true (drop n (b ∷ rest))
 at_suc place b rest m n e =
-    let p : place + 1 + m ≡ place + n = omega arith in
-    ap (λ k. tokens_from k true (drop m rest)) p ∙ ap (λ j. tokens_from (place + n) true (drop j (b ∷ rest))) (sym e)
+    grind arith
 
 gap_more : (b : ℕ) (rest : List ℕ) → is_blank b ≡ true → position_or_len is_visible (b ∷ rest) ≡ suc (position_or_len is_visible rest)
 gap_more b rest e = ap (λ t. cond (not (not t)) (1 + position_or_len is_visible rest) 0) e ∙ omega arith
@@ -73,23 +66,20 @@ run_none b rest e = ap (λ t. cond (not t) (1 + position_or_len is_blank rest) 0
 -- blanks before a token are passed over
 past_gap : (place : ℕ) (body : List ℕ) → tokens_from place true body ≡ tokens_from (place + position_or_len is_visible body) true (drop (position_or_len is_visible body) body)
 past_gap place [] = refl
-past_gap place (b ∷ rest) = ⊎_elim
-    (λ blank. after_blank place b true rest blank ∙ past_gap (place + 1) rest ∙ at_suc place b rest (position_or_len is_visible rest) (position_or_len is_visible (b ∷ rest)) (gap_more b rest blank))
-    (λ visible. at_zero place (b ∷ rest) (position_or_len is_visible (b ∷ rest)) (gap_none b rest visible))
-    (cases_Bool (is_blank b))
+past_gap place (b ∷ rest) = grind (arith, after_blank, at_suc, gap_more, at_zero, gap_none, past_gap (place + 1) rest)
 
 -- and so is what is left of a token
 past_run : (place : ℕ) (body : List ℕ) → tokens_from place false body ≡ tokens_from (place + position_or_len is_blank body) true (drop (position_or_len is_blank body) body)
 past_run place [] = refl
 past_run place (b ∷ rest) = ⊎_elim
-    (λ blank. after_blank place b false rest blank ∙ sym (after_blank place b true rest blank) ∙ at_zero place (b ∷ rest) (position_or_len is_blank (b ∷ rest)) (run_none b rest blank))
-    (λ visible. after_visible place b rest visible ∙ past_run (place + 1) rest ∙ at_suc place b rest (position_or_len is_blank rest) (position_or_len is_blank (b ∷ rest)) (run_more b rest visible))
+    (λ blank. after_blank place b false rest blank ∙ sym (after_blank place b true rest blank) ∙ at_zero place (b ∷ rest) _ (run_none b rest blank))
+    (λ visible. after_visible place b rest visible ∙ past_run (place + 1) rest ∙ at_suc place b rest _ _ (run_more b rest visible))
     (cases_Bool (is_blank b))
 
 pub past_token : (place b : ℕ) (rest : List ℕ) → is_blank b ≡ false
     → tokens_from place true (b ∷ rest) ≡ token_at place (b ∷ rest) ∷ tokens_from (place + position_or_len is_blank (b ∷ rest)) true (drop (position_or_len is_blank (b ∷ rest)) (b ∷ rest))
 past_token place b rest e =
-    at_token place b rest e ∙ ap (λ t. token_at place (b ∷ rest) ∷ t) (past_run (place + 1) rest ∙ at_suc place b rest (position_or_len is_blank rest) (position_or_len is_blank (b ∷ rest)) (run_more b rest e))
+    grind (arith, at_token, past_run, at_suc, run_more)
 
 -- ---- what a step of the tokens gives
 
@@ -125,7 +115,7 @@ module _ (body : List ℕ) (place : ℕ) where
       let there : start < length body = omega (arith, found.1) in
       let here = get_or body start 0 in
       let split : run ≡ here ∷ drop (start + 1) body = drop_more body start 0 there in
-      let passed : is_visible (get_or rest (position_or_len is_visible rest) 0) ≡ true = passes_at_first is_visible rest 0 (subst (λ n. n < length rest) (sym found.0) found.1) in
+      let passed : is_visible (get_or rest (position_or_len is_visible rest) 0) ≡ true = passes_at_first _ _ 0 (subst (λ n. n < length rest) (sym found.0) found.1) in
       let same : get_or rest (position_or_len is_visible rest) 0 ≡ here = ap (λ n. get_or rest n 0) found.0 ∙ get_or-drop place body gap 0 in
       let visible : is_blank here ≡ false = not-true (is_blank here) (subst (λ b. is_visible b ≡ true) same passed) in
       let run_len : length run ≡ length body - start = length-drop start body in

@@ -1,10 +1,10 @@
 -- Lines of graphic bytes without a `;`: how they are cut, and what two words with spaces before them are as tokens.
-use Rattle.std.proofs.Common.{◌≡◌, ◌≢◌, ◌≤◌, ◌+◌, ◌++◌, ◌&&◌, ◌||◌, ◌==◌, ℕ, suc, Bool, true, false, not, cond, nat_le, nat_lt, List, [], ◌∷◌, length, take, drop, Some, None, refl, sym, ap, ◌∙◌, arith}
+use Rattle.std.proofs.Common.{◌≡◌, ◌≢◌, ◌≤◌, ◌+◌, ◌++◌, ◌&&◌, ◌==◌, ℕ, suc, Bool, true, false, List, [], ◌∷◌, length, take, drop, Some, None, refl, sym, ap, ◌∙◌, arith}
 use Rattle.std.specs.List.{position_or_len, position}
 use Rattle.std.specs.Option.{option_map_or}
-use Rattle.std.proofs.lemmas.Bool.{cond-false, ne_eqb, le-leb, le-ltb, and_from}
+use Rattle.std.proofs.lemmas.Bool.{cond-false, ne_eqb, and_from}
 use Rattle.std.proofs.lemmas.List.{append-nil, take_at, drop_at}
-use Rattle.lgp_source.specs.Source.{SourceToken, SourceLine, before_pieces, pieces, text_of, is_blank, is_bad, body_from, before_comment, tokens_from, tokens_of, statement_of, line_of, bad_line, good_line, line_with}
+use Rattle.lgp_source.specs.Source.{SourceToken, SourceLine, pieces, text_of, is_blank, is_bad, body_from, before_comment, tokens_from, tokens_of, statement_of, line_of, bad_line, good_line, line_with}
 use Rattle.lgp_source.proofs.Places.{run_more, run_none, past_token}
 
 -- a byte from the space to `~`, but no `;`
@@ -34,39 +34,32 @@ plain_append (b ∷ one) other all more = (all.0, plain_append one other all.1 m
 pub piece_first : (line rest : List ℕ) → ArePlain line → pieces (line ++ 10 ∷ rest) ≡ line ∷ pieces rest
 piece_first [] rest all = refl
 piece_first (b ∷ line) rest all =
-    let other : b ≢ 10 = λ e. absurd (omega arith) in
-    cond-false (b == 10) ([] ∷ pieces (line ++ 10 ∷ rest)) (before_pieces b (pieces (line ++ 10 ∷ rest))) (ne_eqb b 10 other)
-    ∙ ap (before_pieces b) (piece_first line rest all.1)
+    grind (arith, cond-false, piece_first line rest all.1)
 
 -- and keeps all its bytes
 pub text_whole : (line : List ℕ) → ArePlain line → text_of line ≡ line
 text_whole [] all = refl
 text_whole (b ∷ []) all =
-    let other : b ≢ 13 = λ e. absurd (omega arith) in
-    cond-false (b == 13) [] (b ∷ []) (ne_eqb b 13 other)
-text_whole (b ∷ c ∷ rest) all = ap (λ t. b ∷ t) (text_whole (c ∷ rest) all.1)
+    grind (arith, cond-false)
+text_whole (b ∷ c ∷ rest) all = ap (λ t. b ∷ t) (text_whole _ all.1)
 
 good_byte : (b : ℕ) → IsPlain b → is_bad b ≡ false
 good_byte b plain =
-    let other : (b == 9) ≡ false = ne_eqb b 9 (λ e. absurd (omega arith)) in
-    let within : (nat_le 32 b && nat_le b 126) ≡ true = and_from (nat_le 32 b) (nat_le b 126) (le-leb 32 b plain.0) (le-leb b 126 plain.1) in
-    ap (λ t. not (t || (nat_le 32 b && nat_le b 126))) other ∙ ap not within
+    grind (arith, and_from)
 
 good_len : (line : List ℕ) → ArePlain line → position_or_len is_bad line ≡ length line
 good_len [] all = refl
 good_len (b ∷ line) all =
-    ap (λ t. cond (not t) (1 + position_or_len is_bad line) 0) (good_byte b all.0) ∙ ap (λ n. 1 + n) (good_len line all.1) ∙ omega arith
+    grind (arith, good_byte, good_len line all.1)
 
 pub no_bad_byte : (line : List ℕ) → ArePlain line → position is_bad line ≡ None
 no_bad_byte line all =
-    let size = length line in
-    ap (λ n. cond (nat_lt n size) (Some n) None) (good_len line all)
-    ∙ cond-false (nat_lt size size) (Some size) None (le-ltb size size (omega arith))
+    grind (arith, good_len, cond-false)
 
 no_comment_from : (fresh : Bool) (line : List ℕ) → ArePlain line → body_from fresh line ≡ line
 no_comment_from fresh [] all = refl
 no_comment_from fresh (b ∷ line) all =
-    cond-false (fresh && b == 59) [] (b ∷ body_from (is_blank b) line) (ap (λ t. fresh && t) (ne_eqb b 59 all.0.2) ∙ neither fresh)
+    cond-false (fresh && b == 59) [] (b ∷ body_from (is_blank b) line) (ap (λ t. fresh && t) (ne_eqb b 59 all.0.2) ∙ neither _)
     ∙ ap (λ t. b ∷ t) (no_comment_from (is_blank b) line all.1)
   where
     neither : (fresh : Bool) → (fresh && false) ≡ false
@@ -74,14 +67,13 @@ no_comment_from fresh (b ∷ line) all =
     neither false = refl
 
 pub no_comment : (line : List ℕ) → ArePlain line → before_comment line ≡ line
-no_comment line all = no_comment_from true line all
+no_comment line all = no_comment_from _ _ all
 
 -- ---- tokens
 
 visible_byte : (b : ℕ) → IsPlain b × (b ≢ 32) → is_blank b ≡ false
 visible_byte b all =
-    let tab : (b == 9) ≡ false = ne_eqb b 9 (λ e. absurd (omega arith)) in
-    ap (λ t. t || b == 9) (ne_eqb b 32 all.1) ∙ tab
+    grind arith
 
 -- nothing comes, or a blank
 abbrev pub BeginsBlank : List ℕ → Type 0
@@ -103,7 +95,7 @@ unfolding token_of
 token_first place b word rest all blank =
     let whole = b ∷ word in
     let n = position_or_len is_blank (whole ++ rest) in
-    let len : n ≡ length whole = run_len whole rest all blank in
+    let len : n ≡ length whole = run_len whole _ all blank in
     past_token place b (word ++ rest) (visible_byte b all.0)
     ∙ ap (λ k. record { text = take k (whole ++ rest); first = place; past = place + k } ∷ tokens_from (place + k) true (drop k (whole ++ rest))) len
     ∙ ap (λ t. record { text = t; first = place; past = place + length whole } ∷ tokens_from (place + length whole) true (drop (length whole) (whole ++ rest))) (take_at whole rest (length whole) refl)
@@ -132,7 +124,7 @@ statement_line number n o name operand is_name is_operand =
     ap (tokens_from 0 true) (no_comment text plain)
     ∙ token_first 1 n name (32 ∷ (o ∷ operand)) is_name refl
     ∙ ap (λ t. token_of 1 (n ∷ name) ∷ t) (ap (tokens_from (behind + 1) true) (sym (append-nil (o ∷ operand)))
-    ∙ token_first (behind + 1) o operand [] is_operand tt) in
+    ∙ token_first _ o _ [] is_operand tt) in
     record {
       first = token_of 1 (n ∷ name);
       second = token_of (behind + 1) (o ∷ operand);

@@ -1,6 +1,6 @@
 -- A step of an iterator that gives the first item of a list.
 use Rattle.std.proofs.Common.{suc, refl, ◌≡◌, ◌<◌, List, ◌∷◌, length, sym, subst, arith, Some}
-use Rattle.std.proofs.Common.{ℕ, ◌+◌, [], map, ap, ◌∙◌}
+use Rattle.std.proofs.Common.{ℕ, ◌+◌, [], map, ap}
 use Rattle.lgp_source.specs.Source.{SourceLine, numbered_lines, without_last, text_of, line_of}
 use Rattle.std.specs.Iterator.{MakesProgress, item_count}
 
@@ -21,7 +21,7 @@ pub numbered_step : (number : ℕ) (cut after : List (List ℕ)) (piece : List �
     → numbered_lines number (map (without_last 10) cut) ≡ line ∷ numbered_lines (number + 1) (map (without_last 10) after)
 unfolding numbered_lines
 numbered_step number cut after piece line e is =
-    ap (λ c. numbered_lines number (map (without_last 10) c)) e ∙ ap (λ l. l ∷ numbered_lines (number + 1) (map (without_last 10) after)) (sym is)
+    grind arith
 
 pub length-numbered_lines : (number : ℕ) (cut : List (List ℕ)) → length (numbered_lines number (map (without_last 10) cut)) ≡ length cut
 unfolding numbered_lines

@@ -37,12 +37,12 @@ lines_of_parts-more line _ (parts first more) = refl
 lines-feed : (piece bytes : List ℕ) → IsOpen piece → lines (piece ++ 10 ∷ bytes) ≡ strip_carriage_return piece ∷ lines bytes
 unfolding IsOpen
 lines-feed piece bytes free =
-    rw (slice_split_at (λ byte. eqb byte 10) piece 10 bytes (All-from_recursion (λ byte. eqb byte 10 ≡ false) piece free) refl)
-    (lines_of_parts-more piece (slice_split (λ byte. eqb byte 10) bytes) (slice_split-parts bytes))
+    rw (slice_split_at _ _ 10 bytes (All-from_recursion (λ byte. eqb byte 10 ≡ false) piece free) refl)
+    (lines_of_parts-more piece _ (slice_split-parts bytes))
 
 lines-open : (piece : List ℕ) → IsOpen piece → lines piece ≡ cond (eqb (length piece) 0) [] (piece ∷ [])
 unfolding IsOpen
-lines-open piece free = rw (slice_split_none (λ byte. eqb byte 10) piece (All-from_recursion (λ byte. eqb byte 10 ≡ false) piece free)) refl
+lines-open piece free = rw (slice_split_none _ piece (All-from_recursion (λ byte. eqb byte 10 ≡ false) piece free)) refl
 
 feeds-append : (bytes more : List ℕ) → count_by is_line_feed (bytes ++ more) ≡ count_by is_line_feed bytes + count_by is_line_feed more
 feeds-append bytes more = sum_by-append (λ byte. cond (is_line_feed byte) 1 0) bytes more
@@ -55,15 +55,15 @@ pub IsCut-push : (bytes : List ℕ) (complete : List (List ℕ)) (piece : List �
 unfolding IsOpen
 IsCut-push bytes complete piece byte is_cut other = record {
   cut = λ more. rw (append_assoc bytes (byte ∷ []) more, append_assoc piece (byte ∷ []) more) (is_cut.cut (byte ∷ more));
-  feeds = rw (feeds-append bytes (byte ∷ []), other, add-zero (count_by is_line_feed bytes)) is_cut.feeds;
+  feeds = rw (feeds-append _ _, other, add-zero (count_by is_line_feed bytes)) is_cut.feeds;
   is_open = IsOpen-push piece byte is_cut.is_open other;
 }
 
 pub IsCut-feed : (bytes : List ℕ) (complete : List (List ℕ)) (piece : List ℕ) → IsCut bytes complete piece → IsCut (bytes ++ 10 ∷ []) (complete ++ strip_carriage_return piece ∷ []) []
 unfolding IsOpen
 IsCut-feed bytes complete piece is_cut = record {
-  cut = λ more. rw (append_assoc bytes (10 ∷ []) more, append_assoc complete (strip_carriage_return piece ∷ []) (lines more), ← lines-feed piece more is_cut.is_open) (is_cut.cut (10 ∷ more));
-  feeds = rw (feeds-append bytes (10 ∷ []), length-append complete (strip_carriage_return piece ∷ []), is_cut.feeds) refl;
+  cut = λ more. rw (append_assoc bytes (10 ∷ []) more, append_assoc complete (strip_carriage_return piece ∷ []) (lines more), ← lines-feed _ _ is_cut.is_open) (is_cut.cut (10 ∷ more));
+  feeds = rw (feeds-append _ _, length-append complete (strip_carriage_return piece ∷ []), is_cut.feeds) refl;
   is_open = tt;
 }
 
@@ -71,7 +71,7 @@ IsCut-feed bytes complete piece is_cut = record {
 pub IsCut-lines : (bytes : List ℕ) (complete : List (List ℕ)) (piece : List ℕ) → IsCut bytes complete piece → lines bytes ≡ complete ++ cond (eqb (length piece) 0) [] (piece ∷ [])
 unfolding IsOpen
 IsCut-lines bytes complete piece is_cut =
-    ap lines (sym (append-nil bytes)) ∙ (is_cut.cut [] ∙ ap (λ (rest : List (List ℕ)). complete ++ rest) (ap lines (append-nil piece) ∙ lines-open piece is_cut.is_open))
+    ap lines (sym (append-nil bytes)) ∙ (is_cut.cut [] ∙ ap (λ (rest : List (List ℕ)). complete ++ rest) (ap lines (append-nil piece) ∙ lines-open _ is_cut.is_open))
 
 pub IsCut-complete : (bytes : List ℕ) (complete : List (List ℕ)) (piece : List ℕ) → IsCut bytes complete piece → complete_lines bytes ≡ complete
 IsCut-complete bytes complete piece is_cut =

@@ -19,22 +19,22 @@ longer_of line = refl
 
 whole_front : (line : List ℕ) → (kept_of line).longer ≡ false → (kept_of line).front ≡ line
 unfolding kept_of
-whole_front line short = front_kept line_limit line short
+whole_front line short = front_kept _ _ short
 
 pub longer_kept : (kept : Kept) (line : List ℕ) → kept ≡ kept_of line → nat_lt line_limit (length line) ≡ kept.longer
-longer_kept kept line e = sym (longer_of line) ∙ sym (ap (λ (k : Kept). k.longer) e)
+longer_kept kept line e = sym (longer_of _) ∙ sym (ap (λ (k : Kept). k.longer) e)
 
 pub front_whole : (kept : Kept) (line : List ℕ) → kept ≡ kept_of line → kept.longer ≡ false → kept.front ≡ line
-front_whole kept line e short = ap (λ (k : Kept). k.front) e ∙ whole_front line (sym (ap (λ (k : Kept). k.longer) e) ∙ short)
+front_whole kept line e short = grind (arith, whole_front)
 
 -- a line that is longer than a word is another
 longer_differs : (line word : List ℕ) → length word < length line → bytes_eq line word ≡ false
-longer_differs line word longer = by_result (bytes_eq line word) refl where
+longer_differs line word longer = by_result _ refl where
   by_result : (b : Bool) → bytes_eq line word ≡ b → bytes_eq line word ≡ false
-  by_result true e = let same : length line ≡ length word = ap length ((bytes_eq-Decides line word).0 e) in absurd (omega arith)
+  by_result true e = grind (arith, bytes_eq-Decides)
   by_result false e = e
 
 pub longer_is_no_word : (kept : Kept) (line word : List ℕ) → kept ≡ kept_of line → kept.longer ≡ true → length word ≤ line_limit → bytes_eq line word ≡ false
 longer_is_no_word kept line word e longer short =
-    let above : line_limit < length line = ltb-true line_limit (length line) (longer_kept kept line e ∙ longer) in
+    let above : line_limit < length line = ltb-true line_limit (length line) (longer_kept _ _ e ∙ longer) in
     longer_differs line word (omega arith)

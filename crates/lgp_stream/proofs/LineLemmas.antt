@@ -48,15 +48,15 @@ longer-push limit bytes byte = ⊎_elim
     let long = length-take-le limit bytes full in
     let now : nat_lt limit (length (bytes ++ byte ∷ [])) ≡ true = simp length-append (grind (arith, nat_tests)) in
     let reached : nat_le limit limit ≡ true = grind (arith, nat_tests) in
-    rw (now, long, reached) (sym (or-true (nat_lt limit (length bytes)))))
+    rw (now, long, reached) (sym (or-true _)))
     (cases_lt (length bytes) limit)
 
 blank-push : (bytes : List ℕ) (byte : ℕ) → list_all is_space (bytes ++ byte ∷ []) ≡ (list_all is_space bytes && is_space byte)
-blank-push bytes byte = rw (list_all-append is_space bytes (byte ∷ []), and-true (is_space byte)) refl
+blank-push bytes byte = rw (list_all-append _ _ (byte ∷ []), and-true _) refl
 
 pub kept_push-kept_of : (bytes : List ℕ) (byte : ℕ) → kept_push (kept_of bytes) byte ≡ kept_of (bytes ++ byte ∷ [])
 unfolding kept_of
-kept_push-kept_of bytes byte = rw (take-push line_limit bytes byte, longer-push line_limit bytes byte, blank-push bytes byte) refl
+kept_push-kept_of bytes byte = rw (take-push _ _ _, longer-push _ _ _, blank-push _ _) refl
 
 -- the last byte of a line
 last-push : (line : List ℕ) (byte : ℕ) → get_or (line ++ byte ∷ []) (length (line ++ byte ∷ []) - 1) 0 ≡ byte
@@ -77,37 +77,35 @@ parted (first ∷ more) ends =
     let last : get_or line (length line - 1) 0 ≡ 13 = eqb-true _ _ ends in
     let within : length line - 1 < length line = omega arith in
     let back : (length line - 1) + 1 ≡ length line = omega arith in
-    rw (← last) (sym (take_more line (length line - 1) 0 within) ∙ (ap (λ n. take n line) back ∙ take-length line))
+    rw (← last) (sym (take_more _ _ 0 within) ∙ (ap (λ n. take n line) back ∙ take-length line))
 
 -- the bytes of an open line are all kept, with the one that is held back
 pub whole-open_of : (line : List ℕ) → whole (open_of line) ≡ kept_of line
 unfolding open_of
 whole-open_of line = by_return (ends_with_return line) refl where
   by_return : (ends : Bool) → ends_with_return line ≡ ends → cond ends (kept_push (kept_of (cond ends (take (length line - 1) line) line)) 13) (kept_of (cond ends (take (length line - 1) line) line)) ≡ kept_of line
-  by_return true ends = kept_push-kept_of (take (length line - 1) line) 13 ∙ ap kept_of (parted line ends)
+  by_return true ends = kept_push-kept_of _ 13 ∙ ap kept_of (parted _ ends)
   by_return false ends = refl
 
 open_of-push : (line : List ℕ) (byte : ℕ) → record { kept = cond (eqb byte 13) (kept_of line) (kept_of (line ++ byte ∷ [])); held = eqb byte 13 } ≡ open_of (line ++ byte ∷ [])
 unfolding open_of
 open_of-push line byte = by_return (eqb byte 13) refl where
   by_return : (ret : Bool) → eqb byte 13 ≡ ret → record { kept = cond (eqb byte 13) (kept_of line) (kept_of (line ++ byte ∷ [])); held = eqb byte 13 } ≡ open_of (line ++ byte ∷ [])
-  by_return true ret = rw (last-push line byte, ret, front-push line byte) refl
-  by_return false ret = rw (last-push line byte, ret) refl
+  by_return true ret = rw (last-push _ _, ret, front-push _ _) refl
+  by_return false ret = rw (last-push _ _, ret) refl
 
 open_push-whole : (open_line : Open) (now more : Kept) (byte : ℕ) → whole open_line ≡ now → kept_push now byte ≡ more → open_push open_line byte ≡ record { kept = cond (eqb byte 13) now more; held = eqb byte 13 }
-open_push-whole open_line now more byte is_now is_more = ap (λ (k : Kept). record { kept = cond (eqb byte 13) k (kept_push k byte); held = eqb byte 13 }) is_now ∙ ap (λ (k : Kept). record { kept = cond (eqb byte 13) now k; held = eqb byte 13 }) is_more
+open_push-whole open_line now more byte is_now is_more = grind arith
 
 pub open_push-open_of : (line : List ℕ) (byte : ℕ) → open_push (open_of line) byte ≡ open_of (line ++ byte ∷ [])
 open_push-open_of line byte =
-    open_push-whole (open_of line) (kept_of line) (kept_of (line ++ byte ∷ [])) byte (whole-open_of line) (kept_push-kept_of line byte)
-    ∙ open_of-push line byte
+    grind (arith, open_push-whole, whole-open_of, kept_push-kept_of, open_of-push)
 
 -- an open line is unbegun where it has no byte
 unbegun-take : (limit : ℕ) (first : ℕ) (more : List ℕ) (ends : Bool) → 0 < limit → (not ends && eqb (length (take limit (cond ends (take (length (first ∷ more) - 1) (first ∷ more)) (first ∷ more)))) 0) ≡ false
 unbegun-take limit first more true some = refl
 unbegun-take limit first more false some =
     let count = length-take limit (first ∷ more) in
-    let any : 0 < length (take limit (first ∷ more)) = omega (arith, count) in
     grind (arith, nat_tests)
 
 pub is_unbegun-open_of : (line : List ℕ) → is_unbegun (open_of line) ≡ eqb (length line) 0

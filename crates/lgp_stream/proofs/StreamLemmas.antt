@@ -1,5 +1,5 @@
 -- Lines answered one after another, and what stands written of their replies.
-use Rattle.std.proofs.Common.{◌≡◌, ℕ, ◌+◌, ◌≤◌, Bool, true, false, cond, min, Option, Some, None, IfSome, List, [], ◌∷◌, ◌++◌, length, take, count_by, refl, sym, ap, ◌∙◌, eqb, append_assoc, length-append, zero-add, add_comm, arith}
+use Rattle.std.proofs.Common.{◌≡◌, ℕ, ◌+◌, ◌≤◌, Bool, true, false, cond, min, Option, Some, None, IfSome, List, [], ◌∷◌, ◌++◌, length, take, count_by, refl, sym, ap, ◌∙◌, eqb, append_assoc, length-append, add_comm, arith}
 use Rattle.std.specs.List.{concat}
 use Rattle.std.specs.Io.KnownBytes.{Appends, Consumes, IsAtEnd}
 use Rattle.std.specs.Str.Lines.{lines, strip_carriage_return}
@@ -26,20 +26,20 @@ concat-last : (replies : List (List ℕ)) (reply : List ℕ) → concat (replies
 concat-last replies reply = concat-append replies (reply ∷ []) ∙ ap (λ (more : List ℕ). concat replies ++ more) (append-nil reply)
 
 count_by-append : (xs ys : List (List ℕ)) → count_by is_question (xs ++ ys) ≡ count_by is_question xs + count_by is_question ys
-count_by-append xs ys = sum_by-append (λ r. cond (is_question r) 1 0) xs ys
+count_by-append xs ys = sum_by-append _ xs ys
 
 count-last : (replies : List (List ℕ)) (reply : List ℕ) → count_by is_question (replies ++ reply ∷ []) ≡ count_by is_question replies + cond (is_question reply) 1 0
-count-last replies reply = count_by-append replies (reply ∷ []) ∙ ap (λ (n : ℕ). count_by is_question replies + n) (zero-add (cond (is_question reply) 1 0))
+count-last replies reply = grind (arith, count_by-append)
 
 -- one reply more
 pub HasWritten-last : (w₀ w₁ w₂ : Option (List ℕ)) (replies : List (List ℕ)) (reply : List ℕ) (before after : Tally) → HasWritten w₀ w₁ replies before → Appends w₁ w₂ reply
     → after.questions ≡ min (before.questions + cond (is_question reply) 1 0) count_limit → after.bytes ≡ min (before.bytes + length reply) count_limit
     → HasWritten w₀ w₂ (replies ++ reply ∷ []) after
 HasWritten-last w₀ w₁ w₂ replies reply before after written sent questions bytes = record {
-  sent = rw (concat-last replies reply) (Appends-trans w₀ w₁ w₂ (concat replies) reply written.sent sent);
-  questions = questions ∙ (counted-more before.questions (cond (is_question reply) 1 0) (count_by is_question replies) count_limit written.questions
+  sent = rw (concat-last _ _) (Appends-trans w₀ w₁ w₂ (concat replies) reply written.sent sent);
+  questions = questions ∙ (counted-more _ _ _ _ written.questions
       ∙ ap (λ (n : ℕ). min n count_limit) (sym (count-last replies reply)));
-  bytes = bytes ∙ (counted-more before.bytes (length reply) (length (concat replies)) count_limit written.bytes
+  bytes = bytes ∙ (counted-more _ _ _ _ written.bytes
       ∙ ap (λ (n : ℕ). min n count_limit) (sym (ap length (concat-last replies reply) ∙ length-append (concat replies) reply)));
 }
 
@@ -49,9 +49,9 @@ pub HasStopped-last : (w₀ w₁ w₂ : Option (List ℕ)) (replies : List (List
     → HasStopped (Write count) w₀ w₂ (replies ++ reply ∷ [])
 HasStopped-last w₀ w₁ w₂ replies reply before taken count written sent within counted = record {
   taken = length (concat replies) + taken;
-  within = rw (concat-last replies reply, length-append (concat replies) reply) (omega (arith, within));
-  sent = rw (concat-last replies reply, take-append-add (concat replies) reply taken) (Appends-trans w₀ w₁ w₂ (concat replies) (take taken reply) written.sent sent);
-  counted = counted ∙ counted-more before.bytes taken (length (concat replies)) count_limit written.bytes;
+  within = rw (concat-last _ _, length-append (concat replies) reply) (omega (arith, within));
+  sent = rw (concat-last _ _, take-append-add (concat replies) reply taken) (Appends-trans w₀ w₁ w₂ (concat replies) (take taken reply) written.sent sent);
+  counted = counted ∙ counted-more _ _ _ _ written.bytes;
 }
 
 -- the same among more replies
@@ -74,7 +74,7 @@ HasStopped-more Memory w₀ w replies more stop = record {
 -- lines one after another
 pub replies_to-append : {S : Type 0} (language : Language S) (s : S) (front more : List (List ℕ)) → replies_to language s (front ++ more) ≡ replies_to language s front ++ replies_to language (state_after language s front) more
 replies_to-append language s [] more = refl
-replies_to-append language s (line ∷ front) more = ap (λ (rest : List (List ℕ)). language.reply s line ∷ rest) (replies_to-append language (language.after s line) front more)
+replies_to-append language s (line ∷ front) more = grind (arith, replies_to-append language (language.after s line) front more)
 
 pub state_after-append : {S : Type 0} (language : Language S) (s : S) (front more : List (List ℕ)) → state_after language s (front ++ more) ≡ state_after language (state_after language s front) more
 state_after-append language s [] more = refl
@@ -82,7 +82,7 @@ state_after-append language s (line ∷ front) more = state_after-append languag
 
 replies_to-last : {S : Type 0} (language : Language S) (s state : S) (front : List (List ℕ)) (line : List ℕ) → state ≡ state_after language s front
     → replies_to language s front ++ language.reply state line ∷ [] ≡ replies_to language s (front ++ line ∷ [])
-replies_to-last language s state front line e = rw (e, replies_to-append language s front (line ∷ [])) refl
+replies_to-last language s state front line e = rw (e, replies_to-append _ s _ _) refl
 
 -- one line more
 pub HasAnswered-last : {S : Type 0} (language : Language S) (s : S) (w₀ w₁ w₂ : Option (List ℕ)) (front : List (List ℕ)) (line : List ℕ) (before after : S) (tally tally₂ : Tally)
@@ -91,13 +91,13 @@ pub HasAnswered-last : {S : Type 0} (language : Language S) (s : S) (w₀ w₁ w
     → HasAnswered language s w₀ w₂ (front ++ line ∷ []) after tally₂
 HasAnswered-last {S} language s w₀ w₁ w₂ front line before after tally tally₂ answered is_after written = record {
   state_at = is_after ∙ (ap (λ (state : S). language.after state line) answered.state_at ∙ sym (state_after-append language s front (line ∷ [])));
-  written = rw (replies_to-last language s before front line answered.state_at) at written;
+  written = rw (replies_to-last _ s _ _ _ answered.state_at) at written;
 }
 
 pub HasStopped-answered : {S : Type 0} (language : Language S) (s : S) (fault : StreamFault) (w₀ w₁ w₂ : Option (List ℕ)) (front : List (List ℕ)) (line : List ℕ) (before : S) (tally : Tally)
     → HasAnswered language s w₀ w₁ front before tally → HasStopped fault w₀ w₂ (replies_to language s front ++ language.reply before line ∷ [])
     → HasStopped fault w₀ w₂ (replies_to language s (front ++ line ∷ []))
-HasStopped-answered language s fault w₀ w₁ w₂ front line before tally answered stop = rw (replies_to-last language s before front line answered.state_at) at stop
+HasStopped-answered language s fault w₀ w₁ w₂ front line before tally answered stop = rw (replies_to-last _ s _ _ _ answered.state_at) at stop
 
 -- lines of a text and what follows them
 text_replies-cut : {S : Type 0} (language : Language S) (s : S) (bytes : List ℕ) (complete : List (List ℕ)) (piece more : List ℕ) → IsCut bytes complete piece
@@ -107,13 +107,13 @@ unfolding text_replies
 text_replies-cut {S} language s bytes complete piece more is_cut =
     let end : List (List ℕ) = language.closing (state_after language s (lines (bytes ++ more))) ∷ [] in
     ap (λ (all : List (List ℕ)). replies_to language s all ++ end) (is_cut.cut more)
-    ∙ (ap (λ (all : List (List ℕ)). all ++ end) (replies_to-append language s complete (lines (piece ++ more)))
+    ∙ (ap (λ (all : List (List ℕ)). all ++ end) (replies_to-append language s _ _)
     ∙ append_assoc (replies_to language s complete) (replies_to language (state_after language s complete) (lines (piece ++ more))) end)
 
 HasStoppedIn-cut : {S : Type 0} (language : Language S) (s : S) (fault : StreamFault) (w₀ w : Option (List ℕ)) (bytes : List ℕ) (complete : List (List ℕ)) (piece : List ℕ) → IsCut bytes complete piece
     → HasStopped fault w₀ w (replies_to language s complete) → HasStoppedIn language s fault w₀ w bytes
 HasStoppedIn-cut language s fault w₀ w bytes complete piece is_cut stop = λ more.
-    rw (text_replies-cut language s bytes complete piece more is_cut) (HasStopped-more fault w₀ w (replies_to language s complete) _ stop)
+    rw (text_replies-cut _ s _ _ _ _ is_cut) (HasStopped-more fault w₀ w (replies_to language s complete) _ stop)
 
 -- a byte more that is no line feed
 pub HasTaken-push : {S : Type 0} (language : Language S) (s : S) (w₀ w : Option (List ℕ)) (bytes : List ℕ) (state : S) (line : Open) (tally : Tally) (byte : ℕ)
@@ -122,7 +122,7 @@ HasTaken-push language s w₀ w bytes state line tally byte taken other = record
   complete = taken.complete;
   piece = taken.piece ++ byte ∷ [];
   is_cut = IsCut-push bytes taken.complete taken.piece byte taken.is_cut other;
-  line_at = ap (λ (o : Open). open_push o byte) taken.line_at ∙ open_push-open_of taken.piece byte;
+  line_at = ap (λ (o : Open). open_push o byte) taken.line_at ∙ open_push-open_of _ _;
   answered = taken.answered;
 }
 
@@ -286,7 +286,7 @@ lacks_first w (reply ∷ more) last = record { first = []; lacking = reply; rest
 
 pub HasWrittenReplies-none : {S : Type 0} (language : Language S) (s : S) (w : Option (List ℕ)) (text : List ℕ) → HasWrittenReplies w w (text_replies language s text)
 unfolding text_replies
-HasWrittenReplies-none language s w text = lacks_first w (replies_to language s (lines text)) (language.closing (state_after language s (lines text)))
+HasWrittenReplies-none language s w text = lacks_first w _ _
 
 pub StandsWritten-none : {S : Type 0} (language : Language S) (s : S) (r₀ r w : Option (List ℕ)) → IfSome r₀ (λ text. StandsWritten [] language s Memory text r w w)
 StandsWritten-none language s None r w = tt
@@ -310,12 +310,11 @@ StandsWritten-behind language s Read heading text left w₀ w₁ w written stand
   sent = Appends-trans w₀ w₁ w heading (concat (replies_to language s (complete_lines stands.part))) written stands.sent;
 }
 StandsWritten-behind language s (Write count) heading text left w₀ w₁ w written stands =
-    let all : List ℕ = concat (text_replies language s text) in
     record {
       taken = length heading + stands.taken;
       within = rw (length-append heading (concat (text_replies language s text))) (omega (arith, stands.within));
       sent = rw (take-append-add heading (concat (text_replies language s text)) stands.taken) (Appends-trans w₀ w₁ w heading (take stands.taken (concat (text_replies language s text))) written stands.sent);
-      counted = counted-more count (length heading) stands.taken count_limit stands.counted ∙ ap (λ (n : ℕ). min n count_limit) (add_comm stands.taken (length heading));
+      counted = counted-more _ _ _ _ stands.counted ∙ ap (λ (n : ℕ). min n count_limit) (add_comm stands.taken (length heading));
     }
 StandsWritten-behind language s Memory heading text left w₀ w₁ w written stands = record {
   first = heading ∷ stands.first;

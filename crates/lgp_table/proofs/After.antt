@@ -18,18 +18,18 @@ unfolding after
 after_none s = refl
 
 pub after_one_more : (s : State) (count : ℕ) → after s (count + 1) ≡ next (after s count)
-after_one_more s count = at_count s (count + 1) (suc count) (omega arith) ∙ after_suc s count
+after_one_more s count = at_count s (count + 1) (suc count) (omega arith) ∙ after_suc s _
 
 pub after_sum : (s : State) (first then : ℕ) → after s (first + then) ≡ after (after s first) then
-after_sum s first zero = at_count s (first + 0) first (omega arith) ∙ sym (after_none (after s first))
+after_sum s first zero = at_count s (first + 0) first (omega arith) ∙ sym (after_none _)
 after_sum s first (suc then) =
-    at_count s (first + suc then) (suc (first + then)) (omega arith) ∙ (after_suc s (first + then)
-    ∙ (ap next (after_sum s first then) ∙ sym (after_suc (after s first) then)))
+    at_count s (first + suc then) (suc (first + then)) (omega arith) ∙ (after_suc s _
+    ∙ (ap next (after_sum s _ _) ∙ sym (after_suc _ _)))
 
 -- the first activity, and then the others
 pub after_first : (s : State) (count : ℕ) → after s (suc count) ≡ after (next s) count
-after_first s zero = after_suc s 0 ∙ (ap next (after_none s) ∙ sym (after_none (next s)))
-after_first s (suc count) = after_suc s (suc count) ∙ (ap next (after_first s count) ∙ sym (after_suc (next s) count))
+after_first s zero = after_suc s 0 ∙ (ap next (after_none s) ∙ sym (after_none _))
+after_first s (suc count) = grind (arith, after_suc, after_first s count)
 
 clock_zero : (s : State) → (after s 0).clock ≡ s.clock + total_cost s 0
 clock_zero s = ap (λ (t : State). t.clock) (after_none s) ∙ omega arith
@@ -39,17 +39,16 @@ clock_suc s count before =
     let cost_before = λ (k : ℕ). cost (after s k) in
     let more = sum_by-map-range_with_len_more (λ x. x) cost_before 0 count count (omega arith) in
     let same : total_cost s (suc count) ≡ total_cost s (count + 1) = ap (λ n. total_cost s n) (let e : suc count ≡ count + 1 = omega arith in e) in
-    let now : (after s (suc count)).clock ≡ (after s count).clock + cost (after s count) = ap (λ (t : State). t.clock) (after_suc s count) in
+    let now : (after s (suc count)).clock ≡ (after s count).clock + cost (after s count) = ap (λ (t : State). t.clock) (after_suc s _) in
     omega (arith, more, same, now, before)
 
 pub clock_after : (s : State) (count : ℕ) → (after s count).clock ≡ s.clock + total_cost s count
 clock_after s zero = clock_zero s
-clock_after s (suc count) = clock_suc s count (clock_after s count)
+clock_after s (suc count) = clock_suc s _ (clock_after s _)
 
 -- a later state is past the first activity at least
 pub clock_past_first : (s : State) (count : ℕ) → s.clock + cost s ≤ (after s (suc count)).clock
 clock_past_first s count =
-    let first : (after s (suc count)).clock ≡ (after (next s) count).clock = ap (λ (t : State). t.clock) (after_first s count) in
-    omega (arith, first, clock_after (next s) count)
+    grind (arith, after_first, clock_after)
 
 pub ruleset states_after = (after_sum, after_none, after_one_more, clock_after)

@@ -45,15 +45,14 @@ time_of-without : (status : Status) (core : Core) (clock : ℕ)
     ≡ time_of (begun_in status core) status core.tape clock
 time_of-without (Halted cause) core clock = refl
 time_of-without Going core clock =
-    let word = word_at core core.panel.counter in
-    rw (act_time-without (op_at word) (address_at word) core)
-time_of-without Executing core clock = rw (act_time-without (op_at core.panel.register) (address_at core.panel.register) core)
+    rw (act_time-without _ _ _)
+time_of-without Executing core clock = rw (act_time-without _ _ _)
 time_of-without Waiting core clock = refl
 time_of-without Reading core clock = refl
 
 pub cost-without : (s : State) → cost (without_passed s) ≡ cost s
 unfolding cost_at
-cost-without s = time_of-without s.core.panel.status s.core s.clock
+cost-without s = time_of-without _ _ _
 
 core_behind-without : (status : Status) (core : Core)
     → core_without_passed (core_behind (begun_in status (core_without_passed core)) status (core_without_passed core))

@@ -55,7 +55,7 @@ desk_pressed_all : (s : State) (switches : Switches) (kept : List Action) → li
 desk_pressed_all s switches [] all = refl
 desk_pressed_all s switches (action ∷ kept) all =
     let (first, others) = both (presses_switch action) (list_all presses_switch kept) all in
-    ap (λ (desk : Desk). fold desk_after desk kept) (desk_pressed s switches action first)
+    ap (λ (desk : Desk). fold desk_after desk kept) (desk_pressed s _ _ first)
     ∙ desk_pressed_all s (switches_after switches action) kept others
 
 -- where the events end at a boundary in this state, but for those switches
@@ -72,9 +72,7 @@ amid s switches elapsed kept = record { state = with_switches s switches; elapse
 time_within : (s : State) (switches : Switches) (elapsed : ℕ) (kept : List Action) → elapsed + 1 < cost s
     → after_word_time (amid s switches elapsed kept) ≡ amid s switches (elapsed + 1) kept
 time_within s switches elapsed kept less =
-    let same = cost_same s switches in
-    let test : nat_lt (elapsed + 1) (cost (with_switches s switches)) ≡ true = grind (arith, nat_tests) in
-    rw test refl
+    grind (arith, cost_same)
 
 time_last : (s : State) (switches : Switches) (elapsed : ℕ) (kept : List Action) → looks_at_switches s ≡ false → elapsed + 1 ≡ cost s
     → list_all presses_switch kept ≡ true
@@ -90,7 +88,7 @@ time_last s switches elapsed kept blind last all =
 
 press_at_boundary : (s : State) (switches : Switches) (action : Action) → presses_switch action ≡ true
     → after_press (amid s switches 0 []) action ≡ amid s (switches_after switches action) 0 []
-press_at_boundary s switches action is = ap (λ (desk : Desk). at_boundary (with_desk (with_switches s switches) desk)) (desk_pressed s switches action is)
+press_at_boundary s switches action is = grind (arith, desk_pressed)
 
 press_kept : (s : State) (switches : Switches) (elapsed : ℕ) (kept : List Action) (action : Action) → elapsed ≢ 0 → nat_lt (length kept) latch_limit ≡ true
     → after_press (amid s switches elapsed kept) action ≡ amid s switches elapsed (kept ++ action ∷ [])
@@ -106,7 +104,7 @@ press_lost s switches elapsed kept action within full =
 
 kept_more : (kept : List Action) (action : Action) → list_all presses_switch kept ≡ true → presses_switch action ≡ true
     → list_all presses_switch (kept ++ action ∷ []) ≡ true
-kept_more kept action all is = rw (list_all-append presses_switch kept (action ∷ []), all, is) refl
+kept_more kept action all is = rw (list_all-append _ _ (action ∷ []), all, is) refl
 
 -- what holds on the way: the events to come are such, so many of their word times are left, and none of the activities left looks
 record IsOnTheWay (s : State) (count : ℕ) (elapsed : ℕ) (kept : List Action) (events : List Event) : Type 0 where
@@ -125,18 +123,12 @@ Onward events = (s : State) (count elapsed : ℕ) (kept : List Action) (switches
 no_time_left : (s : State) (count elapsed : ℕ) (kept : List Action) (switches : Switches) → IsOnTheWay s count elapsed kept []
     → EndsAs (amid s switches elapsed kept) [] (after s count)
 no_time_left s zero elapsed kept switches way =
-    let there = after_none s in
-    let clocks : (after s 0).clock ≡ s.clock = ap (λ (t : State). t.clock) there in
-    let none : elapsed ≡ 0 = omega (arith, way.times, clocks) in
-    let empty = way.none_kept none in
-    (switches, rw (none, empty, there) refl)
+    grind (arith, after_none)
 no_time_left s (suc count) elapsed kept switches way =
-    let past = clock_past_first s count in
-    let wrong : ⊥ = omega (arith, past, way.times, way.within) in
-    absurd wrong
+    grind (arith, clock_past_first)
 
 one_more_time : (rest : List Event) → count_by is_word_time (WordTime ∷ rest) ≡ 1 + count_by is_word_time rest
-one_more_time rest = sum_by-cons (λ event. cond (is_word_time event) 1 0) WordTime rest
+one_more_time rest = sum_by-cons _ WordTime rest
 
 no_more_time : (action : Action) (rest : List Event) → count_by is_word_time (Press action ∷ rest) ≡ count_by is_word_time rest
 no_more_time action rest = sum_by-cons (λ event. cond (is_word_time event) 1 0) (Press action) rest ∙ omega arith
@@ -181,16 +173,16 @@ time_passes rest onward s zero elapsed kept switches way =
 time_passes rest onward s (suc count) elapsed kept switches way =
     ⊎_elim
     (λ less. moved (after_word_time (amid s switches elapsed kept)) (amid s switches (elapsed + 1) kept) rest (after s (suc count))
-    (time_within s switches elapsed kept less)
-    (onward s (suc count) (elapsed + 1) kept switches (way_within s (suc count) elapsed kept rest way less)))
+    (time_within s switches _ _ less)
+    (onward s (suc count) (elapsed + 1) kept switches (way_within s _ _ _ _ way less)))
     (λ whole.
     let last : elapsed + 1 ≡ cost s = omega (arith, whole, way.within) in
-    let blind = first_blind s count elapsed kept (WordTime ∷ rest) way in
+    let blind = first_blind s _ _ _ _ way in
     let pressed = fold switches_after switches kept in
-    let ends = onward (next s) count 0 [] pressed (way_next s count elapsed kept rest way last) in
+    let ends = onward (next s) count 0 [] pressed (way_next s _ _ _ _ way last) in
     moved (after_word_time (amid s switches elapsed kept)) (amid (next s) pressed 0 []) rest (after s (suc count))
-    (time_last s switches elapsed kept blind last way.switches_kept)
-    (subst (λ last. EndsAs (amid (next s) pressed 0 []) rest last) (sym (after_first s count)) ends))
+    (time_last s _ _ _ blind last way.switches_kept)
+    (subst (λ last. EndsAs (amid (next s) pressed 0 []) rest last) (sym (after_first s _)) ends))
     (cases_lt (elapsed + 1) (cost s))
 
 -- the way after a press, with other actions kept
@@ -213,26 +205,26 @@ press_of action rest such = let (first, others) = both (presses_switch action) (
 
 switch_pressed : (action : Action) (rest : List Event) → Onward rest → Onward (Press action ∷ rest)
 switch_pressed action rest onward s count elapsed kept switches way =
-    let is = press_of action rest way.such in
+    let is = press_of _ rest way.such in
     let now = after_press (amid s switches elapsed kept) action in
     ⊎_elim
     (λ none.
-    let at : now ≡ amid s (switches_after switches action) 0 [] = rw none (press_at_boundary s switches action is) in
-    let on = subst (λ n. IsOnTheWay s count n [] rest) none (way_pressed s count elapsed kept [] action rest way refl (λ e. refl)) in
+    let at : now ≡ amid s (switches_after switches action) 0 [] = rw none (press_at_boundary s _ _ is) in
+    let on = subst (λ n. IsOnTheWay s count n [] rest) none (way_pressed s _ _ _ [] _ _ way refl (λ e. refl)) in
     moved now (amid s (switches_after switches action) 0 []) rest (after s count) at (onward s count 0 [] (switches_after switches action) on))
     (λ within. ⊎_elim
-    (λ room. moved now (amid s switches elapsed (kept ++ action ∷ [])) rest (after s count) (press_kept s switches elapsed kept action within room)
+    (λ room. moved now (amid s switches elapsed (kept ++ action ∷ [])) rest (after s count) (press_kept s switches _ _ _ within room)
     (onward s count elapsed (kept ++ action ∷ []) switches
-    (way_pressed s count elapsed kept (kept ++ action ∷ []) action rest way (kept_more kept action way.switches_kept is) (λ e. absurd (within e)))))
-    (λ full. moved now (amid s switches elapsed kept) rest (after s count) (press_lost s switches elapsed kept action within full)
-    (onward s count elapsed kept switches (way_pressed s count elapsed kept kept action rest way way.switches_kept way.none_kept)))
+    (way_pressed s _ _ _ _ _ _ way (kept_more kept action way.switches_kept is) (λ e. absurd (within e)))))
+    (λ full. moved now (amid s switches elapsed kept) rest (after s count) (press_lost s switches _ _ action within full)
+    (onward s count elapsed kept switches (way_pressed s _ _ _ _ _ _ way way.switches_kept way.none_kept)))
     (cases_Bool (nat_lt (length kept) latch_limit)))
     (cases_eq elapsed 0)
 
 onward_from : (events : List Event) → Onward events
-onward_from [] s count elapsed kept switches way = no_time_left s count elapsed kept switches way
-onward_from (WordTime ∷ rest) s count elapsed kept switches way = time_passes rest (onward_from rest) s count elapsed kept switches way
-onward_from (Press action ∷ rest) s count elapsed kept switches way = switch_pressed action rest (onward_from rest) s count elapsed kept switches way
+onward_from [] s count elapsed kept switches way = no_time_left s _ _ _ switches way
+onward_from (WordTime ∷ rest) s count elapsed kept switches way = time_passes _ (onward_from _) s count elapsed kept switches way
+onward_from (Press action ∷ rest) s count elapsed kept switches way = switch_pressed _ _ (onward_from _) s count elapsed kept switches way
 
 pub switches_pressed : (s : State) (count : ℕ) (events : List Event)
     → ((before : ℕ) → before < count → looks_at_switches (after s before) ≡ false)
@@ -248,4 +240,4 @@ switches_pressed s count events blind such times =
       times = let clock = clock_after s count in omega (arith, clock, times);
       blind = blind;
     } in
-    onward_from events s count 0 [] s.core.panel.switches way
+    onward_from _ s count 0 [] s.core.panel.switches way

@@ -1,16 +1,14 @@
 -- Orders that do not look at BREAK POINT and TRANSFER CONTROL do the same however these are set.
-use Rattle.std.proofs.Common.{◌≡◌, ℕ, ◌/◌, ◌%◌, ◌<◌, ◌==◌, Bool, true, false, nat_le, refl, ap, arith}
+use Rattle.std.proofs.Common.{◌≡◌, ℕ, Bool, true, false, nat_le, refl, ap, arith}
 use Rattle.std.proofs.lemmas.Bool.Decides.{nat_tests}
 use Rattle.lgp_word.specs.declared.order.Op.{Op}
 use Rattle.lgp_word.specs.declared.order.Op.TheVariants.{Z, B, Y, R, I, D, N, M, P, E, U, T, H, C, A, S}
-use Rattle.lgp_word.specs.Address.{track_of}
 use Rattle.lgp_word.specs.Order.{address_at, op_at, sign_of}
 use Rattle.lgp_table.specs.State.{Core, State, word_at}
 use Rattle.lgp_table.specs.Rows.{Effect, passes_stop, row}
 use Rattle.lgp_table.specs.Activity.{after_fetch, after_order, begun_in, core_after, core_behind, cost, cost_at}
 use Rattle.lgp_table.specs.Activity.{next, print_of, printed_by, resume, time_of}
 use Rattle.lgp_table.specs.SwitchPresses.{core_with_switches, looks, looks_at_switches, order_looks, with_switches}
-use Rattle.lgp_table.specs.declared.panel.Cause.TheVariants.{Step}
 use Rattle.lgp_table.specs.declared.panel.Status.{Status}
 use Rattle.lgp_table.specs.declared.panel.Status.TheVariants.{Halted, Going, Executing, Waiting, Reading}
 use Rattle.lgp_table.specs.declared.panel.Switches.{Switches}
@@ -21,20 +19,13 @@ effect_with_switches effect switches = record effect { core = core_with_switches
 -- no bit of a track number below 4 has a switch
 passes_no_stop : (switches : Switches) (track : ℕ) → nat_le 4 track ≡ false → passes_stop switches track ≡ false
 passes_no_stop switches track low =
-    let less : track < 4 = grind (arith, nat_tests) in
-    let bit32 : (track / 32 % 2 == 1) ≡ false = grind (arith, nat_tests) in
-    let bit16 : (track / 16 % 2 == 1) ≡ false = grind (arith, nat_tests) in
-    let bit8 : (track / 8 % 2 == 1) ≡ false = grind (arith, nat_tests) in
-    let bit4 : (track / 4 % 2 == 1) ≡ false = grind (arith, nat_tests) in
     grind (arith, nat_tests)
 
 row_same : (op : Op) (minus : Bool) (m : ℕ) (core : Core) (switches : Switches) → order_looks op minus m ≡ false
     → row op minus m (core_with_switches core switches) ≡ effect_with_switches (row op minus m core) switches
 unfolding effect_with_switches
 row_same Z minus m core switches blind =
-    let there = passes_no_stop (core_with_switches core switches).panel.switches (track_of m) blind in
-    let here = passes_no_stop core.panel.switches (track_of m) blind in
-    rw (there, here) refl
+    grind (arith, passes_no_stop)
 row_same B minus m core switches blind = refl
 row_same Y minus m core switches blind = refl
 row_same R minus m core switches blind = refl
@@ -64,7 +55,7 @@ time_same Reading core switches clock = refl
 
 pub cost_same : (s : State) (switches : Switches) → cost (with_switches s switches) ≡ cost s
 unfolding cost_at
-cost_same s switches = time_same s.core.panel.status s.core switches s.clock
+cost_same s switches = time_same _ _ switches _
 
 core_same : (status : Status) (core : Core) (switches : Switches) → looks (begun_in status core) ≡ false
     → core_behind (begun_in status (core_with_switches core switches)) status (core_with_switches core switches)
@@ -76,8 +67,7 @@ core_same Going core switches blind =
     let on = resume core.panel.mode in
     ap (λ (effect : Effect). after_order effect on) (row_same (op_at word) (sign_of word) (address_at word) (after_fetch core) switches blind)
 core_same Executing core switches blind =
-    let word = core.panel.register in
-    ap (λ (effect : Effect). after_order effect (Halted Step)) (row_same (op_at word) (sign_of word) (address_at word) core switches blind)
+    grind (arith, after_order, row_same)
 core_same Waiting core switches blind = refl
 core_same Reading core switches blind = refl
 
@@ -86,20 +76,15 @@ print_same : (status : Status) (core : Core) (switches : Switches) → looks (be
 unfolding effect_with_switches
 print_same (Halted cause) core switches blind = refl
 print_same Going core switches blind =
-    let word = word_at core core.panel.counter in
-    ap (λ (effect : Effect). effect.prints) (row_same (op_at word) (sign_of word) (address_at word) (after_fetch core) switches blind)
+    grind (arith, row_same)
 print_same Executing core switches blind =
-    let word = core.panel.register in
-    ap (λ (effect : Effect). effect.prints) (row_same (op_at word) (sign_of word) (address_at word) core switches blind)
+    grind (arith, row_same)
 print_same Waiting core switches blind = refl
 print_same Reading core switches blind = refl
 
 pub next_same : (s : State) (switches : Switches) → looks_at_switches s ≡ false → next (with_switches s switches) ≡ with_switches (next s) switches
 unfolding core_after print_of
 next_same s switches blind =
-    let core = core_same s.core.panel.status s.core switches blind in
-    let prints = print_same s.core.panel.status s.core switches blind in
-    let time = cost_same s switches in
-    cc
+    grind (arith, core_same, print_same, cost_same)
 
 pub ruleset switches_unseen = (cost_same, next_same)

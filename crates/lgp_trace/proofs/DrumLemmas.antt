@@ -3,7 +3,7 @@ use Rattle.std.proofs.Common.{◌≡◌, ◌∙◌, ℕ, zero, suc, ◌+◌, ◌
 use Rattle.std.proofs.lemmas.List.{append-nil, length-replicate, replicate_more}
 use Rattle.std.specs.Str.{byte}
 use Rattle.lgp_trace.specs.Account.{stored_address}
-use Rattle.lgp_trace.specs.DrumRows.{seek_signs, sign_in_row, signs_in_rows, signs_of, use_sign, waited}
+use Rattle.lgp_trace.specs.DrumRows.{seek_signs, sign_in_row, signs_in_rows, signs_of, waited}
 use Rattle.lgp_trace.specs.Phases.{all_phases}
 use Rattle.lgp_trace.specs.declared.account.Account.{Account}
 use Rattle.lgp_trace.specs.declared.account.Operand.{Operand}
@@ -14,7 +14,7 @@ length-waited (suc before) sign = omega (arith, length-append (replicate before 
 
 pub length-seek_signs : (operand : Option Operand) (stored : Option ℕ) (times : ℕ) → length (seek_signs operand stored times) ≡ times
 length-seek_signs None stored times = length-replicate times (byte "-")
-length-seek_signs (Some operand) stored times = length-waited times (use_sign stored)
+length-seek_signs (Some operand) stored times = length-waited _ _
 
 -- the signs of an account are as many as its word times
 pub as_many_signs : (account : Account) → length (signs_of account) ≡ all_phases account.phases
@@ -57,17 +57,17 @@ single clock sign = append-nil (sign_in_row clock sign)
 -- one sign more
 pub sign_more : (text : List ℕ) (clock count sign : ℕ) → (text ++ signs_in_rows clock (replicate count sign)) ++ sign_in_row (clock + count) sign ≡ text ++ signs_in_rows clock (replicate (count + 1) sign)
 sign_more text clock count sign =
-    ap (λ (t : List ℕ). (text ++ signs_in_rows clock (replicate count sign)) ++ t) (sym (single (clock + count) sign))
-    ∙ rows_behind text (replicate count sign) (sign ∷ []) clock count (length-replicate count sign)
-    ∙ ap (λ (t : List ℕ). text ++ signs_in_rows clock t) (replicate_more count sign)
+    ap (λ (t : List ℕ). (text ++ signs_in_rows clock (replicate count sign)) ++ t) (sym (single _ _))
+    ∙ rows_behind _ _ _ _ _ (length-replicate count sign)
+    ∙ ap (λ (t : List ℕ). text ++ signs_in_rows clock t) (replicate_more _ _)
 
 -- a wait: dots, and the sign at its end
 pub wait_done : (text : List ℕ) (clock times sign : ℕ) → 0 < times → (text ++ signs_in_rows clock (replicate (times - 1) (byte "."))) ++ sign_in_row (clock + (times - 1)) sign ≡ text ++ signs_in_rows clock (waited times sign)
 wait_done text clock zero sign some = absurd (omega arith)
 wait_done text clock (suc before) sign some =
     let one_less : suc before - 1 ≡ before = omega arith in
-    rw one_less (ap (λ (t : List ℕ). (text ++ signs_in_rows clock (replicate before (byte "."))) ++ t) (sym (single (clock + before) sign))
-    ∙ rows_behind text (replicate before (byte ".")) (sign ∷ []) clock before (length-replicate before (byte ".")))
+    rw one_less (ap (λ (t : List ℕ). (text ++ signs_in_rows clock (replicate before (byte "."))) ++ t) (sym (single _ _))
+    ∙ rows_behind _ _ _ _ _ (length-replicate before (byte ".")))
 
 -- the four phases one behind the other
 pub account_drawn : (text : List ℕ) (clock : ℕ) (account : Account)
@@ -83,8 +83,8 @@ account_drawn text clock account =
     let taken = replicate phases.take (byte "i") in
     let sought = seek_signs account.operand (stored_address account.order) phases.seek in
     let acted = replicate phases.act (byte "x") in
-    rows_behind ((text ++ signs_in_rows clock found) ++ signs_in_rows (clock + phases.find) taken) sought acted (clock + phases.find + phases.take) phases.seek (length-seek_signs account.operand (stored_address account.order) phases.seek)
-    ∙ rows_behind (text ++ signs_in_rows clock found) taken (sought ++ acted) (clock + phases.find) phases.take (length-replicate phases.take (byte "i"))
-    ∙ rows_behind text found (taken ++ (sought ++ acted)) clock phases.find (length-waited phases.find (byte "F"))
+    rows_behind ((text ++ signs_in_rows clock found) ++ signs_in_rows (clock + phases.find) taken) sought acted (clock + phases.find + phases.take) phases.seek (length-seek_signs account.operand (stored_address account.order) _)
+    ∙ rows_behind (text ++ signs_in_rows clock found) _ (sought ++ acted) (clock + phases.find) _ (length-replicate phases.take (byte "i"))
+    ∙ rows_behind text found _ _ _ (length-waited _ (byte "F"))
 
 pub ruleset rows = (sign_more, append-nil)

@@ -1,5 +1,5 @@
 -- A run in the middle whose orders are added up in a profile.
-use Rattle.std.proofs.Common.{◌≡◌, ◌∙◌, ℕ, suc, ◌+◌, ◌≤◌, refl, sym, ap, arith}
+use Rattle.std.proofs.Common.{◌≡◌, ◌∙◌, ℕ, ◌+◌, ◌≤◌, refl, ap, arith}
 use Rattle.lgp_table.specs.Activity.{next}
 use Rattle.lgp_table.specs.After.{after}
 use Rattle.lgp_table.specs.State.{State}
@@ -28,24 +28,20 @@ pub notes_more : (first now then : State) (profile more : Profiled) (done : ℕ)
     → more ≡ with_account profile (account_of now) → HasNoted first then more (done + 1)
 unfolding after profile_of
 notes_more first now then profile more done h moved noted =
-    let count : done + 1 ≡ suc done = omega arith in
-    record {
-      stands = rw count (moved ∙ ap next h.stands);
-      noted = rw count (noted ∙ ap (λ (p : Profiled). with_account p (account_of now)) h.noted ∙ ap (λ (s : State). with_account (profile_of first done) (account_of s)) h.stands);
-    }
+    grind arith
 
 -- the clock has gone on by what was noted
 pub noted_clock : (first now : State) (profile : Profiled) (done : ℕ) → HasNoted first now profile done → now.clock ≡ first.clock + all_phases profile.phases
 noted_clock first now profile done h =
-    ap (λ (s : State). s.clock) h.stands ∙ profile_clock first done ∙ ap (λ (p : Profiled). first.clock + all_phases p.phases) (sym h.noted)
+    grind (arith, profile_clock)
 
 pub noted_within : (first now : State) (profile : Profiled) (done : ℕ) → HasNoted first now profile done → all_phases profile.phases ≤ now.clock
-noted_within first now profile done h = omega (arith, noted_clock first now profile done h)
+noted_within first now profile done h = omega (arith, noted_clock _ _ _ _ h)
 
 -- so behind a run whose orders were noted
 pub run_clock : (rules : List Rule) (limit : ℕ) (first new : Debugging) (answer : Result Ran RunFault) (profile : Profiled)
     → IsRun rules limit first new answer → profile ≡ profile_of first.state (orders_of answer)
     → new.state.clock ≡ first.state.clock + all_phases profile.phases
 run_clock rules limit first new answer profile run noted =
-    noted_clock first.state new.state profile (orders_of answer)
-    (record { stands = ap (λ (d : Debugging). d.state) run.performed ∙ performed_state first (orders_of answer); noted = noted })
+    noted_clock _ _ _ _
+    (record { stands = ap (λ (d : Debugging). d.state) run.performed ∙ performed_state _ _; noted = noted })

@@ -17,4 +17,4 @@ short_sign : (sign : ℕ) → nat_lt sign 256 ≡ true → sign < 256
 short_sign sign is = grind (arith, nat_tests)
 
 pub sign_short : (code sign : ℕ) → code ≤ 63 → Some sign ≡ sign_at code → sign < 256
-sign_short code sign within is = short_sign sign (ap is_short is ∙ all_below-at (λ code. is_short (sign_at code)) 64 code all_short (omega arith))
+sign_short code sign within is = short_sign _ (ap is_short is ∙ all_below-at (λ code. is_short (sign_at code)) 64 code all_short (omega arith))

@@ -23,7 +23,7 @@ sum_grown numbers at more within = omega (arith, sum_by-set (λ n. n) numbers at
 
 -- a number of a list is within its sum
 pub sum_more : (numbers : List ℕ) (at : ℕ) → at < length numbers → slice_index numbers at ≤ sum numbers
-sum_more numbers at within = get_or-le-sum_by (λ n. n) numbers at 0 within
+sum_more numbers at within = get_or-le-sum_by _ _ at 0 within
 
 pub ruleset sums = (sum_grown, sum_more)
 

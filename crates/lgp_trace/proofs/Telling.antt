@@ -34,19 +34,19 @@ pub told_more : (label : ℕ → List ℕ) (d now : Debugging) (old before text 
 unfolding told
 told_more label d now old before text done h so_far more =
     let count : done + 1 ≡ suc done = omega arith in
-    let state : now.state ≡ after d.state done = ap (λ (e : Debugging). e.state) h ∙ performed_state d done in
+    let state : now.state ≡ after d.state done = ap (λ (e : Debugging). e.state) h ∙ performed_state d _ in
     let before_it = told label d.state (order_origins d) done in
     rw count (more ∙ ap (λ (t : List ℕ). t ++ told_account label (account_of now.state) (order_origin now)) so_far
     ∙ append_assoc old before_it (told_account label (account_of now.state) (order_origin now))
     ∙ ap (λ (s : State). old ++ (before_it ++ told_account label (account_of s) (order_origin now))) state
-    ∙ ap (λ (o : Option Origin). old ++ (before_it ++ told_account label (account_of (after d.state done)) o)) (origin_performed d now done h))
+    ∙ ap (λ (o : Option Origin). old ++ (before_it ++ told_account label (account_of (after d.state done)) o)) (origin_performed d _ _ h))
 
 pub drawn_more : (d now : Debugging) (old before text : List ℕ) (done : ℕ) → now ≡ performed d done → before ≡ old ++ drawn d.state done
     → text ≡ before ++ signs_in_rows now.state.clock (signs_of (account_of now.state)) → text ≡ old ++ drawn d.state (done + 1)
 unfolding drawn
 drawn_more d now old before text done h so_far more =
     let count : done + 1 ≡ suc done = omega arith in
-    let state : now.state ≡ after d.state done = ap (λ (e : Debugging). e.state) h ∙ performed_state d done in
+    let state : now.state ≡ after d.state done = ap (λ (e : Debugging). e.state) h ∙ performed_state d _ in
     rw count (more ∙ ap (λ (t : List ℕ). t ++ signs_in_rows now.state.clock (signs_of (account_of now.state))) so_far
     ∙ append_assoc old (drawn d.state done) (signs_in_rows now.state.clock (signs_of (account_of now.state)))
     ∙ ap (λ (s : State). old ++ (drawn d.state done ++ signs_in_rows s.clock (signs_of (account_of s)))) state)
@@ -60,6 +60,6 @@ at_ok (Err fault) x is p = cc
 pub untold_performed : (X : Type 0) (rules : List Rule) (old new : Debugging) (answer : Result (Option ℕ) StepFault) (told : Bool)
     → IsOrderOfRun rules old new answer → OnErr answer (IsTrue told × X) → told ≡ false → new ≡ after_step old Perform
 untold_performed X rules old new (Ok stop) told order refused untold = order.2
-untold_performed X rules old new (Err AtRest) told order refused untold = let is = refused.0 in cc
-untold_performed X rules old new (Err ClockEnd) told order refused untold = let is = refused.0 in cc
-untold_performed X rules old new (Err Memory) told order refused untold = let is = refused.0 in cc
+untold_performed X rules old new (Err AtRest) told order refused untold = cc
+untold_performed X rules old new (Err ClockEnd) told order refused untold = cc
+untold_performed X rules old new (Err Memory) told order refused untold = cc

@@ -15,6 +15,6 @@ pub ruleset columns = (column)
 
 -- one copy more
 pub copies_more : (before : List ℕ) (count byte : ℕ) → (before ++ replicate count byte) ++ byte ∷ [] ≡ before ++ replicate (count + 1) byte
-copies_more before count byte = append_assoc before (replicate count byte) (byte ∷ []) ∙ ap (λ (t : List ℕ). before ++ t) (replicate_more count byte)
+copies_more before count byte = append_assoc before (replicate count byte) (byte ∷ []) ∙ ap (λ (t : List ℕ). before ++ t) (replicate_more _ _)
 
 pub ruleset copies = (copies_more, append-nil)

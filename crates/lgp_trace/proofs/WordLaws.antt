@@ -12,23 +12,20 @@ use Rattle.lgp_table.specs.declared.panel.Status.TheVariants.{Halted, Going, Exe
 use Rattle.lgp_trace.specs.Account.{account_of, stored_address, stored_at}
 
 row-other : (op : Op) (minus : Bool) (m : ℕ) (core : Core) (address : ℕ) → cond (stores op) (Some m) None ≢ Some address → word_at (row op minus m core).core address ≡ word_at core address
-row-other op minus m core address = elim op as (λ op. cond (stores op) (Some m) None ≢ Some address → word_at (row op minus m core).core address ≡ word_at core address)
-    [ Z ↦ λ e. refl | B ↦ λ e. refl | Y ↦ λ e. search rules | R ↦ λ e. search rules | I ↦ λ e. refl | D ↦ λ e. refl | N ↦ λ e. refl | M ↦ λ e. refl | P ↦ λ e. refl | E ↦ λ e. refl | U ↦ λ e. refl | T ↦ λ e. refl | H ↦ λ e. search rules | C ↦ λ e. search rules | A ↦ λ e. refl | S ↦ λ e. refl ]
+row-other op minus m core address = search rules
 
 core_behind-other : (status : Status) (core : Core) (address : ℕ) → stored_address (option_map (λ order. order.word) (begun_in status core)) ≢ Some address → word_at (core_behind (begun_in status core) status core) address ≡ word_at core address
 core_behind-other (Halted cause) core address other = refl
 core_behind-other Going core address other =
-    let word = word_at core core.panel.counter in
-    row-other (op_at word) (sign_of word) (address_at word) (after_fetch core) address other
+    grind (arith, row-other)
 core_behind-other Executing core address other =
-    let word = core.panel.register in
-    row-other (op_at word) (sign_of word) (address_at word) core address other
+    grind (arith, row-other)
 core_behind-other Waiting core address other = refl
 core_behind-other Reading core address other = refl
 
 pub other_words : (s : State) (address : ℕ) → stored_at s ≢ Some address → word_at (next s).core address ≡ word_at s.core address
 unfolding core_after
-other_words s address other = core_behind-other s.core.panel.status s.core address other
+other_words s address other = core_behind-other _ _ _ other
 
 row-passed : (op : Op) (minus : Bool) (m : ℕ) (core : Core) → length core.tape.passed ≤ length (row op minus m core).core.tape.passed
 row-passed op minus m core = elim op as (λ op. length core.tape.passed ≤ length (row op minus m core).core.tape.passed)

@@ -16,14 +16,14 @@ text_of-append (x ∷ xs) ys = ap (λ (more : List ℕ). ended x ++ more) (text_
 pub after-append : {S : Type 0} (language : Language S) (r : Recorded S) (xs ys : List (List ℕ)) → after_lines language (after_lines language r xs) ys ≡ after_lines language r (xs ++ ys)
 unfolding after_lines
 after-append {S} language r xs ys =
-    ap (λ (s : S). record { standing = s; transcript = (r.transcript ++ text_of xs) ++ text_of ys }) (sym (state_after-append language r.standing xs ys))
+    ap (λ (s : S). record { standing = s; transcript = (r.transcript ++ text_of xs) ++ text_of ys }) (sym (state_after-append language _ xs ys))
     ∙ ap (λ (t : List ℕ). record { standing = state_after language r.standing (xs ++ ys); transcript = t })
     (append_assoc r.transcript (text_of xs) (text_of ys) ∙ ap (λ (t : List ℕ). r.transcript ++ t) (sym (text_of-append xs ys)))
 
 pub replies-append : {S : Type 0} (language : Language S) (r : Recorded S) (xs ys : List (List ℕ)) → replies_text language r (xs ++ ys) ≡ replies_text language r xs ++ replies_text language (after_lines language r xs) ys
 unfolding after_lines replies_text
 replies-append language r xs ys =
-    ap concat (replies_to-append language r.standing xs ys) ∙ concat-append (replies_to language r.standing xs) (replies_to language (state_after language r.standing xs) ys)
+    ap concat (replies_to-append language _ xs ys) ∙ concat-append (replies_to language r.standing xs) (replies_to language (state_after language r.standing xs) ys)
 
 pub after-none : {S : Type 0} (language : Language S) (r : Recorded S) → after_lines language r [] ≡ r
 unfolding after_lines text_of
@@ -35,13 +35,13 @@ replies-none language r = refl
 
 -- one text more of a list of them
 bytes-more : (texts : List (Bor (List ℕ))) (i : ℕ) (d : Bor (List ℕ)) → i < length texts → bytes_of (take (i + 1) texts) ≡ bytes_of (take i texts) ++ (get_or texts i d).now ∷ []
-bytes-more texts i d within = ap bytes_of (take_more texts i d within) ∙ map-append (λ (text : Bor (List ℕ)). text.now) (take i texts) (get_or texts i d ∷ [])
+bytes-more texts i d within = ap bytes_of (take_more _ i d within) ∙ map-append (λ (text : Bor (List ℕ)). text.now) (take i texts) (get_or texts i d ∷ [])
 
 pub after-more : {S : Type 0} (language : Language S) (r now next : Recorded S) (texts : List (Bor (List ℕ))) (i : ℕ) (d : Bor (List ℕ)) → i < length texts
     → now ≡ after_lines language r (bytes_of (take i texts)) → next ≡ after_lines language now ((get_or texts i d).now ∷ []) → next ≡ after_lines language r (bytes_of (take (i + 1) texts))
 after-more {S} language r now next texts i d within is_now is_next =
     is_next ∙ (ap (λ (s : Recorded S). after_lines language s ((get_or texts i d).now ∷ [])) is_now
-    ∙ (after-append language r (bytes_of (take i texts)) ((get_or texts i d).now ∷ []) ∙ ap (after_lines language r) (sym (bytes-more texts i d within))))
+    ∙ (after-append _ r _ _ ∙ ap (after_lines language r) (sym (bytes-more _ i d within))))
 
 pub replies-more : {S : Type 0} (language : Language S) (r now : Recorded S) (old before after : List ℕ) (texts : List (Bor (List ℕ))) (i : ℕ) (d : Bor (List ℕ)) → i < length texts
     → now ≡ after_lines language r (bytes_of (take i texts)) → before ≡ old ++ replies_text language r (bytes_of (take i texts)) → after ≡ before ++ replies_text language now ((get_or texts i d).now ∷ [])
@@ -52,4 +52,4 @@ replies-more {S} language r now old before after texts i d within is_now is_befo
     is_after ∙ (ap (λ (t : List ℕ). t ++ replies_text language now last) is_before
     ∙ (append_assoc old (replies_text language r so_far) (replies_text language now last)
     ∙ ap (λ (t : List ℕ). old ++ t) (ap (λ (s : Recorded S). replies_text language r so_far ++ replies_text language s last) is_now
-    ∙ (sym (replies-append language r so_far last) ∙ ap (replies_text language r) (sym (bytes-more texts i d within))))))
+    ∙ (sym (replies-append _ r _ _) ∙ ap (replies_text language r) (sym (bytes-more _ i d within))))))

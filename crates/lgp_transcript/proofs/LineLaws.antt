@@ -28,7 +28,7 @@ front-return line =
     rw place (take-append_seam line (13 ∷ []))
 
 strip-return : (line : List ℕ) → strip_carriage_return (line ++ 13 ∷ []) ≡ line
-strip-return line = rw (last-return line) (front-return line)
+strip-return line = rw (last-return _) (front-return _)
 
 pub IsCut-ended : (bytes : List ℕ) (complete : List (List ℕ)) (line : List ℕ) → IsCut bytes complete [] → IsLine line → IsCut (bytes ++ ended line) (complete ++ line ∷ []) []
 unfolding ended
@@ -44,7 +44,7 @@ IsCut-ended bytes complete line cut free = by_return (ends_with_return line) ref
   by_return true e =
       let returned = IsCut-push (bytes ++ line) complete line 13 whole refl in
       let done = IsCut-feed ((bytes ++ line) ++ 13 ∷ []) complete (line ++ 13 ∷ []) returned in
-      rw (append_assoc (bytes ++ line) (13 ∷ []) (10 ∷ []), append_assoc bytes line (13 ∷ 10 ∷ []), strip-return line) at done
+      rw (append_assoc (bytes ++ line) (13 ∷ []) (10 ∷ []), append_assoc bytes line (13 ∷ 10 ∷ []), strip-return _) at done
 
 -- ---- where lines of the other language lead
 
@@ -66,7 +66,7 @@ IsTold-line : {S : Type 0} (language : Language S) (opening standing : S) (trans
 IsTold-line {S} language opening standing transcript line told free = record {
   said = told.said ++ line ∷ [];
   cut = IsCut-ended transcript told.said line told.cut free;
-  stands = ap (λ (s : S). language.after s line) told.stands ∙ sym (state_after-last language opening told.said line);
+  stands = grind (arith, state_after-last)
 }
 
 pub IsTold-lines : {S : Type 0} (language : Language S) (opening standing : S) (transcript : List ℕ) (lines : List (List ℕ)) → IsTold language opening standing transcript → AllByRecursion IsLine lines
@@ -74,8 +74,8 @@ pub IsTold-lines : {S : Type 0} (language : Language S) (opening standing : S) (
 unfolding text_of
 IsTold-lines language opening standing transcript [] told free = rw (append-nil transcript) told
 IsTold-lines language opening standing transcript (line ∷ lines) told free =
-    rw (append_assoc transcript (ended line) (concat (map ended lines))) at
-    (IsTold-lines language opening (language.after standing line) (transcript ++ ended line) lines (IsTold-line language opening standing transcript line told free.0) free.1)
+    rw (append_assoc transcript (ended _) (concat (map ended _))) at
+    (IsTold-lines language opening (language.after standing line) (transcript ++ ended _) lines (IsTold-line language opening standing transcript line told free.0) free.1)
 
 pub IsTold-meaning : {S : Type 0} (language : Language S) (opening : S) (r : Recorded S) (meaning : Meaning) → IsTold language opening r.standing r.transcript → AreLines meaning
     → IsTold language opening (after_meaning language opening r meaning).standing (after_meaning language opening r meaning).transcript
@@ -98,7 +98,7 @@ IsTold-text {S} language opening meaning typed has stand r (line ∷ lines) told
 free-take : (n : ℕ) (line : List ℕ) → IsLine line → IsLine (take n line)
 free-take zero line free = tt
 free-take (suc n) [] free = tt
-free-take (suc n) (b ∷ line) free = (free.0, free-take n line free.1)
+free-take (suc n) (b ∷ line) free = (free.0, free-take n _ free.1)
 
 free-parts : (bytes : List ℕ) → AllByRecursion IsLine (slice_split (λ byte. eqb byte 10) bytes)
 free-parts [] = (tt, tt)
@@ -111,7 +111,7 @@ free-parts (b ∷ bytes) = by_feed (eqb b 10) refl (slice_split (λ byte. eqb by
 free-strip : (line : List ℕ) → IsLine line → IsLine (strip_carriage_return line)
 free-strip line free = by_return (ends_with_return line) where
   by_return : (ends : Bool) → IsLine (cond ends (take (length line - 1) line) line)
-  by_return true = free-take (length line - 1) line free
+  by_return true = free-take _ _ free
   by_return false = free
 
 free-last : (line : List ℕ) (empty : Bool) → IsLine line → AllByRecursion IsLine (cond empty [] (line ∷ []))
@@ -120,7 +120,7 @@ free-last line false free = (free, tt)
 
 free-lines : (parts : List (List ℕ)) → AllByRecursion IsLine parts → AllByRecursion IsLine (lines_of_parts parts)
 free-lines [] free = tt
-free-lines (line ∷ []) free = free-last line (eqb (length line) 0) free.0
+free-lines (line ∷ []) free = free-last _ _ free.0
 free-lines (line ∷ next ∷ more) free = (free-strip line free.0, free-lines (next ∷ more) free.1)
 
 pub lines_are_lines : (text : List ℕ) → AllByRecursion IsLine (lines text)

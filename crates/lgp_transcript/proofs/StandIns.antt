@@ -23,20 +23,19 @@ longer limit line last long =
     let within : limit ≤ length line = omega arith in
     let full : length (take limit line) ≡ limit = length-take-le limit line within in
     let more : length (take limit line ++ last ∷ []) ≡ length (take limit line) + 1 = length-append (take limit line) (last ∷ []) in
-    let above : limit < length (take limit line ++ last ∷ []) = omega arith in
     grind (arith, nat_tests)
 
 all_taken : (p : ℕ → Bool) (n : ℕ) (line : List ℕ) → list_all p line ≡ true → list_all p (take n line) ≡ true
-all_taken p n line all = first (list_all p (take n line)) (list_all p (drop n line)) (sym (list_all-append p (take n line) (drop n line)) ∙ (ap (list_all p) (take-append-drop n line) ∙ all)) where
+all_taken p n line all = first (list_all p (take n line)) (list_all p (drop n line)) (sym (list_all-append p _ (drop n line)) ∙ (ap (list_all p) (take-append-drop n line) ∙ all)) where
   first : (a b : Bool) → (a && b) ≡ true → a ≡ true
   first true b both = refl
   first false b both = both
 
 blank : (limit : ℕ) (line : List ℕ) → list_all is_space (take limit line ++ cond (list_all is_space line) 32 46 ∷ []) ≡ list_all is_space line
-blank limit line = by_blank (list_all is_space line) refl where
+blank limit line = by_blank _ refl where
   by_blank : (all : Bool) → list_all is_space line ≡ all → list_all is_space (take limit line ++ cond all 32 46 ∷ []) ≡ all
-  by_blank true e = list_all-append is_space (take limit line) (32 ∷ []) ∙ rw (all_taken is_space limit line e) refl
-  by_blank false e = list_all-append is_space (take limit line) (46 ∷ []) ∙ and_false (list_all is_space (take limit line)) where
+  by_blank true e = grind (arith, list_all-append, all_taken)
+  by_blank false e = list_all-append is_space (take limit line) (46 ∷ []) ∙ and_false _ where
     and_false : (b : Bool) → (b && false) ≡ false
     and_false true = refl
     and_false false = refl

@@ -6,5 +6,5 @@ use Rattle.lgp_flexo.proofs.tape_text.collect_codes.Goals as goal
 pub returns : goal.returns
 returns g c =
     c.loop-place.invariant
-    ∙ ap (before c.loop-place.codes.items) (rest_from_end c.args.text.now c.loop-place.place c.loop-place-test.false)
+    ∙ ap (before c.loop-place.codes.items) (rest_from_end _ _ c.loop-place-test.false)
     ∙ ap Ok (append-nil c.loop-place.codes.items)

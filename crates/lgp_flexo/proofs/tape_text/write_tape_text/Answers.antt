@@ -1,11 +1,11 @@
-use Rattle.std.proofs.Common.{rules, take, arith, Ok, ap, ◌∙◌}
+use Rattle.std.proofs.Common.{take, arith, Ok, ap, ◌∙◌}
 use Rattle.std.proofs.lemmas.Grind.{common_steps}
 use Rattle.std.proofs.lemmas.List.{take_all}
-use Rattle.lgp_flexo.proofs.Writing.{ReadsBack-more, ReadsBack-nothing, ReadsBack-whole}
+use Rattle.lgp_flexo.proofs.Writing.{ReadsBack-more, ReadsBack-whole}
 use Rattle.lgp_flexo.proofs.tape_text.write_tape_text.Goals as goal
 
 pub loop-code-init : goal.loop-code-init
-loop-code-init g c = record { written = grind (arith, common_steps); reads_back = ReadsBack-nothing _ (search rules) }
+loop-code-init g c = grind arith
 
 pub loop-code-preserved : goal.loop-code-preserved
 loop-code-preserved g c = record {

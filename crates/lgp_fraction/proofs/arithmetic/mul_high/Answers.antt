@@ -1,4 +1,4 @@
-use Rattle.std.proofs.Common.{arith, ◌≡◌, ◌≤◌, ◌^◌, ◌∙◌, ap, ap₂, Bool, FitsSigned, ℕ, ◌*ℤ◌, ◌<ℤ◌, pos, rules, unsigned_abs, w64}
+use Rattle.std.proofs.Common.{◌≡◌, ◌^◌, ◌∙◌, ap, ap₂, Bool, FitsSigned, ℕ, ◌*ℤ◌, pos, rules, w64}
 use Rattle.std.specs.Int.{int_div_euclid}
 use Rattle.std.proofs.lemmas.Int.{fits_signed_from_abs, to_z-of_z}
 use Rattle.lgp_fraction.specs.Arithmetic.{half, is_outside, low_bits, multiplied_high}
@@ -14,10 +14,7 @@ is_half c = c.half-2.ensures.value ∙ ap half c.get.ensures.value
 
 is_high : (c : goal.After-is_outside) → c.high_part-high.result ≡ pos 2 *ℤ int_div_euclid (half c.args.accumulator *ℤ half c.args.word) (pos (2 ^ 30))
 is_high c =
-    let left : FitsSigned w64 c.half.result = fits_signed_from_abs w64 c.half.result (omega (arith, c.half.ensures.size)) in
-    let right : FitsSigned w64 c.half-2.result = fits_signed_from_abs w64 c.half-2.result (omega (arith, c.half-2.ensures.size)) in
-    let product : FitsSigned w64 c.product.result = fits_signed_from_abs w64 c.product.result (omega (arith, c.product.ensures.size)) in
-    rw (to_z-of_z w64 c.product.result product, c.product.ensures.value, to_z-of_z w64 c.half.result left, to_z-of_z w64 c.half-2.result right, c.half.ensures.value, is_half c) at c.high_part-high.ensures
+    search (rules, fits_signed_from_abs, is_half)
 
 overflow : (c : goal.After-is_outside) → c.is_outside.result ≡ is_outside (pos 2 *ℤ int_div_euclid (half c.args.accumulator *ℤ half c.args.word) (pos (2 ^ 30)))
 overflow c =
@@ -35,9 +32,4 @@ returns-clause-value c = ap₂ leaves (low c) (overflow c)
 
 pub returns-clause-exception : goal.returns-clause-exception
 returns-clause-exception c =
-    let size_left : unsigned_abs (half c.args.accumulator) ≤ 2 ^ 30 = rw c.half.ensures.value at c.half.ensures.size in
-    let size_right : unsigned_abs (half c.args.word) ≤ 2 ^ 30 = rw (is_half c) at c.half-2.ensures.size in
-    let below_left : half c.args.accumulator <ℤ pos (2 ^ 30) = rw c.half.ensures.value at c.half.ensures.below in
-    let below_right : half c.args.word <ℤ pos (2 ^ 30) = rw (is_half c) at c.half-2.ensures.below in
-    rw (overflow c)
-    (outside-product (half c.args.accumulator) (half c.args.word) size_left size_right below_left below_right, λ both. product-outside (half c.args.accumulator) (half c.args.word) both.0 both.1)
+    search (rules, is_half, overflow, outside-product, product-outside)

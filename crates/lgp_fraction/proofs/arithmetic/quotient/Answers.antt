@@ -1,4 +1,4 @@
-use Rattle.std.proofs.Common.{◌≡◌, ◌*ℤ◌, ◌<◌, ◌≤◌, ◌^◌, ◌∙◌, FitsSigned, arith, ℤ, pos, of_z, to_z, refl, rules, w64, lit<, lit≤, unsigned_abs}
+use Rattle.std.proofs.Common.{◌≡◌, ◌*ℤ◌, ◌<◌, ◌≤◌, ◌^◌, ◌∙◌, FitsSigned, arith, ℤ, pos, of_z, to_z, w64, lit<, lit≤, unsigned_abs}
 use Rattle.std.proofs.lemmas.Int.{fits_signed_from_abs, fits_signed_mul, to_z-of_z, unsigned_abs-mul}
 use Rattle.std.specs.Int.{w128}
 use Rattle.lgp_fraction.specs.Rounding.{nearest, nearest_size}
@@ -28,19 +28,18 @@ size dividend divisor wide wide_divisor result fits fits_divisor less small is_w
     let is_dividend : wide ≡ dividend = is_wide ∙ to_z-of_z w64 dividend fits in
     let is_divisor : wide_divisor ≡ divisor = is_wide_divisor ∙ to_z-of_z w64 divisor fits_divisor in
     let exact = rw (is_dividend, is_divisor, to_z-of_z w128 dividend wider, to_z-of_z w128 (dividend *ℤ pos (2 ^ 30)) product, to_z-of_z w128 divisor wider_divisor, unsigned_abs-mul dividend (pos (2 ^ 30))) at is_size in
-    rw exact (nearest_size-fraction (unsigned_abs dividend) (unsigned_abs divisor) less small)
+    rw exact (nearest_size-fraction _ _ less small)
 
 -- a small number is narrowed as it is
 narrowed : (result : ℤ) → FitsSigned w128 result → unsigned_abs result < 2 ^ 30 → to_z w64 (of_z w64 (to_z w128 (of_z w128 result))) ≡ result
 narrowed result fits small =
-    let fits_too : FitsSigned w64 result = fits_signed_from_abs w64 result (omega arith) in
-    rw (to_z-of_z w128 result fits, to_z-of_z w64 result fits_too) refl
+    grind (arith, fits_signed_from_abs)
 
 size_of : (c : goal.After-nearest) → unsigned_abs c.nearest.result < 2 ^ 30
 size_of c = size c.args.dividend c.args.divisor c.from.result c.from-2.result c.nearest.result c.ranges.dividend c.ranges.divisor c.requires.fraction c.requires.divisor c.from.ensures c.from-2.ensures c.nearest.ensures.size
 
 narrowed_of : (c : goal.After-nearest) → to_z w64 (of_z w64 (to_z w128 (of_z w128 c.nearest.result))) ≡ c.nearest.result
-narrowed_of c = let fits : FitsSigned w128 c.nearest.result = search rules in narrowed c.nearest.result fits (size_of c)
+narrowed_of c = grind (arith, narrowed, size_of)
 
 pub returns-clause-value : goal.returns-clause-value
 returns-clause-value c = narrowed_of c ∙ value c.args.dividend c.args.divisor c.from.result c.from-2.result c.nearest.result c.ranges.dividend c.ranges.divisor c.requires.fraction c.requires.divisor c.from.ensures c.from-2.ensures c.nearest.ensures.value

@@ -7,25 +7,24 @@ use Rattle.lgp_fraction.proofs.DecimalLemmas.{nearest_size-units, power_of_ten-p
 use Rattle.lgp_fraction.proofs.fraction.steps_of.Goals as goal
 
 is_size : (c : goal.After-with_sign) → c.nearest_size-size.result ≡ nearest_size (c.args.units * 2 ^ 30) (10 ^ c.args.places)
-is_size c = rw (c.from.ensures, c.from-2.ensures, c.power_of_ten.ensures.value) at c.nearest_size-size.ensures.value
+is_size c = grind arith
 
 small : (c : goal.After-with_sign) → unsigned_abs c.with_sign.result < 2 ^ 32
 small c =
-    let size : nearest_size (c.args.units * 2 ^ 30) (10 ^ c.args.places) < 2 ^ 32 = nearest_size-units c.args.units (10 ^ c.args.places) (power_of_ten-positive c.args.places) c.requires.units in
-    rw (c.with_sign.ensures.size, is_size c) size
+    grind (arith, nearest_size-units, power_of_ten-positive, is_size)
 
 pub overflow_cast-result : goal.overflow_cast-result
 overflow_cast-result c =
     let fits : FitsSigned w128 c.with_sign.result = search rules in
     let below = small c in
-    let fits_too : FitsSigned w64 c.with_sign.result = fits_signed_from_abs w64 c.with_sign.result (omega (arith, below)) in
+    let fits_too : FitsSigned w64 c.with_sign.result = fits_signed_from_abs _ _ (omega (arith, below)) in
     rw (to_z-of_z w128 c.with_sign.result fits) fits_too
 
 pub returns : goal.returns
 returns c =
     let fits : FitsSigned w128 c.with_sign.result = search rules in
     let below = small c in
-    let fits_too : FitsSigned w64 c.with_sign.result = fits_signed_from_abs w64 c.with_sign.result (omega (arith, below)) in
+    let fits_too : FitsSigned w64 c.with_sign.result = fits_signed_from_abs _ _ (omega (arith, below)) in
     let is_number : c.with_sign.result ≡ with_sign c.args.negative (nearest_size (c.args.units * 2 ^ 30) (10 ^ c.args.places)) = c.with_sign.ensures.value ∙ ap (with_sign c.args.negative) (is_size c) in
     rw (to_z-of_z w128 c.with_sign.result fits, to_z-of_z w64 c.with_sign.result fits_too)
-    (is_number ∙ sym (nearest-with_sign c.args.negative (c.args.units * 2 ^ 30) (10 ^ c.args.places) (power_of_ten-positive c.args.places)))
+    (is_number ∙ sym (nearest-with_sign _ _ _ (power_of_ten-positive _)))

@@ -8,4 +8,4 @@ pub returns-clause-count : goal.returns-clause-count
 returns-clause-count c =
     let (chunks, (u, (t, yields, ends)), same) = c.count.ensures.ran in
     let by = always_returns_same _ _ _ (λ a r f k. search (rules, of_calls)) in
-    same ∙ (as_many_chunks _ c.chunk_by.result t u chunks by yields ends ∙ ap (λ cells. length (longest_blocks cells)) c.chunk_by.ensures.rest)
+    same ∙ (as_many_chunks _ _ t u _ by yields ends ∙ ap (λ cells. length (longest_blocks cells)) c.chunk_by.ensures.rest)

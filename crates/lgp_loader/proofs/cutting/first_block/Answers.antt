@@ -8,5 +8,5 @@ pub returns-clause-parts : goal.returns-clause-parts
 returns-clause-parts c =
     let (parts, some, tests) = c.in_ok-block.ensures.steps in
     let by = always_returns_same _ _ _ (λ a r f k. search (rules, of_calls)) in
-    first_chunk c.args.cells.now _ c.in_ok-block.block.now _ c.split_at.result.0.now c.split_at.result.1.now c.chunk_by.ensures.rest parts some
+    first_chunk _ _ _ _ _ _ c.chunk_by.ensures.rest parts some
     (tests follows by).1 c.split_at.ensures.front c.split_at.ensures.back

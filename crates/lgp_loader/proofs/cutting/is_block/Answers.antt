@@ -7,4 +7,4 @@ use Rattle.lgp_loader.proofs.cutting.is_block.Goals as goal
 pub returns-then-not-is_empty : goal.returns-then-not-is_empty
 returns-then-not-is_empty c =
     let by = always_returns_same _ _ _ (λ a r f k. search (rules, of_calls)) in
-    by_neighbours c.args.cells.now c.is_sorted_by.result (search rules) (c.is_sorted_by.ensures.cases follows by)
+    by_neighbours _ _ (search rules) (c.is_sorted_by.ensures.cases follows by)

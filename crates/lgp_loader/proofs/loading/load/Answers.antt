@@ -1,6 +1,5 @@
 -- The tape that was read is the load's, and leaves the program over what was there.
 use Rattle.std.proofs.Common.{subst, sym}
-use Rattle.lgp_loader.specs.BlockLoading.{longest_load}
 use Rattle.lgp_loader.specs.Loading.{TapeLoad}
 use Rattle.lgp_loader.specs.Loads.{IsLoad}
 use Rattle.lgp_loader.proofs.Loads.{same_load}
@@ -11,11 +10,9 @@ pub returns-clause-load : goal.returns-clause-load
 returns-clause-load g c =
     let before = g.M.Operate.configuration c.args.machine.now in
     let after = g.M.Operate.configuration c.read.new.machine in
-    let same = same_load (longest_load c.args.image.now) c.in-Ok.reading.tape.items c.in-Ok.reading.orders c.in-Ok.ensures.tape c.in-Ok.ensures.orders in
+    let same = same_load _ _ _ c.in-Ok.ensures.tape c.in-Ok.ensures.orders in
     subst (λ (load : TapeLoad). IsLoad load before after c.read.result) (sym same) c.read.ensures.load
 
 pub returns-clause-program : goal.returns-clause-program
 returns-clause-program g c =
-    let before = g.M.Operate.configuration c.args.machine.now in
-    let after = g.M.Operate.configuration c.read.new.machine in
-    program_read _ c.args.image.now.cells before after c.read.result c.read.ensures.load c.look.ensures.drum c.in-Ok.ensures.program
+    program_read _ _ _ _ _ c.read.ensures.load c.look.ensures.drum c.in-Ok.ensures.program

@@ -11,7 +11,7 @@ use Rattle.lgp_loader.proofs.reading.in_cut.Goals as goal
 pub returns-clause-orders : goal.returns-clause-orders
 returns-clause-orders g c =
     let cut : is_cutting c.args.counts.now c.args.image.now.cells ≡ true = grind (arith, common_steps) in
-    cut_orders c.args.image.now c.args.counts.now c.program_cells.result.now c.orders_for.result cut c.program_cells.ensures.cells c.orders_for.ensures
+    cut_orders c.args.image.now _ _ _ cut c.program_cells.ensures.cells c.orders_for.ensures
 
 pub returns-clause-ready : goal.returns-clause-ready
 returns-clause-ready g c =

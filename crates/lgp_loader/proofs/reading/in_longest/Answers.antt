@@ -8,7 +8,7 @@ use Rattle.lgp_loader.proofs.reading.in_longest.Goals as goal
 
 pub returns-clause-orders : goal.returns-clause-orders
 returns-clause-orders g c =
-    longest_orders c.args.image.now c.program_cells-cells.result.now c.count_longest.result c.orders_for-orders.result
+    longest_orders c.args.image.now _ _ _
     c.program_cells-cells.ensures.cells c.count_longest.ensures.count c.orders_for-orders.ensures
 
 pub returns-clause-ready : goal.returns-clause-ready

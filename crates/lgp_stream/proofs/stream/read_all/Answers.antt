@@ -1,6 +1,6 @@
 use Rattle.std.proofs.Common.{◌≡◌, Err, rules, arith}
 use Rattle.lgp_stream.proofs.KnownLemmas.{Consumes-kept, Consumes-trans}
-use Rattle.lgp_stream.proofs.StreamLemmas.{HasCause-writer, HasRead-more, HasRead-none, HasRead-still, StandsWritten-read, StandsWritten-stopped}
+use Rattle.lgp_stream.proofs.StreamLemmas.{HasRead-more, HasRead-none, HasRead-still, StandsWritten-read, StandsWritten-stopped}
 use Rattle.lgp_stream.proofs.stream.read_all.Goals as goal
 
 pub reads-init : goal.reads-init
@@ -20,8 +20,7 @@ returns-in_err-take_all-clause-stands g c = λ s taken.
 
 pub returns-in_err-take_all-clause-cause : goal.returns-in_err-take_all-clause-cause
 returns-in_err-take_all-clause-cause g c =
-    let same : c.from_residual.result ≡ Err c.in_err-take_all.field-0.0 = search rules in
-    rw same (HasCause-writer c.in_err-take_all.field-0.0 _ _ c.in_err-take_all.ensures.cause)
+    grind arith
 
 pub returns-in_default-clause-stands : goal.returns-in_default-clause-stands
 returns-in_default-clause-stands g c = λ s taken.

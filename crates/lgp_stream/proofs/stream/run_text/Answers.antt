@@ -1,5 +1,5 @@
 use Rattle.std.proofs.Common.{◌≡◌, Err, refl, rules}
-use Rattle.lgp_stream.proofs.StreamLemmas.{HasCause-writer, HasTaken-none, HasWritten-faults, HasWritten-sent, StandsWritten-end}
+use Rattle.lgp_stream.proofs.StreamLemmas.{HasTaken-none, HasWritten-faults, HasWritten-sent, StandsWritten-end}
 use Rattle.lgp_stream.proofs.stream.run_text.Goals as goal
 
 pub returns-clause-text : goal.returns-clause-text
@@ -29,5 +29,4 @@ returns-in_err-end-clause-stands g c =
 
 pub returns-in_err-end-clause-cause : goal.returns-in_err-end-clause-cause
 returns-in_err-end-clause-cause g c =
-    let same : c.from_residual-in_err-end.result ≡ Err c.in_err-end.field-0.0 = search rules in
-    rw same (HasCause-writer c.in_err-end.field-0.0 _ _ c.in_err-end.ensures.cause)
+    search rules

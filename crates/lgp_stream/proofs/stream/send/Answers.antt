@@ -4,6 +4,6 @@ use Rattle.lgp_stream.proofs.stream.send.Goals as goal
 
 pub loop-taken-preserved : goal.loop-taken-preserved
 loop-taken-preserved g c = record {
-  sent = rw (take-piece c.args.bytes.now c.loop-taken.taken c.in-Ok.count) (Appends-trans _ _ _ _ _ c.loop-taken.invariant.sent c.in-Ok.ensures.bytes);
+  sent = rw (take-piece _ _ _) (Appends-trans _ _ _ _ _ c.loop-taken.invariant.sent c.in-Ok.ensures.bytes);
   within = search rules;
 }

@@ -7,12 +7,11 @@ use Rattle.lgp_debugger.proofs.PerformedLemmas.{performed_more}
 use Rattle.lgp_debugger.proofs.RunLemmas.{run_begun, run_limited, run_refused_at_clock_end, run_refused_at_rest, run_rested, run_step, run_stopped}
 use Rattle.lgp_trace.proofs.Telling.{at_ok, told_begun, told_more, untold_performed}
 use Rattle.lgp_trace.proofs.trace.trace_run.Goals as goal
-use Rattle.lgp_debugger.specs.Debugging.{order_origins}
 
 pub loop-orders-init : goal.loop-orders-init
 loop-orders-init g c = record {
-  run = run_begun true c.args.debugger.now;
-  so_far = told_begun (g.L.Labels.label c.args.labels.now) c.args.debugger.now.state (order_origins c.args.debugger.now) c.args.text.now.items;
+  run = run_begun _ _;
+  so_far = told_begun _ _ _ _;
 }
 
 pub loop-orders-preserved : goal.loop-orders-preserved
@@ -23,23 +22,21 @@ loop-orders-preserved g c =
     let done = c.loop-orders.orders in
     let is : answer ≡ Ok None = search rules in
     record {
-      run = run_step true first now c.tell_order-outcome.new.debugger done c.args.limit c.loop-orders.invariant.run answer is c.tell_order-outcome.ensures.order;
-      so_far = told_more (g.L.Labels.label c.args.labels.now) first now c.args.text.now.items c.loop-orders.text.items c.tell_order-outcome.new.text.items done
-          c.loop-orders.invariant.run.reached c.loop-orders.invariant.so_far (at_ok answer _ is c.tell_order-outcome.ensures.told c.if-not-told.false);
+      run = run_step _ first now c.tell_order-outcome.new.debugger done c.args.limit c.loop-orders.invariant.run answer is c.tell_order-outcome.ensures.order;
+      so_far = told_more _ _ _ _ _ _ _
+          c.loop-orders.invariant.run.reached c.loop-orders.invariant.so_far (at_ok _ _ is c.tell_order-outcome.ensures.told c.if-not-told.false);
     }
 
 pub returns-then-not-told-clause-performed : goal.returns-then-not-told-clause-performed
 returns-then-not-told-clause-performed g c =
-    let now = c.loop-orders.debugger in
-    performed_more c.args.debugger.now now c.tell_order-outcome.new.debugger c.loop-orders.orders c.loop-orders.invariant.run.reached
-    (untold_performed _ now.rules now c.tell_order-outcome.new.debugger c.tell_order-outcome.result.0 c.tell_order-outcome.result.1 c.tell_order-outcome.ensures.order c.tell_order-outcome.ensures.refused c.if-not-told.true)
+    grind (arith, performed_more, untold_performed)
 
 -- a rule has stopped it
 stopped : (g : _) (c : goal.In-Ok-Some g) → IsRun c.args.debugger.now.rules c.args.limit c.args.debugger.now c.tell_order-outcome.new.debugger
     (Ok (record { orders = c.loop-orders.orders + 1; reason = Rule c.in-Ok-Some.rule }))
 stopped g c =
     let is : c.tell_order-outcome.result.0 ≡ Ok (Some c.in-Ok-Some.rule) = search rules in
-    run_stopped true c.args.debugger.now c.loop-orders.debugger c.tell_order-outcome.new.debugger c.loop-orders.orders c.args.limit c.loop-orders.invariant.run
+    run_stopped _ _ c.loop-orders.debugger c.tell_order-outcome.new.debugger c.loop-orders.orders c.args.limit c.loop-orders.invariant.run
     c.tell_order-outcome.result.0 c.in-Ok-Some.rule is c.tell_order-outcome.ensures.order c.loop-orders-test.true
 
 pub returns-in-Ok-Some-clause-ran : goal.returns-in-Ok-Some-clause-ran
@@ -50,19 +47,18 @@ returns-in-Ok-Some-clause-performed g c = (stopped g c).performed
 
 pub returns-in-Ok-Some-clause-told : goal.returns-in-Ok-Some-clause-told
 returns-in-Ok-Some-clause-told g c =
-    told_more (g.L.Labels.label c.args.labels.now) c.args.debugger.now c.loop-orders.debugger c.args.text.now.items c.loop-orders.text.items c.tell_order-outcome.new.text.items c.loop-orders.orders
-    c.loop-orders.invariant.run.reached c.loop-orders.invariant.so_far (at_ok c.tell_order-outcome.result.0 _ c.in-Ok-Some.is c.tell_order-outcome.ensures.told c.if-not-told.false)
+    grind (arith, told_more, at_ok)
 
 pub returns-in-Err-AtRest-clause-ran : goal.returns-in-Err-AtRest-clause-ran
 returns-in-Err-AtRest-clause-ran g c =
     let is : c.tell_order-outcome.result.0 ≡ Err AtRest = search rules in
-    (run_refused_at_rest true c.args.debugger.now c.loop-orders.debugger c.tell_order-outcome.new.debugger c.loop-orders.orders c.args.limit c.loop-orders.invariant.run
+    (run_refused_at_rest _ c.args.debugger.now c.loop-orders.debugger c.tell_order-outcome.new.debugger c.loop-orders.orders c.args.limit c.loop-orders.invariant.run
     c.tell_order-outcome.result.0 is c.tell_order-outcome.ensures.order c.loop-orders-test.true).ran
 
 pub returns-in-Err-ClockEnd-clause-ran : goal.returns-in-Err-ClockEnd-clause-ran
 returns-in-Err-ClockEnd-clause-ran g c =
     let is : c.tell_order-outcome.result.0 ≡ Err ClockEnd = search rules in
-    (run_refused_at_clock_end true c.args.debugger.now c.loop-orders.debugger c.tell_order-outcome.new.debugger c.loop-orders.orders c.args.limit c.loop-orders.invariant.run
+    (run_refused_at_clock_end _ c.args.debugger.now c.loop-orders.debugger c.tell_order-outcome.new.debugger c.loop-orders.orders c.args.limit c.loop-orders.invariant.run
     c.tell_order-outcome.result.0 is c.tell_order-outcome.ensures.order c.loop-orders-test.true).broken_off
 
 pub returns-then-is_at_rest-clause-ran : goal.returns-then-is_at_rest-clause-ran

@@ -2,4 +2,4 @@ use Rattle.lgp_transcript.proofs.LineLaws.{told_by_transcript}
 use Rattle.lgp_transcript.proofs.laws.transcript_tells_all.Goals as goal
 
 pub returns : goal.returns
-returns g c = λ language opening meaning typed has stand text. told_by_transcript language opening meaning typed has stand text
+returns g c = λ language opening meaning typed has stand text. told_by_transcript _ _ _ typed has stand text

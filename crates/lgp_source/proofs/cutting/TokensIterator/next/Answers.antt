@@ -11,10 +11,10 @@ returns-in_default-clause-steps c =
 
 pub returns-clause-steps : goal.returns-clause-steps
 returns-clause-steps c =
-    let step = next_token c.self.inside.body.now c.self.inside.place c.in-Some.gap c.run.result c.self.invariant (sym c.visible_place.ensures ∙ c.in-Some.is) c.run.ensures.value in
+    let step = next_token _ _ c.in-Some.gap c.run.result c.self.invariant (sym c.visible_place.ensures ∙ c.in-Some.is) c.run.ensures.value in
     sym c.self.view_is ∙ step.1
 
 pub returns-clause-goes : goal.returns-clause-goes
 returns-clause-goes c =
-    let step = next_token c.self.inside.body.now c.self.inside.place c.in-Some.gap c.run.result c.self.invariant (sym c.visible_place.ensures ∙ c.in-Some.is) c.run.ensures.value in
+    let step = next_token _ _ c.in-Some.gap c.run.result c.self.invariant (sym c.visible_place.ensures ∙ c.in-Some.is) c.run.ensures.value in
     goes_on token_seen _ (λ _. tt) _ _ _ (sym c.self.view_is ∙ step.1)

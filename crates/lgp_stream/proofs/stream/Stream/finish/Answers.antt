@@ -12,8 +12,6 @@ returns-in_default-clause-stopped g c = λ s w₀ lines text answered kept.
 
 pub returns-clause-answered : goal.returns-clause-answered
 returns-clause-answered g c = λ s w₀ lines text answered kept.
-    let replied = c.in-Ok.ensures.reply text kept in
-    let changed = c.in-Ok.ensures.after text kept in
     let reply : c.deref.result.now ≡ g.L.Answers.language.reply c.args.self.now.answers text = search rules in
     let after : c.answer.new.self ≡ g.L.Answers.language.after c.args.self.now.answers text = search rules in
     on_ok_weaker c.deliver.result
@@ -22,7 +20,6 @@ returns-clause-answered g c = λ s w₀ lines text answered kept.
 
 pub returns-clause-stopped : goal.returns-clause-stopped
 returns-clause-stopped g c = λ s w₀ lines text answered kept.
-    let replied = c.in-Ok.ensures.reply text kept in
     let reply : c.deref.result.now ≡ g.L.Answers.language.reply c.args.self.now.answers text = search rules in
     IfErr-weaker c.deliver.result _ _
     (λ fault stop. HasStopped-answered g.L.Answers.language s fault w₀ _ _ lines text c.args.self.now.answers c.args.self.now.tally answered (rw reply at stop))

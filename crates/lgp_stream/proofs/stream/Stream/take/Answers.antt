@@ -16,7 +16,7 @@ pub returns-clause-taken : goal.returns-clause-taken
 returns-clause-taken g c = λ s w₀ bytes taken.
     let feed : c.args.byte ≡ 10 = omega arith in
     let kept : c.complete-line.result ≡ kept_of (strip_carriage_return taken.piece) =
-    c.complete-line.ensures ∙ (ap (λ (o : Open). o.kept) (c.replace.ensures.value ∙ taken.line_at) ∙ kept-open_of taken.piece) in
+    c.complete-line.ensures ∙ (ap (λ (o : Open). o.kept) (c.replace.ensures.value ∙ taken.line_at) ∙ kept-open_of _) in
     let begun : c.replace.new.dest ≡ open_of [] = rw c.replace.ensures.after c.new.ensures in
     let line : c.finish.new.self.line ≡ open_of [] = rw c.finish.ensures.line begun in
     rw feed (on_ok_weaker c.finish.result
@@ -27,7 +27,7 @@ pub returns-clause-stopped : goal.returns-clause-stopped
 returns-clause-stopped g c = λ s w₀ bytes taken.
     let feed : c.args.byte ≡ 10 = omega arith in
     let kept : c.complete-line.result ≡ kept_of (strip_carriage_return taken.piece) =
-    c.complete-line.ensures ∙ (ap (λ (o : Open). o.kept) (c.replace.ensures.value ∙ taken.line_at) ∙ kept-open_of taken.piece) in
+    c.complete-line.ensures ∙ (ap (λ (o : Open). o.kept) (c.replace.ensures.value ∙ taken.line_at) ∙ kept-open_of _) in
     rw feed (IfErr-weaker c.finish.result _ _
     (λ fault stop. HasStoppedIn-feed g.L.Answers.language s fault w₀ _ _ bytes _ _ _ taken stop)
     (c.finish.ensures.stopped s w₀ taken.complete (strip_carriage_return taken.piece) taken.answered kept))

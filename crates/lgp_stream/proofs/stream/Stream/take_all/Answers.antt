@@ -9,7 +9,7 @@ loop-byte-preserved g c = λ s w₀ before taken.
     let i = c.loop-byte.byte-index in
     let within : i < length bytes = omega arith in
     let longer : before ++ take (i + 1) bytes ≡ (before ++ take i bytes) ++ get_or bytes i 0 ∷ [] =
-    ap (λ front. before ++ front) (take_more bytes i 0 within) ∙ sym (append_assoc before (take i bytes) (get_or bytes i 0 ∷ [])) in
+    ap (λ front. before ++ front) (take_more _ i 0 within) ∙ sym (append_assoc before (take i bytes) (get_or bytes i 0 ∷ [])) in
     rw longer (c.in_ok-take.ensures.taken s w₀ (before ++ take i bytes) (c.loop-byte.invariant s w₀ before taken))
 
 pub returns-in_err-take-clause-stopped : goal.returns-in_err-take-clause-stopped
@@ -20,7 +20,7 @@ returns-in_err-take-clause-stopped g c = λ s w₀ before taken.
     let within : i < length bytes = omega arith in
     let same : c.from_residual.result ≡ Err c.in_err-take.field-0.0 = search rules in
     let whole : before ++ bytes ≡ ((before ++ take i bytes) ++ byte ∷ []) ++ drop (i + 1) bytes =
-    ap (λ all. before ++ all) (sym (take-append-drop (i + 1) bytes) ∙ ap (λ front. front ++ drop (i + 1) bytes) (take_more bytes i 0 within))
+    ap (λ all. before ++ all) (sym (take-append-drop (i + 1) bytes) ∙ ap (λ front. front ++ drop (i + 1) bytes) (take_more _ i 0 within))
     ∙ (sym (append_assoc before (take i bytes ++ byte ∷ []) (drop (i + 1) bytes)) ∙ ap (λ front. front ++ drop (i + 1) bytes) (sym (append_assoc before (take i bytes) (byte ∷ [])))) in
     let stop = c.in_err-take.ensures.stopped s w₀ (before ++ take i bytes) (c.loop-byte.invariant s w₀ before taken) in
     rw (same, whole) (HasStoppedIn-more g.L.Answers.language s _ w₀ _ ((before ++ take i bytes) ++ byte ∷ []) (drop (i + 1) bytes) stop)

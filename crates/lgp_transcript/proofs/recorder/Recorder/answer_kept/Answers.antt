@@ -7,7 +7,7 @@ use Rattle.lgp_transcript.proofs.StandIns.{kept-stand_in}
 use Rattle.lgp_transcript.proofs.recorder.Recorder.answer_kept.Goals as goal
 
 kept_alike : (kept : Kept) (text : List ℕ) → kept ≡ kept_of text → kept ≡ kept_of (stand_in kept)
-kept_alike kept text e = e ∙ (sym (kept-stand_in text) ∙ ap (λ (k : Kept). kept_of (stand_in k)) (sym e))
+kept_alike kept text e = e ∙ (sym (kept-stand_in _) ∙ ap (λ (k : Kept). kept_of (stand_in k)) (sym e))
 
 pub returns-clause-reply : goal.returns-clause-reply
 unfolding replies_text
@@ -25,6 +25,6 @@ returns-clause-after g c = λ text kept.
     on_ok_weaker c.answer.result
     (λ is. ap (λ (s : g.row.L.Denot). record { standing = s; transcript = c.push_stand_in.new.text.items }) is
     ∙ (ap (λ (t : List ℕ). record { standing = g.L.Answers.language.after c.self.inside.answers line; transcript = t })
-    (c.in_ok-push_stand_in.ensures ∙ ap (λ (more : List ℕ). c.self.inside.transcript.items ++ more) (sym (append-nil (ended line))))
+    (c.in_ok-push_stand_in.ensures ∙ ap (λ (more : List ℕ). c.self.inside.transcript.items ++ more) (sym (append-nil (ended _))))
     ∙ ap (λ (r : Recorded g.row.L.Denot). record { standing = g.L.Answers.language.after r.standing line; transcript = r.transcript ++ (ended line ++ []) }) c.self.view_is))
     (c.answer.ensures.after line (kept_alike c.args.line.now text kept))
