@@ -41,7 +41,7 @@ module _ {M : Type 1} {𝓤 : Ura M} (𝓛 : Logic 𝓤) where
       → ent 𝓤 (bytes 𝓛 b o (block_size (size type))) (sep 𝓤 (H.room type b o) (sem 𝓛 (block_token type (block_ptr b o))))
   for_value type b o short fits =
       let Value : SProp 𝓤 = H.room type b o in let Back : SProp 𝓤 = wand 𝓤 Value (bytes 𝓛 b o (block_size (size type))) in
-      via 𝓤 (sep 𝓤 Value Back) (value_room 𝓛 b type o (block_size (size type)) (omega arith) fits) (mono_r 𝓤 Value (guard_i 𝓤 (size type < 2 ^ 63) Back short))
+      via 𝓤 (sep 𝓤 Value Back) (value_room 𝓛 b _ o (block_size (size type)) (omega arith) fits) (mono_r 𝓤 Value (guard_i 𝓤 (size type < 2 ^ 63) Back short))
 
 module _ {M : Type 1} {𝓤 : Ura M} {𝓛 : Logic 𝓤} {K : Type 0} {Γ : List (Item 𝓤)} {G : Goal 𝓤 𝓛.H} where
   pub taken : K → (type : Ty) (n a : ℕ) (answer : Answered.Denot) (v : Val) → capped (size type) ≡ n → IsFor n a answer
@@ -59,5 +59,5 @@ module _ {M : Type 1} {𝓤 : Ura M} {𝓛 : Logic 𝓤} {K : Type 0} {Γ : List
       rewrite t 0 (λ (k : ℕ). ‵ (bytes_at x.at k)) (told.0 ∙ ap block_size same) refl $
       in_a_block t x.at (λ p. bytes_at p (block_size (size type))) (id⊢ 𝓤 (never 𝓤)) (λ b o at.
       use1 𝓛 (‵ (froom type b o) ⊛ ‵ (block_token type (block_ptr b o)))
-      (for_value 𝓛 type b o short (subst (λ (k : ℕ). k ≤ block_size k) same told.1)) $
+      (for_value 𝓛 _ b o short (subst (λ (k : ℕ). k ≤ block_size k) same told.1)) $
       some b o (ap only is ∙ ap (λ (p : Ptr). live 1 (vcons (block_val p) vnil)) at)))

@@ -52,7 +52,7 @@ module _ {M : Type 1} {𝓤 : Ura M} (𝓛 : Logic 𝓤) where
         let behind : o + up 16 (up (align type) 0 + size type) ≡ o + m = omega arith in
         let parts : rooms_at 𝓤 H fields 0 b o ≡ sep 𝓤 (H.room type b o) (bytes (o + m) (n - m)) =
         λ i. sep 𝓤 (H.room type b (here i)) (alone (bytes (behind i) (n - m)) i) in
-        lends_on (bytes o n) (H.room both b o) (sep 𝓤 (H.room type b o) (bytes (o + m) (n - m)))
+        lends_on _ _ (sep 𝓤 (H.room type b o) (bytes (o + m) (n - m)))
         (𝓛.laws.room_as (units_of n) both b o all (subst (λ (k : ℕ). Dv k 16) (sym unit) tt))
         (subst (Lends (H.room both b o)) parts (𝓛.laws.room_fields [] fields b o))
 
@@ -66,4 +66,4 @@ module _ {M : Type 1} {𝓤 : Ura M} (𝓛 : Logic 𝓤) where
     pub value_room : (type : Ty) (o n : ℕ) → n % 16 ≡ 0 → size type ≤ n → Lends (bytes o n) (H.room type b o)
     value_room type o n whole fits =
         let m : ℕ = up 16 (size type) in let Value : SProp 𝓤 = H.room type b o in let Rest : SProp 𝓤 = bytes (o + m) (n - m) in
-        lends_on (bytes o n) (sep 𝓤 Value Rest) Value (front type o m n refl (omega arith)) (mono_r 𝓤 Value (wand_i 𝓤 Rest Value (sep 𝓤 Value Rest) (comm∗ 𝓤 Rest Value)))
+        lends_on _ _ Value (front type o m n refl (omega arith)) (mono_r 𝓤 Value (wand_i 𝓤 Rest Value (sep 𝓤 Value Rest) (comm∗ 𝓤 Rest Value)))

@@ -38,12 +38,7 @@ digit_byte-digit_value byte value e =
 pub number_of-four_digits : (before number : ℕ) (rest : List ℕ) → number < 65536 → number_of before (four_digits number ++ rest) ≡ number_of (65536 * before + number) rest
 unfolding four_digits
 number_of-four_digits before number rest small =
-    let a : number / 4096 % 16 < 16 = omega arith in
-    let b : number / 256 % 16 < 16 = omega arith in
-    let c : number / 16 % 16 < 16 = omega arith in
-    let d : number % 16 < 16 = omega arith in
-    let sum : 16 * (16 * (16 * (16 * before + number / 4096 % 16) + number / 256 % 16) + number / 16 % 16) + number % 16 ≡ 65536 * before + number = omega arith in
-    rw (digit_value-digit_byte (number / 4096 % 16) a, digit_value-digit_byte (number / 256 % 16) b, digit_value-digit_byte (number / 16 % 16) c, digit_value-digit_byte (number % 16) d, sum) refl
+    grind (arith, digit_value-digit_byte)
 
 -- what a chain of two options that succeeds has in between
 pub between : (o : Option ℕ) (f : ℕ → Option ℕ) (n : ℕ) → option_and_then f o ≡ Some n → (v : ℕ) × (o ≡ Some v) × (f v ≡ Some n)
@@ -54,14 +49,14 @@ between (Some v) f n e = (v, refl, e)
 four_digits-number_of : (before a b c d : ℕ) (rest : List ℕ) (n : ℕ) → number_of before (a ∷ b ∷ c ∷ d ∷ rest) ≡ Some n → (h : ℕ) × (h < 65536) × (four_digits h ≡ a ∷ b ∷ c ∷ d ∷ []) × (number_of (65536 * before + h) rest ≡ Some n)
 unfolding four_digits
 four_digits-number_of before a b c d rest n e =
-    let first = between (digit_value a) (λ v. number_of (16 * before + v) (b ∷ c ∷ d ∷ rest)) n e in
-    let second = between (digit_value b) (λ v. number_of (16 * (16 * before + first.0) + v) (c ∷ d ∷ rest)) n first.2 in
-    let third = between (digit_value c) (λ v. number_of (16 * (16 * (16 * before + first.0) + second.0) + v) (d ∷ rest)) n second.2 in
-    let fourth = between (digit_value d) (λ v. number_of (16 * (16 * (16 * (16 * before + first.0) + second.0) + third.0) + v) rest) n third.2 in
-    let at_a = digit_byte-digit_value a first.0 first.1 in
-    let at_b = digit_byte-digit_value b second.0 second.1 in
-    let at_c = digit_byte-digit_value c third.0 third.1 in
-    let at_d = digit_byte-digit_value d fourth.0 fourth.1 in
+    let first = between _ _ n e in
+    let second = between _ _ n first.2 in
+    let third = between _ _ n second.2 in
+    let fourth = between _ _ n third.2 in
+    let at_a = digit_byte-digit_value a _ first.1 in
+    let at_b = digit_byte-digit_value b _ second.1 in
+    let at_c = digit_byte-digit_value c _ third.1 in
+    let at_d = digit_byte-digit_value d _ fourth.1 in
     let h : ℕ = 4096 * first.0 + 256 * second.0 + 16 * third.0 + fourth.0 in
     let is_a : h / 4096 % 16 ≡ first.0 = omega arith in
     let is_b : h / 256 % 16 ≡ second.0 = omega arith in
@@ -77,8 +72,8 @@ number_of-digits_of number small =
     let high : number / 65536 < 65536 = omega arith in
     let low : number % 65536 < 65536 = omega arith in
     let sum : 65536 * (65536 * 0 + number / 65536) + number % 65536 ≡ number = omega arith in
-    let first = number_of-four_digits 0 (number / 65536) (four_digits (number % 65536)) high in
-    let second = number_of-four_digits (65536 * 0 + number / 65536) (number % 65536) [] low in
+    let first = number_of-four_digits 0 _ _ high in
+    let second = number_of-four_digits _ _ [] low in
     first ∙ (ap (number_of (65536 * 0 + number / 65536)) (sym (append-nil (four_digits (number % 65536)))) ∙ (second ∙ ap Some sum))
 
 length-digits_of : (number : ℕ) → length (digits_of number) ≡ 8
@@ -89,8 +84,7 @@ length-digits_of number = refl
 pub word_of_digits-digits_of : (word : ℕ) → IsWord word → word_of_digits (digits_of word) ≡ Some word
 unfolding word_of_digits
 word_of_digits-digits_of word h =
-    let even : word % 2 ≡ 0 = h.1 in
-    rw (length-digits_of word, number_of-digits_of word h.0, even) refl
+    grind (arith, length-digits_of, number_of-digits_of)
 
 -- what is read as eight digits is their number's
 pub digits_of-number_of : (text : List ℕ) (number : ℕ) → length text ≡ 8 → number_of 0 text ≡ Some number → (number < 2 ^ 32) × (digits_of number ≡ text)
@@ -121,13 +115,9 @@ kept false o word e = cc
 pub digits_of-word_of_digits : (text : List ℕ) (word : ℕ) → word_of_digits text ≡ Some word → digits_of word ≡ text
 unfolding word_of_digits
 digits_of-word_of_digits text word e =
-    let long = kept (eqb (length text) 8) (option_and_then (λ number. cond (eqb (number % 2) 0) (Some number) None) (number_of 0 text)) word e in
-    let read = between (number_of 0 text) (λ number. cond (eqb (number % 2) 0) (Some number) None) word long.1 in
-    let same = kept (eqb (read.0 % 2) 0) (Some read.0) word read.2 in
-    let is_word : read.0 ≡ word = cc (same.1) in
-    rw (← is_word) (digits_of-number_of text read.0 (eqb-true _ _ long.0) read.1).1
+    grind (arith, between, digits_of-number_of)
 
 -- the same of the answer of a reader
 pub IfSome-word_of_digits : (answer : Option ℕ) (text : List ℕ) → answer ≡ word_of_digits text → IfSome answer (λ word. digits_of word ≡ text)
 IfSome-word_of_digits None text e = tt
-IfSome-word_of_digits (Some word) text e = digits_of-word_of_digits text word (sym e)
+IfSome-word_of_digits (Some word) text e = digits_of-word_of_digits _ _ (sym e)

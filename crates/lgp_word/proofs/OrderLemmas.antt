@@ -53,9 +53,9 @@ unfolding letter_number op_letter
 op_letter-letter_number byte None e = tt
 op_letter-letter_number byte (Some number) e =
     let found = position-Some (λ letter. eqb letter byte) letters number 0 e in
-    ap (slice_index letters) (op_number-op_of number found.0) ∙ eqb-true _ _ found.1
+    ap (slice_index letters) (op_number-op_of _ found.0) ∙ eqb-true _ _ found.1
 
 -- the same of the answer of a reader
 pub IfSome-op_of_letter : (answer : Option Op) (byte : ℕ) → answer ≡ op_of_letter byte → IfSome answer (λ op. op_letter op ≡ byte)
 unfolding op_of_letter
-IfSome-op_of_letter answer byte e = rw e (op_letter-letter_number byte (letter_number byte) refl)
+IfSome-op_of_letter answer byte e = rw e (op_letter-letter_number _ _ refl)

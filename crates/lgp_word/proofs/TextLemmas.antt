@@ -1,8 +1,8 @@
 -- Address texts read back, and what is read from eight digits is a word.
-use Rattle.std.proofs.Common.{◌≡◌, ◌<◌, ◌≤◌, ◌+◌, ◌-◌, ◌*◌, ◌/◌, ◌%◌, ◌^◌, ◌&&◌, ◌==◌, ℕ, true, List, [], ◌∷◌, length, Some, None, Option, IfSome, refl, sym, ap, ◌∙◌, arith, cond, eqb, nat_lt, nat_le, option_and_then}
+use Rattle.std.proofs.Common.{◌≡◌, ◌<◌, ◌≤◌, ◌+◌, ◌-◌, ◌*◌, ◌/◌, ◌%◌, ◌^◌, ◌&&◌, ◌==◌, ℕ, true, List, [], ◌∷◌, length, Some, None, Option, IfSome, refl, sym, arith, cond, eqb, nat_lt, option_and_then}
 use Rattle.std.specs.Char.{is_ascii_digit}
 use Rattle.std.specs.List.{list_all}
-use Rattle.std.proofs.lemmas.Bool.{and_parts, and_from, eqb-true, ltb-true, leb-true, lt-ltb, le-leb, cond-true}
+use Rattle.std.proofs.lemmas.Bool.{and_parts, and_from, eqb-true, ltb-true, cond-true}
 use Rattle.std.proofs.lemmas.Option.{cond_some, none-some}
 use Rattle.lgp_word.specs.Address.{IsAddress}
 use Rattle.lgp_word.specs.Word.{IsWord}
@@ -10,33 +10,22 @@ use Rattle.lgp_word.specs.Digits.{address_digits, address_text, two_at, number_o
 use Rattle.lgp_word.proofs.DigitLemmas.{between, digits_of-number_of, kept}
 
 digit : (d : ℕ) → d < 10 → is_ascii_digit (48 + d) ≡ true
-digit d small = and_from (nat_le 48 (48 + d)) (nat_le (48 + d) 57) (le-leb 48 (48 + d) (omega arith)) (le-leb (48 + d) 57 (omega arith))
+digit d small = grind (arith, and_from)
 
 is_digit : (b : ℕ) → is_ascii_digit b ≡ true → (48 ≤ b) × (b ≤ 57)
 is_digit b e =
-    let parts = and_parts (nat_le 48 b) (nat_le b 57) e in
-    (leb-true 48 b parts.0, leb-true b 57 parts.1)
+    grind arith
 
 -- an address is read from its text
 pub address_text-address_digits : (number : ℕ) → IsAddress number → address_text (address_digits number) ≡ Some number
 address_text-address_digits number small =
-    let text = address_digits number in
-    let track : two_at text 0 ≡ number / 64 = omega arith in
-    let sector : two_at text 2 ≡ number % 64 = omega arith in
-    let digits : list_all is_ascii_digit text ≡ true =
-    and_from _ _ (digit (number / 64 / 10) (omega arith))
-    (and_from _ _ (digit (number / 64 % 10) (omega arith))
-    (and_from _ _ (digit (number % 64 / 10) (omega arith))
-    (and_from _ _ (digit (number % 64 % 10) (omega arith)) refl))) in
-    let first : nat_lt (two_at text 0) 64 ≡ true = lt-ltb (two_at text 0) 64 (omega arith) in
-    let second : nat_lt (two_at text 2) 64 ≡ true = lt-ltb (two_at text 2) 64 (omega arith) in
-    cond-true _ _ _ (and_from _ _ (and_from _ _ digits first) second) ∙ ap Some (omega arith)
+    grind (arith, and_from, digit, cond-true)
 
 -- what is read as an address is its text
 pub address_digits-address_text : (text : List ℕ) (number : ℕ) → address_text text ≡ Some number → IsAddress number × (address_digits number ≡ text)
 address_digits-address_text (a ∷ b ∷ c ∷ d ∷ []) number read =
     let text = a ∷ b ∷ c ∷ d ∷ [] in
-    let read_so = cond_some (list_all is_ascii_digit text && nat_lt (two_at text 0) 64 && nat_lt (two_at text 2) 64) (64 * two_at text 0 + two_at text 2) number read in
+    let read_so = cond_some _ _ _ read in
     let second = and_parts (list_all is_ascii_digit text && nat_lt (two_at text 0) 64) (nat_lt (two_at text 2) 64) read_so.0 in
     let first = and_parts (list_all is_ascii_digit text) (nat_lt (two_at text 0) 64) second.0 in
     let track : two_at text 0 < 64 = ltb-true _ _ first.1 in
@@ -61,7 +50,7 @@ address_digits-address_text (a ∷ b ∷ []) number read = absurd (none-some num
 address_digits-address_text (a ∷ b ∷ c ∷ []) number read = absurd (none-some number read)
 address_digits-address_text (a ∷ b ∷ c ∷ d ∷ e ∷ rest) number read =
     let text = a ∷ b ∷ c ∷ d ∷ e ∷ rest in
-    let third = (cond_some (length text == 4 && list_all is_ascii_digit text && nat_lt (two_at text 0) 64 && nat_lt (two_at text 2) 64) (64 * two_at text 0 + two_at text 2) number read).0 in
+    let third = (cond_some _ _ _ read).0 in
     let second = (and_parts (length text == 4 && list_all is_ascii_digit text && nat_lt (two_at text 0) 64) (nat_lt (two_at text 2) 64) third).0 in
     let first = (and_parts (length text == 4 && list_all is_ascii_digit text) (nat_lt (two_at text 0) 64) second).0 in
     let long : length text ≡ 4 = eqb-true _ _ (and_parts (length text == 4) (list_all is_ascii_digit text) first).0 in
@@ -70,16 +59,16 @@ address_digits-address_text (a ∷ b ∷ c ∷ d ∷ e ∷ rest) number read =
 -- the same of the answer of a reader
 pub IfSome-address_text : (answer : Option ℕ) (text : List ℕ) → answer ≡ address_text text → IfSome answer (λ number. address_digits number ≡ text)
 IfSome-address_text None text e = tt
-IfSome-address_text (Some number) text e = (address_digits-address_text text number (sym e)).1
+IfSome-address_text (Some number) text e = (address_digits-address_text _ _ (sym e)).1
 
 -- what is read from eight digits is a word
 pub IsWord-word_of_digits : (text : List ℕ) (word : ℕ) → word_of_digits text ≡ Some word → IsWord word
 unfolding word_of_digits
 IsWord-word_of_digits text word e =
     let long = kept (eqb (length text) 8) (option_and_then (λ number. cond (eqb (number % 2) 0) (Some number) None) (number_of 0 text)) word e in
-    let read = between (number_of 0 text) (λ number. cond (eqb (number % 2) 0) (Some number) None) word long.1 in
+    let read = between _ _ _ long.1 in
     let same = kept (eqb (read.0 % 2) 0) (Some read.0) word read.2 in
     let is_word : read.0 ≡ word = cc (same.1) in
     let even : read.0 % 2 ≡ 0 = eqb-true _ _ same.0 in
-    let small : read.0 < 2 ^ 32 = (digits_of-number_of text read.0 (eqb-true _ _ long.0) read.1).0 in
+    let small : read.0 < 2 ^ 32 = (digits_of-number_of _ _ (eqb-true _ _ long.0) read.1).0 in
     (rw (← is_word) small, rw (← is_word) even)

@@ -10,4 +10,4 @@ returns-clause-number c = search rules
 
 pub returns-clause-fits : goal.returns-clause-fits
 returns-clause-fits c =
-    subst (λ (k : ℕ). c.args.size ≤ 16 * 2 ^ (64 - leading_zeros w64 (k / 16))) (sym c.saturating_sub.ensures) (fits_block c.args.size c.ranges.size.fits)
+    subst (λ (k : ℕ). c.args.size ≤ 16 * 2 ^ (64 - leading_zeros w64 (k / 16))) (sym c.saturating_sub.ensures) (fits_block _ c.ranges.size.fits)

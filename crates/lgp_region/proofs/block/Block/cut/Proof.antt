@@ -39,7 +39,7 @@ cut_spec 𝓤 𝓛 𝓜 𝓡 wired =
     let 𝓣 = tables 𝓤 𝓛.H 𝓜 𝓡 𝓡.env in
     proved_at 𝓛 f.ended stayed c 𝓜 𝓡
     (Goes-blank 𝓛 0 (plain (λ _. block.the_row)) f.ended.kept.0 (λ κs x g. tt), (Goes-dropped 𝓛 0 (plain (λ _. usize)) f.ended.kept.1.0 (λ κs x w. refl), tt))
-    f.Key.name code.function (code.unfolded 𝓤 𝓛.H 𝓜 𝓡 wired) (λ z are.
+    _ _ (code.unfolded 𝓤 𝓛.H 𝓜 𝓡 wired) (λ z are.
     let Post : Val → SProp 𝓤 = (walk_of 𝓛 f.ended stayed c).post z in
     let a = z.0.3 in let vss = z.0.4 in let x = a.0 in let all = x.size in let n = a.1.0 in
     qed 𝓛 ((raw (alive 𝓛 f.signature z.0.0 z.0.1) ⊛ ‵ (owns (types_at f.signature.params z.0.0) a vss))
@@ -71,4 +71,4 @@ cut_spec 𝓤 𝓛 𝓜 𝓡 wired =
     use0 𝓛 (raw (fact 𝓤 (all - n ≡ all - n))) (fact_i 𝓤 (all - n ≡ all - n) (emp 𝓤) refl) $
     use0 𝓛 (raw (fact 𝓤 (n ≡ n))) (fact_i 𝓤 (n ≡ n) (emp 𝓤) refl) $ join ! $
     nothing ! $ nothing ! $ fjoin ! $ nothing ! $ fjoin ! $ move ! (3 ∷ 0 ∷ 2 ∷ 1 ∷ []) $
-    by ! (leaves 𝓛 f.ended stayed c z pair (front, behind) (tt, (tt, tt)) (tt, (tt, tt))))))))
+    by ! (leaves 𝓛 f.ended stayed c z _ (front, behind) _ _))))))

@@ -92,4 +92,4 @@ taken_for_good_spec 𝓤 𝓛 𝓜 𝓡 wired A laws g d drops met _ =
     returns ! (look_at ! 0 refl) $ free_all ! refl $
     use0 𝓛 (‵ (Out.own_val None (live 0 vnil ∷ []))) (none_of 𝓛 block.the_row) $
     use0 𝓛 (raw (fact 𝓤 (Unit {0}))) (fact_i 𝓤 (Unit {0}) (emp 𝓤) tt) $ nothing ! $ nothing ! $ fjoin ! $ nothing ! $ fjoin ! $ move ! (3 ∷ 0 ∷ 2 ∷ 1 ∷ []) $
-    by ! (leaves 𝓛 En stays c z (live 0 vnil) None (tt, (tt, tt)) (tt, (tt, tt))))))))))
+    by ! (leaves 𝓛 En stays c z _ None (tt, (tt, tt)) (tt, (tt, tt))))))))))

@@ -51,7 +51,7 @@ allocate_spec 𝓤 𝓛 𝓜 𝓡 wired =
     let 𝓣 = tables 𝓤 𝓛.H 𝓜 𝓡 𝓡.env in
     proved_at 𝓛 f.ended stayed c 𝓜 𝓡
     (Goes-dropped 𝓛 1 self f.ended.kept.0 (λ κs x w. refl), (Goes-dropped 𝓛 1 number f.ended.kept.1.0 (λ κs x w. refl), (Goes-dropped 𝓛 1 number f.ended.kept.1.1.0 (λ κs x w. refl), tt)))
-    f.Key.name code.function (code.unfolded 𝓤 𝓛.H 𝓜 𝓡 wired) (λ z are.
+    _ _ (code.unfolded 𝓤 𝓛.H 𝓜 𝓡 wired) (λ z are.
     let Post : Val → SProp 𝓤 = (walk_of 𝓛 f.ended stayed c).post z in
     let a = z.0.3 in let vss = z.0.4 in let type : Ty = z.1 in let n = a.1.0 in let alignment = a.1.1.0 in
     let Take = triple_of 𝓛 callee.signature (callee.spec 𝓛 𝓜.mem 𝓡.returns) in
@@ -84,7 +84,7 @@ allocate_spec 𝓤 𝓛 𝓜 𝓡 wired =
     returns ! (look_at ! 0 refl) $ free_all ! refl $
     use0 𝓛 (‵ (Answer.own_val (Ok p) (answer_val true b o ∷ []))) (Answer-Ok 𝓛 b o) $
     nothing ! $ nothing ! $ fjoin ! $ nothing ! $ fjoin ! $ nothing ! $ fjoin ! $ move ! (3 ∷ 0 ∷ 1 ∷ 2 ∷ []) $
-    by ! (leaves 𝓛 f.ended stayed c z (answer_val true b o) (Ok p) (tt, (tt, (tt, tt))) (tt, (tt, (tt, tt)))))
+    by ! (leaves 𝓛 f.ended stayed c z _ (Ok p) _ _))
     (λ is. nothing ! $ lands_as ! is refl (tt, (record { fits = lit< tt }, tt)) $
     first ! $ switches_on ! (get_tag ! (vrt ! refl (fld ! refl (stop !))) (whole !)) $
     exec ! 𝓣.C 𝓣.Λ (env code.function.locals l) (arm_body 1 (head (after 1 code.function.body))) (then_runs 𝓛 𝓣.C 𝓣.Λ (env code.function.locals l) (after 2 code.function.body) (at_ret (env code.function.locals l) Post)) $
@@ -95,4 +95,4 @@ allocate_spec 𝓤 𝓛 𝓜 𝓡 wired =
     returns ! (look_at ! 0 refl) $ free_all ! refl $
     use0 𝓛 (‵ (Answer.own_val (Err (record {})) (answer_val false 0 0 ∷ []))) (Answer-err 𝓛) $
     nothing ! $ nothing ! $ fjoin ! $ nothing ! $ fjoin ! $ nothing ! $ fjoin ! $ move ! (3 ∷ 0 ∷ 1 ∷ 2 ∷ []) $
-    by ! (leaves 𝓛 f.ended stayed c z (answer_val false 0 0) (Err (record {})) (tt, (tt, (tt, tt))) (tt, (tt, (tt, tt))))))))))))
+    by ! (leaves 𝓛 f.ended stayed c z _ (Err (record {})) _ _)))))))))

@@ -59,7 +59,7 @@ deallocate_spec 𝓤 𝓛 𝓜 𝓡 wired =
         (Goes-dropped 𝓛 1 number f.ended.kept.1.1.0 (λ κs x w. refl), (Goes-dropped 𝓛 1 number f.ended.kept.1.1.1.0 (λ κs x w. refl), tt)),
       ),
     )
-    f.Key.name code.function (code.unfolded 𝓤 𝓛.H 𝓜 𝓡 wired) (λ z are.
+    _ _ (code.unfolded 𝓤 𝓛.H 𝓜 𝓡 wired) (λ z are.
     let Post : Val → SProp 𝓤 = (walk_of 𝓛 f.ended stayed c).post z in
     let a = z.0.3 in let vss = z.0.4 in let type : Ty = z.1 in let from = a.1.0 in let n = a.1.1.0 in let alignment = a.1.1.1.0 in
     let all = block_size (size type) in let me : Val = vptr a.0.ref_ptr.0 a.0.ref_ptr.1 in
@@ -69,7 +69,7 @@ deallocate_spec 𝓤 𝓛 𝓜 𝓡 wired =
     ∷ (raw (fact 𝓤 IsAsked) ⊛ ‵ (room_for type from) ⊛ ‵ (block_token type from)) ∷ []) ∵
     -- the room and the token are the block's bytes
     move ! (1 ∷ []) $ split3 ! $ heard ! IsAsked (λ asked. move ! (1 ∷ []) $ fpick ! (λ below. move ! (1 ∷ 0 ∷ []) $
-    use2 𝓛 (‵ (bytes_at from all)) (apply∗ 𝓤 (sem 𝓛 (room_for type from)) (sem 𝓛 (bytes_at from all))) $
+    use2 𝓛 (‵ (bytes_at from _)) (apply∗ 𝓤 (sem 𝓛 (room_for type from)) (sem 𝓛 (bytes_at from _))) $
     in_a_block ! from (λ p. bytes_at p all) (id⊢ 𝓤 (never 𝓤)) (λ b o is_at.
     let p : Ptr = block_ptr b o in let same : size type ≡ n = sym (capped_is (size type) (omega arith)) ∙ asked.0 in
     move ! (1 ∷ []) $ split ! $ move ! (1 ∷ []) $ fsplit ! $ fsplit ! $ keep ! (4 ∷ 1 ∷ 3 ∷ []) $
@@ -82,7 +82,7 @@ deallocate_spec 𝓤 𝓛 𝓜 𝓡 wired =
     let x : (block.the_row).Denot = record { at = p; size = all } in
     let y : Keep.Ghost = ((z.0.0, z.0.1, z.0.2, (a.0, (x, (n, tt))), (me ∷ [], (block_val p ∷ [], (vint w64 n ∷ [], tt)))), tt) in
     nothing ! $ flt_i ! n (2 ^ 64) are.1.1.0.1 $ feq_i ! (List Val) (vint w64 n ∷ []) (vint w64 n ∷ []) refl $ fjoin ! $ fjoin ! $ move ! (1 ∷ []) $
-    use1 𝓛 (‵ (block_at p all)) (block_made 𝓛 p all) $ fjoin ! $ move ! (1 ∷ []) $
+    use1 𝓛 (‵ (block_at p all)) (block_made 𝓛 p _) $ fjoin ! $ move ! (1 ∷ []) $
     feq_i ! (List Val) (me ∷ []) (me ∷ []) refl $ fjoin ! $ fjoin ! $ move ! (1 ∷ 0 ∷ []) $ join ! $
     use0 𝓛 (raw (fact 𝓤 (all ≡ block_size n))) (fact_i 𝓤 (all ≡ block_size n) (emp 𝓤) (ap block_size same)) $ move ! (1 ∷ 0 ∷ []) $ join ! $
     use1 𝓛 (raw (Keep.pre y)) (id⊢ 𝓤 _) $
@@ -94,4 +94,4 @@ deallocate_spec 𝓤 𝓛 𝓜 𝓡 wired =
     sets ! (of_opd ! (unit_lit !)) refl (tt, tt) $ returns ! (look_at ! 0 refl) $ free_all ! refl $
     feq_i ! (List Val) (vunit ∷ []) (vunit ∷ []) refl $ nothing ! $ nothing ! $ nothing ! $ fjoin ! $ nothing ! $ fjoin ! $ nothing ! $ fjoin ! $ nothing ! $ fjoin ! $
     move ! (3 ∷ 0 ∷ 2 ∷ 1 ∷ []) $
-    by ! (leaves 𝓛 f.ended stayed c z vunit tt (tt, (tt, (tt, (tt, tt)))) (tt, (tt, (tt, (tt, tt)))))))))))))
+    by ! (leaves 𝓛 f.ended stayed c z _ tt _ _)))))))))
