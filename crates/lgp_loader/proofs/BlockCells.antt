@@ -1,12 +1,11 @@
 -- The block loader on the drum, with its cells, and the two orders by which it counts.
-use Rattle.std.proofs.Common.{◌≡◌, ◌≢◌, ℕ, zero, suc, ◌+◌, ◌/◌, ◌%◌, ◌^◌, ◌<◌, ◌≤◌, true, false, refl, sym, ap, ◌∙◌, arith, List, length, slice_index, slice_set}
+use Rattle.std.proofs.Common.{Bool, not, true, ◌&&◌, ◌||◌, ◌==◌, nat_lt, ◌≡◌, ◌≢◌, ℕ, zero, suc, ◌+◌, ◌/◌, ◌%◌, ◌^◌, ◌<◌, ◌≤◌, true, false, refl, sym, ap, ◌∙◌, arith, List, length, slice_index, slice_set}
 use Rattle.std.proofs.lemmas.Bool.Decides.{nat_tests}
 use Rattle.std.proofs.lemmas.Int.{ints}
 use Rattle.std.proofs.lemmas.List.{get_or-set_other, get_or-set_same, length-set, set-set, set_comm}
 use Rattle.lgp_word.specs.Address.{address_after}
 use Rattle.lgp_word.specs.Order.{address_at, op_at, op_of, sign_of}
 use Rattle.lgp_word.specs.Word.{IsWord}
-use Rattle.lgp_word.specs.declared.order.Op.{Op}
 use Rattle.lgp_word.specs.declared.order.Op.TheVariants.{A, B, C}
 use Rattle.lgp_fraction.specs.Arithmetic.{added}
 use Rattle.lgp_fraction.specs.declared.arithmetic.Arith.{Arith}
@@ -113,13 +112,17 @@ word_set words store count place word apart_from_store apart_from_count =
     set_comm (slice_set words block_store_cell store) count_cell place count word apart_from_count
     ∙ ap (λ ws. slice_set ws count_cell count) (set_comm words block_store_cell place store word apart_from_store)
 
--- a word of the loader with its parts
-pub fetches : (words : List ℕ) (k word : ℕ) (op : Op) (address : ℕ) → HasBlockLoader words → k < 22 → k ≢ 9 → k ≢ 19 → k ≢ 21
-    → slice_index block_loader_words k ≡ word → op_at word ≡ op → address_at word ≡ address → Fetches words (loader_base + k) word op address
-fetches words k word op address has within store end count is is_op is_at = record {
-  here = has.fixed k within store end count ∙ is;
-  is_op = is_op;
-  is_at = is_at;
+-- the places of the loader's words that it does not change itself
+abbrev pub is_fixed : ℕ → Bool
+is_fixed k = nat_lt k 22 && not ((k == 9) || ((k == 19) || (k == 21)))
+
+-- such a word of the loader with its parts
+pub fetches : (words : List ℕ) (k : ℕ) → HasBlockLoader words → is_fixed k ≡ true
+    → let word = slice_index block_loader_words k in Fetches words (loader_base + k) word (op_at word) (address_at word)
+fetches words k has is = record {
+  here = has.fixed k (grind (arith, nat_tests)) (grind (arith, nat_tests)) (grind (arith, nat_tests)) (grind (arith, nat_tests));
+  is_op = refl;
+  is_at = refl;
 }
 
 pub fetch_store : (words : List ℕ) (place count : ℕ) → length words ≡ 4096 → place < 4096
@@ -132,7 +135,7 @@ fetch_store words place count long within = record {
 }
 
 pub one_up_there : (words : List ℕ) → HasBlockLoader words → slice_index words one_up_place ≡ one_up
-one_up_there words has = has.fixed 20 (omega arith) (omega arith) (omega arith) (omega arith)
+one_up_there words has = (fetches words 20 has refl).here
 
 -- the count that is left: it is zero behind the last word
 unfoldable pub count_left : ℕ → ℕ

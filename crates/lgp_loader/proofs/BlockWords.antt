@@ -4,7 +4,7 @@ use Rattle.std.specs.List.{concat}
 use Rattle.std.proofs.lemmas.Bool.Decides.{nat_tests}
 use Rattle.lgp_word.specs.Order.{op_of, plain_order}
 use Rattle.lgp_word.specs.Word.{IsWord}
-use Rattle.lgp_word.specs.declared.order.Op.TheVariants.{I, P, T, H, A, B}
+use Rattle.lgp_word.specs.declared.order.Op.TheVariants.{I, T, H, A, B}
 use Rattle.lgp_fraction.specs.Arithmetic.{added}
 use Rattle.lgp_flexo.specs.Code.{stop_code}
 use Rattle.lgp_flexo.specs.WordCodes.{word_codes}
@@ -40,11 +40,11 @@ unfolding op_of behind_word count_left
 tested switches words passed rest zero has few count last runs =
     one_then _ _ _ _
     (goes_on switches (loader_base + 16) 0 (plain_order H count_cell) words (off passed rest) (plain_order T next_word) next_word
-    (fetches _ 16 _ T _ has (omega arith) (omega arith) (omega arith) (omega arith) refl refl refl) refl refl) runs
+    (fetches _ 16 has refl) refl refl) runs
 tested switches words passed rest (suc more) has few count last runs =
     one_then _ _ _ _
     (transfers_to switches _ _ _ _ _ _ _
-    (fetches _ 16 _ T _ has (omega arith) (omega arith) (omega arith) (omega arith) refl refl refl) refl (count_is_negative _ (omega (arith, few)))) runs
+    (fetches _ 16 has refl) refl (count_is_negative _ (omega (arith, few)))) runs
 
 -- the count goes up, and is tested
 counted : (switches : Switches) (register : ℕ) (words passed rest : List ℕ) (store more : ℕ) → HasBlockLoader words → more < 4096
@@ -62,16 +62,16 @@ counted switches register words passed rest store more has few count last runs a
     let has1 = has_with_cells _ _ _ has in
     let test = tested switches _ _ _ _ has1 few _ _ runs in
     let held_there = held switches (loader_base + 15) new (plain_order A one_up_place) ws tape (plain_order H count_cell) count_cell
-    (fetches ws 15 _ H _ has0 (omega arith) (omega arith) (omega arith) (omega arith) refl refl refl) (count_is_word _ (omega (arith, few))) in
+    (fetches ws 15 has0 refl) (count_is_word _ (omega (arith, few))) in
     let third = one_then (suc count) _ _ last held_there
     (subst (λ w. Runs (suc count) (core_at switches (loader_base + 16) new (plain_order H count_cell) w tape) last) (sym (count_set _ _ old _)) test) in
     let sum = ap (λ n. added old n) (one_up_there ws has0) ∙ counted_up _ few in
     let second = one_then (suc (suc count)) _ _ last
     (adds switches _ _ (plain_order B count_cell) ws tape _ _ _
-    (fetches ws 14 _ A _ has0 (omega arith) (omega arith) (omega arith) (omega arith) refl refl refl) sum) third in
+    (fetches ws 14 has0 refl) sum) third in
     one_then (suc (suc (suc count))) _ _ last
     (brings switches _ _ _ ws _ _ _ _
-    (fetches ws 13 _ B _ has0 (omega arith) (omega arith) (omega arith) (omega arith) refl refl refl) (count_held _ _ _ has.drum)) second
+    (fetches ws 13 has0 refl) (count_held _ _ _ has.drum)) second
 
 -- the order in the store cell goes up
 moved_up : (switches : Switches) (register : ℕ) (words passed rest : List ℕ) (place count_now : ℕ) → HasBlockLoader words → place < 4096
@@ -86,16 +86,16 @@ moved_up switches register words passed rest place count_now has within count la
     let tape = off passed rest in
     let has0 = has_with_cells _ _ _ has in
     let held_there = held switches (loader_base + 12) new (plain_order A one_up_place) ws tape (plain_order H block_store_cell) block_store_cell
-    (fetches ws 12 _ H _ has0 (omega arith) (omega arith) (omega arith) (omega arith) refl refl refl) (next_control_is_word _ within) in
+    (fetches ws 12 has0 refl) (next_control_is_word _ within) in
     let third = one_then _ _ _ _ held_there
     (subst (λ w. Runs count (core_at switches (loader_base + 13) new (plain_order H block_store_cell) w tape) last) (sym (store_set _ _ _ _)) runs) in
     let sum = ap (λ n. added old n) (one_up_there ws has0) ∙ control_up _ within in
     let second = one_then (suc count) _ _ last
     (adds switches _ _ (plain_order B block_store_cell) ws tape _ _ _
-    (fetches ws 11 _ A _ has0 (omega arith) (omega arith) (omega arith) (omega arith) refl refl refl) sum) third in
+    (fetches ws 11 has0 refl) sum) third in
     one_then (suc (suc count)) _ _ last
     (brings switches _ 0 _ ws _ _ _ _
-    (fetches ws 10 _ B _ has0 (omega arith) (omega arith) (omega arith) (omega arith) refl refl refl) (store_held _ _ _ has.drum)) second
+    (fetches ws 10 has0 refl) (store_held _ _ _ has.drum)) second
 
 -- one word: it is read and stored, and the order that stores and the count go up
 pub one_word : (switches : Switches) (accumulator register : ℕ) (words passed rest : List ℕ) (place word more : ℕ)
@@ -121,8 +121,8 @@ one_word switches accumulator register words passed rest place word more has wit
     (subst (λ w. Runs (suc (suc (suc (suc (suc (suc (suc count))))))) (core_at switches (loader_base + 10) 0 control w (off passed1 rest)) last)
     (sym (word_set _ _ _ _ _ (store_apart _ free) (count_apart _ free))) up) in
     two_orders switches _ _ _ ws _ [] _ _ (suc (suc (suc (suc (suc (suc (suc (suc count)))))))) last
-    (fetches ws 7 _ P 0 has0 (omega arith) (omega arith) (omega arith) (omega arith) refl refl refl)
-    (fetches ws 8 _ I 0 has0 (omega arith) (omega arith) (omega arith) (omega arith) refl refl refl)
+    (fetches ws 7 has0 refl)
+    (fetches ws 8 has0 refl)
     (omega arith) nothing_skipped is third
 
 -- the codes of some words, the first of them and the others

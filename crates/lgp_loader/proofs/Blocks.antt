@@ -7,7 +7,7 @@ use Rattle.std.proofs.lemmas.List.Sums.{fold-append}
 use Rattle.lgp_word.specs.Address.{IsAddress}
 use Rattle.lgp_word.specs.Order.{op_of, plain_order}
 use Rattle.lgp_word.specs.Word.{IsWord}
-use Rattle.lgp_word.specs.declared.order.Op.TheVariants.{I, P, U, T, H}
+use Rattle.lgp_word.specs.declared.order.Op.TheVariants.{I, U, T, H}
 use Rattle.lgp_flexo.specs.Code.{stop_code}
 use Rattle.lgp_flexo.specs.WordCodes.{word_codes}
 use Rattle.lgp_table.specs.State.{Core}
@@ -61,27 +61,27 @@ one_block switches accumulator register words passed skipped rest store0 count0 
     let has3 = has_with_cells _ _ 0 has_after in
     let seventh = one_then _ _ _ _
     (jumps switches _ 0 _ _ _ _ _
-    (fetches _ 17 _ U _ has3 (omega arith) (omega arith) (omega arith) (omega arith) refl refl refl)) runs in
+    (fetches _ 17 has3 refl)) runs in
     let sixth = block_words switches _ _ _ _ _ _ _ _ _ has program follow few same _ _ seventh in
     let m = 10 * n + suc count in
     let fifth = one_then m _ _ _
     (held switches (loader_base + 6) number (plain_order I 0) ws1 (off passed2 (codes ++ end)) (plain_order H count_cell) count_cell
-    (fetches _ 6 _ H _ has1 (omega arith) (omega arith) (omega arith) (omega arith) refl refl refl) (block_count_is_word _ few))
+    (fetches _ 6 has1 refl) (block_count_is_word _ few))
     (subst (λ w. Runs m (core_at switches next_word number (plain_order H count_cell) w (off passed2 (codes ++ end))) last) (sym (count_set _ _ _ _)) sixth) in
     let fourth = two_orders switches _ _ _ _ _ [] _ _ (suc m) last
-    (fetches _ 4 _ P 0 has1 (omega arith) (omega arith) (omega arith) (omega arith) refl refl refl)
-    (fetches _ 5 _ I 0 has1 (omega arith) (omega arith) (omega arith) (omega arith) refl refl refl)
+    (fetches _ 4 has1 refl)
+    (fetches _ 5 has1 refl)
     (omega arith) nothing_skipped (block_count_is_word _ few) fifth in
     let third = one_then (suc (suc (suc m))) _ _ last
     (held switches (loader_base + 3) control (plain_order T block_end_place) ws0 (off passed1 left1) (plain_order H block_store_cell) block_store_cell
-    (fetches _ 3 _ H _ has0 (omega arith) (omega arith) (omega arith) (omega arith) refl refl refl) (control_is_word _ within))
+    (fetches _ 3 has0 refl) (control_is_word _ within))
     (subst (λ w. Runs (suc (suc (suc m))) (core_at switches (loader_base + 4) control (plain_order H block_store_cell) w (off passed1 left1)) last) (sym (store_set _ store0 _ _)) fourth) in
     let second = one_then (suc (suc (suc (suc m)))) _ _ last
     (goes_on switches (loader_base + 2) control (plain_order I 0) ws0 (off passed1 left1) (plain_order T block_end_place) block_end_place
-    (fetches _ 2 _ T _ has0 (omega arith) (omega arith) (omega arith) (omega arith) refl refl refl) refl (control_is_positive _ within)) third in
+    (fetches _ 2 has0 refl) refl (control_is_positive _ within)) third in
     let first = two_orders switches _ _ _ _ _ _ _ _ (suc (suc (suc (suc (suc m))))) last
-    (fetches _ 0 _ P 0 has0 (omega arith) (omega arith) (omega arith) (omega arith) refl refl refl)
-    (fetches _ 1 _ I 0 has0 (omega arith) (omega arith) (omega arith) (omega arith) refl refl refl)
+    (fetches _ 0 has0 refl)
+    (fetches _ 1 has0 refl)
     (omega arith) are (control_is_word _ within) second in
     let orders : suc (suc (suc (suc (suc (suc (suc m)))))) ≡ 8 + 10 * n + count = omega arith in
     subst (λ k. Runs k (core_at switches loader_base accumulator register ws0 (off passed ((skipped ++ word_codes control) ++ stop_code ∷ left1))) last) orders first
@@ -97,10 +97,10 @@ the_end : (switches : Switches) (accumulator register : ℕ) (words passed skipp
 unfolding op_of
 the_end switches accumulator register words passed skipped start has are is =
     end_read block_end_place switches accumulator register words passed skipped start
-    (fetches words 0 (plain_order P 0) P 0 has (omega arith) (omega arith) (omega arith) (omega arith) refl refl refl)
-    (fetches _ 1 _ I 0 has (omega arith) (omega arith) (omega arith) (omega arith) refl refl refl)
-    (fetches _ 2 _ T _ has (omega arith) (omega arith) (omega arith) (omega arith) refl refl refl)
-    (fetches _ 18 _ H _ has (omega arith) (omega arith) (omega arith) (omega arith) refl refl refl)
+    (fetches words 0 has refl)
+    (fetches _ 1 has refl)
+    (fetches _ 2 has refl)
+    (fetches _ 18 has refl)
     (omega arith) has.drum are is
 
 -- the program's cells leave the loader where it is
