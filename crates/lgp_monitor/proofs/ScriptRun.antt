@@ -3,7 +3,7 @@ use Rattle.std.proofs.Common.{◌≡◌, ◌∙◌, ℕ, ◌≤◌, Bool, false,
 use Rattle.std.proofs.lemmas.Bool.Decides.{nat_tests}
 use Rattle.std.proofs.lemmas.List.{append-nil}
 use Rattle.lgp_stream.specs.KeptLine.{line_limit}
-use Rattle.lgp_transcript.specs.Transcript.{Recorded, after_lines, ended, replies_text, text_of, with_line, with_standing}
+use Rattle.lgp_transcript.specs.Transcript.{Recorded, after_lines, ended, replies_text, with_line, with_standing}
 use Rattle.lgp_lab.specs.Command.{command_of, text_behind}
 use Rattle.lgp_lab.specs.HistoryCommands.{answer_to_run}
 use Rattle.lgp_lab.specs.Script.{answer_by, answer_in, answer_to_command, answer_to_line, is_passed_over, script_language}
@@ -32,7 +32,7 @@ run_answer s line limit asks closed =
 pub run_after : (r₀ r₁ r₂ : Recorded Standing) (s₁ s₂ : Standing) (line : List ℕ) (limit : ℕ) → command_of line ≡ Some (commands.Run limit) → is_passed_over line ≡ false → length line ≤ line_limit → r₀.standing.opened ≡ None
     → r₁ ≡ with_line r₀ line → s₁ ≡ r₁.standing → s₂ ≡ (answer_to_run s₁ limit).after → r₂ ≡ with_standing r₁ s₂
     → r₂ ≡ after_lines script_language r₀ (line ∷ [])
-unfolding after_lines text_of
+unfolding after_lines
 run_after r₀ r₁ r₂ s₁ s₂ line limit command answered short closed kept_line lent done after =
     let asks : AsksForRun line limit = record { command = command; answered = answered; short = short } in
     let stood : s₁ ≡ r₀.standing = lent ∙ ap (λ (r : Recorded Standing). r.standing) kept_line in

@@ -182,7 +182,7 @@ reply_of recorded (typed.HelpOf verb) kept = form_behind kept.front verb
 -- what a line asks for; in an open source each line is the source's
 unfoldable pub typed_at : Recorded Standing → List ℕ → Typed
 typed_at recorded line =
-    typed_of (is_some recorded.standing.opened) (names_at recorded) (counter_at recorded)
+    typed_of (names_at recorded) (counter_at recorded) (is_some recorded.standing.opened)
     (kept_of line)
 
 unfoldable pub meaning_at : Recorded Standing → List ℕ → Meaning

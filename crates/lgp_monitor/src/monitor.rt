@@ -502,8 +502,8 @@ fn begin_anew<A: Allocator + Copy>(
 
 /// What a line asks for where a laboratory stands.
 fn typed_at<A: Allocator + Copy>(laboratory: &Laboratory<A>, line: &LineBytes) -> Typed
-    ensures { result ≡ typed_of (is_some laboratory.now.opened) (labels_of laboratory.now.source)
-        laboratory.now.debugger.state.core.panel.counter line.now }
+    ensures { result ≡ typed_of (labels_of laboratory.now.source)
+        laboratory.now.debugger.state.core.panel.counter (is_some laboratory.now.opened) line.now }
 {
     typed_of(
         laboratory.has_open_source(),

@@ -11,11 +11,11 @@ use Rattle.lgp_monitor.proofs.monitor.MonitorLaboratoryAnswers.answer.Goals as g
 
 -- what is asked by a line of which this was kept
 asked : (inside self : Recorded Standing) (stands : Standing) (kept : Kept) (text : List ℕ) (typed : Typed) → inside ≡ self → kept ≡ kept_of text → stands ≡ inside.standing
-    → typed ≡ typed_of (is_some stands.opened) (labels_of stands.source) stands.debugger.state.core.panel.counter kept → typed ≡ typed_at self text
+    → typed ≡ typed_of (labels_of stands.source) stands.debugger.state.core.panel.counter (is_some stands.opened) kept → typed ≡ typed_at self text
 unfolding typed_at
 asked inside self stands kept text typed same is_kept standing is =
-    is ∙ (ap (λ (s : Standing). typed_of (is_some s.opened) (labels_of s.source) s.debugger.state.core.panel.counter kept) (standing ∙ ap (λ (r : Recorded Standing). r.standing) same)
-    ∙ ap (λ (k : Kept). typed_of (is_some self.standing.opened) (labels_of self.standing.source) self.standing.debugger.state.core.panel.counter k) is_kept)
+    is ∙ (ap (λ (s : Standing). typed_of (labels_of s.source) s.debugger.state.core.panel.counter (is_some s.opened) kept) (standing ∙ ap (λ (r : Recorded Standing). r.standing) same)
+    ∙ ap (λ (k : Kept). typed_of (labels_of self.standing.source) self.standing.debugger.state.core.panel.counter (is_some self.standing.opened) k) is_kept)
 
 pub returns-clause-reply : goal.returns-clause-reply
 unfolding reply_at
