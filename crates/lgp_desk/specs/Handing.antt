@@ -1,5 +1,5 @@
 -- Part of the public promise: what a desk hands to what answers there, and where that leaves it.
-use Rattle.std.specs.Prelude.{ℕ, Bool, Option, None, Some, List, [], ◌∷◌}
+use Rattle.std.specs.Prelude.{ℕ, Bool, List, [], ◌∷◌, ◌++◌, option_map, option_to_list}
 use Rattle.lgp_stream.specs.KeptLine.{kept_of}
 use Rattle.lgp_stream.specs.Language.{Language}
 use Rattle.lgp_desk.specs.Desk.{BlockAnswers, Seat, role_at, seat_after}
@@ -16,13 +16,9 @@ module _ {S : Type 0} (language : Language S) (takes_commands : S → Bool)
     (prompt : S → List ℕ) (blocks : BlockAnswers S) where
   -- what a line hands over, in front of what the lines behind it do; behind `quit` nothing is
   -- handed over
-  abbrev pub handed_block : Option Block → List Handed → List Handed
-  handed_block None more = more
-  handed_block (Some block) more = Whole block ∷ more
-
   abbrev pub handed_by : Role → Seat S → List ℕ → List Handed → List Handed
   handed_by Leaving seat line more = []
-  handed_by Closing seat line more = handed_block seat.block more
+  handed_by Closing seat line more = option_to_list (option_map Whole seat.block) ++ more
   handed_by Plain seat line more = Line line ∷ more
   handed_by role seat line more = more
 

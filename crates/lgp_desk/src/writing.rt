@@ -1,8 +1,8 @@
 //! What is written beside replies.
 
-ghost use Rattle.std.specs.Prelude.{◌≡◌, ◌++◌, OnOk, codes};
+ghost use Rattle.std.specs.Prelude.{◌≡◌, ◌++◌, OnOk, codes, false};
 ghost use Rattle.lgp_stream.specs.Language.{is_question};
-ghost use Rattle.lgp_desk.specs.Desk.{echo_in, echo_of, kind_echo_in, kind_echo_of, line_end, mark_of, note_line};
+ghost use Rattle.lgp_desk.specs.Desk.{echo_in, echo_of, line_echo, line_end, mark_of, note_line};
 
 use crate::desk::Manner;
 use crate::texts::Source;
@@ -40,7 +40,7 @@ fn push_echo<A: Allocator>(
     line: &LineBytes,
     reply: &[u8],
 ) -> Result<(), AllocError>
-    ensures { OnOk result (text.new.items ≡ text.old.items ++ echo_of line.now reply.now) }
+    ensures { OnOk result (text.new.items ≡ text.old.items ++ echo_of line.now.front line.now.longer reply.now) }
 {
     text.extend_from_slice(mark_of(reply))?;
     text.extend_from_slice(line.front())?;
@@ -55,7 +55,7 @@ pub fn push_shown<A: Allocator>(
     reply: &[u8],
 ) -> Result<(), AllocError>
     ensures { OnOk result (text.new.items
-        ≡ text.old.items ++ echo_in manner line.now reply.now) }
+        ≡ text.old.items ++ line_echo manner line.now reply.now) }
 {
     match manner {
         Manner::Bare | Manner::Prompting | Manner::PromptingBehindFirst => Ok(()),
@@ -64,14 +64,14 @@ pub fn push_shown<A: Allocator>(
 }
 
 /// Appends what a block is for, as the line above its reply.
-#[tactic(auto, unfolding(crate::specs::Desk::kind_echo_of))]
+#[tactic(auto, unfolding(crate::specs::Desk::echo_of))]
 fn push_kind_echo<A: Allocator>(
     text: &mut Vec<u8, A>,
     kind: &[u8],
     reply: &[u8],
 ) -> Result<(), AllocError>
     ensures { OnOk result (text.new.items
-        ≡ text.old.items ++ kind_echo_of kind.now reply.now) }
+        ≡ text.old.items ++ echo_of kind.now false reply.now) }
 {
     text.extend_from_slice(mark_of(reply))?;
     text.extend_from_slice(kind)?;
@@ -86,7 +86,7 @@ pub fn push_shown_kind<A: Allocator>(
     reply: &[u8],
 ) -> Result<(), AllocError>
     ensures { OnOk result (text.new.items
-        ≡ text.old.items ++ kind_echo_in manner kind.now reply.now) }
+        ≡ text.old.items ++ echo_in manner (echo_of kind.now false reply.now)) }
 {
     match manner {
         Manner::Bare | Manner::Prompting | Manner::PromptingBehindFirst => Ok(()),
