@@ -1,5 +1,5 @@
 -- Dumps that are restored, and what blocks leave in the transcript.
-use Rattle.std.proofs.Common.{◌≡◌, ◌<◌, ◌+◌, ◌++◌, ◌==◌, ℕ, Bool, true, false, cond, List, [], ◌∷◌, ◌≤◌, length, drop, get_or, set, fold, map, Option, Some, None, Result, Err, refl, sym, ap, subst, ◌∙◌}
+use Rattle.std.proofs.Common.{◌≡◌, ◌<◌, ◌+◌, ◌++◌, ◌==◌, ℕ, Bool, true, false, cond, List, [], ◌∷◌, ◌≤◌, length, drop, get_or, set, fold, map, Option, Some, None, option_map, option_to_list, Result, Err, refl, sym, ap, subst, ◌∙◌}
 use Rattle.std.specs.List.{AllByRecursion}
 use Rattle.std.specs.Str.Lines.{lines}
 use Rattle.std.specs.Option.{IfNone, IfSome}
@@ -13,7 +13,7 @@ use Rattle.lgp_transcript.specs.Transcript.{IsLine, IsToldByTranscript, Recorded
 use Rattle.lgp_transcript.proofs.AfterLemmas.{after-append, after-none}
 use Rattle.lgp_transcript.proofs.LineLaws.{IsTold, IsTold-all, IsTold-lines, IsTold-meaning, IsTold-none, lines_are_lines}
 use Rattle.lgp_desk.specs.Desk.{Seat, role_at, seat_after, taken_seat}
-use Rattle.lgp_desk.specs.Handing.{Handed, Line, Whole, behind_handed, handed, handed_block, handed_by}
+use Rattle.lgp_desk.specs.Handing.{Handed, Line, Whole, behind_handed, handed, handed_by}
 use Rattle.lgp_desk.specs.Roles.{Block}
 use Rattle.lgp_desk.specs.declared.desk.Manner.{Manner}
 use Rattle.lgp_desk.specs.declared.role.Role.{Role}
@@ -172,7 +172,7 @@ free-restoring None true cells = free-cells cells
 free-restoring None false cells = tt
 
 free-block : (block : Option Block) (behind : List Handed) → AllByRecursion IsHandedLine behind
-    → AllByRecursion IsHandedLine (handed_block monitor_language takes_commands_at prompt_at monitor_blocks block behind)
+    → AllByRecursion IsHandedLine (option_to_list (option_map Whole block) ++ behind)
 free-block None behind rest = rest
 free-block (Some block) behind rest = (tt, rest)
 

@@ -1,6 +1,9 @@
 //! The monitor: typed lines, each answered by the script lines that it stands for.
 
-ghost use Rattle.std.specs.Prelude.{◌≡◌, ◌++◌, ◌∷◌, [], List, ℕ, IfOk, OnOk, codes, is_some};
+ghost use Rattle.std.specs.Prelude.{◌≡◌, ◌++◌, ◌∷◌, [], List, ℕ, IfOk, OnOk, codes, flat_map, is_some};
+ghost use Rattle.std.specs.Option.{option_map_or};
+ghost use Rattle.std.specs.Result.{result_err};
+ghost use Rattle.lgp_stream.specs.LineWords.{behind_word, first_word};
 ghost use Rattle.lgp_stream.specs.KeptLine.{kept_of};
 ghost use Rattle.lgp_text.specs.NamedValues.{pairs_of};
 ghost use Rattle.lgp_transcript.specs.Transcript.{after_lines, after_meaning, replies_text, stand_in, untouched};
@@ -8,7 +11,7 @@ ghost use Rattle.lgp_lab.specs.Script.{script_language};
 ghost use Rattle.lgp_lab.specs.Standing.{labels_of, opening_standing};
 ghost use Rattle.lgp_monitor.specs.Blocks.{behind_block, block_reply};
 ghost use Rattle.lgp_monitor.specs.Typed.{typed_of};
-ghost use Rattle.lgp_monitor.specs.Monitor.{address_reason, counter_at, explained_reply, explained_run, fault_reason, form_behind, form_line, form_lines, go_lines, help_text, itself_reply, jump_line, meaning_of, misformed_text, monitor_language, names_at, operand_reason, panel_at, placed_line, put_line, reason_by, reply_of, run_line, told_reply, typed_at};
+ghost use Rattle.lgp_monitor.specs.Monitor.{counter_at, explained_reply, explained_run, fault_reason, form_line, go_lines, help_text, itself_reply, jump_line, meaning_of, misformed_text, monitor_language, names_at, operand_reason, panel_at, placed_line, put_line, reason_by, reply_of, run_line, told_reply, typed_at};
 ghost use Rattle.lgp_monitor.specs.Reasons.{explained};
 ghost use Rattle.lgp_monitor.specs.Verbs.{form_of};
 
@@ -305,16 +308,16 @@ fn push_form_behind<A: Allocator>(
     line: &[u8],
     verb: Verb,
 ) -> Result<(), AllocError>
-    ensures { OnOk result (text.new.items ≡ text.old.items ++ form_behind line.now verb) }
+    ensures { OnOk result (text.new.items ≡ text.old.items ++ form_line (first_word (behind_word line.now)) verb) }
 {
     let command = split_word(line);
     push_form_line(text, split_word(command.behind).word, verb)
 }
 
 /// Appends the forms of commands.
-#[tactic(auto, unfolding(crate::specs::Monitor::form_lines))]
 fn push_forms<A: Allocator>(text: &mut Vec<u8, A>, names: &[Named<Verb>]) -> Result<(), AllocError>
-    ensures { OnOk result (text.new.items ≡ text.old.items ++ form_lines (pairs_of names.now)) }
+    ensures { OnOk result (text.new.items ≡ text.old.items
+        ++ flat_map (λ name. form_line name.0 name.1) (pairs_of names.now)) }
 {
     for name in names {
         push_form_line(text, name.name, name.value)?;
@@ -323,6 +326,7 @@ fn push_forms<A: Allocator>(text: &mut Vec<u8, A>, names: &[Named<Verb>]) -> Res
 }
 
 /// Appends the forms of all commands.
+#[tactic(auto, unfolding(crate::specs::Monitor::help_text))]
 fn push_help<A: Allocator>(text: &mut Vec<u8, A>) -> Result<(), AllocError>
     ensures { OnOk result (text.new.items ≡ text.old.items ++ help_text) }
 {
@@ -391,7 +395,8 @@ fn push_address_reason<A: Allocator>(
     verb: Verb,
 ) -> Result<(), AllocError>
     ensures { OnOk result (text.new.items
-        ≡ text.old.items ++ address_reason address operand.now (form_of name.now verb)) }
+        ≡ text.old.items ++ option_map_or (λ fault. operand.now ++ fault_reason fault)
+        (result_err address) (form_of name.now verb)) }
 {
     match address {
         Ok(_) => push_form(text, name, verb),
@@ -432,7 +437,7 @@ fn push_reason<A: Allocator>(
     line: &[u8],
 ) -> Result<(), AllocError>
     ensures { OnOk result (text.new.items
-        ≡ text.old.items ++ reason_by names.now counter verb line.now) }
+        ≡ text.old.items ++ reason_by names.now counter line.now verb) }
 {
     let Split { word, behind } = split_word(line);
     match verb {
