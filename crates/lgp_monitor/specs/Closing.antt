@@ -1,7 +1,8 @@
 -- Part of the public promise: what is answered where a point closes a source with faults: each
 -- fault with its line of the source and a mark below the part that is at fault.
 use Rattle.std.specs.Prelude.{ℕ, ◌-◌, Bool, not, ◌&&◌, if◌then◌else◌, Option, Some, None}
-use Rattle.std.specs.Prelude.{option_map, List, [], ◌∷◌, ◌++◌, codes, decimal, slice_get}
+use Rattle.std.specs.Prelude.{option_map, List, [], ◌∷◌, ◌++◌, codes, decimal, flat_map, slice_get}
+use Rattle.std.specs.Option.{option_map_or}
 use Rattle.std.specs.Str.{bytes_eq}
 use Rattle.lgp_source.specs.Source.{SourceLine, lines_of}
 use Rattle.lgp_assembler.specs.Image.{faults_of}
@@ -22,30 +23,20 @@ fault_line fault =
 abbrev pub text_at : List SourceLine → ℕ → Option (List ℕ)
 text_at lines place = option_map (λ (line : SourceLine). line.text) (slice_get lines place)
 
-abbrev pub marked_at : FaultKind → Option (List ℕ) → List ℕ
-marked_at kind None = []
-marked_at kind (Some text) = marked_text kind text
-
--- faults of a source of these lines, each with its marked line
+-- a fault of a source of these lines, with its marked line
 unfoldable pub marked_fault : List SourceLine → Fault → List ℕ
-marked_fault lines fault = fault_line fault ++ marked_at fault.kind (text_at lines (fault.line - 1))
-
-unfoldable pub marked_faults : List SourceLine → List Fault → List ℕ
-marked_faults lines [] = []
-marked_faults lines (fault ∷ more) = marked_fault lines fault ++ marked_faults lines more
+marked_fault lines fault =
+    fault_line fault ++ option_map_or (marked_text fault.kind) (text_at lines (fault.line - 1)) []
 
 -- the reply to the end of a source with these faults, if there are any
 abbrev pub faulty_by : List SourceLine → List Fault → Option (List ℕ)
 faulty_by lines [] = None
-faulty_by lines (fault ∷ more) = Some (codes "? 9 Faults\n" ++ marked_faults lines (fault ∷ more))
-
-unfoldable pub faulty_reply : List ℕ → Option (List ℕ)
-faulty_reply source = faulty_by (lines_of source) (faults_of source)
+faulty_by lines faults = Some (codes "? 9 Faults\n" ++ flat_map (marked_fault lines) faults)
 
 -- a source that is empty has no line to show, and of one that is too long nothing is kept
 abbrev pub shown_faults : List ℕ → Option (List ℕ)
 shown_faults [] = None
-shown_faults (first ∷ more) = faulty_reply (first ∷ more)
+shown_faults source = faulty_by (lines_of source) (faults_of source)
 
 -- whether a line is a point alone, which ends a source
 unfoldable pub is_source_end : Kept → Bool

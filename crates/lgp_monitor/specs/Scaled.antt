@@ -2,19 +2,16 @@
 -- with at most ten decimals, to the nearest, without the zeros at their end: exactly, where they
 -- are enough.
 use Rattle.std.specs.Prelude.{ℕ, zero, suc, ◌-◌, ◌*◌, ◌/◌, ◌%◌, ◌^◌, ◌++◌, ◌==◌, if◌then◌else◌}
-use Rattle.std.specs.Prelude.{nat_le, Option, Some, None, List, [], ◌∷◌, codes, decimal}
+use Rattle.std.specs.Prelude.{nat_le, Option, Some, None, List, [], ◌∷◌, codes, decimal, option_and_then}
 use Rattle.lgp_word.specs.Decimal.{decimal_digit, decimal_number}
 use Rattle.lgp_word.specs.Order.{sign_of}
 use Rattle.lgp_fraction.specs.Rounding.{nearest_size}
 use Rattle.lgp_trace.specs.AccountLines.{minus_text}
 
 -- the place that a text says: one or two digits, 0 to 30
-abbrev pub point_by : Option ℕ → Option ℕ
-point_by (Some place) = if nat_le place 30 then Some place else None
-point_by None = None
-
 unfoldable pub point_of : List ℕ → Option ℕ
-point_of text = point_by (decimal_number 2 text)
+point_of text =
+    option_and_then (λ place. if nat_le place 30 then Some place else None) (decimal_number 2 text)
 
 -- a word as a number without its sign, where the point is behind place 30
 abbrev pub size_of : ℕ → ℕ
