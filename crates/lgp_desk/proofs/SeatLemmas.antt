@@ -3,8 +3,7 @@ use Rattle.std.proofs.Common.{◌≡◌, ℕ, Bool, true, List, [], ◌∷◌, �
 use Rattle.std.specs.Option.{option_map_or, option_to_list}
 use Rattle.lgp_stream.specs.KeptLine.{kept_of}
 use Rattle.lgp_stream.specs.Language.{Language, state_after}
-use Rattle.lgp_desk.specs.Desk.{BlockAnswers, Seat, desk_language, role_at, seat_after, seat_behind}
-use Rattle.lgp_desk.specs.Handing.{Whole, behind_handed, handed, handed_by}
+use Rattle.lgp_desk.specs.Desk.{BlockAnswers, Seat, Whole, behind_handed, desk_language, handed, handed_by, role_at, seat_after, seat_behind}
 use Rattle.lgp_desk.specs.Roles.{Block}
 use Rattle.lgp_desk.specs.declared.desk.Manner.{Manner}
 use Rattle.lgp_desk.specs.declared.role.Role.{Role}

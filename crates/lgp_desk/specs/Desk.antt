@@ -2,11 +2,12 @@
 -- behind prompts, or each shown above its reply. A line that begins with `#` may be the desk's own,
 -- for a program that types what stands in files.
 use Rattle.std.specs.Prelude.{ℕ, Bool, false, true, if◌then◌else◌, Option, None, Some, is_some}
-use Rattle.std.specs.Prelude.{option_map, List, [], ◌++◌, codes}
+use Rattle.std.specs.Prelude.{option_map, option_to_list, List, [], ◌∷◌, ◌++◌, codes, drop}
+use Rattle.std.specs.List.{concat}
 use Rattle.std.specs.Option.{option_map_or}
 use Rattle.lgp_stream.specs.KeptLine.{Kept, kept_of}
-use Rattle.lgp_stream.specs.Language.{Language, is_question}
-use Rattle.lgp_desk.specs.Roles.{Block, block_role, command_role, given_by, note_of, opened_by}
+use Rattle.lgp_stream.specs.Language.{Language, is_question, question_count, text_replies}
+use Rattle.lgp_desk.specs.Roles.{Block, block_role, command_role, opened_by}
 use Rattle.lgp_desk.specs.Roles.{with_line}
 use Rattle.lgp_desk.specs.declared.desk.Manner.{Manner}
 use Rattle.lgp_desk.specs.declared.desk.Manner.TheVariants.{Prompting, PromptingBehindFirst}
@@ -29,6 +30,11 @@ abbrev pub taken_seat : {S : Type 0} → Manner → S → Seat S
 taken_seat manner standing =
     record { standing = standing; manner = manner; note = None; block = None; has_left = false }
 
+-- what is handed to what answers: a line, or a block
+pub data Handed : Type 0 where
+  Line : List ℕ → Handed
+  Whole : Block → Handed
+
 -- the reply to a block, and where the language stands behind it
 pub record BlockAnswers (S : Type 0) : Type 0 where
   pub reply : S → Block → List ℕ
@@ -36,14 +42,10 @@ pub record BlockAnswers (S : Type 0) : Type 0 where
 
 -- a line above its reply, behind a question mark where the reply begins with one; of a longer line
 -- its front, and two points
-abbrev pub mark_of : List ℕ → List ℕ
-mark_of reply = if is_question reply then codes "? " else codes "> "
-
-abbrev pub line_end : Bool → List ℕ
-line_end longer = if longer then codes " ..\n" else codes "\n"
-
 unfoldable pub echo_of : List ℕ → Bool → List ℕ → List ℕ
-echo_of front longer reply = mark_of reply ++ (front ++ line_end longer)
+echo_of front longer reply =
+    (if is_question reply then codes "? " else codes "> ")
+    ++ (front ++ (if longer then codes " ..\n" else codes "\n"))
 
 -- what is shown above replies: a line, or what a block is for
 abbrev pub echo_in : Manner → List ℕ → List ℕ
@@ -94,7 +96,7 @@ module _ {S : Type 0} (language : Language S) (takes_commands : S → Bool)
   abbrev pub seat_behind : Role → Seat S → List ℕ → Seat S
   seat_behind Unheard seat line = seat
   seat_behind Leaving seat line = record seat { has_left = true }
-  seat_behind Note seat line = record seat { note = Some (note_of (kept_of line)) }
+  seat_behind Note seat line = record seat { note = Some (drop 2 (kept_of line).front) }
   seat_behind NoteEnd seat line = record seat { note = None }
   seat_behind Given seat line = seat
   seat_behind Opening seat line = record seat { block = Some (opened_by (kept_of line)) }
@@ -116,7 +118,7 @@ module _ {S : Type 0} (language : Language S) (takes_commands : S → Bool)
   line_text Leaving seat line = line_echo seat.manner (kept_of line) []
   line_text Note seat line = []
   line_text NoteEnd seat line = prompt_in seat.manner None (prompt seat.standing)
-  line_text Given seat line = answer_text prompt seat (given_by (kept_of line))
+  line_text Given seat line = answer_text prompt seat (drop 3 (kept_of line).front ++ codes "\n")
   line_text Opening seat line = []
   line_text Within seat line = []
   line_text Closing seat line =
@@ -141,3 +143,35 @@ module _ {S : Type 0} (language : Language S) (takes_commands : S → Bool)
 
   abbrev pub desk_language : Language (Seat S)
   desk_language = record { reply = reply_at; after = seat_after; closing = closing_at }
+
+  -- the replies to a typed text, and all that is written for it
+  abbrev pub desk_replies : Manner → S → List ℕ → List (List ℕ)
+  desk_replies manner standing typed =
+      text_replies desk_language (taken_seat manner standing) typed
+
+  abbrev pub desk_text : Manner → S → List ℕ → List ℕ
+  desk_text manner standing typed =
+      opening_text manner (prompt standing) ++ concat (desk_replies manner standing typed)
+
+  abbrev pub desk_faults : Manner → S → List ℕ → ℕ
+  desk_faults manner standing typed = question_count (desk_replies manner standing typed)
+
+  -- what a line hands over, in front of what the lines behind it do; behind `quit` nothing is
+  -- handed over
+  abbrev pub handed_by : Role → Seat S → List ℕ → List Handed → List Handed
+  handed_by Leaving seat line more = []
+  handed_by Closing seat line more = option_to_list (option_map Whole seat.block) ++ more
+  handed_by Plain seat line more = Line line ∷ more
+  handed_by role seat line more = more
+
+  abbrev pub handed : Seat S → List (List ℕ) → List Handed
+  handed seat [] = []
+  handed seat (line ∷ more) =
+      handed_by (role_at takes_commands seat (kept_of line)) seat line
+      (handed (seat_after seat line) more)
+
+  -- where the language stands behind what it was handed
+  abbrev pub behind_handed : S → List Handed → S
+  behind_handed standing [] = standing
+  behind_handed standing (Line line ∷ more) = behind_handed (language.after standing line) more
+  behind_handed standing (Whole block ∷ more) = behind_handed (blocks.after standing block) more

@@ -1,10 +1,10 @@
 //! What answers lines that are typed at a desk.
 
-ghost use Rattle.std.specs.Prelude.{◌≡◌, ◌++◌, [], Bool, List, None, OnOk, Some, codes, if◌then◌else◌, is_some, option_map, true, ℕ};
+ghost use Rattle.std.specs.Prelude.{◌≡◌, ◌++◌, [], Bool, List, None, OnOk, Some, codes, drop, if◌then◌else◌, is_some, option_map, true, ℕ};
 ghost use Rattle.std.specs.Option.{option_map_or};
 ghost use Rattle.lgp_stream.specs.KeptLine.{kept_of};
 ghost use Rattle.lgp_desk.specs.Desk.{BlockAnswers, Seat, answer_text, block_echo_in, desk_language, line_echo, prompt_in, role_at, taken_seat};
-ghost use Rattle.lgp_desk.specs.Roles.{given_by, note_of, opened_by, with_line};
+ghost use Rattle.lgp_desk.specs.Roles.{opened_by, with_line};
 
 use crate::role::{Role, behind_mark, block_role, command_role};
 use crate::texts::{Block, Source, copy_of};
@@ -202,7 +202,7 @@ impl<A: Allocator + Copy, L: Answers<A> + Attended, B: Bell> Desk<A, L, B> {
 
     /// Takes a note.
     fn take_note(&mut self, line: &LineBytes) -> Result<(), AllocError>
-        ensures { OnOk result (self.new ≡ record self.old { note = Some (note_of line.now) }) }
+        ensures { OnOk result (self.new ≡ record self.old { note = Some (drop 2 line.now.front) }) }
     {
         let source = Source::of(self.alloc, line)?;
         self.source = Some(source);
@@ -224,7 +224,7 @@ impl<A: Allocator + Copy, L: Answers<A> + Attended, B: Bell> Desk<A, L, B> {
     /// Gives the reply that a line has.
     fn give(&self, line: &LineBytes, reply: &mut Vec<u8, A>) -> Result<(), AllocError>
         ensures { OnOk result (reply.new.items ≡ reply.old.items
-            ++ answer_text L.prompt self.now (given_by line.now)) }
+            ++ answer_text L.prompt self.now (drop 3 line.now.front ++ codes "\n")) }
     {
         let mut own = copy_of(self.alloc, behind_mark(line, 3))?;
         own.extend_from_slice(b"\n")?;

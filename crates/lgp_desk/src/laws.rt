@@ -3,8 +3,7 @@
 ghost use Rattle.std.specs.Prelude.{◌≡◌, ◌++◌, Bool, List, false, ℕ};
 ghost use Rattle.lgp_stream.specs.KeptLine.{Kept};
 ghost use Rattle.lgp_stream.specs.Language.{Language, is_question, state_after};
-ghost use Rattle.lgp_desk.specs.Desk.{BlockAnswers, desk_language, echo_of, taken_seat};
-ghost use Rattle.lgp_desk.specs.Handing.{behind_handed, handed};
+ghost use Rattle.lgp_desk.specs.Desk.{BlockAnswers, behind_handed, desk_language, echo_of, handed, taken_seat};
 ghost use Rattle.lgp_desk.specs.declared.desk.Manner.{Manner};
 
 /// Whatever is typed at a desk, the language stands where the lines and the blocks put it that it was handed before `quit`.

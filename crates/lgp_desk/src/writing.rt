@@ -1,8 +1,8 @@
 //! What is written beside replies.
 
-ghost use Rattle.std.specs.Prelude.{◌≡◌, ◌++◌, OnOk, codes, false};
+ghost use Rattle.std.specs.Prelude.{◌≡◌, ◌++◌, OnOk, codes, false, if◌then◌else◌};
 ghost use Rattle.lgp_stream.specs.Language.{is_question};
-ghost use Rattle.lgp_desk.specs.Desk.{echo_in, echo_of, line_echo, line_end, mark_of, note_line};
+ghost use Rattle.lgp_desk.specs.Desk.{echo_in, echo_of, line_echo, note_line};
 
 use crate::desk::Manner;
 use crate::texts::Source;
@@ -21,14 +21,14 @@ pub fn is_question(reply: &[u8]) -> bool
 
 /// The mark in front of a line that is shown above its reply.
 fn mark_of(reply: &[u8]) -> &'static [u8]
-    ensures { result.now ≡ mark_of reply.now }
+    ensures { result.now ≡ (if is_question reply.now then codes "? " else codes "> ") }
 {
     if is_question(reply) { b"? " } else { b"> " }
 }
 
 /// The end of a line that is shown.
 fn line_end(longer: bool) -> &'static [u8]
-    ensures { result.now ≡ line_end longer }
+    ensures { result.now ≡ (if longer then codes " ..\n" else codes "\n") }
 {
     if longer { b" ..\n" } else { b"\n" }
 }

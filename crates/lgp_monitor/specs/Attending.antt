@@ -8,9 +8,8 @@ use Rattle.lgp_stream.specs.Language.{Language}
 use Rattle.lgp_table.specs.declared.panel.Panel.{Panel}
 use Rattle.lgp_text.specs.PanelWords.{status_text}
 use Rattle.lgp_transcript.specs.Transcript.{Recorded, untouched}
-use Rattle.lgp_desk.specs.Desk.{BlockAnswers, Seat, desk_language, taken_seat}
-use Rattle.lgp_desk.specs.Handing.{Handed, Line, Whole, handed}
-use Rattle.lgp_desk.specs.Sitting.{desk_faults, desk_text}
+use Rattle.lgp_desk.specs.Desk.{BlockAnswers, Handed, Line, Seat, Whole, desk_faults}
+use Rattle.lgp_desk.specs.Desk.{desk_language, desk_text, handed, taken_seat}
 use Rattle.lgp_desk.specs.declared.desk.Manner.{Manner}
 use Rattle.lgp_lab.specs.Standing.{Standing, opening_standing}
 use Rattle.lgp_monitor.specs.Blocks.{behind_block, block_reply, is_tape}
