@@ -11,13 +11,15 @@ use Rattle.lgp_stream.specs.LineWords.{behind_word, first_word, has_no_word, is_
 use Rattle.lgp_text.specs.NamedValues.{named}
 use Rattle.lgp_lab.specs.Command.{command_of, lone_number}
 use Rattle.lgp_lab.specs.declared.command.Command.TheVariants as commands
-use Rattle.lgp_lab.specs.HistoryCommands.{answer_to_run}
+use Rattle.lgp_lab.specs.HistoryCommands.{answer_to_run, orders_run}
 use Rattle.lgp_lab.specs.Script.{answer_in, answer_to_command, answer_to_line, script_language}
 use Rattle.lgp_lab.specs.SourceText.{SourceText}
-use Rattle.lgp_lab.specs.Standing.{Answer, Standing}
+use Rattle.lgp_lab.specs.Standing.{Answer, Standing, labels_of}
 use Rattle.lgp_transcript.specs.Transcript.{Recorded, after_lines, ended, replies_text, with_line, with_standing}
-use Rattle.lgp_monitor.specs.Monitor.{counter_at, names_at, run_line, told_of, told_reply, typed_at}
+use Rattle.lgp_monitor.specs.Monitor.{counter_at, names_at, run_line, told_reply, typed_at}
 use Rattle.lgp_monitor.specs.Typed.{address_at, asked_alone, asked_at, asked_by, asked_with, numbers_typed, point_at, range_at, typed_by, typed_line, typed_of, value_at}
+use Rattle.lgp_debugger.specs.Debugging.{order_origins}
+use Rattle.lgp_monitor.specs.Telling.{told_text}
 use Rattle.lgp_monitor.specs.Scaled.{point_of}
 use Rattle.lgp_monitor.specs.Verbs.{verb_names}
 use Rattle.lgp_monitor.specs.declared.question.Question.{Question}
@@ -283,6 +285,9 @@ run_answer s names counter text telling limit e =
     ∙ command_answer s (behind_word (kept_of text).front) limit (spaced_behind (kept_of text).front) told.operand short
 
 -- ---- what is kept and what is answered
+
+abbrev told_of : Standing → Telling → ℕ → List ℕ
+told_of s telling limit = told_text telling (labels_of s.source) s.debugger.state (order_origins s.debugger) (orders_run limit s.debugger)
 
 pub told_after : (r₀ r₁ r₂ : Recorded Standing) (s₁ s₂ : Standing) (kept : Kept) (text : List ℕ) (telling : Telling) (limit : ℕ) (run : List ℕ) → kept ≡ kept_of text → typed.Told telling limit ≡ typed_at r₀ text
     → run ≡ run_line kept.front → r₁ ≡ with_line r₀ run → s₁ ≡ r₁.standing → s₂ ≡ (answer_to_run s₁ limit).after → r₂ ≡ with_standing r₁ s₂

@@ -5,7 +5,6 @@ use Rattle.std.specs.Prelude.{codes}
 use Rattle.std.specs.Str.Lines.{lines}
 use Rattle.lgp_word.specs.Digits.{address_digits}
 use Rattle.lgp_stream.specs.Language.{Language}
-use Rattle.lgp_table.specs.declared.panel.Panel.{Panel}
 use Rattle.lgp_text.specs.PanelWords.{status_text}
 use Rattle.lgp_transcript.specs.Transcript.{Recorded, untouched}
 use Rattle.lgp_desk.specs.Desk.{BlockAnswers, Handed, Line, Seat, Whole, desk_faults}
@@ -15,20 +14,16 @@ use Rattle.lgp_lab.specs.Standing.{Standing, opening_standing}
 use Rattle.lgp_monitor.specs.Blocks.{behind_block, block_reply, is_tape}
 use Rattle.lgp_monitor.specs.Monitor.{monitor_language, panel_at}
 
--- the prompt where a line is a command: the counter, and how the machine stands
-abbrev pub stand_prompt : Panel → List ℕ
-stand_prompt panel =
-    address_digits panel.counter ++ (codes " " ++ (status_text panel.status ++ codes "> "))
-
 -- a line is a command where no source is open
 abbrev pub takes_commands_at : Recorded Standing → Bool
 takes_commands_at recorded = is_none recorded.standing.opened
 
--- the prompt, or that the line is a source's
+-- the prompt: that the line is a source's, or the counter, and how the machine stands
 unfoldable pub prompt_at : Recorded Standing → List ℕ
 prompt_at recorded =
+    let panel = panel_at recorded.standing in
     if is_some recorded.standing.opened then codes "source> "
-    else stand_prompt (panel_at recorded.standing)
+    else address_digits panel.counter ++ (codes " " ++ (status_text panel.status ++ codes "> "))
 
 -- the answers to blocks
 abbrev pub monitor_blocks : BlockAnswers (Recorded Standing)

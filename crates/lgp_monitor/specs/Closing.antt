@@ -1,7 +1,7 @@
 -- Part of the public promise: what is answered where a point closes a source with faults: each
 -- fault with its line of the source and a mark below the part that is at fault.
 use Rattle.std.specs.Prelude.{ℕ, ◌-◌, Bool, not, ◌&&◌, if◌then◌else◌, Option, Some, None}
-use Rattle.std.specs.Prelude.{option_map, List, [], ◌∷◌, ◌++◌, codes, decimal, flat_map, slice_get}
+use Rattle.std.specs.Prelude.{option_map, List, [], ◌++◌, codes, decimal, flat_map, slice_get}
 use Rattle.std.specs.Option.{option_map_or}
 use Rattle.std.specs.Str.{bytes_eq}
 use Rattle.lgp_source.specs.Source.{SourceLine, lines_of}
@@ -38,10 +38,8 @@ abbrev pub shown_faults : List ℕ → Option (List ℕ)
 shown_faults [] = None
 shown_faults source = faulty_by (lines_of source) (faults_of source)
 
--- whether a line is a point alone, which ends a source
-unfoldable pub is_source_end : Kept → Bool
-is_source_end kept = not kept.longer && bytes_eq kept.front (codes ".")
-
--- the reply to a line that closes a source with faults; None to any other
+-- the reply to a line that closes a source with faults, a point alone; None to any other
 unfoldable pub closing_reply : Option SourceText → Kept → Option (List ℕ)
-closing_reply opened kept = if is_source_end kept then shown_faults (opened_text opened) else None
+closing_reply opened kept =
+    if not kept.longer && bytes_eq kept.front (codes ".") then shown_faults (opened_text opened)
+    else None

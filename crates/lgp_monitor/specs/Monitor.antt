@@ -27,7 +27,7 @@ use Rattle.lgp_monitor.specs.Questions.{answer_to}
 use Rattle.lgp_monitor.specs.Reasons.{explained, reasoned}
 use Rattle.lgp_monitor.specs.Telling.{told_text}
 use Rattle.lgp_monitor.specs.Typed.{typed_of}
-use Rattle.lgp_monitor.specs.Verbs.{form_of, operands_form, takes_address, verb_names}
+use Rattle.lgp_monitor.specs.Verbs.{operands_form, takes_address, verb_names}
 use Rattle.lgp_monitor.specs.declared.telling.Telling.{Telling}
 use Rattle.lgp_monitor.specs.declared.verb.Verb.{Verb}
 use Rattle.lgp_monitor.specs.declared.typed.Typed.{Typed}
@@ -44,13 +44,10 @@ put_line address word = codes "put " ++ (address_digits address ++ (codes " " ++
 unfoldable pub jump_line : ℕ → List ℕ
 jump_line address = codes "type " ++ digits_of (plain_order U address)
 
-abbrev pub lines_behind_jump : List (List ℕ)
-lines_behind_jump =
-    codes "press fill" ∷ codes "press oneop" ∷ codes "press execute" ∷ codes "orders 1"
-    ∷ codes "press normal" ∷ codes "press start" ∷ []
-
 unfoldable pub go_lines : ℕ → List (List ℕ)
-go_lines address = codes "press manual" ∷ jump_line address ∷ lines_behind_jump
+go_lines address =
+    codes "press manual" ∷ jump_line address ∷ codes "press fill" ∷ codes "press oneop"
+    ∷ codes "press execute" ∷ codes "orders 1" ∷ codes "press normal" ∷ codes "press start" ∷ []
 
 -- a run that is told: the command `run` with the operands of its line
 unfoldable pub run_line : List ℕ → List ℕ
@@ -97,18 +94,12 @@ module _ (names : List (List ℕ × ℕ)) (counter : ℕ) where
   abbrev pub reason_by : List ℕ → Option Verb → List ℕ
   reason_by line None = codes "there is no such command, help lists them"
   reason_by line (Some verb) =
-      let form = form_of (first_word line) verb in
+      let form = first_word line ++ operands_form verb in
       if takes_address verb then operand_reason (behind_word line) form else form
 
   unfoldable pub misformed_text : List ℕ → List ℕ
   misformed_text line =
       codes "? 1 Form: " ++ (reason_by line (named verb_names (first_word line)) ++ codes "\n")
-
--- what is written about the orders of a run
-abbrev pub told_of : Standing → Telling → ℕ → List ℕ
-told_of standing telling limit =
-    told_text telling (labels_of standing.source) standing.debugger.state
-    (order_origins standing.debugger) (orders_run limit standing.debugger)
 
 abbrev pub panel_at : Standing → Panel
 panel_at standing = standing.debugger.state.core.panel
@@ -125,15 +116,11 @@ module _ (recorded : Recorded Standing) where
   abbrev pub explained_reply : List ℕ → List ℕ
   explained_reply line = reasoned (replies_text script_language recorded (line ∷ []))
 
-  -- the same of a line of which this is kept; where it closes a source with faults, their marks
-  abbrev pub itself_reply : Kept → List ℕ
-  itself_reply kept =
-      unwrap_or (closing_reply recorded.standing.opened kept) (explained_reply (stand_in kept))
-
   -- what is written about the orders of a run, and the reply to its script's line
   abbrev pub told_reply : Telling → ℕ → List ℕ → List ℕ
   told_reply telling limit line =
-      told_of recorded.standing telling limit
+      told_text telling names_at recorded.standing.debugger.state
+      (order_origins recorded.standing.debugger) (orders_run limit recorded.standing.debugger)
       ++ replies_text script_language recorded (run_line line ∷ [])
 
   -- the same with what is said behind it, where its script's line leaves the machine
@@ -142,8 +129,10 @@ module _ (recorded : Recorded Standing) where
       let panel = panel_at (after_lines script_language recorded (run_line line ∷ [])).standing in
       explained panel.status panel.mode (told_reply telling limit line)
 
+  -- the reply to a line of which this is kept; to one that closes a source with faults, their marks
   abbrev pub reply_of : Typed → Kept → List ℕ
-  reply_of typed.Itself kept = itself_reply kept
+  reply_of typed.Itself kept =
+      unwrap_or (closing_reply recorded.standing.opened kept) (explained_reply (stand_in kept))
   reply_of typed.Misformed kept = misformed_text names_at counter_at kept.front
   reply_of (typed.Placed address) kept = explained_reply (placed_line address kept.front)
   reply_of (typed.Go address) kept = replies_text script_language recorded (go_lines address)

@@ -29,13 +29,11 @@ decimals (suc more) number =
     if number == 0 then []
     else decimal_digit (number / 10 ^ 9) ∷ decimals more (number % 10 ^ 9 * 10)
 
--- what stands behind a whole number for so many units
-abbrev pub behind_whole : ℕ → List ℕ
-behind_whole units = if units == 0 then [] else codes "." ++ decimals 10 units
-
 -- so many units of 10^-10
 unfoldable pub units_text : ℕ → List ℕ
-units_text units = decimal (units / 10 ^ 10) ++ behind_whole (units % 10 ^ 10)
+units_text units =
+    let rest = units % 10 ^ 10 in
+    decimal (units / 10 ^ 10) ++ (if rest == 0 then [] else codes "." ++ decimals 10 rest)
 
 -- a word as a number whose point is behind a place
 unfoldable pub scaled_text : ℕ → ℕ → List ℕ

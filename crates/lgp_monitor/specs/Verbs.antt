@@ -68,10 +68,6 @@ operands_form verbs.File = codes " FILE, in the program lgp_monitor"
 operands_form verbs.Command = codes " or help COMMAND"
 operands_form verbs.End = codes ", which ends the program lgp_monitor"
 
--- the form in which a command is written
-abbrev pub form_of : List ℕ → Verb → List ℕ
-form_of name verb = name ++ operands_form verb
-
 -- whether an address stands first behind a command's name
 abbrev pub takes_address : Verb → Bool
 takes_address (verbs.Address command) = true

@@ -1,11 +1,12 @@
 //! What is answered where a point closes a source with faults.
 
-ghost use Rattle.std.specs.Prelude.{◌≡◌, ◌+◌, ◌^◌, ◌<◌, ◌≤◌, ◌++◌, IfOk, OnOk, [], codes, drop, flat_map, option_map};
+ghost use Rattle.std.specs.Prelude.{◌≡◌, ◌+◌, ◌^◌, ◌<◌, ◌≤◌, ◌++◌, IfOk, OnOk, [], codes, drop, flat_map, not, option_map, ◌&&◌};
+ghost use Rattle.std.specs.Str.{bytes_eq};
 ghost use Rattle.std.specs.Option.{option_copied, option_map_or};
 ghost use Rattle.lgp_assembler.specs.Image.{faults_of};
 ghost use Rattle.lgp_marks.specs.Marks.{marked_text};
 ghost use Rattle.lgp_source.specs.Source.{lines_of};
-ghost use Rattle.lgp_monitor.specs.Closing.{closing_reply, fault_line, faulty_by, is_source_end, marked_fault, shown_faults, text_at};
+ghost use Rattle.lgp_monitor.specs.Closing.{closing_reply, fault_line, faulty_by, marked_fault, shown_faults, text_at};
 
 use lgp_assembler::{AssembleError, Fault, FaultKind, assemble};
 use lgp_lab::Laboratory;
@@ -216,9 +217,8 @@ fn faulty_reply<A: Allocator + Copy>(
 }
 
 /// Whether a line ends a source.
-#[tactic(auto, unfolding(crate::specs::Closing::is_source_end))]
 fn is_source_end(line: &LineBytes) -> bool
-    ensures { result ≡ is_source_end line.now }
+    ensures { result ≡ (not line.now.longer && bytes_eq line.now.front (codes ".")) }
 {
     !line.is_longer() && line.front() == b".".as_slice()
 }

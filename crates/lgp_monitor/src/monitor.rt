@@ -1,6 +1,6 @@
 //! The monitor: typed lines, each answered by the script lines that it stands for.
 
-ghost use Rattle.std.specs.Prelude.{◌≡◌, ◌++◌, ◌∷◌, [], List, ℕ, IfOk, OnOk, codes, flat_map, is_some};
+ghost use Rattle.std.specs.Prelude.{◌≡◌, ◌++◌, ◌∷◌, [], List, ℕ, IfOk, OnOk, codes, flat_map, is_some, unwrap_or};
 ghost use Rattle.std.specs.Option.{option_map_or};
 ghost use Rattle.std.specs.Result.{result_err};
 ghost use Rattle.lgp_stream.specs.LineWords.{behind_word, first_word};
@@ -10,10 +10,11 @@ ghost use Rattle.lgp_transcript.specs.Transcript.{after_lines, after_meaning, re
 ghost use Rattle.lgp_lab.specs.Script.{script_language};
 ghost use Rattle.lgp_lab.specs.Standing.{labels_of, opening_standing};
 ghost use Rattle.lgp_monitor.specs.Blocks.{behind_block, block_reply};
+ghost use Rattle.lgp_monitor.specs.Closing.{closing_reply};
 ghost use Rattle.lgp_monitor.specs.Typed.{typed_of};
-ghost use Rattle.lgp_monitor.specs.Monitor.{counter_at, explained_reply, explained_run, fault_reason, form_line, go_lines, help_text, itself_reply, jump_line, meaning_of, misformed_text, monitor_language, names_at, operand_reason, panel_at, placed_line, put_line, reason_by, reply_of, run_line, told_reply, typed_at};
+ghost use Rattle.lgp_monitor.specs.Monitor.{counter_at, explained_reply, explained_run, fault_reason, form_line, go_lines, help_text, jump_line, meaning_of, misformed_text, monitor_language, names_at, operand_reason, panel_at, placed_line, put_line, reason_by, reply_of, run_line, told_reply, typed_at};
 ghost use Rattle.lgp_monitor.specs.Reasons.{explained};
-ghost use Rattle.lgp_monitor.specs.Verbs.{form_of};
+ghost use Rattle.lgp_monitor.specs.Verbs.{operands_form};
 
 use crate::blocks::answer_block;
 use crate::closing::closing_reply;
@@ -174,7 +175,8 @@ fn answer_itself<A: Allocator + Copy, P: Progress>(
 ) -> Result<(), AllocError>
     ensures reply { (text : List ℕ) → line.now ≡ kept_of text
         → OnOk result (reply.new.items
-        ≡ reply.old.items ++ itself_reply recorder.old line.now) }
+        ≡ reply.old.items ++ unwrap_or (closing_reply recorder.old.standing.opened line.now)
+        (explained_reply recorder.old (stand_in line.now))) }
     ensures after { (text : List ℕ) → line.now ≡ kept_of text
         → OnOk result (recorder.new
         ≡ after_lines script_language recorder.old (stand_in line.now ∷ [])) }
@@ -280,7 +282,7 @@ fn explain_told<A: Allocator + Copy>(
 
 /// Appends the form of a command.
 fn push_form<A: Allocator>(text: &mut Vec<u8, A>, name: &[u8], verb: Verb) -> Result<(), AllocError>
-    ensures { OnOk result (text.new.items ≡ text.old.items ++ form_of name.now verb) }
+    ensures { OnOk result (text.new.items ≡ text.old.items ++ (name.now ++ operands_form verb)) }
 {
     text.extend_from_slice(name)?;
     text.extend_from_slice(operands_form(verb))
@@ -396,7 +398,7 @@ fn push_address_reason<A: Allocator>(
 ) -> Result<(), AllocError>
     ensures { OnOk result (text.new.items
         ≡ text.old.items ++ option_map_or (λ fault. operand.now ++ fault_reason fault)
-        (result_err address) (form_of name.now verb)) }
+        (result_err address) (name.now ++ operands_form verb)) }
 {
     match address {
         Ok(_) => push_form(text, name, verb),
@@ -418,7 +420,7 @@ fn push_operand_reason<A: Allocator>(
     operands: &[u8],
 ) -> Result<(), AllocError>
     ensures { OnOk result (text.new.items ≡ text.old.items
-        ++ operand_reason names.now counter operands.now (form_of name.now verb)) }
+        ++ operand_reason names.now counter operands.now (name.now ++ operands_form verb)) }
 {
     if has_no_word(operands) {
         return push_form(text, name, verb);

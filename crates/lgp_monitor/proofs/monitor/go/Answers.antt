@@ -1,10 +1,13 @@
-use Rattle.std.proofs.Common.{◌≡◌, ◌∙◌, ◌++◌, ◌∷◌, List, ℕ, ap, codes}
+use Rattle.std.proofs.Common.{◌≡◌, ◌∙◌, ◌++◌, ◌∷◌, [], List, ℕ, ap, codes}
 use Rattle.std.proofs.lemmas.Result.{on_ok_weaker}
 use Rattle.lgp_lab.specs.Script.{script_language}
 use Rattle.lgp_transcript.specs.Transcript.{after_lines, replies_text}
-use Rattle.lgp_monitor.specs.Monitor.{go_lines, jump_line, lines_behind_jump}
+use Rattle.lgp_monitor.specs.Monitor.{go_lines, jump_line}
 use Rattle.lgp_monitor.proofs.GoLemmas.{after-three, replies-three}
 use Rattle.lgp_monitor.proofs.monitor.go.Goals as goal
+
+abbrev lines_behind_jump : List (List ℕ)
+lines_behind_jump = codes "press fill" ∷ codes "press oneop" ∷ codes "press execute" ∷ codes "orders 1" ∷ codes "press normal" ∷ codes "press start" ∷ []
 
 pub returns-clause-reply : goal.returns-clause-reply
 unfolding go_lines
