@@ -211,7 +211,7 @@ told_for names counter (verbs.Address command) operands telling limit e = absurd
 told_for names counter (verbs.Number command) operands telling limit e = told_by command (lone_number operands) operands telling limit refl e
 told_for names counter verbs.Range operands telling limit e = absurd (other_by _ _ (λ range. placed range.first) telling limit e)
 told_for names counter verbs.ScaledRange operands telling limit e = absurd (numbers names counter operands telling limit e)
-told_for names counter verbs.Word operands telling limit e = 
+told_for names counter verbs.Word operands telling limit e =
     absurd (other_by _ (address_at names counter (first_word operands)) (λ address. other_by _ (value_at names address (behind_word operands)) (put address)) telling limit e)
 told_for names counter verbs.Command operands telling limit e = absurd (other_if _ _ _ help (other_by _ _ help_of) telling limit e)
 told_for names counter verbs.Text operands telling limit e = absurd (misformed telling limit e)

@@ -99,7 +99,7 @@ fn push_decimals<A: Allocator>(text: &mut Vec<u8, A>, number: u64) -> Result<(),
 /// Appends what stands behind a whole number for so many units.
 fn push_behind_whole<A: Allocator>(text: &mut Vec<u8, A>, units: u64) -> Result<(), AllocError>
     requires { units < 10 ^ 10 }
-    ensures { OnOk result (text.new.items ≡ text.old.items 
+    ensures { OnOk result (text.new.items ≡ text.old.items
         ++ (if units == 0 then [] else codes "." ++ decimals 10 units)) }
 {
     if units == 0 {
