@@ -205,15 +205,15 @@ free-handed seat (line ∷ more) free =
 abbrev IsTold-at : Recorded Standing → Type 0
 IsTold-at recorded = IsTold script_language opening_standing recorded.standing recorded.transcript
 
-told_block : (recorded : Recorded Standing) (kind text : List ℕ) → IsTold-at recorded → is_tape kind ≡ false
-    → IsTold-at (behind_block recorded kind text)
+told_block : (recorded : Recorded Standing) (block : Block) → IsTold-at recorded → is_tape block.kind ≡ false
+    → IsTold-at (behind_block recorded block)
 unfolding behind_block restore_lines after_lines
-told_block recorded kind text told none = by_kind (is_restore kind) (is_tape kind) none where
+told_block recorded block told none = by_kind (is_restore block.kind) (is_tape block.kind) none where
   by_kind : (restores tapes : Bool) → tapes ≡ false
-      → IsTold-at (cond restores (after_lines script_language recorded (restore_lines recorded text)) (cond tapes (with_standing (with_line recorded kind) (answer_to_tape_text recorded.standing text).after) recorded))
+      → IsTold-at (cond restores (after_lines script_language recorded (restore_lines recorded block.text)) (cond tapes (with_standing (with_line recorded block.kind) (answer_to_tape_text recorded.standing block.text).after) recorded))
   by_kind true tapes e =
-      IsTold-lines script_language opening_standing recorded.standing recorded.transcript (restore_lines recorded text) told
-      (free-restoring (is_none (first_fault text) && rests_at recorded) (cells_changed recorded text))
+      IsTold-lines script_language opening_standing recorded.standing recorded.transcript (restore_lines recorded block.text) told
+      (free-restoring (is_none (first_fault block.text) && rests_at recorded) (cells_changed recorded block.text))
   by_kind false false e = told
   by_kind false true e = cc (e)
 
@@ -225,7 +225,7 @@ told_on recorded (Line line ∷ more) told free sayable =
     (IsTold-meaning script_language opening_standing recorded (meaning_at recorded line) told (free-at recorded line free.0))
     free.1 sayable.1
 told_on recorded (Whole block ∷ more) told free sayable =
-    told_on (monitor_blocks.after recorded block) more (told_block recorded block.kind block.text told sayable.0) free.1 sayable.1
+    told_on (monitor_blocks.after recorded block) more (told_block recorded block told sayable.0) free.1 sayable.1
 
 pub told_at_desk : (manner : Manner) (typed : List ℕ) → AllByRecursion IsSayable (handed_over manner typed)
     → IsToldByTranscript script_language opening_standing

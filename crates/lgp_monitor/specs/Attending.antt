@@ -27,32 +27,31 @@ prompt_at recorded =
 
 -- the answers to blocks
 abbrev pub monitor_blocks : BlockAnswers (Recorded Standing)
-monitor_blocks = record {
-  reply = λ recorded block. block_reply recorded block.kind block.text;
-  after = λ recorded block. behind_block recorded block.kind block.text;
-}
+monitor_blocks = record { reply = block_reply; after = behind_block }
 
 abbrev pub attended_language : Language (Seat (Recorded Standing))
 attended_language = desk_language monitor_language takes_commands_at prompt_at monitor_blocks
-
--- what a typed text hands to the monitor before `quit`: lines, and blocks
-abbrev pub handed_over : Manner → List ℕ → List Handed
-handed_over manner typed =
-    handed monitor_language takes_commands_at prompt_at monitor_blocks
-    (taken_seat manner (untouched opening_standing)) (lines typed)
 
 -- what a script can say: each line, and each block but a tape
 abbrev pub IsSayable : Handed → Type 0
 IsSayable (Line line) = Unit {0}
 IsSayable (Whole block) = is_tape block.kind ≡ false
 
--- what is written for a typed text, and how many replies begin with a question mark
-abbrev pub attended_text : Manner → List ℕ → List ℕ
-attended_text manner typed =
-    desk_text monitor_language takes_commands_at prompt_at monitor_blocks manner
-    (untouched opening_standing) typed
+-- how replies are written, and a typed text
+module _ (manner : Manner) (typed : List ℕ) where
+  -- what it hands to the monitor before `quit`: lines, and blocks
+  abbrev pub handed_over : List Handed
+  handed_over =
+      handed monitor_language takes_commands_at prompt_at monitor_blocks
+      (taken_seat manner (untouched opening_standing)) (lines typed)
 
-abbrev pub attended_faults : Manner → List ℕ → ℕ
-attended_faults manner typed =
-    desk_faults monitor_language takes_commands_at prompt_at monitor_blocks manner
-    (untouched opening_standing) typed
+  -- what is written for it, and how many replies begin with a question mark
+  abbrev pub attended_text : List ℕ
+  attended_text =
+      desk_text monitor_language takes_commands_at prompt_at monitor_blocks manner
+      (untouched opening_standing) typed
+
+  abbrev pub attended_faults : ℕ
+  attended_faults =
+      desk_faults monitor_language takes_commands_at prompt_at monitor_blocks manner
+      (untouched opening_standing) typed

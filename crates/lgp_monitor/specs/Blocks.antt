@@ -9,6 +9,7 @@ use Rattle.bstr.specs.Text.{lines_of}
 use Rattle.lgp_word.specs.Drum.{blank_words}
 use Rattle.lgp_stream.specs.LineWords.{first_word}
 use Rattle.lgp_table.specs.Console.{is_at_rest}
+use Rattle.lgp_desk.specs.Roles.{Block}
 use Rattle.lgp_transcript.specs.Transcript.{Recorded, after_lines, with_line, with_standing}
 use Rattle.lgp_listing.specs.Dump.{cell_in, first_fault}
 use Rattle.lgp_listing.specs.declared.reading.DumpFault.{DumpFault}
@@ -78,18 +79,20 @@ module _ (recorded : Recorded Standing) where
   restore_lines dump =
       if is_none (first_fault dump) && rests_at then map put_cell (cells_changed dump) else []
 
-  -- ---- the reply to a block, and where the monitor stands behind it. No line of a script says which
-  -- tape it is, so its name stands in the transcript
+  -- ---- the reply to a block, and where the monitor stands behind it; no line of a script says
+  -- which tape it is, so its name stands in the transcript
 
-  unfoldable pub block_reply : List ℕ → List ℕ → List ℕ
-  block_reply kind text =
-      if is_restore kind then restore_reply text
-      else (if is_tape kind then reasoned (answer_to_tape_text recorded.standing text).reply
+  unfoldable pub block_reply : Block → List ℕ
+  block_reply block =
+      if is_restore block.kind then restore_reply block.text
+      else (if is_tape block.kind
+      then reasoned (answer_to_tape_text recorded.standing block.text).reply
       else codes "? 1 Form: there is no such block\n")
 
-  unfoldable pub behind_block : List ℕ → List ℕ → Recorded Standing
-  behind_block kind text =
-      if is_restore kind then after_lines script_language recorded (restore_lines text)
-      else (if is_tape kind
-      then with_standing (with_line recorded kind) (answer_to_tape_text recorded.standing text).after
+  unfoldable pub behind_block : Block → Recorded Standing
+  behind_block block =
+      if is_restore block.kind then after_lines script_language recorded (restore_lines block.text)
+      else (if is_tape block.kind
+      then with_standing (with_line recorded block.kind)
+      (answer_to_tape_text recorded.standing block.text).after
       else recorded)

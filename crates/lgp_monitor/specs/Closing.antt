@@ -1,7 +1,7 @@
 -- Part of the public promise: what is answered where a point closes a source with faults: each
 -- fault with its line of the source and a mark below the part that is at fault.
-use Rattle.std.specs.Prelude.{ℕ, ◌-◌, Bool, not, ◌&&◌, if◌then◌else◌, Option, Some, None}
-use Rattle.std.specs.Prelude.{option_map, List, [], ◌++◌, codes, decimal, flat_map, slice_get}
+use Rattle.std.specs.Prelude.{ℕ, ◌-◌, Bool, not, ◌&&◌, ◌||◌, ◌==◌, if◌then◌else◌, Option, Some, None}
+use Rattle.std.specs.Prelude.{option_map, List, [], ◌++◌, codes, decimal, flat_map, length, slice_get}
 use Rattle.std.specs.Option.{option_map_or}
 use Rattle.std.specs.Str.{bytes_eq}
 use Rattle.lgp_source.specs.Source.{SourceLine, lines_of}
@@ -28,15 +28,12 @@ unfoldable pub marked_fault : List SourceLine → Fault → List ℕ
 marked_fault lines fault =
     fault_line fault ++ option_map_or (marked_text fault.kind) (text_at lines (fault.line - 1)) []
 
--- the reply to the end of a source with these faults, if there are any
-abbrev pub faulty_by : List SourceLine → List Fault → Option (List ℕ)
-faulty_by lines [] = None
-faulty_by lines faults = Some (codes "? 9 Faults\n" ++ flat_map (marked_fault lines) faults)
-
--- a source that is empty has no line to show, and of one that is too long nothing is kept
+-- the reply to the end of a source, if it has faults; a source that is empty has no line to show,
+-- and of one that is too long nothing is kept
 abbrev pub shown_faults : List ℕ → Option (List ℕ)
-shown_faults [] = None
-shown_faults source = faulty_by (lines_of source) (faults_of source)
+shown_faults source =
+    if (length source == 0) || (length (faults_of source) == 0) then None
+    else Some (codes "? 9 Faults\n" ++ flat_map (marked_fault (lines_of source)) (faults_of source))
 
 -- the reply to a line that closes a source with faults, a point alone; None to any other
 unfoldable pub closing_reply : Option SourceText → Kept → Option (List ℕ)

@@ -2,7 +2,8 @@
 -- with at most ten decimals, to the nearest, without the zeros at their end: exactly, where they
 -- are enough.
 use Rattle.std.specs.Prelude.{ℕ, zero, suc, ◌-◌, ◌*◌, ◌/◌, ◌%◌, ◌^◌, ◌++◌, ◌==◌, if◌then◌else◌}
-use Rattle.std.specs.Prelude.{nat_le, Option, Some, None, List, [], ◌∷◌, codes, decimal, option_and_then}
+use Rattle.std.specs.Prelude.{nat_le, Option, Some, None, option_and_then, List, [], ◌∷◌, codes}
+use Rattle.std.specs.Prelude.{decimal}
 use Rattle.lgp_word.specs.Decimal.{decimal_digit, decimal_number}
 use Rattle.lgp_word.specs.Order.{sign_of}
 use Rattle.lgp_fraction.specs.Rounding.{nearest_size}

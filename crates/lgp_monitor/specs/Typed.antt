@@ -116,10 +116,11 @@ module _ (names : List (List ℕ × ℕ)) (counter : ℕ) where
   -- a range of words as numbers, and the place behind which their point is
   unfoldable pub numbers_typed : List ℕ → Typed
   numbers_typed operands =
-      let second = behind_word operands in
-      if has_no_word (behind_word (behind_word second))
-      then asked_by (λ range. asked_by (λ point. typed.Asked (questions.Numbers range point))
-      (point_of (point_at (behind_word second)))) (range_at (first_word operands) (first_word second))
+      let count = behind_word operands in
+      let point = behind_word count in
+      if has_no_word (behind_word point)
+      then asked_by (λ range. asked_by (λ place. typed.Asked (questions.Numbers range place))
+      (point_of (point_at point))) (range_at (first_word operands) (first_word count))
       else typed.Misformed
 
   -- a command with its operands, by what stands behind its name; of some the script's own form is
@@ -135,7 +136,7 @@ module _ (names : List (List ℕ × ℕ)) (counter : ℕ) where
       (range_at (first_word operands) (behind_word operands))
   typed_by operands verbs.ScaledRange = numbers_typed operands
   typed_by operands verbs.Word =
-      asked_by (λ address. asked_by (typed.Put address) (value_at names address (behind_word operands)))
+      asked_by (λ place. asked_by (typed.Put place) (value_at names place (behind_word operands)))
       (address_at (first_word operands))
   typed_by operands verbs.Command =
       if has_no_word operands then typed.Help

@@ -197,8 +197,10 @@ pub(crate) fn answer_block<A: Allocator + Copy, B: Allocator>(
     reply: &mut Vec<u8, B>,
 ) -> Result<(), AllocError>
     ensures reply { OnOk result (reply.new.items
-        ≡ reply.old.items ++ block_reply recorder.old kind.now text.now) }
-    ensures after { OnOk result (recorder.new ≡ behind_block recorder.old kind.now text.now) }
+        ≡ reply.old.items ++ block_reply recorder.old
+        (record { kind = kind.now; text = text.now })) }
+    ensures after { OnOk result (recorder.new
+        ≡ behind_block recorder.old (record { kind = kind.now; text = text.now })) }
 {
     if is_restore(kind) {
         return restore(alloc, recorder, text, reply);

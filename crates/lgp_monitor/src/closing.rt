@@ -1,12 +1,12 @@
 //! What is answered where a point closes a source with faults.
 
-ghost use Rattle.std.specs.Prelude.{◌≡◌, ◌+◌, ◌^◌, ◌<◌, ◌≤◌, ◌++◌, IfOk, OnOk, [], codes, drop, flat_map, not, option_map, ◌&&◌};
+ghost use Rattle.std.specs.Prelude.{◌≡◌, ◌+◌, ◌^◌, ◌<◌, ◌≤◌, ◌++◌, ◌==◌, IfOk, None, OnOk, Some, [], codes, drop, flat_map, if◌then◌else◌, length, not, option_map, ◌&&◌};
 ghost use Rattle.std.specs.Str.{bytes_eq};
 ghost use Rattle.std.specs.Option.{option_copied, option_map_or};
 ghost use Rattle.lgp_assembler.specs.Image.{faults_of};
 ghost use Rattle.lgp_marks.specs.Marks.{marked_text};
 ghost use Rattle.lgp_source.specs.Source.{lines_of};
-ghost use Rattle.lgp_monitor.specs.Closing.{closing_reply, fault_line, faulty_by, marked_fault, shown_faults, text_at};
+ghost use Rattle.lgp_monitor.specs.Closing.{closing_reply, fault_line, marked_fault, shown_faults, text_at};
 
 use lgp_assembler::{AssembleError, Fault, FaultKind, assemble};
 use lgp_lab::Laboratory;
@@ -204,7 +204,9 @@ fn faulty_reply<A: Allocator + Copy>(
     source: &[u8],
 ) -> Result<Option<Vec<u8, A>>, AllocError>
     ensures { IfOk result (λ reply. option_map (λ it. it.items) reply
-        ≡ faulty_by (lines_of source.now) (faults_of source.now)) }
+        ≡ (if length (faults_of source.now) == 0 then None
+        else Some (codes "? 9 Faults\n"
+        ++ flat_map (marked_fault (lines_of source.now)) (faults_of source.now)))) }
 {
     match assemble(alloc, source) {
         Ok(_) => Ok(None),

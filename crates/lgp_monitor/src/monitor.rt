@@ -583,8 +583,10 @@ impl<A: Allocator + Copy, P: Progress> Monitor<Laboratory<A>, A, P> {
         reply: &mut Vec<u8, B>,
     ) -> Result<(), AllocError>
         ensures reply { OnOk result (reply.new.items
-            ≡ reply.old.items ++ block_reply self.old kind.now text.now) }
-        ensures after { OnOk result (self.new ≡ behind_block self.old kind.now text.now) }
+            ≡ reply.old.items ++ block_reply self.old
+            (record { kind = kind.now; text = text.now })) }
+        ensures after { OnOk result (self.new
+            ≡ behind_block self.old (record { kind = kind.now; text = text.now })) }
     {
         answer_block(self.alloc, &mut self.recorder, kind, text, reply)
     }
