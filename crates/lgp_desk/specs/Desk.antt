@@ -94,11 +94,9 @@ module _ {S : Type 0} (language : Language S) (takes_commands : S → Bool)
     (prompt : S → List ℕ) (blocks : BlockAnswers S) where
   -- where the desk stands behind a line
   abbrev pub seat_behind : Role → Seat S → List ℕ → Seat S
-  seat_behind Unheard seat line = seat
   seat_behind Leaving seat line = record seat { has_left = true }
   seat_behind Note seat line = record seat { note = Some (drop 2 (kept_of line).front) }
   seat_behind NoteEnd seat line = record seat { note = None }
-  seat_behind Given seat line = seat
   seat_behind Opening seat line = record seat { block = Some (opened_by (kept_of line)) }
   seat_behind Within seat line =
       record seat { block = option_map (λ block. with_line block (kept_of line)) seat.block }
@@ -108,19 +106,16 @@ module _ {S : Type 0} (language : Language S) (takes_commands : S → Bool)
         block = None;
       }
   seat_behind Plain seat line = record seat { standing = language.after seat.standing line }
+  seat_behind role seat line = seat
 
   unfoldable pub seat_after : Seat S → List ℕ → Seat S
   seat_after seat line = seat_behind (role_at takes_commands seat (kept_of line)) seat line
 
   -- what is written for a line
   abbrev pub line_text : Role → Seat S → List ℕ → List ℕ
-  line_text Unheard seat line = []
   line_text Leaving seat line = line_echo seat.manner (kept_of line) []
-  line_text Note seat line = []
   line_text NoteEnd seat line = prompt_in seat.manner None (prompt seat.standing)
   line_text Given seat line = answer_text prompt seat (drop 3 (kept_of line).front ++ codes "\n")
-  line_text Opening seat line = []
-  line_text Within seat line = []
   line_text Closing seat line =
       let reply = option_map_or (blocks.reply seat.standing) seat.block [] in
       block_echo_in seat.manner seat.block reply
@@ -129,6 +124,7 @@ module _ {S : Type 0} (language : Language S) (takes_commands : S → Bool)
       let reply = language.reply seat.standing line in
       line_echo seat.manner (kept_of line) reply
       ++ answer_text prompt (seat_behind Plain seat line) reply
+  line_text role seat line = []
 
   unfoldable pub reply_at : Seat S → List ℕ → List ℕ
   reply_at seat line = line_text (role_at takes_commands seat (kept_of line)) seat line

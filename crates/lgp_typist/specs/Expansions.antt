@@ -77,13 +77,11 @@ counted_trouble (troubles.BadSign place line) =
     ++ (decimal line ++ codes ", begins no sign of a tape")))
 counted_trouble trouble = []
 
-unfoldable pub trouble_text : FileTrouble → List ℕ
-trouble_text trouble = fixed_trouble trouble ++ counted_trouble trouble
-
 -- the refusal of a file, which is given as a reply
 unfoldable pub typed_refusal : List ℕ → FileTrouble → List ℕ
 typed_refusal name trouble =
-    codes "#> ? 13 File " ++ (name ++ (codes ": " ++ (trouble_text trouble ++ codes "\n")))
+    codes "#> ? 13 File " ++ (name ++ (codes ": "
+    ++ (fixed_trouble trouble ++ (counted_trouble trouble ++ codes "\n"))))
 
 -- that the drum was kept, which is given as a reply
 unfoldable pub typed_kept : List ℕ → List ℕ

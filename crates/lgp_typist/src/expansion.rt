@@ -1,7 +1,7 @@
 //! What is typed at a desk for what stands in files.
 
 ghost use Rattle.std.specs.Prelude.{◌≡◌, ◌*◌, ◌<◌, ◌++◌, OnOk, codes, drop, length, take};
-ghost use Rattle.lgp_typist.specs.Expansions.{counted_trouble, ended_text, file_note, fixed_trouble, line_note, line_of, named_note, tape_line, tape_lines, trouble_text, typed_block, typed_kept, typed_refusal, typed_restore, typed_source, typed_tape};
+ghost use Rattle.lgp_typist.specs.Expansions.{counted_trouble, ended_text, file_note, fixed_trouble, line_note, line_of, named_note, tape_line, tape_lines, typed_block, typed_kept, typed_refusal, typed_restore, typed_source, typed_tape};
 
 use crate::filing::FileTrouble;
 use lgp_flexo::{Code, write_tape_text};
@@ -292,9 +292,9 @@ fn push_counted_trouble<A: Allocator>(
 }
 
 /// Appends why a file is refused.
-#[tactic(auto, unfolding(crate::specs::Expansions::trouble_text))]
 fn push_trouble<A: Allocator>(text: &mut Vec<u8, A>, trouble: FileTrouble) -> Result<(), AllocError>
-    ensures { OnOk result (text.new.items ≡ text.old.items ++ trouble_text trouble) }
+    ensures { OnOk result (text.new.items ≡ text.old.items 
+        ++ (fixed_trouble trouble ++ counted_trouble trouble)) }
 {
     text.extend_from_slice(fixed_trouble(trouble))?;
     push_counted_trouble(text, trouble)
