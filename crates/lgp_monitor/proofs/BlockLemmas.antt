@@ -1,5 +1,5 @@
 -- Dumps that are restored, and what blocks leave in the transcript.
-use Rattle.std.proofs.Common.{◌≡◌, ◌<◌, ◌+◌, ◌++◌, ◌==◌, ℕ, Bool, true, false, cond, ◌&&◌, is_none, List, [], ◌∷◌, ◌≤◌, length, drop, get_or, set, fold, map, Option, Some, None, option_map, option_to_list, Result, Err, refl, sym, ap, subst, ◌∙◌}
+use Rattle.std.proofs.Common.{◌≡◌, ◌<◌, ◌+◌, ◌++◌, ◌==◌, ℕ, Bool, true, false, cond, ◌&&◌, is_none, List, [], ◌∷◌, ◌≤◌, codes, decimal, length, drop, get_or, set, fold, map, Option, Some, None, option_map, option_to_list, Result, Err, refl, sym, ap, subst, ◌∙◌}
 use Rattle.std.specs.List.{AllByRecursion}
 use Rattle.std.specs.Str.Lines.{lines}
 use Rattle.std.specs.Option.{IfNone, IfSome, option_map_or}
@@ -27,8 +27,9 @@ use Rattle.lgp_lab.specs.Script.{script_language}
 use Rattle.lgp_lab.specs.Standing.{Standing, opening_standing}
 use Rattle.lgp_monitor.specs.Attending.{IsSayable, attended_language, handed_over, monitor_blocks, prompt_at, takes_commands_at}
 use Rattle.lgp_lab.specs.TapeCommands.{answer_to_tape_text}
-use Rattle.lgp_monitor.specs.Blocks.{behind_block, cells_changed, changed_cells, dump_fault_text, dumped_words, is_restore, is_tape, put_cell, restore_lines, restore_reply, restored_text, rests_at}
+use Rattle.lgp_monitor.specs.Blocks.{behind_block, cells_changed, changed_cells, dump_fault_text, dumped_words, is_restore, is_tape, put_cell, restore_lines, restore_reply, rests_at}
 use Rattle.lgp_monitor.specs.Monitor.{meaning_at, monitor_language}
+use Rattle.lgp_monitor.specs.Reasons.{reasoned}
 use Rattle.lgp_monitor.proofs.LineLemmas.{free-at, free-put}
 
 -- ---- the words of a dump
@@ -118,6 +119,9 @@ not_put recorded rests cells e =
     ∙ after-none script_language recorded)
 
 -- ---- a text that is a drum's dump, and one that is none
+
+abbrev restored_text : Bool → ℕ → List ℕ
+restored_text rests count = cond rests (codes "restored " ++ (decimal count ++ codes "\n")) (reasoned (codes "? 2 Moving\n"))
 
 abbrev words_at : Recorded Standing → List ℕ
 words_at recorded = recorded.standing.debugger.state.core.words

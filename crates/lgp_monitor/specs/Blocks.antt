@@ -54,12 +54,6 @@ dump_fault_text (faults.Order line) =
     ++ (decimal line ++ codes " is not above that of the line before it\n")
 dump_fault_text faults.Memory = []
 
--- what is answered where it is one, and so many words change
-abbrev pub restored_text : Bool → ℕ → List ℕ
-restored_text rests count =
-    if rests then codes "restored " ++ (decimal count ++ codes "\n")
-    else reasoned (codes "? 2 Moving\n")
-
 module _ (recorded : Recorded Standing) where
   -- the words that a dump changes
   abbrev pub cells_changed : List ℕ → List (ℕ × ℕ)
@@ -71,8 +65,9 @@ module _ (recorded : Recorded Standing) where
 
   unfoldable pub restore_reply : List ℕ → List ℕ
   restore_reply dump =
-      option_map_or dump_fault_text (first_fault dump)
-      (restored_text rests_at (length (cells_changed dump)))
+      option_map_or dump_fault_text (first_fault dump) (if rests_at
+      then codes "restored " ++ (decimal (length (cells_changed dump)) ++ codes "\n")
+      else reasoned (codes "? 2 Moving\n"))
 
   -- the lines of a script that it stands for
   unfoldable pub restore_lines : List ℕ → List (List ℕ)

@@ -85,17 +85,15 @@ fault_reason Unknown = codes " names no label of the last source"
 fault_reason Outside = codes " is not on the drum"
 
 module _ (names : List (List ℕ × ℕ)) (counter : ℕ) where
-  unfoldable pub operand_reason : List ℕ → List ℕ → List ℕ
-  operand_reason operands form =
-      if has_no_word operands then form
-      else option_map_or (λ fault. first_word operands ++ fault_reason fault)
-      (result_err (address_operand names counter (first_word operands))) form
-
   abbrev pub reason_by : List ℕ → Option Verb → List ℕ
   reason_by line None = codes "there is no such command, help lists them"
   reason_by line (Some verb) =
       let form = first_word line ++ operands_form verb in
-      if takes_address verb then operand_reason (behind_word line) form else form
+      let operand = first_word (behind_word line) in
+      if takes_address verb then (if has_no_word (behind_word line) then form
+      else option_map_or (λ fault. operand ++ fault_reason fault)
+      (result_err (address_operand names counter operand)) form)
+      else form
 
   unfoldable pub misformed_text : List ℕ → List ℕ
   misformed_text line =

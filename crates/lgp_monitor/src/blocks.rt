@@ -5,7 +5,7 @@ ghost use Rattle.lgp_listing.specs.Dump.{IsDrum, first_fault};
 ghost use Rattle.lgp_transcript.specs.Transcript.{after_lines, with_line, with_standing};
 ghost use Rattle.lgp_lab.specs.Script.{script_language};
 ghost use Rattle.lgp_lab.specs.TapeCommands.{answer_to_tape_text};
-ghost use Rattle.lgp_monitor.specs.Blocks.{behind_block, block_reply, changed_cells, dump_fault_text, dumped_words, is_restore, is_tape, put_cell, restore_lines, restore_reply, restored_text, rests_at};
+ghost use Rattle.lgp_monitor.specs.Blocks.{behind_block, block_reply, changed_cells, dump_fault_text, dumped_words, is_restore, is_tape, put_cell, restore_lines, restore_reply, rests_at};
 ghost use Rattle.lgp_monitor.specs.Reasons.{reasoned};
 
 use crate::monitor::put_line;
@@ -126,8 +126,9 @@ fn restore_drum<A: Allocator + Copy, B: Allocator>(
     reply: &mut Vec<u8, B>,
 ) -> Result<(), AllocError>
     ensures reply { OnOk result (reply.new.items ≡ reply.old.items
-        ++ restored_text (rests_at recorder.old)
-        (length (changed_cells 0 recorder.old.standing.debugger.state.core.words drum.now))) }
+        ++ (if rests_at recorder.old then codes "restored " ++ (decimal (length
+        (changed_cells 0 recorder.old.standing.debugger.state.core.words drum.now)) ++ codes "\n")
+        else reasoned (codes "? 2 Moving\n"))) }
     ensures after { OnOk result (recorder.new ≡ after_lines script_language recorder.old
         (if rests_at recorder.old then map put_cell
         (changed_cells 0 recorder.old.standing.debugger.state.core.words drum.now) else [])) }

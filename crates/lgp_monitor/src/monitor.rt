@@ -1,10 +1,11 @@
 //! The monitor: typed lines, each answered by the script lines that it stands for.
 
-ghost use Rattle.std.specs.Prelude.{◌≡◌, ◌++◌, ◌∷◌, [], List, ℕ, IfOk, OnOk, codes, flat_map, is_some, unwrap_or};
+ghost use Rattle.std.specs.Prelude.{◌≡◌, ◌++◌, ◌∷◌, [], List, ℕ, IfOk, OnOk, codes, flat_map, if◌then◌else◌, is_some, unwrap_or};
 ghost use Rattle.std.specs.Option.{option_map_or};
 ghost use Rattle.std.specs.Result.{result_err};
-ghost use Rattle.lgp_stream.specs.LineWords.{behind_word, first_word};
+ghost use Rattle.lgp_stream.specs.LineWords.{behind_word, first_word, has_no_word};
 ghost use Rattle.lgp_stream.specs.KeptLine.{kept_of};
+ghost use Rattle.lgp_assembler.specs.AddressOperands.{address_operand};
 ghost use Rattle.lgp_text.specs.NamedValues.{pairs_of};
 ghost use Rattle.lgp_transcript.specs.Transcript.{after_lines, after_meaning, replies_text, stand_in, untouched};
 ghost use Rattle.lgp_lab.specs.Script.{script_language};
@@ -12,7 +13,7 @@ ghost use Rattle.lgp_lab.specs.Standing.{labels_of, opening_standing};
 ghost use Rattle.lgp_monitor.specs.Blocks.{behind_block, block_reply};
 ghost use Rattle.lgp_monitor.specs.Closing.{closing_reply};
 ghost use Rattle.lgp_monitor.specs.Typed.{typed_of};
-ghost use Rattle.lgp_monitor.specs.Monitor.{counter_at, explained_reply, explained_run, fault_reason, form_line, go_lines, help_text, jump_line, meaning_of, misformed_text, monitor_language, names_at, operand_reason, panel_at, placed_line, put_line, reason_by, reply_of, run_line, told_reply, typed_at};
+ghost use Rattle.lgp_monitor.specs.Monitor.{counter_at, explained_reply, explained_run, fault_reason, form_line, go_lines, help_text, jump_line, meaning_of, misformed_text, monitor_language, names_at, panel_at, placed_line, put_line, reason_by, reply_of, run_line, told_reply, typed_at};
 ghost use Rattle.lgp_monitor.specs.Reasons.{explained};
 ghost use Rattle.lgp_monitor.specs.Verbs.{operands_form};
 
@@ -410,7 +411,6 @@ fn push_address_reason<A: Allocator>(
 }
 
 /// Appends why a line is in no command's form whose command takes an address first.
-#[tactic(auto, unfolding(crate::specs::Monitor::operand_reason))]
 fn push_operand_reason<A: Allocator>(
     text: &mut Vec<u8, A>,
     names: &[(Name, u16)],
@@ -420,7 +420,10 @@ fn push_operand_reason<A: Allocator>(
     operands: &[u8],
 ) -> Result<(), AllocError>
     ensures { OnOk result (text.new.items ≡ text.old.items
-        ++ operand_reason names.now counter operands.now (name.now ++ operands_form verb)) }
+        ++ (if has_no_word operands.now then name.now ++ operands_form verb
+        else option_map_or (λ fault. first_word operands.now ++ fault_reason fault)
+        (result_err (address_operand names.now counter (first_word operands.now)))
+        (name.now ++ operands_form verb))) }
 {
     if has_no_word(operands) {
         return push_form(text, name, verb);
