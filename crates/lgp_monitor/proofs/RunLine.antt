@@ -17,7 +17,7 @@ use Rattle.lgp_lab.specs.SourceText.{SourceText}
 use Rattle.lgp_lab.specs.Standing.{Answer, Standing, labels_of}
 use Rattle.lgp_transcript.specs.Transcript.{Recorded, after_lines, ended, replies_text, with_line, with_standing}
 use Rattle.lgp_monitor.specs.Monitor.{counter_at, names_at, run_line, told_reply, typed_at}
-use Rattle.lgp_monitor.specs.Typed.{address_at, asked_alone, asked_at, asked_by, asked_with, numbers_typed, point_at, range_at, typed_by, typed_line, typed_of, value_at}
+use Rattle.lgp_monitor.specs.Typed.{address_at, asked_alone, asked_at, asked_by, asked_with, numbers_typed, point_at, range_at, typed_by, typed_of, value_at}
 use Rattle.lgp_debugger.specs.Debugging.{order_origins}
 use Rattle.lgp_monitor.specs.Telling.{told_text}
 use Rattle.lgp_monitor.specs.Scaled.{point_of}
@@ -240,27 +240,21 @@ long_name (Some verb) line e name =
     let two : nat_lt 2 (length (first_word line)) ≡ true = ap (λ (t : Bool). not t || nat_lt 2 (length (first_word line))) (sym telling) ∙ long in
     grind (arith, nat_tests)
 
-by_flags : (is_open longer blank comment : Bool) (asked : Typed) (telling : Telling) (limit : ℕ) → typed.Told telling limit ≡ cond (is_open || longer || blank || comment) typed.Itself asked → (is_open ≡ false) × (asked ≡ typed.Told telling limit)
-by_flags false false false false asked telling limit e = (refl, sym e)
-by_flags true longer blank comment asked telling limit e = absurd (itself telling limit (sym e))
-by_flags false true blank comment asked telling limit e = absurd (itself telling limit (sym e))
-by_flags false false true comment asked telling limit e = absurd (itself telling limit (sym e))
-by_flags false false false true asked telling limit e = absurd (itself telling limit (sym e))
-
-by_command : (command : Bool) (asked : Typed) (telling : Telling) (limit : ℕ) → cond command typed.Itself asked ≡ typed.Told telling limit → asked ≡ typed.Told telling limit
-by_command true asked telling limit e = absurd (itself telling limit e)
-by_command false asked telling limit e = e
-
-line_told : (names : List (List ℕ × ℕ)) (counter : ℕ) (line : List ℕ) (telling : Telling) (limit : ℕ) → typed_line names counter line ≡ typed.Told telling limit → IsTold (named verb_names (first_word line)) (behind_word line) limit
-unfolding typed_line
-line_told names counter line telling limit e = told_only names counter (named verb_names (first_word line)) (behind_word line) telling limit (by_command (is_some (command_of line)) _ telling limit e)
+by_flags : (is_open longer blank comment command : Bool) (asked : Typed) (telling : Telling) (limit : ℕ) → typed.Told telling limit ≡ cond (is_open || longer || blank || comment || command) typed.Itself asked → (is_open ≡ false) × (asked ≡ typed.Told telling limit)
+by_flags false false false false false asked telling limit e = (refl, sym e)
+by_flags true longer blank comment command asked telling limit e = absurd (itself telling limit (sym e))
+by_flags false true blank comment command asked telling limit e = absurd (itself telling limit (sym e))
+by_flags false false true comment command asked telling limit e = absurd (itself telling limit (sym e))
+by_flags false false false true command asked telling limit e = absurd (itself telling limit (sym e))
+by_flags false false false false true asked telling limit e = absurd (itself telling limit (sym e))
 
 told_line : (is_open : Bool) (names : List (List ℕ × ℕ)) (counter : ℕ) (kept : Kept) (telling : Telling) (limit : ℕ) → typed.Told telling limit ≡ typed_of names counter is_open kept → IsToldLine is_open kept limit
 unfolding typed_of
 told_line is_open names counter kept telling limit e =
-    let flags = by_flags is_open kept.longer kept.blank (slice_index kept.front 0 == 59) (typed_line names counter kept.front) telling limit e in
-    let told = line_told names counter kept.front telling limit flags.1 in
-    record { closed = flags.0; operand = told.operand; long = long_name (named verb_names (first_word kept.front)) kept.front refl told.name }
+    let verb = named verb_names (first_word kept.front) in
+    let flags = by_flags is_open kept.longer kept.blank (slice_index kept.front 0 == 59) (is_some (command_of kept.front)) (asked_by (typed_by names counter (behind_word kept.front)) verb) telling limit e in
+    let told = told_only names counter verb (behind_word kept.front) telling limit flags.1 in
+    record { closed = flags.0; operand = told.operand; long = long_name verb kept.front refl told.name }
 
 none_opened : (opened : Option SourceText) → is_some opened ≡ false → opened ≡ None
 none_opened None e = refl

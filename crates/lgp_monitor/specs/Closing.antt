@@ -14,19 +14,16 @@ use Rattle.lgp_stream.specs.KeptLine.{Kept}
 use Rattle.lgp_lab.specs.SourceText.{SourceText}
 use Rattle.lgp_lab.specs.Standing.{opened_text}
 
--- the number of a fault's line and its kind, as scripts have them
-unfoldable pub fault_line : Fault → List ℕ
-fault_line fault =
-    codes "line " ++ (decimal fault.line ++ (codes " " ++ (kind_name fault.kind ++ codes "\n")))
-
 -- the text of the line at a place, counted from 0; behind the last line there is none
 abbrev pub text_at : List SourceLine → ℕ → Option (List ℕ)
 text_at lines place = option_map (λ (line : SourceLine). line.text) (slice_get lines place)
 
--- a fault of a source of these lines, with its marked line
+-- a fault of a source of these lines: the number of its line and its kind, as scripts have them, and
+-- its marked line
 unfoldable pub marked_fault : List SourceLine → Fault → List ℕ
 marked_fault lines fault =
-    fault_line fault ++ option_map_or (marked_text fault.kind) (text_at lines (fault.line - 1)) []
+    codes "line " ++ (decimal fault.line ++ (codes " " ++ (kind_name fault.kind ++ (codes "\n"
+    ++ option_map_or (marked_text fault.kind) (text_at lines (fault.line - 1)) []))))
 
 -- the reply to the end of a source, if it has faults; a source that is empty has no line to show,
 -- and of one that is too long nothing is kept

@@ -143,15 +143,10 @@ module _ (names : List (List ℕ × ℕ)) (counter : ℕ) where
       else asked_by typed.HelpOf (option_and_then (named verb_names) (lone_word operands))
   typed_by operands verb = typed.Misformed
 
-  -- a line in the form of a script's command asks for that
-  unfoldable pub typed_line : List ℕ → Typed
-  typed_line line =
-      if is_some (command_of line) then typed.Itself
-      else asked_by (typed_by (behind_word line)) (named verb_names (first_word line))
-
-  -- what a line asks for: those are taken as they stand that are an open source's, too long, or
-  -- without anything that is asked
+  -- what a line asks for: those are taken as they stand that are an open source's, too long, without
+  -- anything that is asked, or in the form of a script's command
   unfoldable pub typed_of : Bool → Kept → Typed
   typed_of is_open kept =
       if is_open || kept.longer || kept.blank || (slice_index kept.front 0 == byte ";")
-      then typed.Itself else typed_line kept.front
+      || is_some (command_of kept.front) then typed.Itself
+      else asked_by (typed_by (behind_word kept.front)) (named verb_names (first_word kept.front))

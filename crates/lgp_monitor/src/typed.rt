@@ -6,12 +6,12 @@ ghost use Rattle.std.specs.Result.{result_ok};
 ghost use Rattle.std.specs.Str.{byte};
 ghost use Rattle.lgp_fraction.specs.Arithmetic.{low_bits};
 ghost use Rattle.lgp_fraction.specs.Decimal.{decimal_fraction};
-ghost use Rattle.lgp_lab.specs.Command.{lone_number};
+ghost use Rattle.lgp_lab.specs.Command.{command_of, lone_number};
 ghost use Rattle.lgp_lab.specs.Span.{range_of};
 ghost use Rattle.lgp_stream.specs.LineWords.{behind_word, first_word, has_no_word};
 ghost use Rattle.lgp_text.specs.NamedValues.{named};
 ghost use Rattle.lgp_monitor.specs.Verbs.{verb_names};
-ghost use Rattle.lgp_monitor.specs.Typed.{address_at, asked_alone, asked_at, asked_by, asked_with, digits_or_fraction, lone_word, numbers_typed, operand_at, operation_at, point_at, range_at, typed_by, typed_line, typed_of, value_at, whole_at};
+ghost use Rattle.lgp_monitor.specs.Typed.{address_at, asked_alone, asked_at, asked_by, asked_with, digits_or_fraction, lone_word, numbers_typed, operand_at, operation_at, point_at, range_at, typed_by, typed_of, value_at, whole_at};
 
 use crate::question::Question;
 use crate::scaled::Point;
@@ -382,9 +382,10 @@ fn typed_by(names: &[(Name, u16)], counter: Address, verb: Option<Verb>, operand
 }
 
 /// What a line asks for where it is not taken as it stands.
-#[tactic(auto, unfolding(crate::specs::Typed::typed_line))]
 fn typed_line(names: &[(Name, u16)], counter: Address, line: &[u8]) -> Typed
-    ensures { result ≡ typed_line names.now counter line.now }
+    ensures { result ≡ (if is_some (command_of line.now) then Typed.Itself
+        else asked_by (typed_by names.now counter (behind_word line.now))
+        (named verb_names (first_word line.now))) }
 {
     if is_command(line) {
         return Typed::Itself;
