@@ -1,7 +1,8 @@
 -- Part of the public promise: what is typed at a desk for what stands in files.
-use Rattle.std.specs.Prelude.{ℕ, zero, suc, ◌-◌, ◌*◌, ◌==◌, ◌||◌, nat_le, if◌then◌else◌, List, []}
-use Rattle.std.specs.Prelude.{◌++◌, codes, decimal, drop, length, slice_index, take}
+use Rattle.std.specs.Prelude.{ℕ, ◌-◌, ◌*◌, ◌==◌, ◌||◌, nat_le, if◌then◌else◌, List, []}
+use Rattle.std.specs.Prelude.{◌++◌, codes, decimal, drop, length, map, slice_index, take}
 use Rattle.std.specs.Int.{div_ceil}
+use Rattle.std.specs.List.{concat, range_with_len}
 use Rattle.lgp_flexo.specs.TapeText.{written_tape}
 use Rattle.lgp_typist.specs.declared.filing.FileTrouble.{FileTrouble}
 use Rattle.lgp_typist.specs.declared.filing.FileTrouble.TheVariants as troubles
@@ -44,12 +45,9 @@ typed_restore name dump = typed_block (codes "restore") name (ended_text dump)
 unfoldable pub tape_line : List ℕ → ℕ → List ℕ
 tape_line tape number = written_tape (take 1000 (drop (number * 1000) tape)) ++ codes "\n"
 
-abbrev pub first_tape_lines : List ℕ → ℕ → List ℕ
-first_tape_lines tape zero = []
-first_tape_lines tape (suc number) = first_tape_lines tape number ++ tape_line tape number
-
 unfoldable pub tape_lines : List ℕ → List ℕ
-tape_lines tape = first_tape_lines tape (div_ceil (length tape) 1000)
+tape_lines tape =
+    concat (map (tape_line tape) (range_with_len 0 (div_ceil (length tape) 1000)))
 
 -- a tape: the line that mounts it where it has room for the tape's text, else a block
 unfoldable pub typed_tape : List ℕ → List ℕ → List ℕ
