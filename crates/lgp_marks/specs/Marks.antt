@@ -59,8 +59,8 @@ shown_line text =
 -- the line of the mark, where a byte of the part is shown
 abbrev pub mark_line : List ℕ → List ℕ → List ℕ
 mark_line front [] = []
-mark_line front (first ∷ part) =
-    indent ++ (map (byte_below false) front ++ (map (byte_below true) (first ∷ part) ++ codes "\n"))
+mark_line front part =
+    indent ++ (map (byte_below false) front ++ (map (byte_below true) part ++ codes "\n"))
 
 -- ---- a text's first line with its mark; the empty text has none
 

@@ -207,7 +207,7 @@ fn push_tape_lines<A: Allocator + Copy>(
 
 /// Appends the line that mounts a tape.
 fn push_mount<A: Allocator>(text: &mut Vec<u8, A>, tape: &[u8]) -> Result<(), AllocError>
-    ensures { OnOk result (text.new.items ≡ text.old.items 
+    ensures { OnOk result (text.new.items ≡ text.old.items
         ++ (codes "mount " ++ (tape.now ++ codes "\n"))) }
 {
     push_pieces(
@@ -245,7 +245,7 @@ fn push_bad_sign<A: Allocator>(
     place: u64,
     line: u64,
 ) -> Result<(), AllocError>
-    ensures { OnOk result (text.new.items ≡ text.old.items 
+    ensures { OnOk result (text.new.items ≡ text.old.items
         ++ counted_trouble (FileTrouble.BadSign place line)) }
 {
     push_pieces(
@@ -293,7 +293,7 @@ fn push_counted_trouble<A: Allocator>(
 
 /// Appends why a file is refused.
 fn push_trouble<A: Allocator>(text: &mut Vec<u8, A>, trouble: FileTrouble) -> Result<(), AllocError>
-    ensures { OnOk result (text.new.items ≡ text.old.items 
+    ensures { OnOk result (text.new.items ≡ text.old.items
         ++ (fixed_trouble trouble ++ counted_trouble trouble)) }
 {
     text.extend_from_slice(fixed_trouble(trouble))?;
@@ -302,7 +302,7 @@ fn push_trouble<A: Allocator>(text: &mut Vec<u8, A>, trouble: FileTrouble) -> Re
 
 /// Appends the front of the refusal of a file.
 fn push_refusal_front<A: Allocator>(text: &mut Vec<u8, A>, name: &[u8]) -> Result<(), AllocError>
-    ensures { OnOk result (text.new.items ≡ text.old.items 
+    ensures { OnOk result (text.new.items ≡ text.old.items
         ++ (codes "#> ? 13 File " ++ (name.now ++ codes ": "))) }
 {
     push_pieces(
