@@ -1,7 +1,7 @@
 -- Part of the public promise: the commands of the monitor, each with what stands behind its name.
 -- Those of the script language are among them, the desk's `quit`, and those that name a file, which
 -- the monitor's program takes.
-use Rattle.std.specs.Prelude.{ℕ, Bool, true, false, List, [], ◌∷◌, ◌++◌, codes}
+use Rattle.std.specs.Prelude.{ℕ, Bool, true, false, List, [], ◌∷◌, codes}
 use Rattle.lgp_monitor.specs.declared.telling.Telling.TheVariants as tellings
 use Rattle.lgp_monitor.specs.declared.verb.AddressCommand.TheVariants as address_commands
 use Rattle.lgp_monitor.specs.declared.verb.LoneCommand.TheVariants as lone_commands
