@@ -143,8 +143,8 @@ module _ (names : List (List ℕ × ℕ)) (counter : ℕ) where
       else asked_by typed.HelpOf (option_and_then (named verb_names) (lone_word operands))
   typed_by operands verb = typed.Misformed
 
-  -- what a line asks for: those are taken as they stand that are an open source's, too long, without
-  -- anything that is asked, or in the form of a script's command
+  -- what a line asks for: those are taken as they stand that are an open source's, too long, in the
+  -- form of a script's command, or without anything that is asked
   unfoldable pub typed_of : Bool → Kept → Typed
   typed_of is_open kept =
       if is_open || kept.longer || kept.blank || (slice_index kept.front 0 == byte ";")
