@@ -1,15 +1,15 @@
 -- What is kept of a line tells as much of it as its answer depends on.
 use Rattle.std.proofs.Common.{◌≡◌, ℕ, ◌==◌, ◌||◌, ◌++◌, true, false, Option, Some, None, List, [], codes, get_or, refl, sym, ap, ◌∙◌, arith}
 use Rattle.std.specs.List.{list_all}
-use Rattle.std.specs.Str.{byte}
+use Rattle.std.specs.Str.{byte, bytes_eq}
 use Rattle.lgp_stream.specs.KeptLine.{Kept, kept_of, line_limit}
 use Rattle.lgp_stream.specs.LineWords.{has_no_word, is_space}
 use Rattle.lgp_stream.proofs.FrontLemmas.{first-take, front_kept, front_whole, longer_kept}
 use Rattle.lgp_lab.specs.Command.{command_of, text_behind}
 use Rattle.lgp_lab.specs.Script.{answer_by, answer_in, answer_to, answer_to_command, answer_to_line, is_passed_over}
-use Rattle.lgp_lab.specs.SourceCommands.{answer_in_source, answer_to_end, closed, closed_by, is_point}
+use Rattle.lgp_lab.specs.SourceCommands.{answer_in_source, answer_to_end, closed}
 use Rattle.lgp_lab.specs.SourceText.{SourceText, with_bytes, with_line}
-use Rattle.lgp_lab.specs.Standing.{Standing, refused, silent, with_opened}
+use Rattle.lgp_lab.specs.Standing.{Standing, refused, silent}
 use Rattle.lgp_lab.specs.declared.refusal.Refusal.TheVariants.{Form, TooLong}
 use Rattle.lgp_lab.specs.declared.command.Command.{Command}
 
@@ -57,19 +57,19 @@ pub line_outside : (s : Standing) (line : List ℕ) → s.opened ≡ None → an
 unfolding answer_to_line
 line_outside s line e = ap (λ (o : Option SourceText). answer_in o s line) e
 
-pub closed_some : (s : Standing) (source : SourceText) → s.opened ≡ Some source → closed s ≡ answer_to_end (with_opened s None) source
+pub closed_some : (s : Standing) (source : SourceText) → s.opened ≡ Some source → closed s ≡ answer_to_end s source
 unfolding closed
-closed_some s source e = ap (λ (o : Option SourceText). closed_by s o) e
+closed_some s source e = rw e refl
 
 pub closed_none : (s : Standing) → s.opened ≡ None → closed s ≡ silent s
 unfolding closed
-closed_none s e = ap (λ (o : Option SourceText). closed_by s o) e
+closed_none s e = rw e refl
 
 -- a point, and any other line
-pub point_ends : (s : Standing) (source : SourceText) (line : List ℕ) → is_point line ≡ true → answer_to_end (with_opened s None) source ≡ answer_in_source s source line
+pub point_ends : (s : Standing) (source : SourceText) (line : List ℕ) → bytes_eq line (codes ".") ≡ true → answer_to_end s source ≡ answer_in_source s source line
 point_ends s source line point = rw point refl
 
-pub line_taken : (s : Standing) (source : SourceText) (line : List ℕ) → is_point line ≡ false → silent (with_opened s (Some (with_line source line))) ≡ answer_in_source s source line
+pub line_taken : (s : Standing) (source : SourceText) (line : List ℕ) → bytes_eq line (codes ".") ≡ false → silent (record s { opened = Some (with_line source line) }) ≡ answer_in_source s source line
 line_taken s source line other = rw other refl
 
 -- a line outside a source that is a command, and one that is none

@@ -1,6 +1,7 @@
 -- Part of the public promise: the script language, where a laboratory stands between two lines of a
 -- script, and what an answer is.
-use Rattle.std.specs.Prelude.{ℕ, Option, None, Some, List, []}
+use Rattle.std.specs.Prelude.{ℕ, Option, None, List, []}
+use Rattle.std.specs.Option.{option_map_or}
 use Rattle.lgp_word.specs.Drum.{blank_words}
 use Rattle.lgp_assembler.specs.Image.{image_of}
 use Rattle.lgp_table.specs.State.{opening}
@@ -19,13 +20,11 @@ pub record Standing : Type 0 where
 
 -- the names of the last source that assembled, with their values
 unfoldable pub labels_of : Option (List ℕ) → List (List ℕ × ℕ)
-labels_of None = []
-labels_of (Some source) = (image_of source).symbols
+labels_of source = option_map_or (λ text. (image_of text).symbols) source []
 
 -- the bytes of the source whose lines are being taken
 unfoldable pub opened_text : Option SourceText → List ℕ
-opened_text None = []
-opened_text (Some source) = source.text
+opened_text opened = option_map_or (λ source. source.text) opened []
 
 -- a reply, empty where there is none, and where the laboratory stands after it
 pub record Answer : Type 0 where
@@ -40,14 +39,6 @@ opening_standing = record {
   opened = None;
 }
 
-abbrev pub with_debugger : Standing → Debugging → Standing
-with_debugger standing debugger =
-    record { debugger = debugger; source = standing.source; opened = standing.opened }
-
-abbrev pub with_opened : Standing → Option SourceText → Standing
-with_opened standing opened =
-    record { debugger = standing.debugger; source = standing.source; opened = opened }
-
 -- an answer that shows something and changes nothing
 abbrev pub answer_showing : List ℕ → Standing → Answer
 answer_showing reply standing = record { reply = reply; after = standing }
@@ -58,3 +49,8 @@ refused refusal standing = answer_showing (refusal_text refusal) standing
 -- no reply, and nothing changes
 abbrev pub silent : Standing → Answer
 silent standing = answer_showing [] standing
+
+-- an answer that leaves the machine, its kept steps and its rules so
+abbrev pub answer_leaving : List ℕ → Standing → Debugging → Answer
+answer_leaving reply standing debugger =
+    record { reply = reply; after = record standing { debugger = debugger } }
