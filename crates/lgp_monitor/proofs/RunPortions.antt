@@ -10,11 +10,12 @@ use Rattle.lgp_machine.specs.Answers.{passes_clock_end}
 use Rattle.lgp_history.specs.Step.{Perform}
 use Rattle.lgp_history.specs.declared.rule.Rule.{Rule}
 use Rattle.lgp_debugger.specs.Debugging.{Debugging, after_step, performed}
-use Rattle.lgp_debugger.specs.Run.{IsRun, at_clock_end, ended_for, first_stop, one_order_more, run_of, unless_stopped}
+use Rattle.lgp_debugger.specs.Run.{IsRun, ended_for, first_stop, one_order_more, run_of, unless_stopped}
 use Rattle.lgp_debugger.specs.declared.fault.Ran.{Ran}
 use Rattle.lgp_debugger.specs.declared.fault.Reason.{Reason}
 use Rattle.lgp_debugger.specs.declared.fault.Reason.TheVariants as reasons
 use Rattle.lgp_debugger.specs.declared.fault.RunFault.{RunFault}
+use Rattle.lgp_debugger.specs.declared.fault.RunRefusal.TheVariants.{ClockEnd}
 use Rattle.lgp_debugger.proofs.PerformedLemmas.{performed_state}
 use Rattle.lgp_debugger.proofs.RunLemmas.{HasRun, more}
 
@@ -75,7 +76,7 @@ module _ (rules : List Rule) where
   unfolding run_of
   no_order s e = rw e refl
 
-  passing : (n : ℕ) (s : State) → rests s ≡ false → passes_clock_end s ≡ true → run_of rules (suc n) s ≡ at_clock_end
+  passing : (n : ℕ) (s : State) → rests s ≡ false → passes_clock_end s ≡ true → run_of rules (suc n) s ≡ Err (record { orders = 0; fault = ClockEnd })
   unfolding run_of
   passing n s e f = rw (e, f) refl
 
