@@ -6,7 +6,7 @@ use Rattle.lgp_stream.specs.KeptLine.{Kept, kept_of, line_limit}
 use Rattle.lgp_stream.specs.LineWords.{has_no_word, is_space}
 use Rattle.lgp_stream.proofs.FrontLemmas.{first-take, front_kept, front_whole, longer_kept}
 use Rattle.lgp_lab.specs.Command.{command_of, text_behind}
-use Rattle.lgp_lab.specs.Script.{answer_by, answer_in, answer_to, answer_to_command, answer_to_line, is_passed_over}
+use Rattle.lgp_lab.specs.Script.{answer_by, answer_to, answer_to_command, answer_to_line, is_passed_over}
 use Rattle.lgp_lab.specs.SourceCommands.{answer_in_source, answer_to_end, closed}
 use Rattle.lgp_lab.specs.SourceText.{SourceText, with_bytes, with_line}
 use Rattle.lgp_lab.specs.Standing.{Standing, refused, silent}
@@ -51,11 +51,11 @@ with_line_whole source kept line e short = rw (longer_kept kept line e, short, f
 -- a line of an open source, and a line where none is open; the end of each
 pub line_in_source : (s : Standing) (source : SourceText) (line : List ℕ) → s.opened ≡ Some source → answer_to_line s line ≡ answer_in_source s source line
 unfolding answer_to_line
-line_in_source s source line e = ap (λ (o : Option SourceText). answer_in o s line) e
+line_in_source s source line e = rw e refl
 
 pub line_outside : (s : Standing) (line : List ℕ) → s.opened ≡ None → answer_to_line s line ≡ answer_to_command s line
 unfolding answer_to_line
-line_outside s line e = ap (λ (o : Option SourceText). answer_in o s line) e
+line_outside s line e = rw e refl
 
 pub closed_some : (s : Standing) (source : SourceText) → s.opened ≡ Some source → closed s ≡ answer_to_end s source
 unfolding closed

@@ -1,24 +1,12 @@
 -- Part of the public promise: the script language, what is answered to the commands of the drum.
-use Rattle.std.specs.Prelude.{ℕ, zero, suc, ◌+◌, ◌++◌, if◌then◌else◌, List, [], count_by, codes}
+use Rattle.std.specs.Prelude.{ℕ, zero, suc, ◌+◌, ◌++◌, List, [], count_by, codes}
 use Rattle.std.specs.Prelude.{decimal}
 use Rattle.lgp_word.specs.Digits.{address_digits}
 use Rattle.lgp_listing.specs.Disassembly.{disassembly}
 use Rattle.lgp_listing.specs.Dump.{dump_of, is_used}
-use Rattle.lgp_table.specs.Console.{is_at_rest}
 use Rattle.lgp_table.specs.State.{State, word_at}
 use Rattle.lgp_lab.specs.Span.{WordRange}
-use Rattle.lgp_history.specs.Step.{Put}
-use Rattle.lgp_debugger.specs.Debugging.{after_step}
-use Rattle.lgp_lab.specs.Standing.{Answer, Standing, answer_leaving, answer_showing, refused}
-use Rattle.lgp_lab.specs.declared.refusal.Refusal.TheVariants as refusals
-
--- ---- put
-
-abbrev pub answer_to_put : Standing → ℕ → ℕ → Answer
-answer_to_put standing address word =
-    if is_at_rest standing.debugger.state.core.panel.status
-    then answer_leaving (codes "ok\n") standing (after_step standing.debugger (Put address word))
-    else refused refusals.Moving standing
+use Rattle.lgp_lab.specs.Standing.{Answer, Standing, answer_showing}
 
 -- ---- words, show
 

@@ -2,13 +2,15 @@
 -- one reply, and a script's text is its replies one after another, from a machine in its opening
 -- state on.
 use Rattle.std.specs.Prelude.{ℕ, ◌==◌, ◌||◌, Bool, true, false, if◌then◌else◌, nat_lt, Option, Some}
-use Rattle.std.specs.Prelude.{None, List, [], length, slice_index}
+use Rattle.std.specs.Prelude.{None, List, [], codes, length, slice_index}
 use Rattle.std.specs.List.{concat}
+use Rattle.std.specs.Option.{option_map_or}
 use Rattle.std.specs.Str.{byte}
 use Rattle.lgp_lab.specs.Command.{command_of, text_behind}
 use Rattle.lgp_flexo.specs.TapeText.{codes_of_text}
 use Rattle.lgp_listing.specs.Dump.{cell_line}
-use Rattle.lgp_lab.specs.DrumCommands.{answer_to_put, answer_to_words, dump_text, order_line}
+use Rattle.lgp_lab.specs.DrumCommands.{answer_to_words, dump_text, order_line}
+use Rattle.lgp_history.specs.Step.{Put}
 use Rattle.lgp_history.specs.declared.rule.Rule.TheVariants.{At, Changed}
 use Rattle.lgp_lab.specs.HistoryCommands.{answer_to_back, answer_to_drop, answer_to_last}
 use Rattle.lgp_lab.specs.HistoryCommands.{answer_to_rule, answer_to_run}
@@ -19,9 +21,9 @@ use Rattle.lgp_lab.specs.LoadCommand.{answer_to_load}
 use Rattle.lgp_lab.specs.MachineCommands.{answer_to_keys, answer_to_orders, answer_to_press}
 use Rattle.lgp_lab.specs.MachineCommands.{answer_to_turn, panel_text}
 use Rattle.lgp_lab.specs.SourceCommands.{answer_in_source, closed, list_text}
-use Rattle.lgp_lab.specs.SourceText.{SourceText, source_of}
+use Rattle.lgp_lab.specs.SourceText.{source_of}
 use Rattle.lgp_lab.specs.Standing.{Answer, Standing, answer_showing, opening_standing, refused}
-use Rattle.lgp_lab.specs.Standing.{silent}
+use Rattle.lgp_lab.specs.Standing.{answer_to_step, silent}
 use Rattle.lgp_lab.specs.TapeCommands.{answer_to_tape, printed_text}
 use Rattle.lgp_lab.specs.declared.command.Command.{Command}
 use Rattle.lgp_lab.specs.declared.command.Command.TheVariants as commands
@@ -43,7 +45,8 @@ only_asks _ = false
 
 -- the answer to a command; the text is that of mount and type
 abbrev pub answer_to : Standing → Command → List ℕ → Answer
-answer_to standing (commands.Put address word) text = answer_to_put standing address word
+answer_to standing (commands.Put address word) text =
+    answer_to_step (codes "ok\n") standing (Put address word)
 answer_to standing commands.Mount text = answer_to_tape standing (codes_of_text text)
 answer_to standing (commands.Press action) text = answer_to_press standing action
 answer_to standing commands.Type text = answer_to_keys standing (codes_of_text text)
@@ -80,12 +83,10 @@ answer_to_command standing line =
     else answer_by standing (command_of line) (text_behind line))
 
 -- the answer to a line; in an open source each line is the source's
-abbrev pub answer_in : Option SourceText → Standing → List ℕ → Answer
-answer_in None standing line = answer_to_command standing line
-answer_in (Some source) standing line = answer_in_source standing source line
-
 unfoldable pub answer_to_line : Standing → List ℕ → Answer
-answer_to_line standing line = answer_in standing.opened standing line
+answer_to_line standing line =
+    option_map_or (λ source. answer_in_source standing source line) standing.opened
+    (answer_to_command standing line)
 
 -- the language of scripts; a script's end closes an open source
 abbrev pub script_language : Language Standing

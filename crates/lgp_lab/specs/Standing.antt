@@ -1,15 +1,18 @@
 -- Part of the public promise: the script language, where a laboratory stands between two lines of a
 -- script, and what an answer is.
-use Rattle.std.specs.Prelude.{ℕ, Option, None, List, []}
+use Rattle.std.specs.Prelude.{ℕ, if◌then◌else◌, Option, None, List, []}
 use Rattle.std.specs.Option.{option_map_or}
 use Rattle.lgp_word.specs.Drum.{blank_words}
 use Rattle.lgp_assembler.specs.Image.{image_of}
 use Rattle.lgp_table.specs.State.{opening}
-use Rattle.lgp_debugger.specs.Debugging.{Debugging}
+use Rattle.lgp_table.specs.Console.{is_at_rest}
+use Rattle.lgp_history.specs.Step.{Step}
+use Rattle.lgp_debugger.specs.Debugging.{Debugging, after_step}
 use Rattle.lgp_lab.specs.Limits.{kept_limit}
 use Rattle.lgp_lab.specs.Refusal.{refusal_text}
 use Rattle.lgp_lab.specs.SourceText.{SourceText}
 use Rattle.lgp_lab.specs.declared.refusal.Refusal.{Refusal}
+use Rattle.lgp_lab.specs.declared.refusal.Refusal.TheVariants.{Moving}
 
 -- the machine with its kept steps and its rules, the last source that assembled, and the source
 -- whose lines are being taken
@@ -54,3 +57,10 @@ silent standing = answer_showing [] standing
 abbrev pub answer_leaving : List ℕ → Standing → Debugging → Answer
 answer_leaving reply standing debugger =
     record { reply = reply; after = record standing { debugger = debugger } }
+
+-- an answer to a step that is done at rest alone
+abbrev pub answer_to_step : List ℕ → Standing → Step → Answer
+answer_to_step reply standing step =
+    if is_at_rest standing.debugger.state.core.panel.status
+    then answer_leaving reply standing (after_step standing.debugger step)
+    else refused Moving standing

@@ -4,11 +4,9 @@ use Rattle.std.specs.Prelude.{ℕ, ◌++◌, nat_lt, if◌then◌else◌, Result
 use Rattle.std.specs.Prelude.{[], ◌∷◌, length, codes, decimal}
 use Rattle.std.specs.Result.{result_unwrap_or}
 use Rattle.lgp_flexo.specs.TapeText.{codes_of_text, tape_limit, written_tape}
-use Rattle.lgp_table.specs.Console.{is_at_rest}
 use Rattle.lgp_history.specs.Step.{Mount}
-use Rattle.lgp_debugger.specs.Debugging.{after_step}
 use Rattle.lgp_lab.specs.Refusal.{counted_text}
-use Rattle.lgp_lab.specs.Standing.{Answer, Standing, answer_leaving, refused}
+use Rattle.lgp_lab.specs.Standing.{Answer, Standing, answer_to_step, refused}
 use Rattle.lgp_lab.specs.declared.refusal.Refusal.TheVariants as refusals
 
 -- ---- mount
@@ -16,10 +14,7 @@ use Rattle.lgp_lab.specs.declared.refusal.Refusal.TheVariants as refusals
 abbrev pub answer_to_tape : Standing → Result (List ℕ) ℕ → Answer
 answer_to_tape standing (Err place) = refused (refusals.BadSign place) standing
 answer_to_tape standing (Ok tape) =
-    if is_at_rest standing.debugger.state.core.panel.status
-    then answer_leaving (counted_text (codes "ok ") (length tape)) standing
-    (after_step standing.debugger (Mount tape))
-    else refused refusals.Moving standing
+    answer_to_step (counted_text (codes "ok ") (length tape)) standing (Mount tape)
 
 -- the same with a text of any length, which may have more codes than a tape can have
 abbrev pub answer_to_tape_text : Standing → List ℕ → Answer

@@ -127,18 +127,16 @@ IsBatch opens contents worst (name ∷ names) status w₀ w =
 -- what is written for a task, and the status of the program
 abbrev pub IsPerformed : {A : Type 0} → (List ℕ → Option Bool) → (List ℕ → Option (List ℕ))
     → Task A → Option (List ℕ) → ℕ → Option (List ℕ) → Option (List ℕ) → Type 0
-IsPerformed opens contents Stdin input status w₀ w =
-    IsWorked (script_work []) (Some true) input status w₀ w
-IsPerformed opens contents (Asm name) input status w₀ w =
-    IsWorked (source_work asm_answer) (opens name) (contents name) status w₀ w
-IsPerformed opens contents (Tape name) input status w₀ w =
-    IsWorked (source_work tape_answer) (opens name) (contents name) status w₀ w
-IsPerformed opens contents (Run name limit) input status w₀ w =
-    IsWorked (source_work (run_answer limit)) (opens name) (contents name) status w₀ w
-IsPerformed opens contents (Script name) input status w₀ w =
-    IsWorked (script_work []) (opens name) (contents name) status w₀ w
-IsPerformed opens contents (Batch names) input status w₀ w =
-    IsBatch opens contents 0 names status w₀ w
+IsPerformed opens contents Stdin input = IsWorked (script_work []) (Some true) input
+IsPerformed opens contents (Asm name) input =
+    IsWorked (source_work asm_answer) (opens name) (contents name)
+IsPerformed opens contents (Tape name) input =
+    IsWorked (source_work tape_answer) (opens name) (contents name)
+IsPerformed opens contents (Run name limit) input =
+    IsWorked (source_work (run_answer limit)) (opens name) (contents name)
+IsPerformed opens contents (Script name) input =
+    IsWorked (script_work []) (opens name) (contents name)
+IsPerformed opens contents (Batch names) input = IsBatch opens contents 0 names
 
 -- a text told: whole, with the status that goes with it; or in part, with that of a write that
 -- failed

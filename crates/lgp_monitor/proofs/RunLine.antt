@@ -12,7 +12,7 @@ use Rattle.lgp_text.specs.NamedValues.{named}
 use Rattle.lgp_lab.specs.Command.{command_of, lone_number}
 use Rattle.lgp_lab.specs.declared.command.Command.TheVariants as commands
 use Rattle.lgp_lab.specs.HistoryCommands.{answer_to_run}
-use Rattle.lgp_lab.specs.Script.{answer_in, answer_to_command, answer_to_line, script_language}
+use Rattle.lgp_lab.specs.Script.{answer_to_command, answer_to_line, script_language}
 use Rattle.lgp_lab.specs.SourceText.{SourceText}
 use Rattle.lgp_lab.specs.Standing.{Answer, Standing}
 use Rattle.lgp_transcript.specs.Transcript.{Recorded, after_lines, ended, replies_text, text_of, with_line, with_standing}
@@ -290,7 +290,7 @@ none_opened (Some source) e = absurd (clash e) where
 
 closed_answer : (s : Standing) (line : List ℕ) → s.opened ≡ None → answer_to_line s line ≡ answer_to_command s line
 unfolding answer_to_line
-closed_answer s line closed = ap (λ (o : Option SourceText). answer_in o s line) closed
+closed_answer s line closed = rw closed refl
 
 run_answer : (s : Standing) (names : List (List ℕ × ℕ)) (counter : ℕ) (text : List ℕ) (telling : Telling) (limit : ℕ) → typed.Told telling limit ≡ typed_of (is_some s.opened) names counter (kept_of text) → answer_to_line s (run_line (kept_of text).front) ≡ answer_to_run s limit
 unfolding run_line

@@ -2,11 +2,13 @@
 use Rattle.std.proofs.Common.{◌≡◌, ◌∙◌, ℕ, ◌≤◌, Bool, false, cond, Option, None, Some, List, [], ◌∷◌, ◌++◌, length, nat_lt, sym, ap, arith}
 use Rattle.std.proofs.lemmas.Bool.Decides.{nat_tests}
 use Rattle.std.proofs.lemmas.List.{append-nil}
+use Rattle.std.specs.Option.{option_map_or}
 use Rattle.lgp_stream.specs.KeptLine.{line_limit}
 use Rattle.lgp_transcript.specs.Transcript.{Recorded, after_lines, ended, replies_text, text_of, with_line, with_standing}
 use Rattle.lgp_lab.specs.Command.{command_of, text_behind}
 use Rattle.lgp_lab.specs.HistoryCommands.{answer_to_run}
-use Rattle.lgp_lab.specs.Script.{answer_by, answer_in, answer_to_command, answer_to_line, is_passed_over, script_language}
+use Rattle.lgp_lab.specs.Script.{answer_by, answer_to_command, answer_to_line, is_passed_over, script_language}
+use Rattle.lgp_lab.specs.SourceCommands.{answer_in_source}
 use Rattle.lgp_lab.specs.SourceText.{SourceText}
 use Rattle.lgp_lab.specs.Standing.{Answer, Standing, refused, silent}
 use Rattle.lgp_lab.specs.declared.command.Command.{Command}
@@ -24,7 +26,7 @@ unfolding answer_to_line answer_to_command
 run_answer s line limit asks closed =
     let short = asks.short in
     let within : nat_lt line_limit (length line) ≡ false = grind (arith, nat_tests) in
-    ap (λ (o : Option SourceText). answer_in o s line) closed
+    ap (λ (o : Option SourceText). option_map_or (λ source. answer_in_source s source line) o (answer_to_command s line)) closed
     ∙ ap (λ (b : Bool). cond b (silent s) (cond (nat_lt line_limit (length line)) (refused TooLong s) (answer_by s (command_of line) (text_behind line)))) asks.answered
     ∙ ap (λ (b : Bool). cond b (refused TooLong s) (answer_by s (command_of line) (text_behind line))) within
     ∙ ap (λ (c : Option Command). answer_by s c (text_behind line)) asks.command
