@@ -16,5 +16,5 @@ pub run_behind_load : (limit : ℕ) (source : List ℕ) (begun left : Debugging)
     → run_of [] limit begun.state ≡ Ok ran → left ≡ performed begun ran.orders → run_to limit source ≡ answer_left (Some left.state)
 run_behind_load limit source begun left ran at whole run behind =
     let state : left.state ≡ after begun.state ran.orders =
-        ap (λ (d : Debugging). d.state) behind ∙ performed_state begun ran.orders in
+    ap (λ (d : Debugging). d.state) behind ∙ performed_state begun ran.orders in
     rw (whole, ← at, run, ← state) refl

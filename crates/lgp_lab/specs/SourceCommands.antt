@@ -26,8 +26,8 @@ faults_text (fault ∷ more) =
 
 -- how many words a source has made, and where it starts
 abbrev pub start_text : Option ℕ → List ℕ
-start_text None = codes "none\n"
-start_text (Some start) = address_digits start ++ codes "\n"
+start_text start =
+    option_map_or (λ address. address_digits address ++ codes "\n") start (codes "none\n")
 
 abbrev pub cells_text : ImageParts → List ℕ
 cells_text image =

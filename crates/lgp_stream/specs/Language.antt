@@ -1,7 +1,7 @@
 -- Part of the public promise: what a language of lines is, the replies to a text in it, and what
 -- stands written of them where the text was not answered to its end.
 use Rattle.std.specs.Prelude.{◌≡◌, ℕ, ◌+◌, ◌-◌, ◌^◌, ◌≤◌, ◌==◌, Bool, true, min, List, [], ◌∷◌}
-use Rattle.std.specs.Prelude.{◌++◌, length, take, count_by, slice_index, Option, Some, ⊤}
+use Rattle.std.specs.Prelude.{◌++◌, fold, length, take, count_by, slice_index, Option, Some, ⊤}
 use Rattle.std.specs.List.{concat}
 use Rattle.std.specs.Io.KnownBytes.{Appends, Consumes}
 use Rattle.std.specs.Str.{byte}
@@ -23,8 +23,7 @@ replies_to language s (line ∷ more) =
     language.reply s line ∷ replies_to language (language.after s line) more
 
 abbrev pub state_after : {S : Type 0} → Language S → S → List (List ℕ) → S
-state_after language s [] = s
-state_after language s (line ∷ more) = state_after language (language.after s line) more
+state_after language s lines = fold language.after s lines
 
 -- the replies to a text: to its lines, and to its end
 unfoldable pub text_replies : {S : Type 0} → Language S → S → List ℕ → List (List ℕ)
