@@ -29,6 +29,11 @@ switch_action down switches.SixBit = actions.SixBit down
 
 -- ---- the operands of each command
 
+-- what the only operand stands for, as it is read
+abbrev pub lone_operand : {T : Type 0} → (List ℕ → Option T) → List ℕ → Option T
+lone_operand read operands =
+    if has_no_word (behind_word operands) then read (first_word operands) else None
+
 -- what two operands stand for, as they are read, where there is no third one
 abbrev pub operand_pair : {S T : Type 0} → (List ℕ → Option S) → (List ℕ → Option T) → List ℕ
     → Option (S × T)
@@ -49,15 +54,8 @@ press_command operands =
     else option_map (λ pair. commands.Press (switch_action pair.1 pair.0))
     (operand_pair (named switch_names) (named position_names) operands)
 
--- the number that is the only operand
 unfoldable pub lone_number : List ℕ → Option ℕ
-lone_number operands =
-    if has_no_word (behind_word operands) then number_at (first_word operands) else None
-
--- the address that is the only operand
-unfoldable pub lone_address : List ℕ → Option ℕ
-lone_address operands =
-    if has_no_word (behind_word operands) then address_text (first_word operands) else None
+lone_number operands = lone_operand number_at operands
 
 -- the range of words that an address and a number ask for
 unfoldable pub span_at : List ℕ → Option WordRange
@@ -85,8 +83,8 @@ command_by verbs.Dump operands = lone commands.Dump operands
 command_by verbs.Source operands = lone commands.Source operands
 command_by verbs.List operands = lone commands.List operands
 command_by verbs.Load operands = lone commands.Load operands
-command_by verbs.Break operands = option_map commands.Break (lone_address operands)
-command_by verbs.Watch operands = option_map commands.Watch (lone_address operands)
+command_by verbs.Break operands = option_map commands.Break (lone_operand address_text operands)
+command_by verbs.Watch operands = option_map commands.Watch (lone_operand address_text operands)
 command_by verbs.Drop operands = option_map commands.Drop (lone_number operands)
 command_by verbs.Run operands = option_map commands.Run (lone_number operands)
 command_by verbs.Back operands = option_map commands.Back (lone_number operands)
@@ -95,7 +93,8 @@ command_by verbs.Last operands = lone commands.Last operands
 -- what a line asks for; None where it is in no command's form
 unfoldable pub command_of : List ℕ → Option Command
 command_of line =
-    option_and_then (λ verb. command_by verb (behind_word line)) (named verb_names (first_word line))
+    option_and_then (λ verb. command_by verb (behind_word line))
+    (named verb_names (first_word line))
 
 -- the text that mount and type take: all that follows the one space behind the command's word
 unfoldable pub text_behind : List ℕ → List ℕ

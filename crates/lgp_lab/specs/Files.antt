@@ -91,7 +91,8 @@ loaded_new source = loaded (opening blank_words) (load_of_source source)
 abbrev pub run_to : ℕ → List ℕ → FileAnswer
 run_to limit source =
     let begun = loaded_new source in
-    answer_left (if is_some (loading_stopped (opening blank_words) (load_of_source source)) then None
+    answer_left
+    (if is_some (loading_stopped (opening blank_words) (load_of_source source)) then None
     else option_map (λ ran. after begun ran.orders) (result_ok (run_of [] limit begun)))
 
 unfoldable pub run_answer : ℕ → List ℕ → FileAnswer

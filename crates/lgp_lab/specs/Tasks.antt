@@ -59,8 +59,8 @@ abbrev pub was_opened : Result ℕ FileFault → Bool
 was_opened (Err NotOpened) = false
 was_opened _ = true
 
--- work on a text: what is written for it, with its status, of a script how many replies begin with a
--- question mark; and what stands written where a fault breaks the work off
+-- work on a text: what is written for it, with its status, of a script how many replies begin with
+-- a question mark; and what stands written where a fault breaks the work off
 pub record Work : Type 1 where
   pub answer : List ℕ → FileAnswer
   pub Stands : List ℕ → StreamFault → Option (List ℕ) → Option (List ℕ) → Type 0
@@ -172,4 +172,5 @@ abbrev pub IsObeyed : (A : Type 0) → (List ℕ → Option Bool) → (List ℕ 
     → Option (List ℕ) → Type 0
 IsObeyed A opens contents typed input status w₀ w m₀ m =
     (IsPerformed {A = A} opens contents (task_for typed) input status w₀ w × (m ≡ m₀))
-    ⊎ ((fault : TaskFault A) × IsFaultOn command_line typed fault × IsRefused fault status w₀ w m₀ m)
+    ⊎ ((fault : TaskFault A) × IsFaultOn command_line typed fault
+    × IsRefused fault status w₀ w m₀ m)
