@@ -1,6 +1,6 @@
 -- The laws on places and names.
 use Rattle.std.proofs.Common.{◌≡◌, ◌≢◌, length, ◌+◌, ◌++◌, ◌||◌, ℕ, Bool, true, false, cond, List, [], ◌∷◌, Option, None, Some, refl, sym, ap, ◌∙◌, arith, ⊎_elim, is_some, unwrap_or, option_to_list}
-use Rattle.std.specs.Option.{option_or}
+use Rattle.std.specs.Option.{option_map_or, option_or}
 use Rattle.std.specs.Str.{bytes_eq}
 use Rattle.std.specs.Map.{lookup}
 use Rattle.std.proofs.lemmas.Bool.{cond-true, cond-false, false_from_ne_true}
@@ -12,9 +12,10 @@ use Rattle.std.proofs.lemmas.Slice.Eq.{bytes_eq-Decides}
 use Rattle.lgp_assembler.specs.declared.operations.Operation.{Operation}
 use Rattle.lgp_assembler.specs.declared.operations.Operation.TheVariants.{Order, MinusT, Org, Word, Frac, Int, End}
 use Rattle.lgp_assembler.specs.Fields.{LineFields}
-use Rattle.lgp_assembler.specs.Places.{option_makes_word, org_address, word_count, next_place, place_of, is_end, has_ended, new_label, names_of}
+use Rattle.lgp_assembler.specs.Operations.{makes_word}
+use Rattle.lgp_assembler.specs.Places.{org_of, org_address, word_count, next_place, place_of, is_end, has_ended, new_label, names_of}
 use Rattle.lgp_assembler.specs.Image.{passed_lines}
-use Rattle.lgp_assembler.specs.Laws.{org_of, HasNoOrg, word_total, PlacesCountFromOrgs, HasNotLabel, NamesAreFirstPlaces}
+use Rattle.lgp_assembler.specs.Laws.{HasNoOrg, word_total, PlacesCountFromOrgs, HasNotLabel, NamesAreFirstPlaces}
 
 -- ---- lines in order, and the nearest first
 
@@ -55,7 +56,7 @@ run earlier (line ∷ lines) none =
     let here : next_place (line ∷ earlier) ≡ next_place earlier + word_count line = ap (λ a. unwrap_or a (next_place earlier) + word_count line) (All-head (λ l. org_of l ≡ None) line lines none) in
     run (line ∷ earlier) lines (All-tail (λ l. org_of l ≡ None) line lines none) ∙ omega arith
 
-no_word : (operation : Option Operation) (first : Option (List ℕ)) (address : ℕ) → org_address operation first ≡ Some address → option_makes_word operation ≡ false
+no_word : (operation : Option Operation) (first : Option (List ℕ)) (address : ℕ) → org_address operation first ≡ Some address → option_map_or makes_word operation false ≡ false
 no_word (Some Org) first address e = refl
 no_word (Some (Order op)) first address e = absurd (none-some address e)
 no_word (Some MinusT) first address e = absurd (none-some address e)
@@ -68,7 +69,7 @@ no_word None first address e = absurd (none-some address e)
 after_org : (earlier : List LineFields) (org : LineFields) (address : ℕ) → org_of org ≡ Some address → next_place (org ∷ earlier) ≡ address
 unfolding next_place
 after_org earlier org address e =
-    let none : word_count org ≡ 0 = cond-false (option_makes_word org.operation) 1 0 (no_word org.operation org.first address e) in
+    let none : word_count org ≡ 0 = cond-false (option_map_or makes_word org.operation false) 1 0 (no_word org.operation org.first address e) in
     ap (λ a. unwrap_or a (next_place earlier) + word_count org) e ∙ omega arith
 
 pub places_law : PlacesCountFromOrgs

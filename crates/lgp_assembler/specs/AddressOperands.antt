@@ -3,7 +3,8 @@
 use Rattle.std.specs.Prelude.{ℕ, ◌+◌, ◌-◌, ◌==◌, ◌&&◌, ◌||◌, nat_le, nat_lt, Bool, false}
 use Rattle.std.specs.Prelude.{if◌then◌else◌}
 use Rattle.std.specs.Prelude.{List, length, take, drop, codes, slice_index}
-use Rattle.std.specs.Prelude.{Option, None, Some, option_map, Result, Ok, Err, ok_or}
+use Rattle.std.specs.Prelude.{Option, Some, option_map, Result, Ok, Err, ok_or}
+use Rattle.std.specs.Option.{option_map_or}
 use Rattle.std.specs.Str.{bytes_eq}
 use Rattle.std.specs.Char.{is_ascii_digit, is_ascii_lowercase}
 use Rattle.std.specs.List.{list_all, position_or_len}
@@ -51,21 +52,17 @@ base_number names place base =
 abbrev pub in_range : ℕ → Result ℕ OperandFault
 in_range number = if nat_lt number drum_size then Ok number else Err Outside
 
--- the address that lies an offset from a number
-abbrev pub address_beside : Offset → ℕ → Result ℕ OperandFault
-address_beside offset number =
+-- the address that lies an offset from a base, where that has a number
+abbrev pub address_beside : Result ℕ OperandFault → Offset → Result ℕ OperandFault
+address_beside (Err fault) offset = Err fault
+address_beside (Ok number) offset =
     if offset.minus
     then (if nat_le offset.number number then in_range (number - offset.number) else Err Outside)
     else in_range (number + offset.number)
-
--- the address of an offset and a base, where both are there
-abbrev pub address_of_parts : Option Offset → Result ℕ OperandFault → Result ℕ OperandFault
-address_of_parts None base = Err Misformed
-address_of_parts (Some offset) (Err fault) = Err fault
-address_of_parts (Some offset) (Ok number) = address_beside offset number
 
 -- the value of an address operand: a base, then optionally a sign and a number
 unfoldable pub address_operand : List (List ℕ × ℕ) → ℕ → List ℕ → Result ℕ OperandFault
 address_operand names place text =
     let base = position_or_len is_sign text in
-    address_of_parts (offset_of (drop base text)) (base_number names place (take base text))
+    option_map_or (address_beside (base_number names place (take base text)))
+    (offset_of (drop base text)) (Err Misformed)

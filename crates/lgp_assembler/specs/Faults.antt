@@ -1,11 +1,12 @@
 -- Part of the public promise: the faults of a source. This project's own choice.
 use Rattle.std.specs.Prelude.{ℕ, ◌+◌, ◌&&◌, ◌||◌, not, nat_lt, nat_le, Bool, true, false}
-use Rattle.std.specs.Prelude.{if◌then◌else◌, find, List, [], ◌∷◌, ◌++◌, length, Option, None, Some}
-use Rattle.std.specs.Prelude.{Result, Err, is_some, is_none, option_map, option_to_list}
+use Rattle.std.specs.Prelude.{if◌then◌else◌, find, List, [], ◌∷◌, ◌++◌, length, Option}
+use Rattle.std.specs.Prelude.{Result, Ok, Err, is_some, is_none, option_map, option_to_list}
+use Rattle.std.specs.Option.{option_map_or}
 use Rattle.std.specs.Str.{bytes_eq}
 use Rattle.std.specs.Map.{lookup}
-use Rattle.lgp_assembler.specs.declared.operations.Operation.{Operation}
 use Rattle.lgp_assembler.specs.declared.operands.Meaning.{Meaning}
+use Rattle.lgp_assembler.specs.declared.operands.Meaning.TheVariants.{Nothing}
 use Rattle.lgp_assembler.specs.declared.operands.OperandFault.{OperandFault}
 use Rattle.lgp_assembler.specs.declared.operands.OperandFault.TheVariants.{Misformed, Unknown}
 use Rattle.lgp_assembler.specs.declared.operands.OperandFault.TheVariants.{Outside}
@@ -19,7 +20,7 @@ use Rattle.lgp_assembler.specs.declared.refusal.FaultKind.TheVariants.{OutOfRang
 use Rattle.lgp_assembler.specs.declared.refusal.FaultKind.TheVariants.{InLoader, PlaceTaken, NoEnd}
 use Rattle.lgp_assembler.specs.Operations.{least_operands, most_operands}
 use Rattle.lgp_assembler.specs.AddressOperands.{is_name}
-use Rattle.lgp_assembler.specs.Operands.{meaning_under}
+use Rattle.lgp_assembler.specs.Operands.{meaning_of}
 use Rattle.lgp_assembler.specs.Fields.{LineFields}
 use Rattle.lgp_word.specs.Drum.{drum_size}
 use Rattle.lgp_assembler.specs.Parts.{is_loaders}
@@ -31,24 +32,13 @@ use Rattle.lgp_assembler.specs.Places.{has_word, place_of, has_ended, names_of, 
 abbrev pub says_something : LineFields → Bool
 says_something line = is_some line.label || line.has_operation
 
--- the most operands that a line may have, by its operation; two where that is unknown
-abbrev pub most_allowed : Option Operation → ℕ
-most_allowed None = 2
-most_allowed (Some operation) = most_operands operation
-
--- the least operands that it has to have
-abbrev pub least_needed : Option Operation → ℕ
-least_needed None = 0
-least_needed (Some operation) = least_operands operation
-
 abbrev pub is_bad_label : Option (List ℕ) → Bool
-is_bad_label None = false
-is_bad_label (Some label) = not (is_name label)
+is_bad_label label = option_map_or (λ name. not (is_name name)) label false
 
 -- a line before it that counts has the same label
 abbrev pub is_label_again : Option (List ℕ) → List (List ℕ × ℕ) → Bool
-is_label_again None names = false
-is_label_again (Some label) names = is_some (lookup (bytes_eq label) names)
+is_label_again label names =
+    option_map_or (λ name. is_some (lookup (bytes_eq name) names)) label false
 
 abbrev pub is_misformed : Result Meaning OperandFault → Bool
 is_misformed (Err Misformed) = true
@@ -62,10 +52,12 @@ abbrev pub is_out_of_range : Result Meaning OperandFault → Bool
 is_out_of_range (Err Outside) = true
 is_out_of_range _ = false
 
--- what the operands of a line stand for in its place; with no operation, nothing
+-- what the operands of a line stand for in its place, with the names of the whole source; with no
+-- operation, nothing
 abbrev pub line_meaning : List (List ℕ × ℕ) → ℕ → LineFields → Result Meaning OperandFault
 line_meaning names place line =
-    meaning_under line.operation names place line.first line.second
+    option_map_or (λ operation. meaning_of names place operation line.first line.second)
+    line.operation (Ok Nothing)
 
 -- ---- the table of faults
 
@@ -82,16 +74,18 @@ pub record LineFacts : Type 0 where
   -- whether a word of theirs lies at its place
   pub is_place_taken : Bool
 
--- the conditions in order, each with its kind
+-- the conditions in order, each with its kind; a line may have two operands where its operation is
+-- unknown
 abbrev pub fault_rows : LineFacts → List (Bool × FaultKind)
 fault_rows known =
     (known.line.is_bad, BadByte)
     ∷ (known.is_behind_end && says_something known.line, AfterEnd)
-    ∷ (nat_lt (most_allowed known.line.operation) known.line.count, Extra)
+    ∷ (nat_lt (option_map_or most_operands known.line.operation 2) known.line.count, Extra)
     ∷ (is_bad_label known.line.label, BadLabel)
     ∷ (is_label_again known.line.label known.names, LabelTwice)
     ∷ (known.line.has_operation && is_none known.line.operation, UnknownOrder)
-    ∷ (nat_lt known.line.count (least_needed known.line.operation), MissingOperand)
+    ∷ (nat_lt known.line.count (option_map_or least_operands known.line.operation 0),
+    MissingOperand)
     ∷ (is_misformed known.meaning, BadOperand)
     ∷ (is_unknown known.meaning, UnknownName)
     ∷ (is_out_of_range known.meaning, OutOfRange)

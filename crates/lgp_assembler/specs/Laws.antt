@@ -7,17 +7,13 @@ use Rattle.std.specs.Str.{bytes_eq}
 use Rattle.std.specs.Map.{lookup}
 use Rattle.lgp_source.specs.Source.{lines_of}
 use Rattle.lgp_assembler.specs.Fields.{LineFields, fields_of}
-use Rattle.lgp_assembler.specs.Places.{org_address, has_word, word_count, place_of, has_ended}
+use Rattle.lgp_assembler.specs.Places.{org_of, has_word, word_count, place_of, has_ended}
 use Rattle.lgp_assembler.specs.Places.{names_of}
 use Rattle.lgp_assembler.specs.declared.refusal.Fault.{Fault}
 use Rattle.lgp_assembler.specs.declared.refusal.FaultKind.{FaultKind}
 use Rattle.lgp_assembler.specs.Faults.{LineFacts, facts_of, fault_rows, first_kind, fault_of}
 use Rattle.lgp_assembler.specs.Faults.{faults_in, missing_end, numbered_fault}
 use Rattle.lgp_assembler.specs.Image.{faults_of, image_of, passed_lines}
-
--- the address of an `org` line whose first operand is one
-abbrev pub org_of : LineFields → Option ℕ
-org_of line = org_address line.operation line.first
 
 abbrev pub HasNoOrg : List LineFields → Type 0
 HasNoOrg lines = All (λ line. org_of line ≡ None) lines

@@ -2,7 +2,7 @@
 use Rattle.std.specs.Prelude.{ℕ, ◌-◌, ◌*◌, ◌%◌, ◌^◌, ◌==◌, nat_le, nat_lt, Bool}
 use Rattle.std.specs.Prelude.{true, false, if◌then◌else◌, List, length, drop}
 use Rattle.std.specs.Prelude.{slice_index, Option, None, Some, Result, Ok, Err, ok_or}
-use Rattle.std.specs.Prelude.{ℤ, pos, ◌*ℤ◌}
+use Rattle.std.specs.Prelude.{ℤ, pos, ◌*ℤ◌, option_map}
 use Rattle.lgp_word.specs.declared.order.Op.{Op}
 use Rattle.lgp_word.specs.declared.order.Op.TheVariants.{P, T}
 use Rattle.lgp_word.specs.Drum.{track_size}
@@ -32,15 +32,16 @@ cell_of_order minus op (Ok address) =
     Ok (Cell (order_word (record { minus = minus; op = op; address = address })))
 cell_of_order minus op (Err fault) = Err fault
 
--- `=` and one sign: the p that prints the sign's code, which is its track
-abbrev pub cell_of_sign : Option ℕ → Result Meaning OperandFault
-cell_of_sign (Some code) =
-    Ok (Cell (plain_order P (track_size * code)))
-cell_of_sign None = Err Misformed
+-- the p that prints a code, which is its track
+abbrev pub printing_cell : ℕ → Meaning
+printing_cell code = Cell (plain_order P (track_size * code))
 
+-- `=` and one sign: the p that prints the sign's code
 abbrev pub sign_operand : Op → List ℕ → Result Meaning OperandFault
 sign_operand P text =
-    if length text == 2 then cell_of_sign (code_at (slice_index text 1)) else Err Misformed
+    if length text == 2
+    then ok_or (option_map printing_cell (code_at (slice_index text 1))) Misformed
+    else Err Misformed
 sign_operand _ text = Err Misformed
 
 unfoldable pub order_operand : List (List ℕ × ℕ) → ℕ → Bool → Op → List ℕ
@@ -80,10 +81,6 @@ cell_of_fraction (Ok steps) = Ok (Cell (low_bits (pos 2 *ℤ steps)))
 cell_of_fraction (Err Form) = Err Misformed
 cell_of_fraction (Err OutOfRange) = Err Outside
 
-abbrev pub cell_of_digits : Option ℕ → Result Meaning OperandFault
-cell_of_digits (Some word) = Ok (Cell word)
-cell_of_digits None = Err Misformed
-
 abbrev pub place_meaning : Result ℕ OperandFault → Result Meaning OperandFault
 place_meaning (Ok address) = Ok (Place address)
 place_meaning (Err fault) = Err fault
@@ -92,26 +89,14 @@ place_meaning (Err fault) = Err fault
 
 unfoldable pub meaning_of : List (List ℕ × ℕ) → ℕ → Operation → Option (List ℕ)
     → Option (List ℕ) → Result Meaning OperandFault
-meaning_of names place (Order op) None second =
-    Ok (Cell (plain_order op 0))
+meaning_of names place (Order op) None second = Ok (Cell (plain_order op 0))
 meaning_of names place (Order op) (Some text) second = order_operand names place false op text
 meaning_of names place MinusT (Some text) second = order_operand names place true T text
-meaning_of names place MinusT None second = Err Misformed
 meaning_of names place Org (Some text) second = place_meaning (ok_or (address_text text) Misformed)
-meaning_of names place Org None second = Err Misformed
-meaning_of names place Word (Some text) second = cell_of_digits (word_of_digits text)
-meaning_of names place Word None second = Err Misformed
+meaning_of names place Word (Some text) second =
+    ok_or (option_map Cell (word_of_digits text)) Misformed
 meaning_of names place Frac (Some text) second = cell_of_fraction (decimal_fraction text)
-meaning_of names place Frac None second = Err Misformed
 meaning_of names place Int (Some number) (Some point) = integer_word number point
-meaning_of names place Int None second = Err Misformed
-meaning_of names place Int (Some number) None = Err Misformed
 meaning_of names place End None second = Ok Nothing
 meaning_of names place End (Some text) second = place_meaning (address_operand names place text)
-
--- the same of an operation that a line may have; with none, nothing
-abbrev pub meaning_under : Option Operation → List (List ℕ × ℕ) → ℕ → Option (List ℕ)
-    → Option (List ℕ) → Result Meaning OperandFault
-meaning_under None names place first second = Ok Nothing
-meaning_under (Some operation) names place first second =
-    meaning_of names place operation first second
+meaning_of names place _ first second = Err Misformed

@@ -36,29 +36,17 @@ may_stand_alone _ = false
 -- how many operands an operation needs
 abbrev pub least_operands : Operation → ℕ
 least_operands (Order op) = if may_stand_alone op then 0 else 1
-least_operands MinusT = 1
-least_operands Org = 1
-least_operands Word = 1
-least_operands Frac = 1
 least_operands Int = 2
 least_operands End = 0
+least_operands _ = 1
 
 -- and how many it takes
 abbrev pub most_operands : Operation → ℕ
-most_operands (Order op) = 1
-most_operands MinusT = 1
-most_operands Org = 1
-most_operands Word = 1
-most_operands Frac = 1
 most_operands Int = 2
-most_operands End = 1
+most_operands _ = 1
 
 -- whether it makes one word
 abbrev pub makes_word : Operation → Bool
-makes_word (Order op) = true
-makes_word MinusT = true
 makes_word Org = false
-makes_word Word = true
-makes_word Frac = true
-makes_word Int = true
 makes_word End = false
+makes_word _ = true

@@ -23,10 +23,6 @@ loader_past = 4054
 abbrev pub is_loaders : ℕ → Bool
 is_loaders place = nat_le loader_base place && nat_lt place loader_past
 
--- a place before the loader's or behind them
-abbrev pub IsOffLoader : ℕ → Type 0
-IsOffLoader place = (place < loader_base) ⊎ (loader_past ≤ place)
-
 -- a cell of a program: a word on the drum, at no place of the loader
 abbrev pub IsProgramCell : ℕ × ℕ → Type 0
 IsProgramCell cell = IsAddress cell.0 × (is_loaders cell.0 ≡ false) × IsWord cell.1
@@ -40,5 +36,5 @@ AreProgramCells (cell ∷ cells) = IsProgramCell cell × AreProgramCells cells
 pub record HaveOwnPlaces (cells : List (ℕ × ℕ)) : Type 0 where
   pub apart : AllPairs (λ one other. one.0 ≢ other.0) cells
   pub on_drum : All (λ cell. IsAddress cell.0) cells
-  pub free : All (λ cell. IsOffLoader cell.0) cells
+  pub free : All (λ cell. (cell.0 < loader_base) ⊎ (loader_past ≤ cell.0)) cells
   pub few : length cells ≤ 4074

@@ -1,7 +1,6 @@
 -- Serves proofs only: what the assembler keeps of the lines that it has passed, the nearest first.
 use Rattle.std.specs.Prelude.{◌≡◌, ℕ, ◌<◌, ◌≤◌, Bool, false, List, length, slice_index_or}
-use Rattle.std.specs.Prelude.{[], Option, None, Some, Result, Ok}
-use Rattle.lgp_word.specs.Address.{IsAddress}
+use Rattle.std.specs.Prelude.{[], Option, Result, Ok, IfSome, option_map}
 use Rattle.lgp_assembler.specs.declared.operands.Meaning.{Meaning}
 use Rattle.lgp_assembler.specs.declared.operands.Meaning.TheVariants.{Cell}
 use Rattle.lgp_assembler.specs.declared.operands.OperandFault.{OperandFault}
@@ -46,11 +45,6 @@ abbrev pub coming_fault : LineFields → Result Meaning OperandFault → ℕ →
 coming_fault line meaning place ended names taken =
     first_kind (rows line meaning place ended names (slice_index_or taken place false))
 
--- a word lies on the drum
-abbrev pub CellFits : ℕ → Result Meaning OperandFault → Type 0
-CellFits place (Ok (Cell word)) = IsAddress place
-CellFits place _ = Unit {0}
-
 -- what holds of the word of a line, where it has one
 abbrev pub IfCell : Result Meaning OperandFault → (ℕ → Type 0) → Type 0
 IfCell (Ok (Cell word)) P = P word
@@ -58,12 +52,10 @@ IfCell _ P = Unit {0}
 
 -- a label has at most eight bytes, and its value is at most one past the drum
 abbrev pub SymbolFits : Option (List ℕ) → ℕ → Type 0
-SymbolFits None place = Unit {0}
-SymbolFits (Some label) place = (length label ≤ 8) × (place ≤ drum_size)
+SymbolFits label place = IfSome label (λ name. (length name ≤ 8) × (place ≤ drum_size))
 
 abbrev pub symbol_at : Option (List ℕ) → ℕ → Option (List ℕ × ℕ)
-symbol_at None place = None
-symbol_at (Some label) place = Some (label, place)
+symbol_at label place = option_map (λ name. (name, place)) label
 
 -- what lines without a fault give
 pub record IsImageOf (names : List (List ℕ × ℕ)) (cells : List (ℕ × ℕ)) (start : Option ℕ)
