@@ -16,11 +16,11 @@ use Rattle.lgp_assembler.specs.declared.operations.Operation.{Operation}
 use Rattle.lgp_assembler.specs.declared.operations.Operation.TheVariants.{Order, MinusT, Word, End}
 use Rattle.lgp_assembler.specs.declared.operands.Meaning.TheVariants.{Cell}
 use Rattle.std.proofs.Common.{Ok}
-use Rattle.lgp_assembler.specs.Operations.{operation_of}
+use Rattle.lgp_assembler.specs.Operations.{least_operands, operation_of}
 use Rattle.lgp_assembler.specs.Operands.{meaning_of}
 use Rattle.lgp_assembler.specs.Fields.{LineFields, fields_of}
 use Rattle.lgp_assembler.specs.Places.{next_place, has_ended, names_of, is_taken}
-use Rattle.lgp_assembler.specs.Faults.{least_needed, fault_of, faults_in, missing_end}
+use Rattle.lgp_assembler.specs.Faults.{fault_of, faults_in, missing_end}
 use Rattle.lgp_assembler.specs.Parts.{ImageParts}
 use Rattle.lgp_assembler.specs.declared.refusal.Fault.{Fault}
 use Rattle.lgp_assembler.specs.Image.{passed_lines, all_lines, cells_in, start_in}
@@ -158,7 +158,7 @@ pub record GivesOne (operation : Operation) (operand : List ℕ) (word : ℕ) : 
   image : given (end_fields ∷ line_fields operation operand ∷ []) ≡ record { cells = (0, word) ∷ []; start = None; symbols = [] }
 
 -- an order takes one operand
-order_needs : (op : Op) → nat_lt 1 (least_needed (Some (Order op))) ≡ false
+order_needs : (op : Op) → nat_lt 1 (least_operands (Order op)) ≡ false
 order_needs Z = refl
 order_needs B = refl
 order_needs Y = refl
