@@ -16,8 +16,7 @@ sound_from number least (line ∷ rest) e = ⊎_elim
     (⊎_elim
     (λ low. absurd (none-some (Order number) (sym e ∙ at_order line rest number least low.cell low.read low.below)))
     (λ high. (
-      high.cell.0,
-      high.cell.1,
+      high.cell,
       cell_line-cell_in line high.cell high.read,
       high.above,
       sound_from (number + 1) (high.cell.0 + 1) rest (sym (onward line rest number least high.cell high.read high.above) ∙ e),
@@ -53,7 +52,7 @@ form_from number least (line ∷ rest) told e = ⊎_elim
       behind = more.behind;
       lines_are = ap (λ t. line ∷ t) more.lines_are;
       told_is = omega (arith, more.told_is);
-      sound = (high.cell.0, high.cell.1, cell_line-cell_in line high.cell high.read, high.above, more.sound);
+      sound = (high.cell, cell_line-cell_in line high.cell high.read, high.above, more.sound);
       misformed = more.misformed;
     }))
     (cases_line line least)
@@ -99,7 +98,7 @@ order_from number least (line ∷ rest) told e = ⊎_elim
       behind = once.behind;
       lines_are = ap (λ t. line ∷ t) once.lines_are;
       told_is = omega (arith, once.told_is);
-      sound = (high.cell.0, high.cell.1, cell_line-cell_in line high.cell high.read, high.above, tt);
+      sound = (high.cell, cell_line-cell_in line high.cell high.read, high.above, tt);
       cell = high.cell;
       last_is = high.read;
       low = once.low;
@@ -111,7 +110,7 @@ order_from number least (line ∷ rest) told e = ⊎_elim
       behind = later.behind;
       lines_are = ap (λ t. line ∷ t) later.lines_are;
       told_is = omega (arith, later.told_is);
-      sound = (high.cell.0, high.cell.1, cell_line-cell_in line high.cell high.read, high.above, later.sound);
+      sound = (high.cell, cell_line-cell_in line high.cell high.read, high.above, later.sound);
       cell = later.cell;
       last_is = later.last_is;
       low = later.low;
@@ -120,9 +119,9 @@ order_from number least (line ∷ rest) told e = ⊎_elim
     (cases_line line least)
 
 -- a line that is not read is no line of a word
-no_line : (line : List ℕ) → cell_in line ≡ None → (address word : ℕ) → IsLineOf address word line → ⊥
-no_line line none address word is =
-    none-some (address, word) (sym none ∙ ap cell_in is.line_is ∙ cell_in-cell_line address word is.address_is is.word_is is.some)
+no_line : (line : List ℕ) → cell_in line ≡ None → (cell : ℕ × ℕ) → IsLineOf cell line → ⊥
+no_line line none cell is =
+    none-some cell (sym none ∙ ap cell_in is.line_is ∙ cell_in-cell_line cell.0 cell.1 is.address_is is.word_is is.some)
 
 pub faults_law : FirstFaultsAreFirst
 faults_law = record {
@@ -148,11 +147,9 @@ faults_law = record {
         lines_are = at.lines_are;
         number_is = omega (arith, at.told_is);
         sound = at.sound;
-        last_address = at.cell.0;
-        last_word = at.cell.1;
+        last_cell = at.cell;
         last_is = last;
-        address = at.low.cell.0;
-        word = at.low.cell.1;
+        cell = at.low.cell;
         line_is = line;
         not_above = omega (arith, at.low.below);
       })

@@ -1,11 +1,14 @@
 //! Laws, for readers and proofs: functions that do nothing, and whose contracts are the laws.
 
-ghost use Rattle.lgp_listing.specs.Laws.{EachWordAssembles, FirstFaultsAreFirst};
+ghost use Rattle.std.specs.Prelude.{ℕ};
+ghost use Rattle.lgp_word.specs.Word.{IsWord};
+ghost use Rattle.lgp_listing.specs.Disassembly.{disassembly};
+ghost use Rattle.lgp_listing.specs.Laws.{AssemblesTo, FirstFaultsAreFirst, one_line};
 
 /// A law, for readers and proofs: a source of one space and the disassembly of a word, and then of
 /// a line ` end`, has no fault and exactly that word, at 0000. It holds for every word.
 pub fn each_word_assembles()
-    ensures { EachWordAssembles }
+    ensures { (word : ℕ) → IsWord word → AssemblesTo (one_line (disassembly word)) word }
 {}
 
 /// A law, for readers and proofs: all lines before the first fault of a dump are in form, with
