@@ -72,16 +72,16 @@ after_org earlier org address e =
     let none : word_count org ≡ 0 = cond-false (option_map_or makes_word org.operation false) 1 0 (no_word org.operation org.first address e) in
     ap (λ a. unwrap_or a (next_place earlier) + word_count org) e ∙ omega arith
 
-pub places_law : PlacesCountFromOrgs
+pub places_law : (before : List LineFields) (line : LineFields) → PlacesCountFromOrgs before line
 unfolding next_place
-places_law = record {
-  own = λ before line address e. ap (λ a. unwrap_or a (next_place (passed_lines [] before))) e;
-  nearest = λ before between org line address e none other.
+places_law before line = record {
+  own = λ address e. ap (λ a. unwrap_or a (next_place (passed_lines [] before))) e;
+  nearest = λ between org address e none other.
       ap (λ a. unwrap_or a (next_place (passed_lines [] (before ++ org ∷ between)))) other
       ∙ ap next_place (passed-append [] before (org ∷ between))
       ∙ run (org ∷ passed_lines [] before) between none
       ∙ ap (λ p. p + word_total between) (after_org (passed_lines [] before) org address e);
-  none = λ before line none other.
+  none = λ none other.
       ap (λ a. unwrap_or a (next_place (passed_lines [] before))) other ∙ run [] before none ∙ omega arith;
 }
 
@@ -159,15 +159,15 @@ none_at_all : (name : List ℕ) → lookup (bytes_eq name) (names_of []) ≡ Non
 unfolding names_of
 none_at_all name = refl
 
-pub names_law : NamesAreFirstPlaces
+pub names_law : (name : List ℕ) (before after : List LineFields) → NamesAreFirstPlaces name before after
 unfolding names_of
-names_law = record {
-  first = λ name before after line live apart is.
+names_law name before after = record {
+  first = λ line live apart is.
       let earlier = passed_lines [] before in
       let absent = not_there name [] before apart (none_at_all name) in
       ap (λ ls. lookup (bytes_eq name) (names_of ls)) (passed-append [] before (line ∷ after))
       ∙ stays name (place_of line earlier) (line ∷ earlier) after (itself name (place_of line earlier) (names_of earlier) line.label (has_ended earlier) is (has_ended-in_order before ∙ live) absent);
-  none = λ name before after apart over.
+  none = λ apart over.
       let earlier = passed_lines [] before in
       let absent = not_there name [] before apart (none_at_all name) in
       ap (λ ls. lookup (bytes_eq name) (names_of ls)) (passed-append [] before after)

@@ -1,7 +1,9 @@
 -- Part of the public promise: the operations of the source language, and how many operands each
 -- takes. This project's own choice; the order letters are those of the Programming Manual.
 use Rattle.std.specs.Prelude.{ℕ, ◌==◌, Bool, true, false, if◌then◌else◌, List, length, codes}
-use Rattle.std.specs.Prelude.{slice_index, Option, None, Some, option_map}
+use Rattle.std.specs.Prelude.{[], ◌∷◌, slice_index, Option, None, option_map}
+use Rattle.std.specs.Map.{lookup}
+use Rattle.std.specs.Option.{option_or}
 use Rattle.std.specs.Str.{bytes_eq}
 use Rattle.lgp_word.specs.declared.order.Op.{Op}
 use Rattle.lgp_word.specs.declared.order.Op.TheVariants.{Z, I, P}
@@ -18,13 +20,10 @@ letter_operation text =
 -- the operation that a token names
 unfoldable pub operation_of : List ℕ → Option Operation
 operation_of text =
-    if bytes_eq text (codes "org") then Some Org
-    else (if bytes_eq text (codes "word") then Some Word
-    else (if bytes_eq text (codes "frac") then Some Frac
-    else (if bytes_eq text (codes "int") then Some Int
-    else (if bytes_eq text (codes "end") then Some End
-    else (if bytes_eq text (codes "-t") then Some MinusT
-    else letter_operation text)))))
+    option_or
+    (lookup (bytes_eq text) ((codes "org", Org) ∷ (codes "word", Word) ∷ (codes "frac", Frac)
+    ∷ (codes "int", Int) ∷ (codes "end", End) ∷ (codes "-t", MinusT) ∷ []))
+    (letter_operation text)
 
 -- the orders that do without an address
 abbrev pub may_stand_alone : Op → Bool
