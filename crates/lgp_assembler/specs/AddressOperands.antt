@@ -12,6 +12,7 @@ use Rattle.std.specs.Map.{lookup}
 use Rattle.lgp_word.specs.Decimal.{decimal_number}
 use Rattle.lgp_word.specs.Digits.{address_text}
 use Rattle.lgp_word.specs.Drum.{drum_size}
+use Rattle.lgp_assembler.specs.Parts.{NameList}
 use Rattle.lgp_assembler.specs.declared.address_operands.Offset.{Offset}
 use Rattle.lgp_assembler.specs.declared.operands.OperandFault.{OperandFault}
 use Rattle.lgp_assembler.specs.declared.operands.OperandFault.TheVariants.{Misformed, Unknown}
@@ -42,7 +43,7 @@ offset_of text =
     (decimal_number 4 (drop 1 text))
 
 -- the number of a base: the place of the line, that of a name, or an address
-unfoldable pub base_number : List (List ℕ × ℕ) → ℕ → List ℕ → Result ℕ OperandFault
+unfoldable pub base_number : NameList → ℕ → List ℕ → Result ℕ OperandFault
 base_number names place base =
     if bytes_eq base (codes "*") then Ok place
     else (if is_name base then ok_or (lookup (bytes_eq base) names) Unknown
@@ -61,7 +62,7 @@ address_beside (Ok number) offset =
     else in_range (number + offset.number)
 
 -- the value of an address operand: a base, then optionally a sign and a number
-unfoldable pub address_operand : List (List ℕ × ℕ) → ℕ → List ℕ → Result ℕ OperandFault
+unfoldable pub address_operand : NameList → ℕ → List ℕ → Result ℕ OperandFault
 address_operand names place text =
     let base = position_or_len is_sign text in
     option_map_or (address_beside (base_number names place (take base text)))

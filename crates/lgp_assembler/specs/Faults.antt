@@ -1,13 +1,11 @@
 -- Part of the public promise: the faults of a source. This project's own choice.
 use Rattle.std.specs.Prelude.{ℕ, ◌+◌, ◌&&◌, ◌||◌, not, nat_lt, nat_le, Bool, true, false}
 use Rattle.std.specs.Prelude.{if◌then◌else◌, find, List, [], ◌∷◌, ◌++◌, length, Option}
-use Rattle.std.specs.Prelude.{Result, Ok, Err, is_some, is_none, option_map, option_to_list}
+use Rattle.std.specs.Prelude.{Ok, Err, is_some, is_none, option_map, option_to_list}
 use Rattle.std.specs.Option.{option_map_or}
 use Rattle.std.specs.Str.{bytes_eq}
 use Rattle.std.specs.Map.{lookup}
-use Rattle.lgp_assembler.specs.declared.operands.Meaning.{Meaning}
 use Rattle.lgp_assembler.specs.declared.operands.Meaning.TheVariants.{Nothing}
-use Rattle.lgp_assembler.specs.declared.operands.OperandFault.{OperandFault}
 use Rattle.lgp_assembler.specs.declared.operands.OperandFault.TheVariants.{Misformed, Unknown}
 use Rattle.lgp_assembler.specs.declared.operands.OperandFault.TheVariants.{Outside}
 use Rattle.lgp_assembler.specs.declared.refusal.Fault.{Fault}
@@ -20,10 +18,10 @@ use Rattle.lgp_assembler.specs.declared.refusal.FaultKind.TheVariants.{OutOfRang
 use Rattle.lgp_assembler.specs.declared.refusal.FaultKind.TheVariants.{InLoader, PlaceTaken, NoEnd}
 use Rattle.lgp_assembler.specs.Operations.{least_operands, most_operands}
 use Rattle.lgp_assembler.specs.AddressOperands.{is_name}
-use Rattle.lgp_assembler.specs.Operands.{meaning_of}
+use Rattle.lgp_assembler.specs.Operands.{MeaningOrFault, meaning_of}
 use Rattle.lgp_assembler.specs.Fields.{LineFields}
 use Rattle.lgp_word.specs.Drum.{drum_size}
-use Rattle.lgp_assembler.specs.Parts.{is_loaders}
+use Rattle.lgp_assembler.specs.Parts.{NameList, is_loaders}
 use Rattle.lgp_assembler.specs.Places.{has_word, place_of, has_ended, names_of, is_taken}
 
 -- ---- the conditions of the table
@@ -36,25 +34,25 @@ abbrev pub is_bad_label : Option (List ℕ) → Bool
 is_bad_label label = option_map_or (λ name. not (is_name name)) label false
 
 -- a line before it that counts has the same label
-abbrev pub is_label_again : Option (List ℕ) → List (List ℕ × ℕ) → Bool
+abbrev pub is_label_again : Option (List ℕ) → NameList → Bool
 is_label_again label names =
     option_map_or (λ name. is_some (lookup (bytes_eq name) names)) label false
 
-abbrev pub is_misformed : Result Meaning OperandFault → Bool
+abbrev pub is_misformed : MeaningOrFault → Bool
 is_misformed (Err Misformed) = true
 is_misformed _ = false
 
-abbrev pub is_unknown : Result Meaning OperandFault → Bool
+abbrev pub is_unknown : MeaningOrFault → Bool
 is_unknown (Err Unknown) = true
 is_unknown _ = false
 
-abbrev pub is_out_of_range : Result Meaning OperandFault → Bool
+abbrev pub is_out_of_range : MeaningOrFault → Bool
 is_out_of_range (Err Outside) = true
 is_out_of_range _ = false
 
 -- what the operands of a line stand for in its place, with the names of the whole source; with no
 -- operation, nothing
-abbrev pub line_meaning : List (List ℕ × ℕ) → ℕ → LineFields → Result Meaning OperandFault
+abbrev pub line_meaning : NameList → ℕ → LineFields → MeaningOrFault
 line_meaning names place line =
     option_map_or (λ operation. meaning_of names place operation line.first line.second)
     line.operation (Ok Nothing)
@@ -66,11 +64,11 @@ pub record LineFacts : Type 0 where
   pub line : LineFields
   pub place : ℕ
   -- what its operands stand for there
-  pub meaning : Result Meaning OperandFault
+  pub meaning : MeaningOrFault
   -- whether the end line stands before it
   pub is_behind_end : Bool
   -- the names of the lines before it
-  pub names : List (List ℕ × ℕ)
+  pub names : NameList
   -- whether a word of theirs lies at its place
   pub is_place_taken : Bool
 
@@ -99,7 +97,7 @@ abbrev pub first_kind : List (Bool × FaultKind) → Option FaultKind
 first_kind rows = option_map (λ row. row.1) (find (λ row. row.0) rows)
 
 -- what is known of a line after those before it, with the names of the whole source
-abbrev pub facts_of : List (List ℕ × ℕ) → LineFields → List LineFields → LineFacts
+abbrev pub facts_of : NameList → LineFields → List LineFields → LineFacts
 facts_of names line earlier = let place = place_of line earlier in record {
   line = line;
   place = place;
@@ -110,14 +108,14 @@ facts_of names line earlier = let place = place_of line earlier in record {
 }
 
 -- the fault of a line after those before it: the kind of the first row that holds
-unfoldable pub fault_of : List (List ℕ × ℕ) → LineFields → List LineFields → Option FaultKind
+unfoldable pub fault_of : NameList → LineFields → List LineFields → Option FaultKind
 fault_of names line earlier = first_kind (fault_rows (facts_of names line earlier))
 
 abbrev pub numbered_fault : ℕ → FaultKind → Fault
 numbered_fault number kind = record { line = number; kind = kind }
 
 -- the faults of some lines, the nearest first, in order of the lines
-unfoldable pub faults_in : List (List ℕ × ℕ) → List LineFields → List Fault
+unfoldable pub faults_in : NameList → List LineFields → List Fault
 faults_in names [] = []
 faults_in names (line ∷ earlier) =
     faults_in names earlier

@@ -6,12 +6,16 @@ use Rattle.std.specs.List.{All, AllPairs}
 use Rattle.lgp_word.specs.Address.{IsAddress}
 use Rattle.lgp_word.specs.Word.{IsWord}
 
+-- names, each with its value
+abbrev pub NameList : Type 0
+NameList = List (List ℕ × ℕ)
+
 -- the words with their places in order of the lines, the start, and the names with their values in
 -- order of the lines
 pub record ImageParts : Type 0 where
   pub cells : List (ℕ × ℕ)
   pub start : Option ℕ
-  pub symbols : List (List ℕ × ℕ)
+  pub symbols : NameList
 
 -- the loader's 22 places, 6300 to 6321: the first of them, and the one behind the last
 abbrev pub loader_base : ℕ

@@ -12,6 +12,7 @@ use Rattle.lgp_assembler.specs.declared.operations.Operation.{Operation}
 use Rattle.lgp_assembler.specs.declared.operations.Operation.TheVariants.{Org, End}
 use Rattle.lgp_assembler.specs.Operations.{makes_word}
 use Rattle.lgp_assembler.specs.Fields.{LineFields}
+use Rattle.lgp_assembler.specs.Parts.{NameList}
 
 -- whether the operation of a line makes a word, whatever else is wrong with the line. Of a line
 -- after the end line that has an operation it is told that it stands there, and nothing else is
@@ -54,14 +55,14 @@ unfoldable pub has_ended : List LineFields → Bool
 has_ended lines = list_any (λ line. is_end line.operation) lines
 
 -- a label with its place, where no line before it that counts has the same label
-abbrev pub new_label : Option (List ℕ) → ℕ → Bool → List (List ℕ × ℕ) → Option (List ℕ × ℕ)
+abbrev pub new_label : Option (List ℕ) → ℕ → Bool → NameList → Option (List ℕ × ℕ)
 new_label None place ended names = None
 new_label (Some label) place ended names =
     if ended || is_some (lookup (bytes_eq label) names) then None else Some (label, place)
 
 -- the names of some lines in order of the lines, each with its value: the place of the first line
 -- that counts with that label
-unfoldable pub names_of : List LineFields → List (List ℕ × ℕ)
+unfoldable pub names_of : List LineFields → NameList
 names_of [] = []
 names_of (line ∷ earlier) =
     let names = names_of earlier in
