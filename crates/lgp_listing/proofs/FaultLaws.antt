@@ -3,8 +3,8 @@ use Rattle.std.proofs.Common.{◌≡◌, ◌+◌, ◌++◌, ◌⊎◌, ℕ, List
 use Rattle.std.proofs.lemmas.Option.{none-some}
 use Rattle.bstr.specs.Text.{lines_of}
 use Rattle.lgp_listing.specs.declared.reading.DumpFault.TheVariants.{Form, Order}
-use Rattle.lgp_listing.specs.Dump.{cell_in, fault_from}
-use Rattle.lgp_listing.specs.Laws.{IsLineOf, AreSound, FirstFaultsAreFirst}
+use Rattle.lgp_listing.specs.Dump.{cell_in, fault_from, first_fault}
+use Rattle.lgp_listing.specs.Laws.{IsLineOf, IsFormFault, IsOrderFault, AreSound}
 use Rattle.lgp_listing.proofs.Cells.{cell_in-cell_line, cell_line-cell_in}
 use Rattle.lgp_listing.proofs.FaultSteps.{at_form, at_order, onward, IsBelow, cases_line}
 
@@ -123,36 +123,42 @@ no_line : (line : List ℕ) → cell_in line ≡ None → (cell : ℕ × ℕ) �
 no_line line none cell is =
     none-some cell (sym none ∙ ap cell_in is.line_is ∙ cell_in-cell_line cell.0 cell.1 is.address_is is.word_is is.some)
 
-pub faults_law : FirstFaultsAreFirst
-faults_law = record {
-  form = λ text number e. (let at = form_from 1 0 (lines_of text) number e in record {
-    before = at.before;
-    line = at.line;
-    behind = at.behind;
-    lines_are = at.lines_are;
-    number_is = omega (arith, at.told_is);
-    sound = at.sound;
-    misformed = no_line at.line at.misformed;
-  });
-  order = λ text number e. ⊎_elim
-      (λ once. absurd (omega (arith, once.low.below)))
-      (λ at.
-      let last = cell_line-cell_in at.last at.cell at.last_is in
-      let line = cell_line-cell_in at.line at.low.cell at.low.read in
-      record {
-        before = at.before;
-        last = at.last;
-        line = at.line;
-        behind = at.behind;
-        lines_are = at.lines_are;
-        number_is = omega (arith, at.told_is);
-        sound = at.sound;
-        last_cell = at.cell;
-        last_is = last;
-        cell = at.low.cell;
-        line_is = line;
-        not_above = omega (arith, at.low.below);
-      })
-      (order_from 1 0 (lines_of text) number e);
-  none = λ text e. sound_from 1 0 (lines_of text) e;
-}
+pub form_law : (text : List ℕ) (number : ℕ) → first_fault text ≡ Some (Form number) → IsFormFault text number
+form_law text number e =
+    let at = form_from 1 0 (lines_of text) number e in
+    record {
+      before = at.before;
+      line = at.line;
+      behind = at.behind;
+      lines_are = at.lines_are;
+      number_is = omega (arith, at.told_is);
+      sound = at.sound;
+      misformed = no_line at.line at.misformed;
+    }
+
+pub order_law : (text : List ℕ) (number : ℕ) → first_fault text ≡ Some (Order number) → IsOrderFault text number
+order_law text number e = ⊎_elim
+    (λ once. absurd (omega (arith, once.low.below)))
+    (λ at.
+    let last = cell_line-cell_in at.last at.cell at.last_is in
+    let line = cell_line-cell_in at.line at.low.cell at.low.read in
+    record {
+      before = at.before;
+      last = at.last;
+      line = at.line;
+      behind = at.behind;
+      lines_are = at.lines_are;
+      number_is = omega (arith, at.told_is);
+      sound = at.sound;
+      last_cell = at.cell;
+      last_is = last;
+      cell = at.low.cell;
+      line_is = line;
+      not_above = omega (arith, at.low.below);
+    })
+    (order_from 1 0 (lines_of text) number e)
+
+pub none_law : (text : List ℕ) → first_fault text ≡ None → AreSound 0 (lines_of text)
+none_law text e = sound_from 1 0 (lines_of text) e
+
+pub ruleset fault_laws = (form_law, order_law, none_law)

@@ -1,11 +1,10 @@
 -- Part of the public promise: laws on the definitions of this crate. This project's own choice.
-use Rattle.std.specs.Prelude.{◌≡◌, ◌≢◌, ℕ, ◌+◌, ◌≤◌, ◌++◌, Some, None, List, [], ◌∷◌, length, codes}
+use Rattle.std.specs.Prelude.{◌≡◌, ◌≢◌, ℕ, ◌+◌, ◌≤◌, ◌++◌, None, List, [], ◌∷◌, length, codes}
 use Rattle.bstr.specs.Text.{lines_of}
 use Rattle.lgp_word.specs.Address.{IsAddress}
 use Rattle.lgp_word.specs.Word.{IsWord}
 use Rattle.lgp_assembler.specs.Image.{faults_of, image_of}
-use Rattle.lgp_listing.specs.declared.reading.DumpFault.TheVariants.{Form, Order}
-use Rattle.lgp_listing.specs.Dump.{cell_line, first_fault}
+use Rattle.lgp_listing.specs.Dump.{cell_line}
 
 -- ---- each disassembled word assembles
 
@@ -58,10 +57,3 @@ pub record IsOrderFault (text : List ℕ) (number : ℕ) : Type 0 where
   pub cell : ℕ × ℕ
   pub line_is : IsLineOf cell line
   pub not_above : cell.0 ≤ last_cell.0
-
-pub record FirstFaultsAreFirst : Type 0 where
-  pub form : (text : List ℕ) (number : ℕ) → first_fault text ≡ Some (Form number)
-      → IsFormFault text number
-  pub order : (text : List ℕ) (number : ℕ) → first_fault text ≡ Some (Order number)
-      → IsOrderFault text number
-  pub none : (text : List ℕ) → first_fault text ≡ None → AreSound 0 (lines_of text)
