@@ -82,8 +82,10 @@ fault_rows known =
     ∷ (is_bad_label known.line.label, BadLabel)
     ∷ (is_label_again known.line.label known.names, LabelTwice)
     ∷ (known.line.has_operation && is_none known.line.operation, UnknownOrder)
-    ∷ (nat_lt known.line.count (option_map_or least_operands known.line.operation 0),
-    MissingOperand)
+    ∷ (
+      nat_lt known.line.count (option_map_or least_operands known.line.operation 0),
+      MissingOperand,
+    )
     ∷ (is_misformed known.meaning, BadOperand)
     ∷ (is_unknown known.meaning, UnknownName)
     ∷ (is_out_of_range known.meaning, OutOfRange)

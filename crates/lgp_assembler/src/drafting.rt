@@ -58,7 +58,8 @@ fn add_cell<A: Allocator>(
     meaning: &Result<Meaning, OperandFault>,
 ) -> Result<(), AllocError>
     ensures cells { OnOk result
-        (IfCell meaning.now (λ word. IsAddress place) → cells.new.items ≡ cells.old.items ++ option_to_list (spec.cell_at place meaning.now)) }
+        (IfCell meaning.now (λ word. IsAddress place)
+        → cells.new.items ≡ cells.old.items ++ option_to_list (spec.cell_at place meaning.now)) }
     ensures word { IfCell meaning.now IsWord }
 {
     let Ok(Meaning::Cell(word)) = meaning else {

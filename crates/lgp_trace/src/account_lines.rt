@@ -389,7 +389,8 @@ fn push_printed<A: Allocator>(
     text: &mut Vec<u8, A>,
     printed: Option<Code>,
 ) -> Result<(), AllocError>
-    ensures { OnOk result (text.new.items ≡ text.old.items ++ option_map_or printed_line printed []) }
+    ensures { OnOk result
+        (text.new.items ≡ text.old.items ++ option_map_or printed_line printed []) }
 {
     match printed {
         Some(code) => push_printed_line(text, code),
