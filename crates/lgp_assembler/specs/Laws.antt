@@ -101,8 +101,8 @@ HasCellAt cells place others =
     (word : ℕ) × (front : List (ℕ × ℕ)) × (behind : List (ℕ × ℕ))
     × (cells ≡ front ++ (place, word) ∷ behind) × (length front ≡ others)
 
--- in a source without faults each line with a word has its cell, at the line's place and behind the
--- cells of the lines before it; and there are as many cells as such lines
+-- what holds of a source without faults: each line with a word has its cell, at the line's place and
+-- behind the cells of the lines before it; and there are as many cells as such lines
 pub record LinesHaveCells (source : List ℕ) : Type 0 where
   pub each : (before after : List LineFields) (line : LineFields)
       → lines_in source ≡ before ++ line ∷ after → has_word line ≡ true

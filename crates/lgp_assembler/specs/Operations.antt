@@ -5,7 +5,6 @@ use Rattle.std.specs.Prelude.{[], ◌∷◌, slice_index, Option, None, option_m
 use Rattle.std.specs.Map.{lookup}
 use Rattle.std.specs.Option.{option_or}
 use Rattle.std.specs.Str.{bytes_eq}
-use Rattle.lgp_word.specs.declared.order.Op.{Op}
 use Rattle.lgp_word.specs.declared.order.Op.TheVariants.{Z, I, P}
 use Rattle.lgp_word.specs.Order.{op_of_letter}
 use Rattle.lgp_assembler.specs.declared.operations.Operation.{Operation}
@@ -25,16 +24,11 @@ operation_of text =
     ∷ (codes "int", Int) ∷ (codes "end", End) ∷ (codes "-t", MinusT) ∷ []))
     (letter_operation text)
 
--- the orders that do without an address
-abbrev pub may_stand_alone : Op → Bool
-may_stand_alone Z = true
-may_stand_alone I = true
-may_stand_alone P = true
-may_stand_alone _ = false
-
--- how many operands an operation needs
+-- how many operands an operation needs: the orders z, i and p do without an address
 abbrev pub least_operands : Operation → ℕ
-least_operands (Order op) = if may_stand_alone op then 0 else 1
+least_operands (Order Z) = 0
+least_operands (Order I) = 0
+least_operands (Order P) = 0
 least_operands Int = 2
 least_operands End = 0
 least_operands _ = 1
