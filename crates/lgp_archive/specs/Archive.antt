@@ -8,17 +8,12 @@ use Rattle.std.specs.Str.{byte}
 use Rattle.lgp_flexo.specs.Code.{code_at}
 use Rattle.lgp_flexo.specs.TapeText.{code_of_group, joined, single}
 
--- the upper signs of the keys with two signs, but for those of the letters and of 0 and 1, and the
--- lower signs of these keys
-abbrev pub upper_signs : List ℕ
-upper_signs = codes "*\"^%$~#(_=:?]["
-
-abbrev pub lower_signs : List ℕ
-lower_signs = codes "23456789-+;/.,"
-
--- the lower sign of the key of an upper one of this row
+-- the lower sign of the key of an upper one, by the rows of both; the keys of the letters and of 0
+-- and 1 are not among these
 abbrev pub lower_in_row : ℕ → Option ℕ
-lower_in_row sign = option_and_then (slice_get lower_signs) (position (λ s. s == sign) upper_signs)
+lower_in_row sign =
+    option_and_then (slice_get (codes "23456789-+;/.,"))
+    (position (λ s. s == sign) (codes "*\"^%$~#(_=:?]["))
 
 -- the lower sign of the key of a sign: of a capital letter the small one
 abbrev pub lower_sign : ℕ → ℕ

@@ -82,11 +82,11 @@ each_cell source before after line none parts has =
       as_many_at_all _ before (front_faultless _ _ (line ∷ after) clear),
     )
 
-pub cells_law : LinesHaveCells
+pub cells_law : (source : List ℕ) → faults_of source ≡ [] → LinesHaveCells source
 unfolding all_lines
-cells_law = record {
-  each = each_cell;
-  count = λ source none. as_many_at_all _ (lines_in source) (faultless_lines _ none);
+cells_law source none = record {
+  each = λ before after line parts has. each_cell source before after line none parts has;
+  count = as_many_at_all (names_of (all_lines source)) (lines_in source) (faultless_lines source none);
 }
 
 -- they lie at places of their own

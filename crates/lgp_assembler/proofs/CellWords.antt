@@ -1,7 +1,7 @@
 -- What the lines of a source give: words, and a start that is an address.
-use Rattle.std.proofs.Common.{◌≡◌, ◌⊎◌, ◌<◌, ◌≤◌, ◌+◌, ◌*◌, ◌^◌, ◌++◌, ◌==◌, ℕ, ℤ, pos, ◌*ℤ◌, Bool, true, false, cond, if◌then◌else◌, List, [], ◌∷◌, length, Option, None, Some, Result, Ok, Err, refl, sym, subst, ⊎_elim, arith, nat_lt, IfOk, IfSome, option_to_list, option_map, position}
-use Rattle.std.specs.List.{All}
-use Rattle.std.specs.Option.{option_or}
+use Rattle.std.proofs.Common.{◌≡◌, ◌⊎◌, ◌<◌, ◌≤◌, ◌+◌, ◌-◌, ◌*◌, ◌%◌, ◌^◌, ◌++◌, ◌==◌, ℕ, ℤ, pos, ◌+ℤ◌, ◌*ℤ◌, unsigned_abs, Bool, true, false, cond, if◌then◌else◌, List, [], ◌∷◌, length, slice_index, take, drop, Option, None, Some, Result, Ok, Err, refl, sym, ap, subst, ⊎_elim, arith, nat_le, nat_lt, IfOk, IfSome, option_to_list, option_map, ok_or, position}
+use Rattle.std.specs.List.{All, position_or_len}
+use Rattle.std.specs.Option.{option_map_or, option_or}
 use Rattle.std.specs.Str.{byte}
 use Rattle.std.proofs.lemmas.Bool.Decides.{nat_tests}
 use Rattle.std.proofs.lemmas.Int.{int_rem_euclid_is}
@@ -25,9 +25,9 @@ use Rattle.lgp_assembler.specs.declared.operands.Meaning.{Meaning}
 use Rattle.lgp_assembler.specs.declared.operands.Meaning.TheVariants.{Cell, Place, Nothing}
 use Rattle.lgp_assembler.specs.declared.address_operands.Offset.{Offset}
 use Rattle.lgp_assembler.specs.declared.operands.OperandFault.{OperandFault}
-use Rattle.lgp_assembler.specs.declared.operands.OperandFault.TheVariants.{Outside}
-use Rattle.lgp_assembler.specs.AddressOperands.{address_operand, in_range, address_of_parts}
-use Rattle.lgp_assembler.specs.Operands.{meaning_under, cell_of_fraction, cell_of_order, cell_of_digits, integer_word, meaning_of, order_operand, place_meaning, cell_of_sign, scaled_word, sign_operand, word_of_parts}
+use Rattle.lgp_assembler.specs.declared.operands.OperandFault.TheVariants.{Misformed, Outside}
+use Rattle.lgp_assembler.specs.AddressOperands.{address_operand, base_number, in_range, is_sign, address_beside, offset_of}
+use Rattle.lgp_assembler.specs.Operands.{cell_of_fraction, cell_of_order, integer_word, meaning_of, order_operand, place_meaning, printing_cell, scaled_word, sign_operand, unsigned_part, word_of_parts}
 use Rattle.lgp_assembler.specs.Fields.{LineFields}
 use Rattle.lgp_assembler.specs.Faults.{line_meaning}
 use Rattle.lgp_assembler.specs.Image.{cell_at, cells_in, start_at, start_in}
@@ -44,7 +44,7 @@ found false one other first second = second refl
 ranged : (number : ℕ) → IfOk (in_range number) IsAddress
 ranged number = grind (arith, found)
 
-moved_address : (offset : Option Offset) (base : Result ℕ OperandFault) → IfOk (address_of_parts offset base) IsAddress
+moved_address : (offset : Option Offset) (base : Result ℕ OperandFault) → IfOk (option_map_or (address_beside base) offset (Err Misformed)) IsAddress
 moved_address None base = tt
 moved_address (Some offset) (Err fault) = tt
 moved_address (Some offset) (Ok number) = grind (arith, found, ranged)
@@ -108,12 +108,12 @@ small_code sign = one_of (sign == byte "l") (code_in_row 2 digits (byte "1")) _ 
     (one_or _ _ (row_code 1 letters sign (omega arith) (omega arith))
     (one_or _ _ (row_code 2 digits sign (omega arith) (omega arith)) (row_code 3 other_signs sign (omega arith) (omega arith)))))
 
-printed_cell : (code : Option ℕ) → IfSome code (λ code. code < 64) → IfCell (cell_of_sign code) IsWord
+printed_cell : (code : Option ℕ) → IfSome code (λ code. code < 64) → IfCell (ok_or (option_map printing_cell code) Misformed) IsWord
 printed_cell (Some code) small = order_fits false 8 (64 * code) (omega arith) (omega (arith, small))
 printed_cell None small = tt
 
 sign_cell : (op : Op) (text : List ℕ) → IfCell (sign_operand op text) IsWord
-sign_cell P text = grind (arith, chosen, printed_cell, small_code)
+sign_cell P text = chosen (length text == 2) (ok_or (option_map printing_cell (code_at (slice_index text 1))) Misformed) (Err Misformed) (λ e. printed_cell (code_at (slice_index text 1)) (small_code (slice_index text 1))) (λ e. tt)
 sign_cell Z text = tt
 sign_cell B text = tt
 sign_cell Y text = tt
@@ -160,7 +160,7 @@ fraction_cell (Ok steps) = even_bits steps
 fraction_cell (Err Form) = tt
 fraction_cell (Err OutOfRange) = tt
 
-digits_cell : (text : List ℕ) (o : Option ℕ) → word_of_digits text ≡ o → IfCell (cell_of_digits o) IsWord
+digits_cell : (text : List ℕ) (o : Option ℕ) → word_of_digits text ≡ o → IfCell (ok_or (option_map Cell o) Misformed) IsWord
 digits_cell text None e = tt
 digits_cell text (Some word) e = IsWord-word_of_digits text word e
 
@@ -187,7 +187,7 @@ module _ (names : List (List ℕ × ℕ)) (place : ℕ) where
   meaning_cell End None second = tt
   meaning_cell End (Some text) second = place_cell _
 
-  line_word : (operation : Option Operation) (line : LineFields) → IfCell (meaning_under operation names place line.first line.second) IsWord
+  line_word : (operation : Option Operation) (line : LineFields) → IfCell (option_map_or (λ o. meaning_of names place o line.first line.second) operation (Ok Nothing)) IsWord
   line_word None line = tt
   line_word (Some operation) line = meaning_cell _ _ _
 
@@ -224,7 +224,7 @@ program_cells (cell ∷ cells) within free are = (
 
 -- ---- the start
 
-start_found : (operation : Option Operation) (names : List (List ℕ × ℕ)) (place : ℕ) (line : LineFields) → IfSome (start_at operation (meaning_under operation names place line.first line.second)) IsAddress
+start_found : (operation : Option Operation) (names : List (List ℕ × ℕ)) (place : ℕ) (line : LineFields) → IfSome (start_at operation (option_map_or (λ o. meaning_of names place o line.first line.second) operation (Ok Nothing))) IsAddress
 unfolding meaning_of
 start_found None names place line = tt
 start_found (Some (Order op)) names place line = tt

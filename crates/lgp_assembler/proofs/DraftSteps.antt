@@ -1,6 +1,7 @@
 -- One line more in a draft.
-use Rattle.std.proofs.Common.{◌≡◌, ◌<◌, ◌≤◌, ◌+◌, ◌&&◌, ◌||◌, ◌==◌, ◌++◌, ℕ, Bool, true, false, List, [], ◌∷◌, length, Option, None, Some, Result, Ok, Err, refl, sym, ap, subst, ◌∙◌, arith, ⊎_elim, nat_lt, nat_le, unwrap_or, option_to_list, option_map, is_some, slice_index_or}
-use Rattle.std.specs.Option.{option_or}
+use Rattle.std.proofs.Common.{◌≡◌, ◌<◌, ◌≤◌, ◌+◌, ◌*◌, ◌&&◌, ◌||◌, ◌==◌, ◌++◌, ℕ, Bool, true, false, List, [], ◌∷◌, length, Option, None, Some, Result, Ok, Err, refl, sym, ap, subst, ◌∙◌, arith, ⊎_elim, nat_lt, nat_le, unwrap_or, option_to_list, option_map, is_some, slice_index_or}
+use Rattle.std.specs.Option.{option_map_or, option_or}
+use Rattle.std.specs.Str.{bytes_eq}
 use Rattle.std.specs.List.{list_all}
 use Rattle.std.specs.Char.{is_ascii_digit}
 use Rattle.std.proofs.lemmas.Bool.{cases_Bool, cond-true, cond-false, ltb-true, and_parts, and_from, true≢false}
@@ -13,17 +14,18 @@ use Rattle.lgp_assembler.specs.declared.operands.Meaning.TheVariants.{Cell, Plac
 use Rattle.lgp_assembler.specs.declared.operands.OperandFault.{OperandFault}
 use Rattle.lgp_assembler.specs.declared.refusal.Fault.{Fault}
 use Rattle.lgp_assembler.specs.declared.refusal.FaultKind.{FaultKind}
+use Rattle.lgp_word.specs.Address.{IsAddress}
 use Rattle.lgp_word.specs.Word.{IsWord}
 use Rattle.lgp_word.specs.Drum.{drum_size}
 use Rattle.lgp_assembler.specs.Parts.{is_loaders, AreProgramCells}
 use Rattle.lgp_assembler.specs.Operations.{makes_word}
 use Rattle.lgp_assembler.specs.AddressOperands.{is_name}
-use Rattle.lgp_assembler.specs.Operands.{meaning_under, meaning_of, place_meaning}
+use Rattle.lgp_assembler.specs.Operands.{meaning_of, place_meaning}
 use Rattle.lgp_assembler.specs.Fields.{LineFields}
-use Rattle.lgp_assembler.specs.Places.{option_makes_word, has_word, word_count, org_address, next_place, place_reached, place_of, has_ended, new_label, names_of}
+use Rattle.lgp_assembler.specs.Places.{has_word, word_count, org_address, next_place, place_reached, place_of, has_ended, new_label, names_of}
 use Rattle.lgp_assembler.specs.Faults.{says_something, is_bad_label, is_label_again, line_meaning, first_kind, numbered_fault, faults_in}
 use Rattle.lgp_assembler.specs.Image.{cell_at, cells_in, start_at, start_in}
-use Rattle.lgp_assembler.specs.ScanInside.{rows, IfCell, Stands, ArePlacesTaken, coming_fault, CellFits, SymbolFits, symbol_at, IsDraftOf}
+use Rattle.lgp_assembler.specs.ScanInside.{rows, IfCell, Stands, ArePlacesTaken, coming_fault, SymbolFits, symbol_at, IsDraftOf}
 use Rattle.lgp_assembler.proofs.Rows.{kind_here, kind_behind, fault_stands}
 
 -- ---- where no row holds
@@ -97,17 +99,17 @@ next_small line place within small = grind (arith, cond-true, cond-false)
 
 -- ---- a word comes from an operation that makes one
 
-any_fits : (place : ℕ) (r : Result Meaning OperandFault) → place < 4096 → CellFits place r
+any_fits : (place : ℕ) (r : Result Meaning OperandFault) → place < 4096 → IfCell r (λ word. IsAddress place)
 any_fits place (Ok (Cell word)) small = small
 any_fits place (Ok (Place address)) small = tt
 any_fits place (Ok Nothing) small = tt
 any_fits place (Err fault) small = tt
 
-place_fits : (place : ℕ) (r : Result ℕ OperandFault) → CellFits place (place_meaning r)
+place_fits : (place : ℕ) (r : Result ℕ OperandFault) → IfCell (place_meaning r) (λ word. IsAddress place)
 place_fits place (Ok address) = tt
 place_fits place (Err fault) = tt
 
-meaning_fits : (names : List (List ℕ × ℕ)) (here place : ℕ) (operation : Operation) (first second : Option (List ℕ)) → (makes_word operation ≡ true → place < 4096) → CellFits place (meaning_of names here operation first second)
+meaning_fits : (names : List (List ℕ × ℕ)) (here place : ℕ) (operation : Operation) (first second : Option (List ℕ)) → (makes_word operation ≡ true → place < 4096) → IfCell (meaning_of names here operation first second) (λ word. IsAddress place)
 unfolding meaning_of
 meaning_fits names here place (Order op) first second small = any_fits _ _ (small refl)
 meaning_fits names here place MinusT first second small = any_fits _ _ (small refl)
@@ -119,7 +121,7 @@ meaning_fits names here place Org (Some text) second small = place_fits _ _
 meaning_fits names here place End None second small = tt
 meaning_fits names here place End (Some text) second small = place_fits _ _
 
-pub line_fits : (operation : Option Operation) (names : List (List ℕ × ℕ)) (here place : ℕ) (line : LineFields) → (option_makes_word operation ≡ true → place < 4096) → CellFits place (meaning_under operation names here line.first line.second)
+pub line_fits : (operation : Option Operation) (names : List (List ℕ × ℕ)) (here place : ℕ) (line : LineFields) → (option_map_or makes_word operation false ≡ true → place < 4096) → IfCell (option_map_or (λ o. meaning_of names here o line.first line.second) operation (Ok Nothing)) (λ word. IsAddress place)
 line_fits None names here place line small = tt
 line_fits (Some operation) names here place line small = meaning_fits _ _ _ _ _ _ small
 
@@ -128,7 +130,7 @@ line_fits (Some operation) names here place line small = meaning_fits _ _ _ _ _ 
 pub word_free : (line : LineFields) (place : ℕ) → (has_word line && is_loaders place) ≡ false → has_word line ≡ true → is_loaders place ≡ false
 word_free line place e word = sym (ap (λ w. w && is_loaders place) word) ∙ e
 
-one_cell : (place : ℕ) (r : Result Meaning OperandFault) → CellFits place r → IfCell r (λ word. is_loaders place ≡ false) → IfCell r IsWord → AreProgramCells (option_to_list (cell_at place r))
+one_cell : (place : ℕ) (r : Result Meaning OperandFault) → IfCell r (λ word. IsAddress place) → IfCell r (λ word. is_loaders place ≡ false) → IfCell r IsWord → AreProgramCells (option_to_list (cell_at place r))
 one_cell place (Ok (Cell word)) small free is = ((small, free, is), tt)
 one_cell place (Ok (Place address)) small free is = tt
 one_cell place (Ok Nothing) small free is = tt
@@ -156,7 +158,7 @@ meaning_free names here place Org (Some text) second free = place_free place _
 meaning_free names here place End None second free = tt
 meaning_free names here place End (Some text) second free = place_free place _
 
-line_free : (operation : Option Operation) (names : List (List ℕ × ℕ)) (here place : ℕ) (line : LineFields) → (option_makes_word operation ≡ true → is_loaders place ≡ false) → IfCell (meaning_under operation names here line.first line.second) (λ word. is_loaders place ≡ false)
+line_free : (operation : Option Operation) (names : List (List ℕ × ℕ)) (here place : ℕ) (line : LineFields) → (option_map_or makes_word operation false ≡ true → is_loaders place ≡ false) → IfCell (option_map_or (λ o. meaning_of names here o line.first line.second) operation (Ok Nothing)) (λ word. is_loaders place ≡ false)
 line_free None names here place line free = tt
 line_free (Some operation) names here place line free = meaning_free _ _ place _ _ _ free
 
@@ -194,7 +196,7 @@ pub draft_step : (names : List (List ℕ × ℕ)) (line : LineFields) (lines pla
     → (faults faults' : List Fault) (cells cells' : List (ℕ × ℕ)) (start start' : Option ℕ) (symbols symbols' : List (List ℕ × ℕ))
     → (here : ℕ) → here ≡ place_reached line place → Stands lines place ended before earlier → ArePlacesTaken taken earlier → IsDraftOf names faults cells start symbols earlier
     → faults' ≡ faults ++ option_to_list (option_map (numbered_fault line.number) (coming_fault line (line_meaning names here line) here ended before taken))
-    → (faults' ≡ [] → CellFits here (line_meaning names here line) → cells' ≡ cells ++ option_to_list (cell_at here (line_meaning names here line)))
+    → (faults' ≡ [] → IfCell (line_meaning names here line) (λ word. IsAddress here) → cells' ≡ cells ++ option_to_list (cell_at here (line_meaning names here line)))
     → (faults' ≡ [] → start' ≡ option_or start (start_at line.operation (line_meaning names here line)))
     → (faults' ≡ [] → SymbolFits line.label here → symbols' ≡ symbols ++ option_to_list (symbol_at line.label here))
     → (faults' ≡ [] → IfCell (line_meaning names here line) IsWord)
@@ -214,7 +216,7 @@ draft_step names line lines place ended before taken earlier faults faults' cell
           let image = d.image both.0 in
           let small : here ≤ 4096 = subst (λ h. h ≤ 4096) (sym at) (place_small line place (subst (λ p. p ≤ 4096) (sym s.place_is) image.within)) in
           let word_small : has_word line ≡ true → here < 4096 = word_within line here clear.within in
-          let fits : CellFits here (line_meaning names here line) = line_fits line.operation names here here line word_small in
+          let fits : IfCell (line_meaning names here line) (λ word. IsAddress here) = line_fits line.operation names here here line word_small in
           record {
             cells_are = cells_e none fits
                 ∙ ap (λ cs. cs ++ option_to_list (cell_at here (line_meaning names here line))) image.cells_are

@@ -72,17 +72,17 @@ taken_by place lines among =
 
 -- ---- the law
 
-pub faults_law : FaultsFollowLines
+pub faults_law : (source : List ℕ) (before : List LineFields) (line : LineFields) → FaultsFollowLines source before line
 unfolding faults_in fault_of all_lines
-faults_law = record {
-  none = λ source. refl;
-  more = λ source before line. ap (faults_in (image_of source).symbols) (passed-append [] before (line ∷ []));
-  all = λ source.
+faults_law source before line = record {
+  none = refl;
+  more = ap (faults_in (image_of source).symbols) (passed-append [] before (line ∷ []));
+  all =
       let lines = lines_in source in
       let told = first_faults source lines in
       ap (λ ended. told ++ end_fault ended (length (passed_lines [] lines))) (has_ended-in_order _)
       ∙ ap (λ count. told ++ end_fault (has_ended lines) count) (length-passed [] lines ∙ omega arith);
-  first_row = λ source before line. refl;
-  behind_end = λ source before line. has_ended-in_order _;
-  place_taken = λ source before line. (λ taken. word_among _ _ taken, λ among. taken_by _ _ among);
+  first_row = refl;
+  behind_end = has_ended-in_order before;
+  place_taken = (λ taken. word_among _ before taken, λ among. taken_by _ before among);
 }

@@ -1,5 +1,6 @@
 -- A line without a fault has a cell exactly where it has a word, and the cells of a source are those of its lines in order.
-use Rattle.std.proofs.Common.{◌≡◌, ◌-◌, ◌*◌, ◌%◌, ◌++◌, ◌^◌, ◌==◌, ℕ, ℤ, length, slice_index, Bool, true, false, cond, List, [], ◌∷◌, Option, None, Some, is_some, Result, Ok, Err, refl, sym, ◌∙◌, option_to_list, nat_le, nat_lt}
+use Rattle.std.proofs.Common.{◌≡◌, ◌-◌, ◌*◌, ◌%◌, ◌++◌, ◌^◌, ◌==◌, ℕ, ℤ, length, slice_index, Bool, true, false, cond, List, [], ◌∷◌, Option, None, Some, is_some, Result, Ok, Err, refl, sym, ◌∙◌, option_to_list, option_map, ok_or, nat_le, nat_lt}
+use Rattle.std.specs.Option.{option_map_or}
 use Rattle.std.proofs.lemmas.Bool.{true≢false}
 use Rattle.std.proofs.lemmas.List.{append_assoc, append-nil}
 use Rattle.lgp_word.specs.declared.order.Op.{Op}
@@ -17,9 +18,9 @@ use Rattle.lgp_assembler.specs.declared.operands.OperandFault.{OperandFault}
 use Rattle.lgp_assembler.specs.declared.operands.OperandFault.TheVariants.{Misformed, Unknown, Outside}
 use Rattle.lgp_assembler.specs.Operations.{makes_word}
 use Rattle.lgp_assembler.specs.AddressOperands.{address_operand}
-use Rattle.lgp_assembler.specs.Operands.{meaning_under, cell_of_order, cell_of_sign, sign_operand, order_operand, scaled_word, word_of_parts, integer_word, unsigned_part, cell_of_fraction, cell_of_digits, place_meaning, meaning_of}
+use Rattle.lgp_assembler.specs.Operands.{cell_of_order, printing_cell, sign_operand, order_operand, scaled_word, word_of_parts, integer_word, unsigned_part, cell_of_fraction, place_meaning, meaning_of}
 use Rattle.lgp_assembler.specs.Fields.{LineFields}
-use Rattle.lgp_assembler.specs.Places.{option_makes_word, has_word, place_of, has_ended, names_of, is_taken}
+use Rattle.lgp_assembler.specs.Places.{has_word, place_of, has_ended, names_of, is_taken}
 use Rattle.lgp_assembler.specs.ScanInside.{rows}
 use Rattle.lgp_assembler.specs.Faults.{is_misformed, is_unknown, is_out_of_range, line_meaning, fault_of, faults_in}
 use Rattle.lgp_assembler.specs.Image.{cell_at, line_cell, cells_in, passed_lines}
@@ -45,12 +46,12 @@ order_gives : (minus : Bool) (op : Op) (r : Result ℕ OperandFault) → IsWordO
 order_gives minus op (Ok address) = tt
 order_gives minus op (Err fault) = tt
 
-printing_gives : (code : Option ℕ) → IsWordOrFault (cell_of_sign code)
+printing_gives : (code : Option ℕ) → IsWordOrFault (ok_or (option_map printing_cell code) Misformed)
 printing_gives (Some code) = tt
 printing_gives None = tt
 
 sign_gives : (op : Op) (text : List ℕ) → IsWordOrFault (sign_operand op text)
-sign_gives P text = chosen (length text == 2) (cell_of_sign (code_at (slice_index text 1))) (Err Misformed) (printing_gives (code_at (slice_index text 1))) tt
+sign_gives P text = chosen (length text == 2) (ok_or (option_map printing_cell (code_at (slice_index text 1))) Misformed) (Err Misformed) (printing_gives (code_at (slice_index text 1))) tt
 sign_gives Z text = tt
 sign_gives B text = tt
 sign_gives Y text = tt
@@ -94,7 +95,7 @@ fraction_gives (Ok steps) = tt
 fraction_gives (Err Form) = tt
 fraction_gives (Err OutOfRange) = tt
 
-word_gives : (word : Option ℕ) → IsWordOrFault (cell_of_digits word)
+word_gives : (word : Option ℕ) → IsWordOrFault (ok_or (option_map Cell word) Misformed)
 word_gives (Some word) = tt
 word_gives None = tt
 
@@ -131,11 +132,11 @@ module _ (names : List (List ℕ × ℕ)) (place : ℕ) where
   makes_none Frac first second e = absurd (true≢false e)
   makes_none Int first second e = absurd (true≢false e)
 
-  line_makes : (operation : Option Operation) (line : LineFields) → option_makes_word operation ≡ true → IsWordOrFault (meaning_under operation names place line.first line.second)
+  line_makes : (operation : Option Operation) (line : LineFields) → option_map_or makes_word operation false ≡ true → IsWordOrFault (option_map_or (λ o. meaning_of names place o line.first line.second) operation (Ok Nothing))
   line_makes None line e = absurd (true≢false (sym e))
   line_makes (Some operation) line e = makes _ _ _ e
 
-  pub line_makes_none : (operation : Option Operation) (line : LineFields) → option_makes_word operation ≡ false → IsNoWord (meaning_under operation names place line.first line.second)
+  pub line_makes_none : (operation : Option Operation) (line : LineFields) → option_map_or makes_word operation false ≡ false → IsNoWord (option_map_or (λ o. meaning_of names place o line.first line.second) operation (Ok Nothing))
   line_makes_none None line e = tt
   line_makes_none (Some operation) line e = makes_none _ _ _ e
 

@@ -1,6 +1,6 @@
 -- The laws on places and names.
-use Rattle.std.proofs.Common.{◌≡◌, ◌≢◌, length, ◌+◌, ◌++◌, ◌||◌, ℕ, Bool, true, false, cond, List, [], ◌∷◌, Option, None, Some, refl, ap, ◌∙◌, arith, ⊎_elim, is_some, unwrap_or, option_to_list}
-use Rattle.std.specs.Option.{option_or}
+use Rattle.std.proofs.Common.{◌≡◌, ◌≢◌, length, ◌+◌, ◌++◌, ◌||◌, ℕ, Bool, true, false, cond, List, [], ◌∷◌, Option, None, Some, refl, sym, ap, ◌∙◌, arith, ⊎_elim, is_some, unwrap_or, option_to_list}
+use Rattle.std.specs.Option.{option_map_or, option_or}
 use Rattle.std.specs.Str.{bytes_eq}
 use Rattle.std.specs.Map.{lookup}
 use Rattle.std.proofs.lemmas.Bool.{cond-true, cond-false, false_from_ne_true}
@@ -12,9 +12,10 @@ use Rattle.std.proofs.lemmas.Slice.Eq.{bytes_eq-Decides}
 use Rattle.lgp_assembler.specs.declared.operations.Operation.{Operation}
 use Rattle.lgp_assembler.specs.declared.operations.Operation.TheVariants.{Order, MinusT, Org, Word, Frac, Int, End}
 use Rattle.lgp_assembler.specs.Fields.{LineFields}
-use Rattle.lgp_assembler.specs.Places.{option_makes_word, org_address, word_count, next_place, place_of, is_end, has_ended, new_label, names_of}
+use Rattle.lgp_assembler.specs.Operations.{makes_word}
+use Rattle.lgp_assembler.specs.Places.{org_of, org_address, word_count, next_place, place_of, is_end, has_ended, new_label, names_of}
 use Rattle.lgp_assembler.specs.Image.{passed_lines}
-use Rattle.lgp_assembler.specs.Laws.{org_of, HasNoOrg, word_total, PlacesCountFromOrgs, HasNotLabel, NamesAreFirstPlaces}
+use Rattle.lgp_assembler.specs.Laws.{HasNoOrg, word_total, PlacesCountFromOrgs, HasNotLabel, NamesAreFirstPlaces}
 
 -- ---- lines in order, and the nearest first
 
@@ -55,7 +56,7 @@ run earlier (line ∷ lines) none =
     let here : next_place (line ∷ earlier) ≡ next_place earlier + word_count line = ap (λ a. unwrap_or a (next_place earlier) + word_count line) (All-head (λ l. org_of l ≡ None) line lines none) in
     run (line ∷ earlier) lines (All-tail (λ l. org_of l ≡ None) line lines none) ∙ omega arith
 
-no_word : (operation : Option Operation) (first : Option (List ℕ)) (address : ℕ) → org_address operation first ≡ Some address → option_makes_word operation ≡ false
+no_word : (operation : Option Operation) (first : Option (List ℕ)) (address : ℕ) → org_address operation first ≡ Some address → option_map_or makes_word operation false ≡ false
 no_word (Some Org) first address e = refl
 no_word (Some (Order op)) first address e = absurd (none-some address e)
 no_word (Some MinusT) first address e = absurd (none-some address e)
@@ -68,18 +69,19 @@ no_word None first address e = absurd (none-some address e)
 after_org : (earlier : List LineFields) (org : LineFields) (address : ℕ) → org_of org ≡ Some address → next_place (org ∷ earlier) ≡ address
 unfolding next_place
 after_org earlier org address e =
-    grind (arith, cond-false)
+    let none : word_count org ≡ 0 = cond-false (option_map_or makes_word org.operation false) 1 0 (no_word org.operation org.first address e) in
+    ap (λ a. unwrap_or a (next_place earlier) + word_count org) e ∙ omega arith
 
-pub places_law : PlacesCountFromOrgs
+pub places_law : (before : List LineFields) (line : LineFields) → PlacesCountFromOrgs before line
 unfolding next_place
-places_law = record {
-  own = λ before line address e. ap (λ a. unwrap_or a (next_place (passed_lines [] before))) e;
-  nearest = λ before between org line address e none other.
+places_law before line = record {
+  own = λ address e. ap (λ a. unwrap_or a (next_place (passed_lines [] before))) e;
+  nearest = λ between org address e none other.
       ap (λ a. unwrap_or a (next_place (passed_lines [] (before ++ org ∷ between)))) other
       ∙ ap next_place (passed-append [] before (org ∷ between))
       ∙ run (org ∷ passed_lines [] before) between none
-      ∙ ap (λ p. p + word_total between) (after_org (passed_lines [] before) org _ e);
-  none = λ before line none other.
+      ∙ ap (λ p. p + word_total between) (after_org (passed_lines [] before) org address e);
+  none = λ none other.
       ap (λ a. unwrap_or a (next_place (passed_lines [] before))) other ∙ run [] before none ∙ omega arith;
 }
 
@@ -157,15 +159,15 @@ none_at_all : (name : List ℕ) → lookup (bytes_eq name) (names_of []) ≡ Non
 unfolding names_of
 none_at_all name = refl
 
-pub names_law : NamesAreFirstPlaces
+pub names_law : (name : List ℕ) (before after : List LineFields) → NamesAreFirstPlaces name before after
 unfolding names_of
-names_law = record {
-  first = λ name before after line live apart is.
+names_law name before after = record {
+  first = λ line live apart is.
       let earlier = passed_lines [] before in
       let absent = not_there _ [] _ apart (none_at_all name) in
       ap (λ ls. lookup (bytes_eq name) (names_of ls)) (passed-append [] before (line ∷ after))
-      ∙ stays name _ (line ∷ earlier) after (itself name (place_of line earlier) (names_of earlier) line.label (has_ended earlier) is (has_ended-in_order _ ∙ live) absent);
-  none = λ name before after apart over.
+      ∙ stays name (place_of line earlier) (line ∷ earlier) after (itself name (place_of line earlier) (names_of earlier) line.label (has_ended earlier) is (has_ended-in_order before ∙ live) absent);
+  none = λ apart over.
       let earlier = passed_lines [] before in
       let absent = not_there _ [] _ apart (none_at_all name) in
       ap (λ ls. lookup (bytes_eq name) (names_of ls)) (passed-append [] before after)

@@ -1,5 +1,6 @@
 -- The first row of the table that holds.
-use Rattle.std.proofs.Common.{◌≡◌, ◌<◌, ◌&&◌, ℕ, Bool, true, false, List, [], ◌∷◌, ◌++◌, Some, Result, sym, ap, ◌∙◌, arith, ⊎_elim, nat_lt, nat_le, slice_index_or, is_none}
+use Rattle.std.proofs.Common.{◌≡◌, ◌<◌, ◌&&◌, ℕ, Bool, true, false, List, [], ◌∷◌, ◌++◌, Some, Result, sym, ap, ◌∙◌, arith, ⊎_elim, nat_lt, nat_le, find, option_map, slice_index_or, is_none}
+use Rattle.std.specs.Option.{option_map_or}
 use Rattle.std.proofs.lemmas.Bool.{le-leb, cases_Bool, cases_lt, cond-true, cond-false, and_from}
 use Rattle.lgp_assembler.specs.declared.operands.Meaning.{Meaning}
 use Rattle.lgp_assembler.specs.declared.operands.OperandFault.{OperandFault}
@@ -8,8 +9,9 @@ use Rattle.lgp_assembler.specs.declared.refusal.FaultKind.TheVariants.{BadByte, 
 use Rattle.lgp_assembler.specs.Fields.{LineFields}
 use Rattle.lgp_assembler.specs.Places.{has_word, place_reached, place_of, has_ended, names_of, is_taken}
 use Rattle.lgp_word.specs.Drum.{drum_size}
+use Rattle.lgp_assembler.specs.Operations.{least_operands, most_operands}
 use Rattle.lgp_assembler.specs.Parts.{is_loaders}
-use Rattle.lgp_assembler.specs.Faults.{says_something, most_allowed, least_needed, is_bad_label, is_label_again, is_misformed, is_unknown, is_out_of_range, line_meaning, first_kind, fault_of}
+use Rattle.lgp_assembler.specs.Faults.{says_something, is_bad_label, is_label_again, is_misformed, is_unknown, is_out_of_range, line_meaning, first_kind, fault_of}
 use Rattle.lgp_assembler.specs.ScanInside.{rows, Stands, ArePlacesTaken, coming_fault}
 
 -- the kind of a row that holds, and of those behind one that does not
@@ -30,11 +32,11 @@ abbrev front_rows : LineFields → Result Meaning OperandFault → Bool → List
 front_rows line meaning ended before =
     (line.is_bad, BadByte)
     ∷ (ended && says_something line, AfterEnd)
-    ∷ (nat_lt (most_allowed line.operation) line.count, Extra)
+    ∷ (nat_lt (option_map_or most_operands line.operation 2) line.count, Extra)
     ∷ (is_bad_label line.label, BadLabel)
     ∷ (is_label_again line.label before, LabelTwice)
     ∷ (line.has_operation && is_none line.operation, UnknownOrder)
-    ∷ (nat_lt line.count (least_needed line.operation), MissingOperand)
+    ∷ (nat_lt line.count (option_map_or least_operands line.operation 0), MissingOperand)
     ∷ (is_misformed meaning, BadOperand)
     ∷ (is_unknown meaning, UnknownName)
     ∷ (is_out_of_range meaning, OutOfRange)

@@ -3,7 +3,8 @@
 use Rattle.std.specs.Prelude.{ℕ, ◌+◌, ◌-◌, ◌==◌, ◌&&◌, ◌||◌, nat_le, nat_lt, Bool, false}
 use Rattle.std.specs.Prelude.{if◌then◌else◌}
 use Rattle.std.specs.Prelude.{List, length, take, drop, codes, slice_index}
-use Rattle.std.specs.Prelude.{Option, None, Some, option_map, Result, Ok, Err, ok_or}
+use Rattle.std.specs.Prelude.{Option, Some, option_map, Result, Ok, Err, ok_or}
+use Rattle.std.specs.Option.{option_map_or}
 use Rattle.std.specs.Str.{bytes_eq}
 use Rattle.std.specs.Char.{is_ascii_digit, is_ascii_lowercase}
 use Rattle.std.specs.List.{list_all, position_or_len}
@@ -11,6 +12,7 @@ use Rattle.std.specs.Map.{lookup}
 use Rattle.lgp_word.specs.Decimal.{decimal_number}
 use Rattle.lgp_word.specs.Digits.{address_text}
 use Rattle.lgp_word.specs.Drum.{drum_size}
+use Rattle.lgp_assembler.specs.Parts.{NameList}
 use Rattle.lgp_assembler.specs.declared.address_operands.Offset.{Offset}
 use Rattle.lgp_assembler.specs.declared.operands.OperandFault.{OperandFault}
 use Rattle.lgp_assembler.specs.declared.operands.OperandFault.TheVariants.{Misformed, Unknown}
@@ -41,7 +43,7 @@ offset_of text =
     (decimal_number 4 (drop 1 text))
 
 -- the number of a base: the place of the line, that of a name, or an address
-unfoldable pub base_number : List (List ℕ × ℕ) → ℕ → List ℕ → Result ℕ OperandFault
+unfoldable pub base_number : NameList → ℕ → List ℕ → Result ℕ OperandFault
 base_number names place base =
     if bytes_eq base (codes "*") then Ok place
     else (if is_name base then ok_or (lookup (bytes_eq base) names) Unknown
@@ -51,21 +53,17 @@ base_number names place base =
 abbrev pub in_range : ℕ → Result ℕ OperandFault
 in_range number = if nat_lt number drum_size then Ok number else Err Outside
 
--- the address that lies an offset from a number
-abbrev pub address_beside : Offset → ℕ → Result ℕ OperandFault
-address_beside offset number =
+-- the address that lies an offset from a base, where that has a number
+abbrev pub address_beside : Result ℕ OperandFault → Offset → Result ℕ OperandFault
+address_beside (Err fault) offset = Err fault
+address_beside (Ok number) offset =
     if offset.minus
     then (if nat_le offset.number number then in_range (number - offset.number) else Err Outside)
     else in_range (number + offset.number)
 
--- the address of an offset and a base, where both are there
-abbrev pub address_of_parts : Option Offset → Result ℕ OperandFault → Result ℕ OperandFault
-address_of_parts None base = Err Misformed
-address_of_parts (Some offset) (Err fault) = Err fault
-address_of_parts (Some offset) (Ok number) = address_beside offset number
-
 -- the value of an address operand: a base, then optionally a sign and a number
-unfoldable pub address_operand : List (List ℕ × ℕ) → ℕ → List ℕ → Result ℕ OperandFault
+unfoldable pub address_operand : NameList → ℕ → List ℕ → Result ℕ OperandFault
 address_operand names place text =
     let base = position_or_len is_sign text in
-    address_of_parts (offset_of (drop base text)) (base_number names place (take base text))
+    option_map_or (address_beside (base_number names place (take base text)))
+    (offset_of (drop base text)) (Err Misformed)

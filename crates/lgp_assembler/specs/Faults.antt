@@ -1,12 +1,11 @@
 -- Part of the public promise: the faults of a source. This project's own choice.
 use Rattle.std.specs.Prelude.{ℕ, ◌+◌, ◌&&◌, ◌||◌, not, nat_lt, nat_le, Bool, true, false}
-use Rattle.std.specs.Prelude.{if◌then◌else◌, find, List, [], ◌∷◌, ◌++◌, length, Option, None, Some}
-use Rattle.std.specs.Prelude.{Result, Err, is_some, is_none, option_map, option_to_list}
+use Rattle.std.specs.Prelude.{if◌then◌else◌, find, List, [], ◌∷◌, ◌++◌, length, Option}
+use Rattle.std.specs.Prelude.{Ok, Err, is_some, is_none, option_map, option_to_list}
+use Rattle.std.specs.Option.{option_map_or}
 use Rattle.std.specs.Str.{bytes_eq}
 use Rattle.std.specs.Map.{lookup}
-use Rattle.lgp_assembler.specs.declared.operations.Operation.{Operation}
-use Rattle.lgp_assembler.specs.declared.operands.Meaning.{Meaning}
-use Rattle.lgp_assembler.specs.declared.operands.OperandFault.{OperandFault}
+use Rattle.lgp_assembler.specs.declared.operands.Meaning.TheVariants.{Nothing}
 use Rattle.lgp_assembler.specs.declared.operands.OperandFault.TheVariants.{Misformed, Unknown}
 use Rattle.lgp_assembler.specs.declared.operands.OperandFault.TheVariants.{Outside}
 use Rattle.lgp_assembler.specs.declared.refusal.Fault.{Fault}
@@ -19,10 +18,10 @@ use Rattle.lgp_assembler.specs.declared.refusal.FaultKind.TheVariants.{OutOfRang
 use Rattle.lgp_assembler.specs.declared.refusal.FaultKind.TheVariants.{InLoader, PlaceTaken, NoEnd}
 use Rattle.lgp_assembler.specs.Operations.{least_operands, most_operands}
 use Rattle.lgp_assembler.specs.AddressOperands.{is_name}
-use Rattle.lgp_assembler.specs.Operands.{meaning_under}
+use Rattle.lgp_assembler.specs.Operands.{MeaningOrFault, meaning_of}
 use Rattle.lgp_assembler.specs.Fields.{LineFields}
 use Rattle.lgp_word.specs.Drum.{drum_size}
-use Rattle.lgp_assembler.specs.Parts.{is_loaders}
+use Rattle.lgp_assembler.specs.Parts.{NameList, is_loaders}
 use Rattle.lgp_assembler.specs.Places.{has_word, place_of, has_ended, names_of, is_taken}
 
 -- ---- the conditions of the table
@@ -31,41 +30,32 @@ use Rattle.lgp_assembler.specs.Places.{has_word, place_of, has_ended, names_of, 
 abbrev pub says_something : LineFields → Bool
 says_something line = is_some line.label || line.has_operation
 
--- the most operands that a line may have, by its operation; two where that is unknown
-abbrev pub most_allowed : Option Operation → ℕ
-most_allowed None = 2
-most_allowed (Some operation) = most_operands operation
-
--- the least operands that it has to have
-abbrev pub least_needed : Option Operation → ℕ
-least_needed None = 0
-least_needed (Some operation) = least_operands operation
-
 abbrev pub is_bad_label : Option (List ℕ) → Bool
-is_bad_label None = false
-is_bad_label (Some label) = not (is_name label)
+is_bad_label label = option_map_or (λ name. not (is_name name)) label false
 
 -- a line before it that counts has the same label
-abbrev pub is_label_again : Option (List ℕ) → List (List ℕ × ℕ) → Bool
-is_label_again None names = false
-is_label_again (Some label) names = is_some (lookup (bytes_eq label) names)
+abbrev pub is_label_again : Option (List ℕ) → NameList → Bool
+is_label_again label names =
+    option_map_or (λ name. is_some (lookup (bytes_eq name) names)) label false
 
-abbrev pub is_misformed : Result Meaning OperandFault → Bool
+abbrev pub is_misformed : MeaningOrFault → Bool
 is_misformed (Err Misformed) = true
 is_misformed _ = false
 
-abbrev pub is_unknown : Result Meaning OperandFault → Bool
+abbrev pub is_unknown : MeaningOrFault → Bool
 is_unknown (Err Unknown) = true
 is_unknown _ = false
 
-abbrev pub is_out_of_range : Result Meaning OperandFault → Bool
+abbrev pub is_out_of_range : MeaningOrFault → Bool
 is_out_of_range (Err Outside) = true
 is_out_of_range _ = false
 
--- what the operands of a line stand for in its place; with no operation, nothing
-abbrev pub line_meaning : List (List ℕ × ℕ) → ℕ → LineFields → Result Meaning OperandFault
+-- what the operands of a line stand for in its place, with the names of the whole source; with no
+-- operation, nothing
+abbrev pub line_meaning : NameList → ℕ → LineFields → MeaningOrFault
 line_meaning names place line =
-    meaning_under line.operation names place line.first line.second
+    option_map_or (λ operation. meaning_of names place operation line.first line.second)
+    line.operation (Ok Nothing)
 
 -- ---- the table of faults
 
@@ -74,24 +64,28 @@ pub record LineFacts : Type 0 where
   pub line : LineFields
   pub place : ℕ
   -- what its operands stand for there
-  pub meaning : Result Meaning OperandFault
+  pub meaning : MeaningOrFault
   -- whether the end line stands before it
   pub is_behind_end : Bool
   -- the names of the lines before it
-  pub names : List (List ℕ × ℕ)
+  pub names : NameList
   -- whether a word of theirs lies at its place
   pub is_place_taken : Bool
 
--- the conditions in order, each with its kind
+-- the conditions in order, each with its kind; a line may have two operands where its operation is
+-- unknown
 abbrev pub fault_rows : LineFacts → List (Bool × FaultKind)
 fault_rows known =
     (known.line.is_bad, BadByte)
     ∷ (known.is_behind_end && says_something known.line, AfterEnd)
-    ∷ (nat_lt (most_allowed known.line.operation) known.line.count, Extra)
+    ∷ (nat_lt (option_map_or most_operands known.line.operation 2) known.line.count, Extra)
     ∷ (is_bad_label known.line.label, BadLabel)
     ∷ (is_label_again known.line.label known.names, LabelTwice)
     ∷ (known.line.has_operation && is_none known.line.operation, UnknownOrder)
-    ∷ (nat_lt known.line.count (least_needed known.line.operation), MissingOperand)
+    ∷ (
+      nat_lt known.line.count (option_map_or least_operands known.line.operation 0),
+      MissingOperand,
+    )
     ∷ (is_misformed known.meaning, BadOperand)
     ∷ (is_unknown known.meaning, UnknownName)
     ∷ (is_out_of_range known.meaning, OutOfRange)
@@ -105,7 +99,7 @@ abbrev pub first_kind : List (Bool × FaultKind) → Option FaultKind
 first_kind rows = option_map (λ row. row.1) (find (λ row. row.0) rows)
 
 -- what is known of a line after those before it, with the names of the whole source
-abbrev pub facts_of : List (List ℕ × ℕ) → LineFields → List LineFields → LineFacts
+abbrev pub facts_of : NameList → LineFields → List LineFields → LineFacts
 facts_of names line earlier = let place = place_of line earlier in record {
   line = line;
   place = place;
@@ -116,14 +110,14 @@ facts_of names line earlier = let place = place_of line earlier in record {
 }
 
 -- the fault of a line after those before it: the kind of the first row that holds
-unfoldable pub fault_of : List (List ℕ × ℕ) → LineFields → List LineFields → Option FaultKind
+unfoldable pub fault_of : NameList → LineFields → List LineFields → Option FaultKind
 fault_of names line earlier = first_kind (fault_rows (facts_of names line earlier))
 
 abbrev pub numbered_fault : ℕ → FaultKind → Fault
 numbered_fault number kind = record { line = number; kind = kind }
 
 -- the faults of some lines, the nearest first, in order of the lines
-unfoldable pub faults_in : List (List ℕ × ℕ) → List LineFields → List Fault
+unfoldable pub faults_in : NameList → List LineFields → List Fault
 faults_in names [] = []
 faults_in names (line ∷ earlier) =
     faults_in names earlier

@@ -7,17 +7,13 @@ use Rattle.std.specs.Str.{bytes_eq}
 use Rattle.std.specs.Map.{lookup}
 use Rattle.lgp_source.specs.Source.{lines_of}
 use Rattle.lgp_assembler.specs.Fields.{LineFields, fields_of}
-use Rattle.lgp_assembler.specs.Places.{org_address, has_word, word_count, place_of, has_ended}
+use Rattle.lgp_assembler.specs.Places.{org_of, has_word, word_count, place_of, has_ended}
 use Rattle.lgp_assembler.specs.Places.{names_of}
 use Rattle.lgp_assembler.specs.declared.refusal.Fault.{Fault}
 use Rattle.lgp_assembler.specs.declared.refusal.FaultKind.{FaultKind}
 use Rattle.lgp_assembler.specs.Faults.{LineFacts, facts_of, fault_rows, first_kind, fault_of}
 use Rattle.lgp_assembler.specs.Faults.{faults_in, missing_end, numbered_fault}
 use Rattle.lgp_assembler.specs.Image.{faults_of, image_of, passed_lines}
-
--- the address of an `org` line whose first operand is one
-abbrev pub org_of : LineFields → Option ℕ
-org_of line = org_address line.operation line.first
 
 abbrev pub HasNoOrg : List LineFields → Type 0
 HasNoOrg lines = All (λ line. org_of line ≡ None) lines
@@ -34,14 +30,12 @@ place_after before line = place_of line (passed_lines [] before)
 -- the place of an `org` line with an address is that address; that of any other line is the address
 -- of the nearest such line before it plus the words of the lines between, or, with none, the words
 -- of the lines before it
-pub record PlacesCountFromOrgs : Type 0 where
-  pub own : (before : List LineFields) (line : LineFields) (address : ℕ)
-      → org_of line ≡ Some address → place_after before line ≡ address
-  pub nearest : (before between : List LineFields) (org line : LineFields) (address : ℕ)
+pub record PlacesCountFromOrgs (before : List LineFields) (line : LineFields) : Type 0 where
+  pub own : (address : ℕ) → org_of line ≡ Some address → place_after before line ≡ address
+  pub nearest : (between : List LineFields) (org : LineFields) (address : ℕ)
       → org_of org ≡ Some address → HasNoOrg between → org_of line ≡ None
       → place_after (before ++ org ∷ between) line ≡ address + word_total between
-  pub none : (before : List LineFields) (line : LineFields)
-      → HasNoOrg before → org_of line ≡ None → place_after before line ≡ word_total before
+  pub none : HasNoOrg before → org_of line ≡ None → place_after before line ≡ word_total before
 
 abbrev pub HasNotLabel : List ℕ → List LineFields → Type 0
 HasNotLabel name lines = All (λ line. line.label ≢ Some name) lines
@@ -52,13 +46,11 @@ value_in lines name = lookup (bytes_eq name) (names_of (passed_lines [] lines))
 
 -- a name's value is the place of the first line with that label that is not after the end line;
 -- with no such line it has none
-pub record NamesAreFirstPlaces : Type 0 where
-  pub first : (name : List ℕ) (before after : List LineFields) (line : LineFields)
-      → has_ended before ≡ false → HasNotLabel name before
-      → line.label ≡ Some name
+pub record NamesAreFirstPlaces (name : List ℕ) (before after : List LineFields) : Type 0 where
+  pub first : (line : LineFields)
+      → has_ended before ≡ false → HasNotLabel name before → line.label ≡ Some name
       → value_in (before ++ line ∷ after) name ≡ Some (place_after before line)
-  pub none : (name : List ℕ) (before after : List LineFields)
-      → HasNotLabel name before → (has_ended before ≡ true) ⊎ (after ≡ [])
+  pub none : HasNotLabel name before → (has_ended before ≡ true) ⊎ (after ≡ [])
       → value_in (before ++ after) name ≡ None
 
 -- the lines of a source
@@ -90,19 +82,17 @@ pub record HasWordAt (lines : List LineFields) (place : ℕ) : Type 0 where
 -- behind them that of a missing end line. The fault of a line is that of the first row of the table
 -- that holds; whether an end line stands before it is asked of the lines before it, and its place
 -- is taken where one of them has a word there
-pub record FaultsFollowLines : Type 0 where
-  pub none : (source : List ℕ) → first_faults source [] ≡ []
-  pub more : (source : List ℕ) (before : List LineFields) (line : LineFields)
-      → first_faults source (before ++ line ∷ []) ≡ first_faults source before
+pub record FaultsFollowLines (source : List ℕ) (before : List LineFields) (line : LineFields)
+    : Type 0 where
+  pub none : first_faults source [] ≡ []
+  pub more : first_faults source (before ++ line ∷ []) ≡ first_faults source before
       ++ option_to_list (option_map (numbered_fault line.number) (fault_behind source before line))
-  pub all : (source : List ℕ) → faults_of source ≡ first_faults source (lines_in source)
-      ++ missing_end (lines_in source)
-  pub first_row : (source : List ℕ) (before : List LineFields) (line : LineFields)
-      → fault_behind source before line ≡ first_kind (fault_rows (facts_behind source before line))
-  pub behind_end : (source : List ℕ) (before : List LineFields) (line : LineFields)
-      → (facts_behind source before line).is_behind_end ≡ has_ended before
-  pub place_taken : (source : List ℕ) (before : List LineFields) (line : LineFields)
-      → ((facts_behind source before line).is_place_taken ≡ true)
+  pub all : faults_of source
+      ≡ first_faults source (lines_in source) ++ missing_end (lines_in source)
+  pub first_row : fault_behind source before line
+      ≡ first_kind (fault_rows (facts_behind source before line))
+  pub behind_end : (facts_behind source before line).is_behind_end ≡ has_ended before
+  pub place_taken : ((facts_behind source before line).is_place_taken ≡ true)
       ↔ HasWordAt before (place_after before line)
 
 -- among some cells, behind so many others, the cell of a place
@@ -111,11 +101,10 @@ HasCellAt cells place others =
     (word : ℕ) × (front : List (ℕ × ℕ)) × (behind : List (ℕ × ℕ))
     × (cells ≡ front ++ (place, word) ∷ behind) × (length front ≡ others)
 
--- in a source without faults each line with a word has its cell, at the line's place and behind the
--- cells of the lines before it; and there are as many cells as such lines
-pub record LinesHaveCells : Type 0 where
-  pub each : (source : List ℕ) (before after : List LineFields) (line : LineFields)
-      → faults_of source ≡ [] → lines_in source ≡ before ++ line ∷ after → has_word line ≡ true
+-- what holds of a source without faults: each line with a word has its cell, at the line's place and
+-- behind the cells of the lines before it; and there are as many cells as such lines
+pub record LinesHaveCells (source : List ℕ) : Type 0 where
+  pub each : (before after : List LineFields) (line : LineFields)
+      → lines_in source ≡ before ++ line ∷ after → has_word line ≡ true
       → HasCellAt (image_of source).cells (place_after before line) (word_total before)
-  pub count : (source : List ℕ) → faults_of source ≡ []
-      → length (image_of source).cells ≡ word_total (lines_in source)
+  pub count : length (image_of source).cells ≡ word_total (lines_in source)

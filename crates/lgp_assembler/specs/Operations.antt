@@ -1,9 +1,10 @@
 -- Part of the public promise: the operations of the source language, and how many operands each
 -- takes. This project's own choice; the order letters are those of the Programming Manual.
 use Rattle.std.specs.Prelude.{ℕ, ◌==◌, Bool, true, false, if◌then◌else◌, List, length, codes}
-use Rattle.std.specs.Prelude.{slice_index, Option, None, Some, option_map}
+use Rattle.std.specs.Prelude.{[], ◌∷◌, slice_index, Option, None, option_map}
+use Rattle.std.specs.Map.{lookup}
+use Rattle.std.specs.Option.{option_or}
 use Rattle.std.specs.Str.{bytes_eq}
-use Rattle.lgp_word.specs.declared.order.Op.{Op}
 use Rattle.lgp_word.specs.declared.order.Op.TheVariants.{Z, I, P}
 use Rattle.lgp_word.specs.Order.{op_of_letter}
 use Rattle.lgp_assembler.specs.declared.operations.Operation.{Operation}
@@ -18,47 +19,27 @@ letter_operation text =
 -- the operation that a token names
 unfoldable pub operation_of : List ℕ → Option Operation
 operation_of text =
-    if bytes_eq text (codes "org") then Some Org
-    else (if bytes_eq text (codes "word") then Some Word
-    else (if bytes_eq text (codes "frac") then Some Frac
-    else (if bytes_eq text (codes "int") then Some Int
-    else (if bytes_eq text (codes "end") then Some End
-    else (if bytes_eq text (codes "-t") then Some MinusT
-    else letter_operation text)))))
+    option_or
+    (lookup (bytes_eq text) ((codes "org", Org) ∷ (codes "word", Word) ∷ (codes "frac", Frac)
+    ∷ (codes "int", Int) ∷ (codes "end", End) ∷ (codes "-t", MinusT) ∷ []))
+    (letter_operation text)
 
--- the orders that do without an address
-abbrev pub may_stand_alone : Op → Bool
-may_stand_alone Z = true
-may_stand_alone I = true
-may_stand_alone P = true
-may_stand_alone _ = false
-
--- how many operands an operation needs
+-- how many operands an operation needs: the orders z, i and p do without an address
 abbrev pub least_operands : Operation → ℕ
-least_operands (Order op) = if may_stand_alone op then 0 else 1
-least_operands MinusT = 1
-least_operands Org = 1
-least_operands Word = 1
-least_operands Frac = 1
+least_operands (Order Z) = 0
+least_operands (Order I) = 0
+least_operands (Order P) = 0
 least_operands Int = 2
 least_operands End = 0
+least_operands _ = 1
 
 -- and how many it takes
 abbrev pub most_operands : Operation → ℕ
-most_operands (Order op) = 1
-most_operands MinusT = 1
-most_operands Org = 1
-most_operands Word = 1
-most_operands Frac = 1
 most_operands Int = 2
-most_operands End = 1
+most_operands _ = 1
 
 -- whether it makes one word
 abbrev pub makes_word : Operation → Bool
-makes_word (Order op) = true
-makes_word MinusT = true
 makes_word Org = false
-makes_word Word = true
-makes_word Frac = true
-makes_word Int = true
 makes_word End = false
+makes_word _ = true

@@ -6,12 +6,16 @@ use Rattle.std.specs.List.{All, AllPairs}
 use Rattle.lgp_word.specs.Address.{IsAddress}
 use Rattle.lgp_word.specs.Word.{IsWord}
 
+-- names, each with its value
+abbrev pub NameList : Type 0
+NameList = List (List ℕ × ℕ)
+
 -- the words with their places in order of the lines, the start, and the names with their values in
 -- order of the lines
 pub record ImageParts : Type 0 where
   pub cells : List (ℕ × ℕ)
   pub start : Option ℕ
-  pub symbols : List (List ℕ × ℕ)
+  pub symbols : NameList
 
 -- the loader's 22 places, 6300 to 6321: the first of them, and the one behind the last
 abbrev pub loader_base : ℕ
@@ -22,10 +26,6 @@ loader_past = 4054
 
 abbrev pub is_loaders : ℕ → Bool
 is_loaders place = nat_le loader_base place && nat_lt place loader_past
-
--- a place before the loader's or behind them
-abbrev pub IsOffLoader : ℕ → Type 0
-IsOffLoader place = (place < loader_base) ⊎ (loader_past ≤ place)
 
 -- a cell of a program: a word on the drum, at no place of the loader
 abbrev pub IsProgramCell : ℕ × ℕ → Type 0
@@ -40,5 +40,5 @@ AreProgramCells (cell ∷ cells) = IsProgramCell cell × AreProgramCells cells
 pub record HaveOwnPlaces (cells : List (ℕ × ℕ)) : Type 0 where
   pub apart : AllPairs (λ one other. one.0 ≢ other.0) cells
   pub on_drum : All (λ cell. IsAddress cell.0) cells
-  pub free : All (λ cell. IsOffLoader cell.0) cells
+  pub free : All (λ cell. (cell.0 < loader_base) ⊎ (loader_past ≤ cell.0)) cells
   pub few : length cells ≤ 4074

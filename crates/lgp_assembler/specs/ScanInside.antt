@@ -1,22 +1,20 @@
 -- Serves proofs only: what the assembler keeps of the lines that it has passed, the nearest first.
 use Rattle.std.specs.Prelude.{◌≡◌, ℕ, ◌<◌, ◌≤◌, Bool, false, List, length, slice_index_or}
-use Rattle.std.specs.Prelude.{[], Option, None, Some, Result, Ok}
-use Rattle.lgp_word.specs.Address.{IsAddress}
-use Rattle.lgp_assembler.specs.declared.operands.Meaning.{Meaning}
+use Rattle.std.specs.Prelude.{[], Option, Ok, IfSome, option_map}
 use Rattle.lgp_assembler.specs.declared.operands.Meaning.TheVariants.{Cell}
-use Rattle.lgp_assembler.specs.declared.operands.OperandFault.{OperandFault}
 use Rattle.lgp_assembler.specs.declared.refusal.Fault.{Fault}
 use Rattle.lgp_assembler.specs.declared.refusal.FaultKind.{FaultKind}
 use Rattle.lgp_assembler.specs.Fields.{LineFields}
 use Rattle.lgp_word.specs.Drum.{drum_size}
-use Rattle.lgp_assembler.specs.Parts.{AreProgramCells}
+use Rattle.lgp_assembler.specs.Parts.{AreProgramCells, NameList}
+use Rattle.lgp_assembler.specs.Operands.{MeaningOrFault}
 use Rattle.lgp_assembler.specs.Faults.{fault_rows, first_kind, faults_in}
 use Rattle.lgp_assembler.specs.Image.{cells_in, start_in}
 use Rattle.lgp_assembler.specs.Places.{next_place, has_ended, names_of, is_taken}
 
 -- what is kept of some lines: how many they are, the place that they lead to, whether an end line
 -- is among them, and their names
-pub record Stands (lines place : ℕ) (ended : Bool) (names : List (List ℕ × ℕ))
+pub record Stands (lines place : ℕ) (ended : Bool) (names : NameList)
     (earlier : List LineFields) : Type 0 where
   pub lines_are : lines ≡ length earlier
   pub place_is : place ≡ next_place earlier
@@ -29,7 +27,7 @@ pub record ArePlacesTaken (taken : List Bool) (earlier : List LineFields) : Type
   pub places_are : (p : ℕ) → p < drum_size → slice_index_or taken p false ≡ is_taken p earlier
 
 -- the table of a line by what the program has found of it
-abbrev pub rows : LineFields → Result Meaning OperandFault → ℕ → Bool → List (List ℕ × ℕ) → Bool
+abbrev pub rows : LineFields → MeaningOrFault → ℕ → Bool → NameList → Bool
     → List (Bool × FaultKind)
 rows line meaning place ended names taken = fault_rows (record {
   line = line;
@@ -41,33 +39,26 @@ rows line meaning place ended names taken = fault_rows (record {
 })
 
 -- the fault of the line that comes, by the places that are taken
-abbrev pub coming_fault : LineFields → Result Meaning OperandFault → ℕ → Bool
-    → List (List ℕ × ℕ) → List Bool → Option FaultKind
+abbrev pub coming_fault : LineFields → MeaningOrFault → ℕ → Bool
+    → NameList → List Bool → Option FaultKind
 coming_fault line meaning place ended names taken =
     first_kind (rows line meaning place ended names (slice_index_or taken place false))
 
--- a word lies on the drum
-abbrev pub CellFits : ℕ → Result Meaning OperandFault → Type 0
-CellFits place (Ok (Cell word)) = IsAddress place
-CellFits place _ = Unit {0}
-
 -- what holds of the word of a line, where it has one
-abbrev pub IfCell : Result Meaning OperandFault → (ℕ → Type 0) → Type 0
+abbrev pub IfCell : MeaningOrFault → (ℕ → Type 0) → Type 0
 IfCell (Ok (Cell word)) P = P word
 IfCell _ P = Unit {0}
 
 -- a label has at most eight bytes, and its value is at most one past the drum
 abbrev pub SymbolFits : Option (List ℕ) → ℕ → Type 0
-SymbolFits None place = Unit {0}
-SymbolFits (Some label) place = (length label ≤ 8) × (place ≤ drum_size)
+SymbolFits label place = IfSome label (λ name. (length name ≤ 8) × (place ≤ drum_size))
 
 abbrev pub symbol_at : Option (List ℕ) → ℕ → Option (List ℕ × ℕ)
-symbol_at None place = None
-symbol_at (Some label) place = Some (label, place)
+symbol_at label place = option_map (λ name. (name, place)) label
 
 -- what lines without a fault give
-pub record IsImageOf (names : List (List ℕ × ℕ)) (cells : List (ℕ × ℕ)) (start : Option ℕ)
-    (symbols : List (List ℕ × ℕ)) (earlier : List LineFields) : Type 0 where
+pub record IsImageOf (names : NameList) (cells : List (ℕ × ℕ)) (start : Option ℕ)
+    (symbols : NameList) (earlier : List LineFields) : Type 0 where
   pub cells_are : cells ≡ cells_in names earlier
   pub start_is : start ≡ start_in names earlier
   pub symbols_are : symbols ≡ names_of earlier
@@ -76,7 +67,7 @@ pub record IsImageOf (names : List (List ℕ × ℕ)) (cells : List (ℕ × ℕ)
 
 -- what some lines give: their faults, and where there are none their words, their start and their
 -- names
-pub record IsDraftOf (names : List (List ℕ × ℕ)) (faults : List Fault) (cells : List (ℕ × ℕ))
-    (start : Option ℕ) (symbols : List (List ℕ × ℕ)) (earlier : List LineFields) : Type 0 where
+pub record IsDraftOf (names : NameList) (faults : List Fault) (cells : List (ℕ × ℕ))
+    (start : Option ℕ) (symbols : NameList) (earlier : List LineFields) : Type 0 where
   pub faults_are : faults ≡ faults_in names earlier
   pub image : faults ≡ [] → IsImageOf names cells start symbols earlier

@@ -1,6 +1,6 @@
 //! Names, and what address operands stand for.
 
-ghost use Rattle.std.specs.Prelude.{◌≡◌, ◌≤◌, length};
+ghost use Rattle.std.specs.Prelude.{◌≡◌, ◌≤◌, Ok, length};
 ghost use Rattle.std.specs.List.{list_all, position, position_or_len};
 ghost use Rattle.lgp_assembler.specs.AddressOperands as spec;
 
@@ -96,7 +96,7 @@ pub fn in_range(number: u64) -> Result<Address, OperandFault>
 
 /// The address that lies an offset from a number.
 fn address_beside(offset: Offset, number: u64) -> Result<Address, OperandFault>
-    ensures { result ≡ spec.address_beside offset number }
+    ensures { result ≡ spec.address_beside (Ok number) offset }
 {
     if offset.minus {
         match number.checked_sub(offset.number) {

@@ -1,8 +1,9 @@
 //! The conditions of the table of faults.
 
 ghost use Rattle.std.specs.Prelude.{◌≡◌};
-ghost use Rattle.std.specs.Option.{option_copied};
+ghost use Rattle.std.specs.Option.{option_copied, option_map_or};
 ghost use Rattle.lgp_assembler.specs.Faults as spec;
+ghost use Rattle.lgp_assembler.specs.Operations.{least_operands, most_operands};
 ghost use Rattle.lgp_assembler.specs.Parts.{is_loaders};
 ghost use Rattle.lgp_assembler.specs.FieldsSeenInside.{fields_seen};
 ghost use Rattle.lgp_assembler.specs.ScanInside.{rows};
@@ -26,7 +27,7 @@ fn says_something(fields: &Fields) -> bool
 
 /// The most operands that a line may have.
 fn most_allowed(operation: Option<Operation>) -> usize
-    ensures { result ≡ spec.most_allowed operation }
+    ensures { result ≡ option_map_or most_operands operation 2 }
 {
     match operation {
         Some(operation) => operation.most_operands(),
@@ -36,7 +37,7 @@ fn most_allowed(operation: Option<Operation>) -> usize
 
 /// The least operands that a line has to have.
 fn least_needed(operation: Option<Operation>) -> usize
-    ensures { result ≡ spec.least_needed operation }
+    ensures { result ≡ option_map_or least_operands operation 0 }
 {
     match operation {
         Some(operation) => operation.least_operands(),

@@ -2,13 +2,14 @@
 
 ghost use Rattle.std.specs.Prelude.{◌≡◌, ◌++◌, [], None, true, IfOk, OnOk, option_to_list, option_map, slice_set, if◌then◌else◌, length, ◌≤◌};
 ghost use Rattle.std.specs.Option.{option_copied, option_or};
+ghost use Rattle.lgp_word.specs.Address.{IsAddress};
 ghost use Rattle.lgp_word.specs.Word.{IsWord};
 ghost use Rattle.lgp_assembler.specs.Faults.{numbered_fault, line_meaning};
 ghost use Rattle.lgp_assembler.specs.FieldsSeenInside.{fields_seen};
 ghost use Rattle.lgp_assembler.specs.Image as spec;
 ghost use Rattle.lgp_assembler.specs.Image.{all_lines};
 ghost use Rattle.lgp_assembler.specs.Places.{has_word};
-ghost use Rattle.lgp_assembler.specs.ScanInside.{ArePlacesTaken, coming_fault, CellFits, IfCell, SymbolFits, symbol_at, IsDraftOf};
+ghost use Rattle.lgp_assembler.specs.ScanInside.{ArePlacesTaken, coming_fault, IfCell, SymbolFits, symbol_at, IsDraftOf};
 
 use crate::address_operands::in_range;
 use crate::conditions::{fault_of, line_meaning};
@@ -56,7 +57,8 @@ fn add_cell<A: Allocator>(
     place: u64,
     meaning: &Result<Meaning, OperandFault>,
 ) -> Result<(), AllocError>
-    ensures cells { OnOk result (CellFits place meaning.now
+    ensures cells { OnOk result
+        (IfCell meaning.now (λ word. IsAddress place)
         → cells.new.items ≡ cells.old.items ++ option_to_list (spec.cell_at place meaning.now)) }
     ensures word { IfCell meaning.now IsWord }
 {
@@ -117,7 +119,7 @@ impl<A: Allocator> Parts<A> {
         meaning: &Result<Meaning, OperandFault>,
     ) -> Result<(), AllocError>
         ensures cells { let more = option_to_list (spec.cell_at place meaning.now) in
-            OnOk result (CellFits place meaning.now
+            OnOk result (IfCell meaning.now (λ word. IsAddress place)
             → self.new.cells.items ≡ self.old.cells.items ++ more) }
         ensures words { OnOk result (IfCell meaning.now IsWord) }
         ensures start { let start = spec.start_at fields.now.operation meaning.now in
@@ -155,7 +157,7 @@ impl<A: Allocator> Draft<A> {
             OnOk result (self.new.faults.items ≡ self.old.faults.items ++ more) }
         ensures cells { let meaning = line_meaning names.now place (fields_seen fields.now) in
             let more = option_to_list (spec.cell_at place meaning) in
-            OnOk result (self.new.faults.items ≡ [] → CellFits place meaning
+            OnOk result (self.new.faults.items ≡ [] → IfCell meaning (λ word. IsAddress place)
             → self.new.parts.cells.items ≡ self.old.parts.cells.items ++ more) }
         ensures words { let meaning = line_meaning names.now place (fields_seen fields.now) in
             OnOk result (self.new.faults.items ≡ [] → IfCell meaning IsWord) }

@@ -1,6 +1,7 @@
 //! Laws, for readers and proofs: functions that do nothing, and whose contracts are the laws.
 
 ghost use Rattle.std.specs.Prelude.{◌≡◌, ℕ, IfSome, List, []};
+ghost use Rattle.lgp_assembler.specs.Fields.{LineFields};
 ghost use Rattle.lgp_assembler.specs.Image.{faults_of, image_of};
 ghost use Rattle.lgp_assembler.specs.Laws.{FaultsFollowLines, LinesHaveCells, NamesAreFirstPlaces, PlacesCountFromOrgs};
 ghost use Rattle.lgp_assembler.specs.Parts.{AreProgramCells, HaveOwnPlaces};
@@ -11,14 +12,15 @@ ghost use Rattle.lgp_word.specs.Address.{IsAddress};
 /// lines between, or, with none, the words of the lines before it.
 #[tactic(auto, using(crate::proofs::PlaceLaws::places_law))]
 pub fn places_count_from_orgs()
-    ensures { PlacesCountFromOrgs }
+    ensures { (before : List LineFields) (line : LineFields) → PlacesCountFromOrgs before line }
 {}
 
 /// A law, for readers and proofs: a name's value is the place of the first line with that label
 /// that is not after the end line, and a name that no such line has as its label has no value.
 #[tactic(auto, using(crate::proofs::PlaceLaws::names_law))]
 pub fn names_are_first_places()
-    ensures { NamesAreFirstPlaces }
+    ensures { (name : List ℕ) (before after : List LineFields)
+        → NamesAreFirstPlaces name before after }
 {}
 
 /// A law, for readers and proofs: the faults of a source are those of its lines, in their order,
@@ -26,17 +28,16 @@ pub fn names_are_first_places()
 /// it has one: that of the first row of the table that holds for it. What the rows ask of the lines
 /// before it is whether one of them is an end line, which labels they have, and whether one of them
 /// has a word at its place.
-#[tactic(auto, using(crate::proofs::FaultLaws::faults_law))]
 pub fn faults_follow_lines()
-    ensures { FaultsFollowLines }
+    ensures { (source : List ℕ) (before : List LineFields) (line : LineFields)
+        → FaultsFollowLines source before line }
 {}
 
 /// A law, for readers and proofs: in a source without faults each line with a word has its cell, at
 /// the line's place and behind the cells of the lines before it, and there are as many cells as
 /// such lines.
-#[tactic(auto, using(crate::proofs::CellLaws::cells_law))]
 pub fn lines_have_cells()
-    ensures { LinesHaveCells }
+    ensures { (source : List ℕ) → faults_of source ≡ [] → LinesHaveCells source }
 {}
 
 /// A law, for readers and proofs: the words of a source without faults lie at places of their own,

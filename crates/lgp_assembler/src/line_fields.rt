@@ -1,10 +1,11 @@
 //! A line as the assembler sees it.
 
-ghost use Rattle.std.specs.Prelude.{◌≡◌, ◌<◌};
-ghost use Rattle.std.specs.Option.{option_copied, option_map};
+ghost use Rattle.std.specs.Prelude.{◌≡◌, ◌<◌, false};
+ghost use Rattle.std.specs.Option.{option_copied, option_map, option_map_or};
 ghost use Rattle.lgp_source.specs.Seen.{line_seen, token_seen};
 ghost use Rattle.lgp_assembler.specs.Fields as spec;
 ghost use Rattle.lgp_assembler.specs.FieldsSeenInside.{fields_seen};
+ghost use Rattle.lgp_assembler.specs.Operations.{makes_word};
 ghost use Rattle.lgp_assembler.specs.Places as places;
 
 use crate::operations::{Operation, operation_of};
@@ -93,7 +94,7 @@ pub fn fields_of<'a>(line: &Line<'a>) -> Fields<'a>
 
 /// Whether there is an operation that makes a word.
 fn makes_word(operation: Option<Operation>) -> bool
-    ensures { result ≡ places.option_makes_word operation }
+    ensures { result ≡ option_map_or makes_word operation false }
 {
     match operation {
         Some(operation) => operation.makes_word(),

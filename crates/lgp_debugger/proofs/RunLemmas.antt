@@ -9,7 +9,7 @@ use Rattle.lgp_history.specs.Step.{Perform}
 use Rattle.lgp_history.specs.Steps.{CanStep}
 use Rattle.lgp_history.specs.declared.rule.Rule.{Rule}
 use Rattle.lgp_debugger.specs.Debugging.{Debugging, performed}
-use Rattle.lgp_debugger.specs.Run.{IsOrderOfRun, IsRun, at_clock_end, ended_for, first_stop, one_order_more, run_of, unless_stopped}
+use Rattle.lgp_debugger.specs.Run.{IsOrderOfRun, IsRun, ended_for, first_stop, one_order_more, run_of, unless_stopped}
 use Rattle.lgp_debugger.specs.RunInside.{rules_in_force}
 use Rattle.lgp_debugger.specs.declared.fault.Ran.{Ran}
 use Rattle.lgp_debugger.specs.declared.fault.Reason.TheVariants as reasons
@@ -47,7 +47,7 @@ module _ (rules : List Rule) where
   unfolding run_of
   no_order s e = rw e refl
 
-  passing : (n : ℕ) (s : State) → rests s ≡ false → passes_clock_end s ≡ true → run_of rules (suc n) s ≡ at_clock_end
+  passing : (n : ℕ) (s : State) → rests s ≡ false → passes_clock_end s ≡ true → run_of rules (suc n) s ≡ Err (record { orders = 0; fault = refusals.ClockEnd })
   unfolding run_of
   passing n s e f = rw (e, f) refl
 
@@ -85,7 +85,7 @@ module _ (by_rules : Bool) (first now new : Debugging) (done limit : ℕ) (h : H
   from_here n is = ap (λ (k : ℕ). run_of rules k first.state) is ∙ h.goes_on n
 
   ended : (ran : Ran) → run_of rules limit first.state ≡ Ok ran → new ≡ performed first ran.orders → IsRun rules limit first new (Ok ran)
-  ended ran is reached = record { ran = is; broken_off = tt; stands = tt; within = tt; clock_end = tt; performed = reached }
+  ended ran is reached = record { ran = is; stands = tt; within = tt; clock_end = tt; performed = reached }
 
   an_order_on : (n : ℕ) (stop : Option ℕ) → IsOrderOfRun rules now new (Ok stop)
       → run_of rules (done + suc n) first.state ≡ more done (one_order_more (unless_stopped stop (run_of rules n new.state)))
@@ -142,9 +142,8 @@ module _ (by_rules : Bool) (first now new : Debugging) (done limit : ℕ) (h : H
       let here = by_these _ _ is order in
       let past : clock_end < new.state.clock + cost new.state = subst (λ (d : Debugging). clock_end < d.state.clock + cost d.state) (sym here.2) here.1 in
       record {
-        ran = tt;
-        broken_off = λ _. from_here (suc (limit - done - 1)) (omega arith)
-            ∙ ap (more done) (passing _ _ now.state here.0 (lt-ltb clock_end (now.state.clock + cost now.state) here.1))
+        ran = λ _. from_here (suc (limit - done - 1)) (omega arith)
+            ∙ ap (more done) (passing rules (limit - done - 1) now.state here.0 (lt-ltb clock_end (now.state.clock + cost now.state) here.1))
             ∙ ap (λ (k : ℕ). Err (record { orders = k; fault = refusals.ClockEnd })) (zero-add done);
         stands = done_all here.0;
         within = below;
@@ -158,8 +157,7 @@ module _ (by_rules : Bool) (first now new : Debugging) (done limit : ℕ) (h : H
       let here = by_these _ _ is order in
       let room : new.state.clock + cost new.state ≤ clock_end = subst (λ (d : Debugging). d.state.clock + cost d.state ≤ clock_end) (sym here.1) here.0.1 in
       record {
-        ran = tt;
-        broken_off = λ e. cc;
+        ran = λ e. cc;
         stands = done_all here.0.0;
         within = below;
         clock_end = (λ e. cc, λ past. absurd (omega arith));

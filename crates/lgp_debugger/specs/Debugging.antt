@@ -1,5 +1,6 @@
 -- Part of the public promise: the debugger as clauses see it, and what each step leaves of it.
-use Rattle.std.specs.Prelude.{ℕ, zero, suc, List, Option, Some, None}
+use Rattle.std.specs.Prelude.{ℕ, zero, suc, List, Option}
+use Rattle.std.specs.Option.{option_and_then}
 use Rattle.lgp_table.specs.State.{State}
 use Rattle.lgp_table.specs.Activity.{begun_order, place_in}
 use Rattle.lgp_history.specs.Step.{KeptStep, Step, Perform}
@@ -39,14 +40,10 @@ unfoldable pub performed : Debugging → ℕ → Debugging
 performed d zero = d
 performed d (suc count) = after_step (performed d count) Perform
 
--- the origin of the word at a place, if there is one
-abbrev pub origin_at : Option ℕ → List KeptStep → Option Origin
-origin_at None steps = None
-origin_at (Some place) steps = latest_change place steps
-
 -- where the order came from that begins here: one in the instruction register alone has no place
 abbrev pub order_origin : Debugging → Option Origin
-order_origin d = origin_at (place_in (begun_order d.state.core)) d.steps
+order_origin d =
+    option_and_then (λ place. latest_change place d.steps) (place_in (begun_order d.state.core))
 
 -- where the order came from that begins after so many
 unfoldable pub order_origins : Debugging → ℕ → Option Origin

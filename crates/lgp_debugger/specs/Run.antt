@@ -1,7 +1,7 @@
 -- Part of the public promise: runs, and what one comes to. That depends alone on the rules and on
 -- the state in which it begins.
 use Rattle.std.specs.Prelude.{◌≡◌, ◌↔◌, ℕ, zero, suc, ◌+◌, ◌<◌, Bool, false, List, Option, Some}
-use Rattle.std.specs.Prelude.{None, Result, Ok, Err, IfErr, IfOk, IsTrue, if◌then◌else◌, position}
+use Rattle.std.specs.Prelude.{None, Result, Ok, Err, IfErr, IsTrue, if◌then◌else◌, position}
 use Rattle.lgp_table.specs.State.{State}
 use Rattle.lgp_table.specs.Activity.{cost, next}
 use Rattle.lgp_table.specs.Console.{is_at_rest}
@@ -31,12 +31,9 @@ stops_run before (Changed address) = changes before address
 abbrev pub first_stop : List Rule → State → Option ℕ
 first_stop rules before = position (stops_run before) rules
 
--- a run that ends before any order, and one whose first order would pass the clock's end
+-- a run that ends before any order
 abbrev pub ended_for : Reason → Result Ran RunFault
 ended_for reason = Ok (record { orders = 0; reason = reason })
-
-abbrev pub at_clock_end : Result Ran RunFault
-at_clock_end = Err (record { orders = 0; fault = refusals.ClockEnd })
 
 -- a run with one order before it
 abbrev pub one_order_more : Result Ran RunFault → Result Ran RunFault
@@ -56,7 +53,7 @@ run_of rules zero s =
     if is_at_rest s.core.panel.status then ended_for reasons.Rest else ended_for reasons.Limit
 run_of rules (suc more) s =
     if is_at_rest s.core.panel.status then ended_for reasons.Rest
-    else (if passes_clock_end s then at_clock_end
+    else (if passes_clock_end s then Err (record { orders = 0; fault = refusals.ClockEnd })
     else one_order_more (unless_stopped (first_stop rules s) (run_of rules more (next s))))
 
 -- how many orders a run performed
@@ -87,9 +84,7 @@ IsOrderOfRun rules old new (Err Memory) = CanStep Perform old.state × (new ≡ 
 -- where it would pass that, and else for memory
 pub record IsRun (rules : List Rule) (limit : ℕ) (old new : Debugging)
     (answer : Result Ran RunFault) : Type 0 where
-  pub ran : IfOk answer (λ ran. run_of rules limit old.state ≡ Ok ran)
-  pub broken_off : IfErr answer (λ fault.
-      fault.fault ≡ refusals.ClockEnd → run_of rules limit old.state ≡ Err fault)
+  pub ran : UnlessMemory answer (run_of rules limit old.state ≡ answer)
   pub stands : IfErr answer (λ fault. run_of rules fault.orders old.state
       ≡ Ok (record { orders = fault.orders; reason = reasons.Limit }))
   pub within : IfErr answer (λ fault. fault.orders < limit)

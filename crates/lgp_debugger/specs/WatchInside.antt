@@ -1,5 +1,5 @@
 -- Serves proofs only: a rule with the word that stood at its address before an order.
-use Rattle.std.specs.Prelude.{ℕ, ◌==◌, Bool, not, List, map}
+use Rattle.std.specs.Prelude.{ℕ, ◌==◌, Bool, not}
 use Rattle.lgp_table.specs.State.{State, word_at}
 use Rattle.lgp_history.specs.Hits.{goes_at}
 use Rattle.lgp_history.specs.declared.rule.Rule.{Rule}
@@ -12,9 +12,6 @@ address_of (Changed address) = address
 
 abbrev pub watch_of : State → Rule → Watch
 watch_of before rule = record { rule = rule; word = word_at before.core (address_of rule) }
-
-abbrev pub watches_of : State → List Rule → List Watch
-watches_of before rules = map (watch_of before) rules
 
 -- whether the rule stops a run where the machine now is
 abbrev pub stops_by : State → Rule → ℕ → Bool

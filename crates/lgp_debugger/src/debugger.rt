@@ -1,6 +1,6 @@
 //! The debugger: a machine with its history and its rules, its steps, its runs and its way back.
 
-ghost use Rattle.std.specs.Prelude.{◌≡◌, ◌≢◌, ◌==◌, ◌+◌, ◌<◌, ◌≤◌, ◌↔◌, ◌++◌, ◌∷◌, ℕ, [], List, length, remove, slice_get, vec_len, false, None, Some, Err, Ok, IfErr, IfOk, IfSome, IsTrue, OnErr, OnOk, if◌then◌else◌};
+ghost use Rattle.std.specs.Prelude.{◌≡◌, ◌≢◌, ◌==◌, ◌+◌, ◌<◌, ◌≤◌, ◌↔◌, ◌++◌, ◌∷◌, ℕ, [], List, length, map, remove, slice_get, vec_len, false, None, Some, Err, Ok, IfErr, IfOk, IfSome, IsTrue, OnErr, OnOk, if◌then◌else◌};
 ghost use Rattle.lgp_table.specs.Activity.{cost, print_of};
 ghost use Rattle.lgp_table.specs.Console.{is_at_rest, is_live};
 ghost use Rattle.lgp_table.specs.Interleaving.{at_boundary};
@@ -11,7 +11,7 @@ ghost use Rattle.lgp_history.specs.Hits.{last_hit};
 ghost use Rattle.lgp_history.specs.Origins.{latest_change};
 ghost use Rattle.lgp_history.specs.Steps.{Leads, orders_in};
 ghost use Rattle.lgp_flexo.specs.TapeText.{tape_limit};
-ghost use Rattle.lgp_debugger.specs.WatchInside.{watches_of};
+ghost use Rattle.lgp_debugger.specs.WatchInside.{watch_of};
 ghost use Rattle.lgp_debugger.specs.Debugging.{after_back, after_step, rule_limit};
 ghost use Rattle.lgp_debugger.specs.Run.{IsOrderOfRun, IsRun};
 ghost use Rattle.lgp_debugger.specs.RunInside.{rules_in_force};
@@ -190,7 +190,7 @@ impl<H: History<A>, A: Allocator> Debugger<H, A> {
 
     /// What the rules watch, before an order.
     fn watches(&self) -> ArrayVec<Watch, RULE_LIMIT>
-        ensures { result.items ≡ watches_of self.now.state self.now.rules }
+        ensures { result.items ≡ map (watch_of self.now.state) self.now.rules }
     {
         let mut watches = ArrayVec::new();
         for rule in self.rules.as_slice() {
@@ -292,7 +292,8 @@ impl<H: History<A>, A: Allocator> Debugger<H, A> {
     /// A run by the rules or without them, apart from its caller: so its loop has the processor's registers for itself.
     #[inline(never)]
     fn run_so(&mut self, limit: u64, by_rules: bool) -> Result<Ran, RunFault>
-        ensures run { IsRun (rules_in_force by_rules self.old.rules) limit self.old self.new result }
+        ensures run { IsRun (rules_in_force by_rules self.old.rules) limit self.old self.new
+            result }
         ensures within_clock { self.new.state.clock ≤ clock_end }
     {
         let outcome = self.run_orders(limit, by_rules);

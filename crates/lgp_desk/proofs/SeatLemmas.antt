@@ -1,9 +1,9 @@
 -- Where the language stands behind lines that are typed at a desk.
-use Rattle.std.proofs.Common.{◌≡◌, ℕ, Bool, true, List, [], ◌∷◌, Option, None, Some, refl}
+use Rattle.std.proofs.Common.{◌≡◌, ℕ, Bool, true, List, [], ◌∷◌, ◌++◌, Option, None, Some, option_map, refl}
+use Rattle.std.specs.Option.{option_map_or, option_to_list}
 use Rattle.lgp_stream.specs.KeptLine.{kept_of}
 use Rattle.lgp_stream.specs.Language.{Language, state_after}
-use Rattle.lgp_desk.specs.Desk.{BlockAnswers, Seat, behind_block, desk_language, role_at, seat_after, seat_behind}
-use Rattle.lgp_desk.specs.Handing.{behind_handed, handed, handed_block, handed_by}
+use Rattle.lgp_desk.specs.Desk.{BlockAnswers, Seat, Whole, behind_handed, desk_language, handed, handed_by, role_at, seat_after, seat_behind}
 use Rattle.lgp_desk.specs.Roles.{Block}
 use Rattle.lgp_desk.specs.declared.desk.Manner.{Manner}
 use Rattle.lgp_desk.specs.declared.role.Role.{Role}
@@ -24,8 +24,8 @@ module _ {S : Type 0} (language : Language S) (takes_commands : S → Bool) (pro
       ≡ behind_handed language takes_commands prompt blocks seat.standing (handed language takes_commands prompt blocks seat lines)
 
   by_block : (seat : Seat S) (more : List (List ℕ)) (block : Option Block) → ((next : Seat S) → StandsBehind more next)
-      → (state_after (desk_language language takes_commands prompt blocks) (record seat { standing = behind_block language takes_commands prompt blocks block seat.standing; block = None }) more).standing
-      ≡ behind_handed language takes_commands prompt blocks seat.standing (handed_block language takes_commands prompt blocks block (handed language takes_commands prompt blocks (record seat { standing = behind_block language takes_commands prompt blocks block seat.standing; block = None }) more))
+      → (state_after (desk_language language takes_commands prompt blocks) (record seat { standing = option_map_or (blocks.after seat.standing) block seat.standing; block = None }) more).standing
+      ≡ behind_handed language takes_commands prompt blocks seat.standing (option_to_list (option_map Whole block) ++ (handed language takes_commands prompt blocks (record seat { standing = option_map_or (blocks.after seat.standing) block seat.standing; block = None }) more))
   by_block seat more None stands = stands (record seat { standing = seat.standing; block = None })
   by_block seat more (Some block) stands = stands (record seat { standing = blocks.after seat.standing block; block = None })
 

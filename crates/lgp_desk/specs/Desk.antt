@@ -1,11 +1,13 @@
 -- Part of the public promise: a desk, at which lines of a language are typed until `quit`: bare,
 -- behind prompts, or each shown above its reply. A line that begins with `#` may be the desk's own,
 -- for a program that types what stands in files.
-use Rattle.std.specs.Prelude.{ℕ, Bool, false, true, if◌then◌else◌, Option, None, Some, option_map}
-use Rattle.std.specs.Prelude.{List, [], ◌++◌, codes}
+use Rattle.std.specs.Prelude.{ℕ, Bool, false, true, if◌then◌else◌, Option, None, Some, is_some}
+use Rattle.std.specs.Prelude.{option_map, option_to_list, List, [], ◌∷◌, ◌++◌, codes, drop}
+use Rattle.std.specs.List.{concat}
+use Rattle.std.specs.Option.{option_map_or}
 use Rattle.lgp_stream.specs.KeptLine.{Kept, kept_of}
-use Rattle.lgp_stream.specs.Language.{Language, is_question}
-use Rattle.lgp_desk.specs.Roles.{Block, block_role, command_role, given_by, note_of, opened_by}
+use Rattle.lgp_stream.specs.Language.{Language, is_question, question_count, text_replies}
+use Rattle.lgp_desk.specs.Roles.{Block, block_role, command_role, opened_by}
 use Rattle.lgp_desk.specs.Roles.{with_line}
 use Rattle.lgp_desk.specs.declared.desk.Manner.{Manner}
 use Rattle.lgp_desk.specs.declared.desk.Manner.TheVariants.{Prompting, PromptingBehindFirst}
@@ -28,6 +30,11 @@ abbrev pub taken_seat : {S : Type 0} → Manner → S → Seat S
 taken_seat manner standing =
     record { standing = standing; manner = manner; note = None; block = None; has_left = false }
 
+-- what is handed to what answers: a line, or a block
+pub data Handed : Type 0 where
+  Line : List ℕ → Handed
+  Whole : Block → Handed
+
 -- the reply to a block, and where the language stands behind it
 pub record BlockAnswers (S : Type 0) : Type 0 where
   pub reply : S → Block → List ℕ
@@ -35,30 +42,22 @@ pub record BlockAnswers (S : Type 0) : Type 0 where
 
 -- a line above its reply, behind a question mark where the reply begins with one; of a longer line
 -- its front, and two points
-abbrev pub mark_of : List ℕ → List ℕ
-mark_of reply = if is_question reply then codes "? " else codes "> "
+unfoldable pub echo_of : List ℕ → Bool → List ℕ → List ℕ
+echo_of front longer reply =
+    (if is_question reply then codes "? " else codes "> ")
+    ++ (front ++ (if longer then codes " ..\n" else codes "\n"))
 
-abbrev pub line_end : Bool → List ℕ
-line_end longer = if longer then codes " ..\n" else codes "\n"
+-- what is shown above replies: a line, or what a block is for
+abbrev pub echo_in : Manner → List ℕ → List ℕ
+echo_in Echoing echo = echo
+echo_in manner echo = []
 
-unfoldable pub echo_of : Kept → List ℕ → List ℕ
-echo_of kept reply = mark_of reply ++ (kept.front ++ line_end kept.longer)
-
-abbrev pub echo_in : Manner → Kept → List ℕ → List ℕ
-echo_in Echoing kept reply = echo_of kept reply
-echo_in manner kept reply = []
-
--- what a block is for, as the line above its reply
-unfoldable pub kind_echo_of : List ℕ → List ℕ → List ℕ
-kind_echo_of kind reply = mark_of reply ++ (kind ++ codes "\n")
-
-abbrev pub kind_echo_in : Manner → List ℕ → List ℕ → List ℕ
-kind_echo_in Echoing kind reply = kind_echo_of kind reply
-kind_echo_in manner kind reply = []
+abbrev pub line_echo : Manner → Kept → List ℕ → List ℕ
+line_echo manner kept reply = echo_in manner (echo_of kept.front kept.longer reply)
 
 abbrev pub block_echo_in : Manner → Option Block → List ℕ → List ℕ
-block_echo_in manner None reply = []
-block_echo_in manner (Some block) reply = kind_echo_in manner block.kind reply
+block_echo_in manner block reply =
+    option_map_or (λ it. echo_in manner (echo_of it.kind false reply)) block []
 
 -- behind a reply that begins with a question mark, the note
 abbrev pub note_line : Option (List ℕ) → List ℕ → List ℕ
@@ -77,19 +76,12 @@ abbrev pub opening_text : Manner → List ℕ → List ℕ
 opening_text Prompting prompt = prompt
 opening_text manner prompt = []
 
--- what is written for a block that is open at the end, of which nothing is handed over
-abbrev pub lost_text : Option Block → List ℕ
-lost_text None = []
-lost_text (Some block) = codes "? 1 Form: no line #. ends the block\n"
-
 -- what a line is; behind `quit` none is heard
-abbrev pub open_role : Option Block → Bool → Kept → Role
-open_role (Some block) commands kept = block_role kept
-open_role None commands kept = if commands then command_role kept else Plain
-
 unfoldable pub role_at : {S : Type 0} → (S → Bool) → Seat S → Kept → Role
 role_at takes_commands seat kept =
-    if seat.has_left then Unheard else open_role seat.block (takes_commands seat.standing) kept
+    if seat.has_left then Unheard
+    else (if is_some seat.block then block_role kept
+    else (if takes_commands seat.standing then command_role kept else Plain))
 
 -- a reply with what stands behind it, where the desk then stands
 abbrev pub answer_text : {S : Type 0} → (S → List ℕ) → Seat S → List ℕ → List ℕ
@@ -100,57 +92,82 @@ answer_text prompt seat reply =
 -- blocks
 module _ {S : Type 0} (language : Language S) (takes_commands : S → Bool)
     (prompt : S → List ℕ) (blocks : BlockAnswers S) where
-  -- the reply to the open block, and where it leaves the language
-  abbrev pub block_reply : Option Block → S → List ℕ
-  block_reply None standing = []
-  block_reply (Some block) standing = blocks.reply standing block
-
-  abbrev pub behind_block : Option Block → S → S
-  behind_block None standing = standing
-  behind_block (Some block) standing = blocks.after standing block
-
   -- where the desk stands behind a line
   abbrev pub seat_behind : Role → Seat S → List ℕ → Seat S
-  seat_behind Unheard seat line = seat
   seat_behind Leaving seat line = record seat { has_left = true }
-  seat_behind Note seat line = record seat { note = Some (note_of (kept_of line)) }
+  seat_behind Note seat line = record seat { note = Some (drop 2 (kept_of line).front) }
   seat_behind NoteEnd seat line = record seat { note = None }
-  seat_behind Given seat line = seat
   seat_behind Opening seat line = record seat { block = Some (opened_by (kept_of line)) }
   seat_behind Within seat line =
       record seat { block = option_map (λ block. with_line block (kept_of line)) seat.block }
   seat_behind Closing seat line =
-      record seat { standing = behind_block seat.block seat.standing; block = None }
+      record seat {
+        standing = option_map_or (blocks.after seat.standing) seat.block seat.standing;
+        block = None;
+      }
   seat_behind Plain seat line = record seat { standing = language.after seat.standing line }
+  seat_behind role seat line = seat
 
   unfoldable pub seat_after : Seat S → List ℕ → Seat S
   seat_after seat line = seat_behind (role_at takes_commands seat (kept_of line)) seat line
 
   -- what is written for a line
   abbrev pub line_text : Role → Seat S → List ℕ → List ℕ
-  line_text Unheard seat line = []
-  line_text Leaving seat line = echo_in seat.manner (kept_of line) []
-  line_text Note seat line = []
+  line_text Leaving seat line = line_echo seat.manner (kept_of line) []
   line_text NoteEnd seat line = prompt_in seat.manner None (prompt seat.standing)
-  line_text Given seat line = answer_text prompt seat (given_by (kept_of line))
-  line_text Opening seat line = []
-  line_text Within seat line = []
+  line_text Given seat line = answer_text prompt seat (drop 3 (kept_of line).front ++ codes "\n")
   line_text Closing seat line =
-      block_echo_in seat.manner seat.block (block_reply seat.block seat.standing)
-      ++ answer_text prompt (seat_behind Closing seat line) (block_reply seat.block seat.standing)
+      let reply = option_map_or (blocks.reply seat.standing) seat.block [] in
+      block_echo_in seat.manner seat.block reply
+      ++ answer_text prompt (seat_behind Closing seat line) reply
   line_text Plain seat line =
-      echo_in seat.manner (kept_of line) (language.reply seat.standing line)
-      ++ answer_text prompt (seat_behind Plain seat line) (language.reply seat.standing line)
+      let reply = language.reply seat.standing line in
+      line_echo seat.manner (kept_of line) reply
+      ++ answer_text prompt (seat_behind Plain seat line) reply
+  line_text role seat line = []
 
   unfoldable pub reply_at : Seat S → List ℕ → List ℕ
   reply_at seat line = line_text (role_at takes_commands seat (kept_of line)) seat line
 
-  -- what is written at the end, with a line feed in the place of a prompt
+  -- what is written at the end, with a line feed in the place of a prompt; nothing of an open block
+  -- is handed over
   unfoldable pub closing_at : Seat S → List ℕ
   closing_at seat =
       if seat.has_left then []
-      else lost_text seat.block
+      else (if is_some seat.block then codes "? 1 Form: no line #. ends the block\n" else [])
       ++ (language.closing seat.standing ++ prompt_in seat.manner seat.note (codes "\n"))
 
   abbrev pub desk_language : Language (Seat S)
   desk_language = record { reply = reply_at; after = seat_after; closing = closing_at }
+
+  -- the replies to a typed text, and all that is written for it
+  abbrev pub desk_replies : Manner → S → List ℕ → List (List ℕ)
+  desk_replies manner standing typed =
+      text_replies desk_language (taken_seat manner standing) typed
+
+  abbrev pub desk_text : Manner → S → List ℕ → List ℕ
+  desk_text manner standing typed =
+      opening_text manner (prompt standing) ++ concat (desk_replies manner standing typed)
+
+  abbrev pub desk_faults : Manner → S → List ℕ → ℕ
+  desk_faults manner standing typed = question_count (desk_replies manner standing typed)
+
+  -- what a line hands over, in front of what the lines behind it do; behind `quit` nothing is
+  -- handed over
+  abbrev pub handed_by : Role → Seat S → List ℕ → List Handed → List Handed
+  handed_by Leaving seat line more = []
+  handed_by Closing seat line more = option_to_list (option_map Whole seat.block) ++ more
+  handed_by Plain seat line more = Line line ∷ more
+  handed_by role seat line more = more
+
+  abbrev pub handed : Seat S → List (List ℕ) → List Handed
+  handed seat [] = []
+  handed seat (line ∷ more) =
+      handed_by (role_at takes_commands seat (kept_of line)) seat line
+      (handed (seat_after seat line) more)
+
+  -- where the language stands behind what it was handed
+  abbrev pub behind_handed : S → List Handed → S
+  behind_handed standing [] = standing
+  behind_handed standing (Line line ∷ more) = behind_handed (language.after standing line) more
+  behind_handed standing (Whole block ∷ more) = behind_handed (blocks.after standing block) more

@@ -1,4 +1,2 @@
 pub mod Roles
 pub mod Desk
-pub mod Handing
-pub mod Sitting

@@ -34,13 +34,6 @@ command_role kept =
 unfoldable pub block_role : Kept → Role
 block_role kept = if bytes_eq kept.front (codes "#.") then Closing else Within
 
--- the note that a line makes, and the reply that it gives
-abbrev pub note_of : Kept → List ℕ
-note_of kept = drop 2 kept.front
-
-abbrev pub given_by : Kept → List ℕ
-given_by kept = drop 3 kept.front ++ codes "\n"
-
 -- lines under the name of what they are for
 pub record Block : Type 0 where
   pub kind : List ℕ

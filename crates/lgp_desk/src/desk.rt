@@ -1,9 +1,10 @@
 //! What answers lines that are typed at a desk.
 
-ghost use Rattle.std.specs.Prelude.{◌≡◌, ◌++◌, [], Bool, List, None, OnOk, Some, codes, option_map, true, ℕ};
+ghost use Rattle.std.specs.Prelude.{◌≡◌, ◌++◌, [], Bool, List, None, OnOk, Some, codes, drop, if◌then◌else◌, is_some, option_map, true, ℕ};
+ghost use Rattle.std.specs.Option.{option_map_or};
 ghost use Rattle.lgp_stream.specs.KeptLine.{kept_of};
-ghost use Rattle.lgp_desk.specs.Desk.{BlockAnswers, Seat, answer_text, behind_block, block_echo_in, block_reply, desk_language, echo_in, lost_text, prompt_in, role_at, taken_seat};
-ghost use Rattle.lgp_desk.specs.Roles.{given_by, note_of, opened_by, with_line};
+ghost use Rattle.lgp_desk.specs.Desk.{BlockAnswers, Seat, answer_text, block_echo_in, desk_language, line_echo, prompt_in, role_at, taken_seat};
+ghost use Rattle.lgp_desk.specs.Roles.{opened_by, with_line};
 
 use crate::role::{Role, behind_mark, block_role, command_role};
 use crate::texts::{Block, Source, copy_of};
@@ -74,7 +75,8 @@ fn push_lost<A: Allocator, B: Allocator>(
     block: &Option<Block<A>>,
     text: &mut Vec<u8, B>,
 ) -> Result<(), AllocError>
-    ensures { OnOk result (text.new.items ≡ text.old.items ++ lost_text block.now) }
+    ensures { OnOk result (text.new.items ≡ text.old.items
+        ++ (if is_some block.now then codes "? 1 Form: no line #. ends the block\n" else [])) }
 {
     if block.is_some() {
         return text.extend_from_slice(b"? 1 Form: no line #. ends the block\n");
@@ -190,7 +192,7 @@ impl<A: Allocator + Copy, L: Answers<A> + Attended, B: Bell> Desk<A, L, B> {
     /// Leaves the desk by a line.
     fn leave(&mut self, line: &LineBytes, reply: &mut Vec<u8, A>) -> Result<(), AllocError>
         ensures reply { OnOk result (reply.new.items
-            ≡ reply.old.items ++ echo_in self.old.manner line.now []) }
+            ≡ reply.old.items ++ line_echo self.old.manner line.now []) }
         ensures after { self.new ≡ record self.old { has_left = true } }
     {
         self.has_left = true;
@@ -200,7 +202,7 @@ impl<A: Allocator + Copy, L: Answers<A> + Attended, B: Bell> Desk<A, L, B> {
 
     /// Takes a note.
     fn take_note(&mut self, line: &LineBytes) -> Result<(), AllocError>
-        ensures { OnOk result (self.new ≡ record self.old { note = Some (note_of line.now) }) }
+        ensures { OnOk result (self.new ≡ record self.old { note = Some (drop 2 line.now.front) }) }
     {
         let source = Source::of(self.alloc, line)?;
         self.source = Some(source);
@@ -222,7 +224,7 @@ impl<A: Allocator + Copy, L: Answers<A> + Attended, B: Bell> Desk<A, L, B> {
     /// Gives the reply that a line has.
     fn give(&self, line: &LineBytes, reply: &mut Vec<u8, A>) -> Result<(), AllocError>
         ensures { OnOk result (reply.new.items ≡ reply.old.items
-            ++ answer_text L.prompt self.now (given_by line.now)) }
+            ++ answer_text L.prompt self.now (drop 3 line.now.front ++ codes "\n")) }
     {
         let mut own = copy_of(self.alloc, behind_mark(line, 3))?;
         own.extend_from_slice(b"\n")?;
@@ -258,19 +260,17 @@ impl<A: Allocator + Copy, L: Answers<A> + Attended, B: Bell> Desk<A, L, B> {
     fn close_block(&mut self, reply: &mut Vec<u8, A>) -> Result<(), AllocError>
         ensures reply { OnOk result (reply.new.items ≡ reply.old.items
             ++ (block_echo_in self.old.manner self.old.block
-            (block_reply L.language L.takes_commands L.prompt L.blocks
-            self.old.block self.old.standing)
+            (option_map_or (L.blocks.reply self.old.standing) self.old.block [])
             ++ answer_text L.prompt
             (record self.old {
-              standing = behind_block L.language L.takes_commands L.prompt L.blocks
-                  self.old.block self.old.standing;
+              standing = option_map_or (L.blocks.after self.old.standing) self.old.block
+                  self.old.standing;
               block = None;
             })
-            (block_reply L.language L.takes_commands L.prompt L.blocks
-            self.old.block self.old.standing))) }
+            (option_map_or (L.blocks.reply self.old.standing) self.old.block []))) }
         ensures after { OnOk result (self.new ≡ record self.old {
-          standing = behind_block L.language L.takes_commands L.prompt L.blocks
-              self.old.block self.old.standing;
+          standing = option_map_or (L.blocks.after self.old.standing) self.old.block
+              self.old.standing;
           block = None;
         }) }
     {
@@ -287,7 +287,7 @@ impl<A: Allocator + Copy, L: Answers<A> + Attended, B: Bell> Desk<A, L, B> {
     fn answer_line(&mut self, line: &LineBytes, reply: &mut Vec<u8, A>) -> Result<(), AllocError>
         ensures reply { (text : List ℕ) → line.now ≡ kept_of text
             → OnOk result (reply.new.items ≡ reply.old.items
-            ++ (echo_in self.old.manner line.now (L.language.reply self.old.standing text)
+            ++ (line_echo self.old.manner line.now (L.language.reply self.old.standing text)
             ++ answer_text L.prompt
             (record self.old { standing = L.language.after self.old.standing text })
             (L.language.reply self.old.standing text))) }

@@ -3,8 +3,7 @@
 ghost use Rattle.std.specs.Prelude.{◌≡◌, ◌∷◌, [], IfErr, IfOk, IfSome, OnOk};
 ghost use Rattle.std.specs.Io.KnownBytes.{Appends, IsAtEnd};
 ghost use Rattle.lgp_stream.specs.Language.{HasCause, StandsWritten};
-ghost use Rattle.lgp_desk.specs.Desk.{desk_language, opening_text, taken_seat};
-ghost use Rattle.lgp_desk.specs.Sitting.{desk_faults, desk_text};
+ghost use Rattle.lgp_desk.specs.Desk.{desk_faults, desk_language, desk_text, opening_text, taken_seat};
 
 use crate::desk::{Attended, Bell, Desk, Manner};
 use lgp_stream::{Answers, Feed, Sink, StreamFault, run_text, write_whole};

@@ -1,7 +1,7 @@
 //! What a desk keeps of its own lines.
 
-ghost use Rattle.std.specs.Prelude.{◌≡◌, IfOk, OnOk};
-ghost use Rattle.lgp_desk.specs.Roles.{cut_mark, note_of, opened_by, with_line};
+ghost use Rattle.std.specs.Prelude.{◌≡◌, IfOk, OnOk, drop};
+ghost use Rattle.lgp_desk.specs.Roles.{cut_mark, opened_by, with_line};
 
 use crate::role::behind_mark;
 use lgp_stream::LineBytes;
@@ -34,7 +34,7 @@ impl<A: Allocator> Model for Source<A> {
 impl<A: Allocator> Source<A> {
     /// The note that a line makes.
     pub fn of(alloc: A, line: &LineBytes) -> Result<Source<A>, AllocError>
-        ensures { IfOk result (λ note. note ≡ note_of line.now) }
+        ensures { IfOk result (λ note. note ≡ drop 2 line.now.front) }
     {
         let note = copy_of(alloc, behind_mark(line, 2))?;
         Ok(Source { note })

@@ -1,8 +1,8 @@
 //! What is written beside replies.
 
-ghost use Rattle.std.specs.Prelude.{◌≡◌, ◌++◌, OnOk, codes};
+ghost use Rattle.std.specs.Prelude.{◌≡◌, ◌++◌, OnOk, codes, false, if◌then◌else◌};
 ghost use Rattle.lgp_stream.specs.Language.{is_question};
-ghost use Rattle.lgp_desk.specs.Desk.{echo_in, echo_of, kind_echo_in, kind_echo_of, line_end, mark_of, note_line};
+ghost use Rattle.lgp_desk.specs.Desk.{echo_in, echo_of, line_echo, note_line};
 
 use crate::desk::Manner;
 use crate::texts::Source;
@@ -21,14 +21,14 @@ pub fn is_question(reply: &[u8]) -> bool
 
 /// The mark in front of a line that is shown above its reply.
 fn mark_of(reply: &[u8]) -> &'static [u8]
-    ensures { result.now ≡ mark_of reply.now }
+    ensures { result.now ≡ (if is_question reply.now then codes "? " else codes "> ") }
 {
     if is_question(reply) { b"? " } else { b"> " }
 }
 
 /// The end of a line that is shown.
 fn line_end(longer: bool) -> &'static [u8]
-    ensures { result.now ≡ line_end longer }
+    ensures { result.now ≡ (if longer then codes " ..\n" else codes "\n") }
 {
     if longer { b" ..\n" } else { b"\n" }
 }
@@ -40,7 +40,8 @@ fn push_echo<A: Allocator>(
     line: &LineBytes,
     reply: &[u8],
 ) -> Result<(), AllocError>
-    ensures { OnOk result (text.new.items ≡ text.old.items ++ echo_of line.now reply.now) }
+    ensures { OnOk result (text.new.items
+        ≡ text.old.items ++ echo_of line.now.front line.now.longer reply.now) }
 {
     text.extend_from_slice(mark_of(reply))?;
     text.extend_from_slice(line.front())?;
@@ -55,7 +56,7 @@ pub fn push_shown<A: Allocator>(
     reply: &[u8],
 ) -> Result<(), AllocError>
     ensures { OnOk result (text.new.items
-        ≡ text.old.items ++ echo_in manner line.now reply.now) }
+        ≡ text.old.items ++ line_echo manner line.now reply.now) }
 {
     match manner {
         Manner::Bare | Manner::Prompting | Manner::PromptingBehindFirst => Ok(()),
@@ -64,14 +65,14 @@ pub fn push_shown<A: Allocator>(
 }
 
 /// Appends what a block is for, as the line above its reply.
-#[tactic(auto, unfolding(crate::specs::Desk::kind_echo_of))]
+#[tactic(auto, unfolding(crate::specs::Desk::echo_of))]
 fn push_kind_echo<A: Allocator>(
     text: &mut Vec<u8, A>,
     kind: &[u8],
     reply: &[u8],
 ) -> Result<(), AllocError>
     ensures { OnOk result (text.new.items
-        ≡ text.old.items ++ kind_echo_of kind.now reply.now) }
+        ≡ text.old.items ++ echo_of kind.now false reply.now) }
 {
     text.extend_from_slice(mark_of(reply))?;
     text.extend_from_slice(kind)?;
@@ -86,7 +87,7 @@ pub fn push_shown_kind<A: Allocator>(
     reply: &[u8],
 ) -> Result<(), AllocError>
     ensures { OnOk result (text.new.items
-        ≡ text.old.items ++ kind_echo_in manner kind.now reply.now) }
+        ≡ text.old.items ++ echo_in manner (echo_of kind.now false reply.now)) }
 {
     match manner {
         Manner::Bare | Manner::Prompting | Manner::PromptingBehindFirst => Ok(()),

@@ -1,12 +1,14 @@
 -- What lines that only ask leave.
 use Rattle.std.proofs.Common.{◌≡◌, ◌∙◌, ap, Bool, true, false, if◌then◌else◌, ℕ, List, Option, Some, None, IsTrue, length, nat_lt, refl, sym}
 use Rattle.std.proofs.lemmas.Bool.{true≢false}
+use Rattle.std.specs.Option.{option_map_or}
 use Rattle.lgp_stream.specs.KeptLine.{line_limit}
 use Rattle.lgp_lab.specs.Command.{command_of, text_behind}
 use Rattle.lgp_lab.specs.declared.command.Command.{Command}
 use Rattle.lgp_lab.specs.declared.command.Command.TheVariants as commands
 use Rattle.lgp_lab.specs.declared.refusal.Refusal.TheVariants.{TooLong}
-use Rattle.lgp_lab.specs.Script.{answer_by, answer_in, answer_to_command, answer_to_line, is_passed_over, only_asks, script_language}
+use Rattle.lgp_lab.specs.Script.{answer_by, answer_to_command, answer_to_line, is_passed_over, only_asks, script_language}
+use Rattle.lgp_lab.specs.SourceCommands.{answer_in_source}
 use Rattle.lgp_lab.specs.SourceText.{SourceText}
 use Rattle.lgp_lab.specs.Standing.{Answer, Standing, refused, silent}
 
@@ -43,7 +45,7 @@ pub unmoved : (standing : Standing) (line : List ℕ) → standing.opened ≡ No
     → script_language.after standing line ≡ standing
 unfolding answer_to_line answer_to_command
 unmoved standing line outside asks =
-    ap (λ (opened : Option SourceText). (answer_in opened standing line).after) outside
+    ap (λ (opened : Option SourceText). (option_map_or (λ source. answer_in_source standing source line) opened (answer_to_command standing line)).after) outside
     ∙ either_leaves standing (is_passed_over line) (silent standing)
     (if nat_lt line_limit (length line) then refused TooLong standing else answer_by standing (command_of line) (text_behind line)) refl
     (either_leaves standing (nat_lt line_limit (length line)) (refused TooLong standing) (answer_by standing (command_of line) (text_behind line)) refl

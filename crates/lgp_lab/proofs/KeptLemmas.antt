@@ -1,24 +1,23 @@
 -- What is kept of a line tells as much of it as its answer depends on.
-use Rattle.std.proofs.Common.{◌≡◌, ℕ, ◌==◌, ◌||◌, ◌++◌, true, false, Option, Some, None, List, [], codes, get_or, refl, sym, ap, ◌∙◌, arith}
-use Rattle.std.specs.List.{list_all}
-use Rattle.std.specs.Str.{byte}
-use Rattle.lgp_stream.specs.KeptLine.{Kept, kept_of, line_limit}
-use Rattle.lgp_stream.specs.LineWords.{has_no_word, is_space}
+use Rattle.std.proofs.Common.{◌≡◌, ℕ, ◌==◌, ◌||◌, ◌++◌, true, false, Some, None, List, [], codes, get_or, refl, sym, ap, ◌∙◌, arith}
+use Rattle.std.specs.Str.{byte, bytes_eq}
+use Rattle.lgp_stream.specs.KeptLine.{Kept, kept_of}
+use Rattle.lgp_stream.specs.LineWords.{has_no_word}
 use Rattle.lgp_stream.proofs.FrontLemmas.{first-take, front_kept, front_whole, longer_kept}
 use Rattle.lgp_lab.specs.Command.{command_of, text_behind}
-use Rattle.lgp_lab.specs.Script.{answer_by, answer_in, answer_to, answer_to_command, answer_to_line, is_passed_over}
-use Rattle.lgp_lab.specs.SourceCommands.{answer_in_source, answer_to_end, closed, closed_by, is_point}
+use Rattle.lgp_lab.specs.Script.{answer_by, answer_to, answer_to_command, answer_to_line, is_passed_over}
+use Rattle.lgp_lab.specs.SourceCommands.{answer_in_source, answer_to_end, closed}
 use Rattle.lgp_lab.specs.SourceText.{SourceText, with_bytes, with_line}
-use Rattle.lgp_lab.specs.Standing.{Standing, refused, silent, with_opened}
+use Rattle.lgp_lab.specs.Standing.{Standing, refused, silent}
 use Rattle.lgp_lab.specs.declared.refusal.Refusal.TheVariants.{Form, TooLong}
 use Rattle.lgp_lab.specs.declared.command.Command.{Command}
 
 passed_over : (line : List ℕ) → ((kept_of line).blank || (get_or (kept_of line).front 0 0 == byte ";")) ≡ is_passed_over line
 unfolding kept_of has_no_word
-passed_over line = ap (λ (first : ℕ). list_all is_space line || (first == byte ";")) (first-take line_limit line (omega arith))
+passed_over line = grind (arith, first-take)
 
 pub passed_over_kept : (kept : Kept) (line : List ℕ) → kept ≡ kept_of line → (kept.blank || (get_or kept.front 0 0 == byte ";")) ≡ is_passed_over line
-passed_over_kept kept line e = rw e (passed_over line)
+passed_over_kept kept line e = rw e (passed_over _)
 
 -- a line that is passed over
 pub answer_passed : (s : Standing) (line : List ℕ) → is_passed_over line ≡ true → answer_to_command s line ≡ silent s
@@ -31,51 +30,51 @@ unfolding kept_of answer_to_command
 longer_line s line other longer = rw (other, longer) refl
 
 pub answer_longer : (s : Standing) (kept : Kept) (line : List ℕ) → kept ≡ kept_of line → is_passed_over line ≡ false → kept.longer ≡ true → answer_to_command s line ≡ refused TooLong s
-answer_longer s kept line e other longer = longer_line s line other (sym (ap (λ (k : Kept). k.longer) e) ∙ longer)
+answer_longer s kept line e other longer = longer_line s _ other (sym (ap (λ (k : Kept). k.longer) e) ∙ longer)
 
 short_line : (s : Standing) (line : List ℕ) → is_passed_over line ≡ false → (kept_of line).longer ≡ false → answer_to_command s line ≡ answer_by s (command_of (kept_of line).front) (text_behind (kept_of line).front)
 unfolding kept_of answer_to_command
-short_line s line other short = rw (other, short, front_kept line_limit line short) refl
+short_line s line other short = rw (other, short, front_kept _ _ short) refl
 
 pub answer_within : (s : Standing) (kept : Kept) (line : List ℕ) → kept ≡ kept_of line → is_passed_over line ≡ false → kept.longer ≡ false → answer_to_command s line ≡ answer_by s (command_of kept.front) (text_behind kept.front)
 answer_within s kept line e other short =
-    short_line s line other (sym (ap (λ (k : Kept). k.longer) e) ∙ short) ∙ ap (λ (k : Kept). answer_by s (command_of k.front) (text_behind k.front)) (sym e)
+    grind (arith, short_line)
 
 -- a source with one line more
 pub with_line_longer : (source : SourceText) (kept : Kept) (line : List ℕ) → kept ≡ kept_of line → kept.longer ≡ true → record { text = []; too_long = true } ≡ with_line source line
-with_line_longer source kept line e longer = rw (longer_kept kept line e, longer) refl
+with_line_longer source kept line e longer = rw (longer_kept _ _ e, longer) refl
 
 pub with_line_whole : (source : SourceText) (kept : Kept) (line : List ℕ) → kept ≡ kept_of line → kept.longer ≡ false → with_bytes source (kept.front ++ codes "\n") ≡ with_line source line
-with_line_whole source kept line e short = rw (longer_kept kept line e, short, front_whole kept line e short) refl
+with_line_whole source kept line e short = rw (longer_kept _ _ e, short, front_whole _ _ e short) refl
 
 -- a line of an open source, and a line where none is open; the end of each
 pub line_in_source : (s : Standing) (source : SourceText) (line : List ℕ) → s.opened ≡ Some source → answer_to_line s line ≡ answer_in_source s source line
 unfolding answer_to_line
-line_in_source s source line e = ap (λ (o : Option SourceText). answer_in o s line) e
+line_in_source s source line e = rw e refl
 
 pub line_outside : (s : Standing) (line : List ℕ) → s.opened ≡ None → answer_to_line s line ≡ answer_to_command s line
 unfolding answer_to_line
-line_outside s line e = ap (λ (o : Option SourceText). answer_in o s line) e
+line_outside s line e = rw e refl
 
-pub closed_some : (s : Standing) (source : SourceText) → s.opened ≡ Some source → closed s ≡ answer_to_end (with_opened s None) source
+pub closed_some : (s : Standing) (source : SourceText) → s.opened ≡ Some source → closed s ≡ answer_to_end s source
 unfolding closed
-closed_some s source e = ap (λ (o : Option SourceText). closed_by s o) e
+closed_some s source e = rw e refl
 
 pub closed_none : (s : Standing) → s.opened ≡ None → closed s ≡ silent s
 unfolding closed
-closed_none s e = ap (λ (o : Option SourceText). closed_by s o) e
+closed_none s e = rw e refl
 
 -- a point, and any other line
-pub point_ends : (s : Standing) (source : SourceText) (line : List ℕ) → is_point line ≡ true → answer_to_end (with_opened s None) source ≡ answer_in_source s source line
+pub point_ends : (s : Standing) (source : SourceText) (line : List ℕ) → bytes_eq line (codes ".") ≡ true → answer_to_end s source ≡ answer_in_source s source line
 point_ends s source line point = rw point refl
 
-pub line_taken : (s : Standing) (source : SourceText) (line : List ℕ) → is_point line ≡ false → silent (with_opened s (Some (with_line source line))) ≡ answer_in_source s source line
+pub line_taken : (s : Standing) (source : SourceText) (line : List ℕ) → bytes_eq line (codes ".") ≡ false → silent (record s { opened = Some (with_line source line) }) ≡ answer_in_source s source line
 line_taken s source line other = rw other refl
 
 -- a line outside a source that is a command, and one that is none
 pub answer_none : (s : Standing) (kept : Kept) (line : List ℕ) → kept ≡ kept_of line → is_passed_over line ≡ false → kept.longer ≡ false → command_of kept.front ≡ None → answer_to_command s line ≡ refused Form s
-answer_none s kept line e other short none = answer_within s kept line e other short ∙ ap (λ (o : Option Command). answer_by s o (text_behind kept.front)) none
+answer_none s kept line e other short none = grind (arith, answer_within)
 
 pub answer_some : (s : Standing) (kept : Kept) (line : List ℕ) (command : Command) (text : List ℕ) → kept ≡ kept_of line → is_passed_over line ≡ false → kept.longer ≡ false → command_of kept.front ≡ Some command → text ≡ text_behind kept.front → answer_to_command s line ≡ answer_to s command text
 answer_some s kept line command text e other short some behind =
-    answer_within s kept line e other short ∙ (ap (λ (o : Option Command). answer_by s o (text_behind kept.front)) some ∙ ap (answer_to s command) (sym behind))
+    grind (arith, answer_within)

@@ -18,14 +18,14 @@ pub load_words : (standing : Standing) (source : List ℕ) → standing.source �
     → IsLoadedOver standing.debugger.state.core.words (answer_to_load standing).after.debugger.state.core.words (image_of source).cells
 unfolding answer_to_load
 load_words standing source at_hand none long within =
-    rw (at_hand, within) (longest_source standing.debugger.state source long none)
+    rw (at_hand, within) (longest_source standing.debugger.state _ long none)
 
 pub load_time : (standing : Standing) (source : List ℕ) → standing.source ≡ Some source
     → loading_stopped standing.debugger.state (longest_load (image_of source)) ≡ None
     → (answer_to_load standing).after.debugger.state.clock ≡ standing.debugger.state.clock + loading_cost standing.debugger.state (longest_load (image_of source))
 unfolding answer_to_load
 load_time standing source at_hand within =
-    rw (at_hand, within) (loading_clock standing.debugger.state (longest_load (image_of source)))
+    rw (at_hand, within) (loading_clock _ _)
 
 pub ruleset load_laws = (load_words, load_time)
 
@@ -35,9 +35,9 @@ unfolding blank_words
 size_blank = length-replicate {A = ℕ} 4096 0
 
 pub run_words : (source : List ℕ) → faults_of source ≡ [] → IsLoadedOver blank_words (loaded_new source).core.words (image_of source).cells
-run_words source none = longest_source (opening blank_words) source size_blank none
+run_words source none = longest_source (opening blank_words) _ size_blank none
 
 pub run_time : (source : List ℕ) → (loaded_new source).clock ≡ loading_cost (opening blank_words) (longest_load (image_of source))
-run_time source = loading_clock (opening blank_words) (longest_load (image_of source)) ∙ zero-add (loading_cost (opening blank_words) (longest_load (image_of source)))
+run_time source = loading_clock _ _ ∙ zero-add (loading_cost (opening blank_words) (longest_load (image_of source)))
 
 pub ruleset run_laws = (run_words, run_time)

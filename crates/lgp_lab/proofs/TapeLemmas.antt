@@ -6,7 +6,7 @@ use Rattle.lgp_flexo.proofs.Lengths.{codes_of_text-short}
 use Rattle.lgp_stream.specs.KeptLine.{line_limit}
 
 pub line_fits : (text : List ℕ) → length text ≤ line_limit → IsOkAnd (codes_of_text text) (λ codes. tape_limit < length codes) → ⊥
-line_fits text short long = by_reading (codes_of_text text) (codes_of_text-short text) long where
+line_fits text short long = by_reading (codes_of_text text) (codes_of_text-short _) long where
   by_reading : (r : Result (List ℕ) ℕ) → IfOk r (λ codes. length codes ≤ length text) → IsOkAnd r (λ codes. tape_limit < length codes) → ⊥
   by_reading (Ok codes) few many = omega arith
   by_reading (Err bad) few many = many

@@ -1,5 +1,6 @@
 -- Part of the public promise: the script language, what a line asks for.
 use Rattle.std.specs.Prelude.{ℕ, Bool, if◌then◌else◌, Option, Some, None, option_map, List, drop}
+use Rattle.std.specs.Option.{option_and_then, option_zip}
 use Rattle.lgp_word.specs.Decimal.{decimal_number}
 use Rattle.lgp_word.specs.Digits.{address_text, word_of_digits}
 use Rattle.lgp_lab.specs.Limits.{digit_limit}
@@ -28,49 +29,39 @@ switch_action down switches.SixBit = actions.SixBit down
 
 -- ---- the operands of each command
 
-abbrev pub put_by : Option ℕ → Option ℕ → Option Command
-put_by (Some address) (Some word) = Some (commands.Put address word)
-put_by _ _ = None
+-- what the only operand stands for, as it is read
+abbrev pub lone_operand : {T : Type 0} → (List ℕ → Option T) → List ℕ → Option T
+lone_operand read operands =
+    if has_no_word (behind_word operands) then read (first_word operands) else None
+
+-- what two operands stand for, as they are read, where there is no third one
+abbrev pub operand_pair : {S T : Type 0} → (List ℕ → Option S) → (List ℕ → Option T) → List ℕ
+    → Option (S × T)
+operand_pair read_first read_second operands =
+    if has_no_word (behind_word (behind_word operands))
+    then option_zip (read_first (first_word operands))
+    (read_second (first_word (behind_word operands))) else None
 
 unfoldable pub put_command : List ℕ → Option Command
 put_command operands =
-    if has_no_word (behind_word (behind_word operands))
-    then put_by (address_text (first_word operands))
-    (word_of_digits (first_word (behind_word operands))) else None
-
-abbrev pub switch_by : Option Switch → Option Bool → Option Command
-switch_by (Some switch) (Some down) = Some (commands.Press (switch_action down switch))
-switch_by _ _ = None
+    option_map (λ pair. commands.Put pair.0 pair.1)
+    (operand_pair address_text word_of_digits operands)
 
 unfoldable pub press_command : List ℕ → Option Command
 press_command operands =
     if has_no_word (behind_word operands)
     then option_map commands.Press (named button_names (first_word operands))
-    else (if has_no_word (behind_word (behind_word operands))
-    then switch_by (named switch_names (first_word operands))
-    (named position_names (first_word (behind_word operands)))
-    else None)
+    else option_map (λ pair. commands.Press (switch_action pair.1 pair.0))
+    (operand_pair (named switch_names) (named position_names) operands)
 
--- the number that is the only operand
 unfoldable pub lone_number : List ℕ → Option ℕ
-lone_number operands =
-    if has_no_word (behind_word operands) then number_at (first_word operands) else None
-
--- the address that is the only operand
-unfoldable pub lone_address : List ℕ → Option ℕ
-lone_address operands =
-    if has_no_word (behind_word operands) then address_text (first_word operands) else None
+lone_number operands = lone_operand number_at operands
 
 -- the range of words that an address and a number ask for
-abbrev pub span_by : Option ℕ → Option ℕ → Option WordRange
-span_by (Some address) (Some count) = range_of address count
-span_by _ _ = None
-
 unfoldable pub span_at : List ℕ → Option WordRange
 span_at operands =
-    if has_no_word (behind_word (behind_word operands))
-    then span_by (address_text (first_word operands))
-    (number_at (first_word (behind_word operands))) else None
+    option_and_then (λ pair. range_of pair.0 pair.1)
+    (operand_pair address_text number_at operands)
 
 -- a command that takes no operand
 abbrev pub lone : Command → List ℕ → Option Command
@@ -92,20 +83,18 @@ command_by verbs.Dump operands = lone commands.Dump operands
 command_by verbs.Source operands = lone commands.Source operands
 command_by verbs.List operands = lone commands.List operands
 command_by verbs.Load operands = lone commands.Load operands
-command_by verbs.Break operands = option_map commands.Break (lone_address operands)
-command_by verbs.Watch operands = option_map commands.Watch (lone_address operands)
+command_by verbs.Break operands = option_map commands.Break (lone_operand address_text operands)
+command_by verbs.Watch operands = option_map commands.Watch (lone_operand address_text operands)
 command_by verbs.Drop operands = option_map commands.Drop (lone_number operands)
 command_by verbs.Run operands = option_map commands.Run (lone_number operands)
 command_by verbs.Back operands = option_map commands.Back (lone_number operands)
 command_by verbs.Last operands = lone commands.Last operands
 
 -- what a line asks for; None where it is in no command's form
-abbrev pub asked_by : Option Verb → List ℕ → Option Command
-asked_by None operands = None
-asked_by (Some verb) operands = command_by verb operands
-
 unfoldable pub command_of : List ℕ → Option Command
-command_of line = asked_by (named verb_names (first_word line)) (behind_word line)
+command_of line =
+    option_and_then (λ verb. command_by verb (behind_word line))
+    (named verb_names (first_word line))
 
 -- the text that mount and type take: all that follows the one space behind the command's word
 unfoldable pub text_behind : List ℕ → List ℕ

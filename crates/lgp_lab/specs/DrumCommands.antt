@@ -1,27 +1,12 @@
 -- Part of the public promise: the script language, what is answered to the commands of the drum.
-use Rattle.std.specs.Prelude.{ℕ, zero, suc, ◌+◌, ◌++◌, if◌then◌else◌, List, [], count_by, codes}
+use Rattle.std.specs.Prelude.{ℕ, zero, suc, ◌+◌, ◌++◌, List, [], count_by, codes}
 use Rattle.std.specs.Prelude.{decimal}
 use Rattle.lgp_word.specs.Digits.{address_digits}
 use Rattle.lgp_listing.specs.Disassembly.{disassembly}
-use Rattle.lgp_listing.specs.Dump.{cell_line, dump_of, is_used}
-use Rattle.lgp_table.specs.Console.{is_at_rest}
+use Rattle.lgp_listing.specs.Dump.{dump_of, is_used}
 use Rattle.lgp_table.specs.State.{State, word_at}
 use Rattle.lgp_lab.specs.Span.{WordRange}
-use Rattle.lgp_history.specs.Step.{Put}
-use Rattle.lgp_debugger.specs.Debugging.{after_step}
-use Rattle.lgp_lab.specs.Standing.{Answer, Standing, refused, answer_showing, with_debugger}
-use Rattle.lgp_lab.specs.declared.refusal.Refusal.TheVariants as refusals
-
--- ---- put
-
-abbrev pub answer_to_put : Standing → ℕ → ℕ → Answer
-answer_to_put standing address word =
-    if is_at_rest standing.debugger.state.core.panel.status
-    then record {
-      reply = codes "ok\n";
-      after = with_debugger standing (after_step standing.debugger (Put address word));
-    }
-    else refused refusals.Moving standing
+use Rattle.lgp_lab.specs.Standing.{Answer, Standing, answer_showing}
 
 -- ---- words, show
 
@@ -35,13 +20,10 @@ lines_text line s address zero = []
 lines_text line s address (suc count) =
     lines_text line s address count ++ line (address + count) (word_at s.core (address + count))
 
-abbrev pub answer_to_words : Standing → WordRange → Answer
-answer_to_words standing range =
-    answer_showing (lines_text cell_line standing.debugger.state range.first range.count) standing
-
-abbrev pub answer_to_show : Standing → WordRange → Answer
-answer_to_show standing range =
-    answer_showing (lines_text order_line standing.debugger.state range.first range.count) standing
+-- by their digits, or by their disassembly
+abbrev pub answer_to_words : (ℕ → ℕ → List ℕ) → Standing → WordRange → Answer
+answer_to_words line standing range =
+    answer_showing (lines_text line standing.debugger.state range.first range.count) standing
 
 -- ---- dump
 
@@ -49,6 +31,3 @@ answer_to_show standing range =
 unfoldable pub dump_text : List ℕ → List ℕ
 dump_text words =
     codes "dump " ++ (decimal (count_by is_used words) ++ (codes "\n" ++ dump_of words))
-
-abbrev pub answer_to_dump : Standing → Answer
-answer_to_dump standing = answer_showing (dump_text standing.debugger.state.core.words) standing

@@ -1,6 +1,7 @@
 -- Part of the public promise: what is written for a whole file, of a source or of a script.
-use Rattle.std.specs.Prelude.{ℕ, ◌++◌, if◌then◌else◌, Option, Some, None, Result, Ok, Err, List, []}
-use Rattle.std.specs.Prelude.{◌∷◌, ◌≡◌, codes, Bool, IfErr, IfOk, IfSome, OnOk}
+use Rattle.std.specs.Prelude.{ℕ, ◌++◌, if◌then◌else◌, Option, Some, None, Result, List, [], ◌∷◌}
+use Rattle.std.specs.Prelude.{◌≡◌, codes, Bool, IfErr, IfOk, IfSome, OnOk, is_some, option_map}
+use Rattle.std.specs.Result.{result_ok}
 use Rattle.std.specs.Io.KnownBytes.{Appends, IsAtEnd}
 use Rattle.lgp_stream.specs.Language.{HasCause, StandsOf}
 use Rattle.lgp_stream.specs.declared.stream.StreamFault.{StreamFault}
@@ -14,8 +15,6 @@ use Rattle.lgp_assembler.specs.Image.{faults_of, image_of}
 use Rattle.lgp_assembler.specs.declared.refusal.Fault.{Fault}
 use Rattle.lgp_listing.specs.Listing.{listing_of}
 use Rattle.lgp_debugger.specs.Run.{run_of}
-use Rattle.lgp_debugger.specs.declared.fault.Ran.{Ran}
-use Rattle.lgp_debugger.specs.declared.fault.RunFault.{RunFault}
 use Rattle.lgp_lab.specs.MachineCommands.{panel_text}
 use Rattle.lgp_lab.specs.TapeCommands.{printed_text}
 use Rattle.lgp_lab.specs.Refusal.{refusal_text}
@@ -82,30 +81,19 @@ tape_answer source = answer_of taped (source_of source)
 -- run: the source is loaded into a new machine, and a run that no rule stops follows, of at most so
 -- many orders; then what is printed is shown, and the panel. Where the clock's end is met, that
 -- alone is told
-abbrev pub state_answer : State → FileAnswer
-state_answer s = record { text = printed_text s.printed ++ panel_text s; status = 0 }
-
 abbrev pub answer_left : Option State → FileAnswer
 answer_left None = record { text = refusal_text ClockEnd; status = 1 }
-answer_left (Some s) = state_answer s
-
--- the state behind a run, if the clock's end did not break it off
-abbrev pub state_behind : Result Ran RunFault → State → Option State
-state_behind (Ok ran) s = Some (after s ran.orders)
-state_behind (Err fault) s = None
+answer_left (Some s) = record { text = printed_text s.printed ++ panel_text s; status = 0 }
 
 abbrev pub loaded_new : List ℕ → State
 loaded_new source = loaded (opening blank_words) (load_of_source source)
 
--- the same behind a load, by where the clock's end stopped that
-abbrev pub state_behind_load : Option State → ℕ → State → Option State
-state_behind_load None limit s = state_behind (run_of [] limit s) s
-state_behind_load (Some stopped) limit s = None
-
 abbrev pub run_to : ℕ → List ℕ → FileAnswer
 run_to limit source =
-    answer_left (state_behind_load (loading_stopped (opening blank_words) (load_of_source source))
-    limit (loaded_new source))
+    let begun = loaded_new source in
+    answer_left
+    (if is_some (loading_stopped (opening blank_words) (load_of_source source)) then None
+    else option_map (λ ran. after begun ran.orders) (result_ok (run_of [] limit begun)))
 
 unfoldable pub run_answer : ℕ → List ℕ → FileAnswer
 run_answer limit source = answer_of (run_to limit) (source_of source)

@@ -1,9 +1,8 @@
 -- Part of the public promise: the script language, what is answered to the commands that press,
 -- wait, perform orders and show the panel.
-use Rattle.std.specs.Prelude.{ℕ, ◌+◌, ◌++◌, Bool, not, if◌then◌else◌, nat_lt, ◌==◌, Result, Ok, Err}
+use Rattle.std.specs.Prelude.{ℕ, ◌+◌, ◌++◌, not, if◌then◌else◌, nat_lt, ◌==◌, Result, Ok, Err}
 use Rattle.std.specs.Prelude.{List, [], length, fold, codes, decimal}
 use Rattle.lgp_word.specs.Digits.{address_digits, digits_of}
-use Rattle.lgp_flexo.specs.TapeText.{codes_of_text}
 use Rattle.lgp_table.specs.State.{State}
 use Rattle.lgp_table.specs.Console.{is_at_rest, is_live}
 use Rattle.lgp_table.specs.declared.action.Action.{Action}
@@ -15,23 +14,16 @@ use Rattle.lgp_machine.specs.declared.look.Look.{Look}
 use Rattle.lgp_history.specs.Step.{Press, Idle}
 use Rattle.lgp_debugger.specs.Debugging.{Debugging, after_step, performed}
 use Rattle.lgp_debugger.specs.Run.{orders_of, run_of}
-use Rattle.lgp_debugger.specs.declared.fault.Ran.{Ran}
-use Rattle.lgp_debugger.specs.declared.fault.RunFault.{RunFault}
 use Rattle.lgp_text.specs.PanelWords.{mode_text, on_text, status_text, switches_text}
-use Rattle.lgp_lab.specs.Standing.{Answer, Standing, answer_showing, refused, with_debugger}
+use Rattle.lgp_lab.specs.Refusal.{counted_text, outcome_text}
+use Rattle.lgp_lab.specs.Standing.{Answer, Standing, answer_leaving, refused}
 use Rattle.lgp_lab.specs.declared.refusal.Refusal.TheVariants as refusals
 
 -- ---- press, type, turn and orders, each of which is one step or several
 
-abbrev pub press_text : Bool → List ℕ
-press_text live = if live then codes "live\n" else codes "dead\n"
-
 abbrev pub typed_text : ℕ → ℕ → List ℕ
 typed_text live dead =
     codes "live " ++ (decimal live ++ (codes " dead " ++ (decimal dead ++ codes "\n")))
-
-abbrev pub clock_text : ℕ → List ℕ
-clock_text clock = codes "clock " ++ (decimal clock ++ codes "\n")
 
 abbrev pub orders_text : ℕ → Status → List ℕ
 orders_text done status =
@@ -49,10 +41,10 @@ after_pressing d action =
     if is_live d.state.core.panel action then after_step d (Press action) else d
 
 abbrev pub answer_to_press : Standing → Action → Answer
-answer_to_press standing action = record {
-  reply = press_text (is_live standing.debugger.state.core.panel action);
-  after = with_debugger standing (after_pressing standing.debugger action);
-}
+answer_to_press standing action =
+    answer_leaving
+    (if is_live standing.debugger.state.core.panel action then codes "live\n" else codes "dead\n")
+    standing (after_pressing standing.debugger action)
 
 abbrev pub key_struck : Typed → ℕ → Typed
 key_struck so_far code =
@@ -68,40 +60,28 @@ typed d keys = fold key_struck (record { live = 0; dead = 0; after = d }) keys
 
 abbrev pub answer_to_keys : Standing → Result (List ℕ) ℕ → Answer
 answer_to_keys standing (Err place) = refused (refusals.BadSign place) standing
-answer_to_keys standing (Ok keys) = record {
-  reply = typed_text (typed standing.debugger keys).live (typed standing.debugger keys).dead;
-  after = with_debugger standing (typed standing.debugger keys).after;
-}
-
-abbrev pub answer_to_type : Standing → List ℕ → Answer
-answer_to_type standing text = answer_to_keys standing (codes_of_text text)
+answer_to_keys standing (Ok keys) =
+    let struck = typed standing.debugger keys in
+    answer_leaving (typed_text struck.live struck.dead) standing struck.after
 
 -- word times at rest are one step, none of them is none
-abbrev pub after_idle : Debugging → ℕ → Debugging
-after_idle d times = if times == 0 then d else after_step d (Idle times)
-
 unfoldable pub answer_to_turn : Standing → ℕ → Answer
 answer_to_turn standing times =
-    let s = standing.debugger.state in
-    if not (is_at_rest s.core.panel.status) then refused refusals.AtWork standing
-    else (if nat_lt clock_end (s.clock + times) then refused refusals.ClockEnd standing
-    else record {
-      reply = clock_text (s.clock + times);
-      after = with_debugger standing (after_idle standing.debugger times);
-    })
+    let d = standing.debugger in
+    if not (is_at_rest d.state.core.panel.status) then refused refusals.AtWork standing
+    else (if nat_lt clock_end (d.state.clock + times) then refused refusals.ClockEnd standing
+    else answer_leaving (counted_text (codes "clock ") (d.state.clock + times)) standing
+    (if times == 0 then d else after_step d (Idle times)))
 
 -- orders: a run that no rule stops, and the status behind it; broken off where the next order would
 -- pass the clock's end
-abbrev pub answer_to_outcome : Result Ran RunFault → Standing → Answer
-answer_to_outcome (Ok ran) after =
-    answer_showing (orders_text ran.orders after.debugger.state.core.panel.status) after
-answer_to_outcome (Err fault) after = refused refusals.ClockEnd after
-
 unfoldable pub answer_to_orders : Standing → ℕ → Answer
 answer_to_orders standing limit =
     let outcome = run_of [] limit standing.debugger.state in
-    answer_to_outcome outcome
-    (with_debugger standing (performed standing.debugger (orders_of outcome)))
+    let after = performed standing.debugger (orders_of outcome) in
+    answer_leaving
+    (outcome_text (λ ran. orders_text ran.orders after.state.core.panel.status) outcome)
+    standing after
 
 -- ---- panel
 
@@ -123,6 +103,3 @@ unfoldable pub panel_text : State → List ℕ
 panel_text s =
     registers_text (look_of s)
     ++ (switches_text s.core.panel.switches ++ reader_text (look_of s) (length s.core.tape.left))
-
-abbrev pub answer_to_panel : Standing → Answer
-answer_to_panel standing = answer_showing (panel_text standing.debugger.state) standing

@@ -2,12 +2,15 @@
 -- one reply, and a script's text is its replies one after another, from a machine in its opening
 -- state on.
 use Rattle.std.specs.Prelude.{ℕ, ◌==◌, ◌||◌, Bool, true, false, if◌then◌else◌, nat_lt, Option, Some}
-use Rattle.std.specs.Prelude.{None, List, length, slice_index}
+use Rattle.std.specs.Prelude.{None, List, [], codes, length, slice_index}
 use Rattle.std.specs.List.{concat}
+use Rattle.std.specs.Option.{option_map_or}
 use Rattle.std.specs.Str.{byte}
 use Rattle.lgp_lab.specs.Command.{command_of, text_behind}
-use Rattle.lgp_lab.specs.DrumCommands.{answer_to_dump, answer_to_put, answer_to_show}
-use Rattle.lgp_lab.specs.DrumCommands.{answer_to_words}
+use Rattle.lgp_flexo.specs.TapeText.{codes_of_text}
+use Rattle.lgp_listing.specs.Dump.{cell_line}
+use Rattle.lgp_lab.specs.DrumCommands.{answer_to_words, dump_text, order_line}
+use Rattle.lgp_history.specs.Step.{Put}
 use Rattle.lgp_history.specs.declared.rule.Rule.TheVariants.{At, Changed}
 use Rattle.lgp_lab.specs.HistoryCommands.{answer_to_back, answer_to_drop, answer_to_last}
 use Rattle.lgp_lab.specs.HistoryCommands.{answer_to_rule, answer_to_run}
@@ -15,12 +18,13 @@ use Rattle.lgp_stream.specs.Language.{Language, question_count, text_replies}
 use Rattle.lgp_stream.specs.KeptLine.{line_limit}
 use Rattle.lgp_stream.specs.LineWords.{has_no_word}
 use Rattle.lgp_lab.specs.LoadCommand.{answer_to_load}
-use Rattle.lgp_lab.specs.MachineCommands.{answer_to_orders, answer_to_panel, answer_to_press}
-use Rattle.lgp_lab.specs.MachineCommands.{answer_to_turn, answer_to_type}
-use Rattle.lgp_lab.specs.SourceCommands.{answer_in_source, answer_to_list, answer_to_source, closed}
-use Rattle.lgp_lab.specs.SourceText.{SourceText}
-use Rattle.lgp_lab.specs.Standing.{Answer, Standing, opening_standing, refused, silent}
-use Rattle.lgp_lab.specs.TapeCommands.{answer_to_mount, answer_to_printed}
+use Rattle.lgp_lab.specs.MachineCommands.{answer_to_keys, answer_to_orders, answer_to_press}
+use Rattle.lgp_lab.specs.MachineCommands.{answer_to_turn, panel_text}
+use Rattle.lgp_lab.specs.SourceCommands.{answer_in_source, closed, list_text}
+use Rattle.lgp_lab.specs.SourceText.{source_of}
+use Rattle.lgp_lab.specs.Standing.{Answer, Standing, answer_showing, opening_standing, refused}
+use Rattle.lgp_lab.specs.Standing.{answer_to_step, silent}
+use Rattle.lgp_lab.specs.TapeCommands.{answer_to_tape, printed_text}
 use Rattle.lgp_lab.specs.declared.command.Command.{Command}
 use Rattle.lgp_lab.specs.declared.command.Command.TheVariants as commands
 use Rattle.lgp_lab.specs.declared.refusal.Refusal.TheVariants.{Form, TooLong}
@@ -41,19 +45,24 @@ only_asks _ = false
 
 -- the answer to a command; the text is that of mount and type
 abbrev pub answer_to : Standing → Command → List ℕ → Answer
-answer_to standing (commands.Put address word) text = answer_to_put standing address word
-answer_to standing commands.Mount text = answer_to_mount standing text
+answer_to standing (commands.Put address word) text =
+    answer_to_step (codes "ok\n") standing (Put address word)
+answer_to standing commands.Mount text = answer_to_tape standing (codes_of_text text)
 answer_to standing (commands.Press action) text = answer_to_press standing action
-answer_to standing commands.Type text = answer_to_type standing text
+answer_to standing commands.Type text = answer_to_keys standing (codes_of_text text)
 answer_to standing (commands.Turn times) text = answer_to_turn standing times
 answer_to standing (commands.Orders limit) text = answer_to_orders standing limit
-answer_to standing commands.Panel text = answer_to_panel standing
-answer_to standing (commands.Words range) text = answer_to_words standing range
-answer_to standing (commands.Show range) text = answer_to_show standing range
-answer_to standing commands.Printed text = answer_to_printed standing
-answer_to standing commands.Dump text = answer_to_dump standing
-answer_to standing commands.Source text = answer_to_source standing
-answer_to standing commands.List text = answer_to_list standing
+answer_to standing commands.Panel text =
+    answer_showing (panel_text standing.debugger.state) standing
+answer_to standing (commands.Words range) text = answer_to_words cell_line standing range
+answer_to standing (commands.Show range) text = answer_to_words order_line standing range
+answer_to standing commands.Printed text =
+    answer_showing (printed_text standing.debugger.state.printed) standing
+answer_to standing commands.Dump text =
+    answer_showing (dump_text standing.debugger.state.core.words) standing
+answer_to standing commands.Source text =
+    silent (record standing { opened = Some (source_of []) })
+answer_to standing commands.List text = answer_showing (list_text standing.source) standing
 answer_to standing commands.Load text = answer_to_load standing
 answer_to standing (commands.Break address) text = answer_to_rule standing (At address)
 answer_to standing (commands.Watch address) text = answer_to_rule standing (Changed address)
@@ -74,12 +83,10 @@ answer_to_command standing line =
     else answer_by standing (command_of line) (text_behind line))
 
 -- the answer to a line; in an open source each line is the source's
-abbrev pub answer_in : Option SourceText → Standing → List ℕ → Answer
-answer_in None standing line = answer_to_command standing line
-answer_in (Some source) standing line = answer_in_source standing source line
-
 unfoldable pub answer_to_line : Standing → List ℕ → Answer
-answer_to_line standing line = answer_in standing.opened standing line
+answer_to_line standing line =
+    option_map_or (λ source. answer_in_source standing source line) standing.opened
+    (answer_to_command standing line)
 
 -- the language of scripts; a script's end closes an open source
 abbrev pub script_language : Language Standing

@@ -1,6 +1,7 @@
 -- Part of the public promise: the script language, what is answered to a source, and to the
 -- commands that use it.
-use Rattle.std.specs.Prelude.{ℕ, ◌++◌, Bool, if◌then◌else◌, Option, Some, None, List, [], ◌∷◌}
+use Rattle.std.specs.Prelude.{ℕ, ◌++◌, if◌then◌else◌, Option, Some, None, List, [], ◌∷◌}
+use Rattle.std.specs.Option.{option_map_or}
 use Rattle.std.specs.Prelude.{length, codes, decimal}
 use Rattle.std.specs.Str.{bytes_eq}
 use Rattle.lgp_word.specs.Digits.{address_digits}
@@ -10,15 +11,11 @@ use Rattle.lgp_assembler.specs.Parts.{ImageParts}
 use Rattle.lgp_assembler.specs.declared.refusal.Fault.{Fault}
 use Rattle.lgp_listing.specs.Listing.{listing_of}
 use Rattle.lgp_lab.specs.Refusal.{refusal_text}
-use Rattle.lgp_lab.specs.SourceText.{SourceText, source_of, with_line}
-use Rattle.lgp_lab.specs.Standing.{Answer, Standing, refused, answer_showing, silent, with_opened}
+use Rattle.lgp_lab.specs.SourceText.{SourceText, with_line}
+use Rattle.lgp_lab.specs.Standing.{Answer, Standing, answer_showing, refused, silent}
 use Rattle.lgp_lab.specs.declared.refusal.Refusal.TheVariants as refusals
 
 -- ---- source
-
--- a source is opened: the lines that follow are its lines
-abbrev pub answer_to_source : Standing → Answer
-answer_to_source standing = silent (with_opened standing (Some (source_of [])))
 
 -- the lines of faults, each with its line's number and its kind
 unfoldable pub faults_text : List Fault → List ℕ
@@ -29,50 +26,40 @@ faults_text (fault ∷ more) =
 
 -- how many words a source has made, and where it starts
 abbrev pub start_text : Option ℕ → List ℕ
-start_text None = codes "none\n"
-start_text (Some start) = address_digits start ++ codes "\n"
+start_text start =
+    option_map_or (λ address. address_digits address ++ codes "\n") start (codes "none\n")
 
 abbrev pub cells_text : ImageParts → List ℕ
 cells_text image =
     codes "cells " ++ (decimal (length image.cells) ++ (codes " start " ++ start_text image.start))
 
--- a line of an open source: a point alone closes it
-abbrev pub is_point : List ℕ → Bool
-is_point line = bytes_eq line (codes ".")
-
 -- the answer to a source by its faults; with faults the source from before stays
 abbrev pub assembled : Standing → List ℕ → List Fault → Answer
 assembled standing text [] = record {
   reply = cells_text (image_of text);
-  after = record { debugger = standing.debugger; source = Some text; opened = None };
+  after = record standing { source = Some text };
 }
 assembled standing text (fault ∷ more) =
     answer_showing (codes "? 9 Faults\n" ++ faults_text (fault ∷ more)) standing
 
--- the answer to a source at its end
+-- the answer to a source at its end, which closes it
 abbrev pub answer_to_end : Standing → SourceText → Answer
 answer_to_end standing source =
-    if source.too_long then refused refusals.TooLong standing
-    else assembled standing source.text (faults_of source.text)
+    let after : Standing = record standing { opened = None } in
+    if source.too_long then refused refusals.TooLong after
+    else assembled after source.text (faults_of source.text)
 
 -- the open source is closed, if there is one
-abbrev pub closed_by : Standing → Option SourceText → Answer
-closed_by standing None = silent standing
-closed_by standing (Some source) = answer_to_end (with_opened standing None) source
-
 unfoldable pub closed : Standing → Answer
-closed standing = closed_by standing standing.opened
+closed standing = option_map_or (answer_to_end standing) standing.opened (silent standing)
 
+-- a line of an open source: a point alone closes it
 abbrev pub answer_in_source : Standing → SourceText → List ℕ → Answer
 answer_in_source standing source line =
-    if is_point line then answer_to_end (with_opened standing None) source
-    else silent (with_opened standing (Some (with_line source line)))
+    if bytes_eq line (codes ".") then answer_to_end standing source
+    else silent (record standing { opened = Some (with_line source line) })
 
 -- ---- list
 
 unfoldable pub list_text : Option (List ℕ) → List ℕ
-list_text None = refusal_text refusals.NoImage
-list_text (Some source) = listing_of source
-
-abbrev pub answer_to_list : Standing → Answer
-answer_to_list standing = answer_showing (list_text standing.source) standing
+list_text source = option_map_or listing_of source (refusal_text refusals.NoImage)

@@ -1,5 +1,5 @@
 -- Part of the public promise: a range of words on the drum.
-use Rattle.std.specs.Prelude.{ℕ, ◌+◌, ◌≤◌, ◌&&◌, if◌then◌else◌, nat_le, nat_lt, Option, Some, None}
+use Rattle.std.specs.Prelude.{ℕ, ◌+◌, ◌&&◌, if◌then◌else◌, nat_le, nat_lt, Option, Some, None}
 use Rattle.lgp_word.specs.Drum.{drum_size}
 use Rattle.lgp_lab.specs.Limits.{shown_limit}
 
@@ -7,9 +7,6 @@ use Rattle.lgp_lab.specs.Limits.{shown_limit}
 pub record WordRange : Type 0 where
   pub first : ℕ
   pub count : ℕ
-
-abbrev pub IsOnDrum : WordRange → Type 0
-IsOnDrum range = range.first + range.count ≤ drum_size
 
 -- so many words from an address on: 1 to 64, none past 6363
 unfoldable pub range_of : ℕ → ℕ → Option WordRange

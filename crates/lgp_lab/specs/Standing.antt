@@ -1,14 +1,18 @@
 -- Part of the public promise: the script language, where a laboratory stands between two lines of a
 -- script, and what an answer is.
-use Rattle.std.specs.Prelude.{ℕ, Option, None, Some, List, []}
+use Rattle.std.specs.Prelude.{ℕ, if◌then◌else◌, Option, None, List, []}
+use Rattle.std.specs.Option.{option_map_or}
 use Rattle.lgp_word.specs.Drum.{blank_words}
 use Rattle.lgp_assembler.specs.Image.{image_of}
 use Rattle.lgp_table.specs.State.{opening}
-use Rattle.lgp_debugger.specs.Debugging.{Debugging}
+use Rattle.lgp_table.specs.Console.{is_at_rest}
+use Rattle.lgp_history.specs.Step.{Step}
+use Rattle.lgp_debugger.specs.Debugging.{Debugging, after_step}
 use Rattle.lgp_lab.specs.Limits.{kept_limit}
 use Rattle.lgp_lab.specs.Refusal.{refusal_text}
 use Rattle.lgp_lab.specs.SourceText.{SourceText}
 use Rattle.lgp_lab.specs.declared.refusal.Refusal.{Refusal}
+use Rattle.lgp_lab.specs.declared.refusal.Refusal.TheVariants.{Moving}
 
 -- the machine with its kept steps and its rules, the last source that assembled, and the source
 -- whose lines are being taken
@@ -19,13 +23,11 @@ pub record Standing : Type 0 where
 
 -- the names of the last source that assembled, with their values
 unfoldable pub labels_of : Option (List ℕ) → List (List ℕ × ℕ)
-labels_of None = []
-labels_of (Some source) = (image_of source).symbols
+labels_of source = option_map_or (λ text. (image_of text).symbols) source []
 
 -- the bytes of the source whose lines are being taken
 unfoldable pub opened_text : Option SourceText → List ℕ
-opened_text None = []
-opened_text (Some source) = source.text
+opened_text opened = option_map_or (λ source. source.text) opened []
 
 -- a reply, empty where there is none, and where the laboratory stands after it
 pub record Answer : Type 0 where
@@ -40,14 +42,6 @@ opening_standing = record {
   opened = None;
 }
 
-abbrev pub with_debugger : Standing → Debugging → Standing
-with_debugger standing debugger =
-    record { debugger = debugger; source = standing.source; opened = standing.opened }
-
-abbrev pub with_opened : Standing → Option SourceText → Standing
-with_opened standing opened =
-    record { debugger = standing.debugger; source = standing.source; opened = opened }
-
 -- an answer that shows something and changes nothing
 abbrev pub answer_showing : List ℕ → Standing → Answer
 answer_showing reply standing = record { reply = reply; after = standing }
@@ -58,3 +52,15 @@ refused refusal standing = answer_showing (refusal_text refusal) standing
 -- no reply, and nothing changes
 abbrev pub silent : Standing → Answer
 silent standing = answer_showing [] standing
+
+-- an answer that leaves the machine, its kept steps and its rules so
+abbrev pub answer_leaving : List ℕ → Standing → Debugging → Answer
+answer_leaving reply standing debugger =
+    record { reply = reply; after = record standing { debugger = debugger } }
+
+-- an answer to a step that is done at rest alone
+abbrev pub answer_to_step : List ℕ → Standing → Step → Answer
+answer_to_step reply standing step =
+    if is_at_rest standing.debugger.state.core.panel.status
+    then answer_leaving reply standing (after_step standing.debugger step)
+    else refused Moving standing

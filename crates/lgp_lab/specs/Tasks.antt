@@ -1,20 +1,22 @@
 -- Part of the public promise: what the program does for a task: which file it reads, what it writes
 -- where, and its status.
-use Rattle.std.specs.Prelude.{◌≡◌, ◌⊎◌, ℕ, zero, suc, ◌^◌, ◌<◌, ◌≤◌, ◌++◌, max, Bool, true, false}
-use Rattle.std.specs.Prelude.{Option, List, [], ◌∷◌, codes, IfSome, Result, Ok, Err}
+use Rattle.std.specs.Prelude.{◌≡◌, ◌⊎◌, ℕ, ◌^◌, ◌<◌, ◌≤◌, ◌++◌, max, min, Bool, true, false}
+use Rattle.std.specs.Prelude.{Option, Some, List, [], ◌∷◌, codes, IfSome, Result, Ok, Err}
+use Rattle.std.specs.List.{concat}
 use Rattle.std.specs.Io.KnownBytes.{Appends}
 use Rattle.std.specs.String.{string_bytes}
-use Rattle.lgp_task.specs.Task.{IsFaultOf, task_for}
+use Rattle.lgp_task.specs.CommandLine.{command_line}
+use Rattle.lgp_task.specs.Task.{IsFaultOn, task_for}
 use Rattle.lgp_task.specs.declared.task.Task.{Task}
 use Rattle.lgp_task.specs.declared.task.Task.TheVariants.{Stdin, Asm, Tape, Run, Script, Batch}
 use Rattle.lgp_task.specs.declared.task.TaskFault.{TaskFault}
 use Rattle.lgp_task.specs.declared.task.TaskFault.TheVariants as faults
-use Rattle.lgp_lab.specs.Files.{asm_answer, heading, run_answer, tape_answer}
+use Rattle.lgp_lab.specs.Files.{FileAnswer, asm_answer, heading, run_answer, tape_answer}
 use Rattle.lgp_stream.specs.Language.{StandsOf, StandsWritten}
-use Rattle.lgp_lab.specs.Script.{script_faults, script_language, script_text}
+use Rattle.lgp_lab.specs.Script.{script_faults, script_language, script_replies}
 use Rattle.lgp_lab.specs.Standing.{opening_standing}
 use Rattle.lgp_stream.specs.declared.stream.StreamFault.{StreamFault}
-use Rattle.lgp_stream.specs.declared.stream.StreamFault.TheVariants.{Read, Write, Memory}
+use Rattle.lgp_stream.specs.declared.stream.StreamFault.TheVariants.{Memory}
 use Rattle.lgp_lab.specs.declared.tasks.FileFault.{FileFault}
 use Rattle.lgp_lab.specs.declared.tasks.FileFault.TheVariants.{NotOpened, Broken}
 use Rattle.lgp_lab.specs.declared.tasks.WordFault.{WordFault}
@@ -29,8 +31,7 @@ read_limit = 2 ^ 32
 -- the status of a text that was answered to its end, by how many of its replies begin with a
 -- question mark
 abbrev pub answered_status : ℕ → ℕ
-answered_status zero = 0
-answered_status (suc more) = 1
+answered_status count = min count 1
 
 -- the status of a read or a write that failed, and of a file that cannot be opened; that for want
 -- of memory; that of mistaken words
@@ -44,83 +45,72 @@ abbrev pub usage_status : ℕ
 usage_status = 64
 
 abbrev pub broken_status : StreamFault → ℕ
-broken_status Read = failed_status
-broken_status (Write count) = failed_status
 broken_status Memory = memory_status
-
-abbrev pub fault_status : FileFault → ℕ
-fault_status NotOpened = failed_status
-fault_status (Broken fault) = broken_status fault
+broken_status _ = failed_status
 
 -- the status for what became of a file
 abbrev pub status_for : Result ℕ FileFault → ℕ
 status_for (Ok count) = answered_status count
-status_for (Err fault) = fault_status fault
+status_for (Err NotOpened) = failed_status
+status_for (Err (Broken fault)) = broken_status fault
 
 -- whether a file was opened
 abbrev pub was_opened : Result ℕ FileFault → Bool
 was_opened (Err NotOpened) = false
 was_opened _ = true
 
--- what a job on a text writes for it, and how many replies begin with a question mark, of a source
--- 1 where it has no answer
-abbrev pub text_for : Job → List ℕ → List ℕ
-text_for jobs.Listing text = (asm_answer text).text
-text_for jobs.Taping text = (tape_answer text).text
-text_for (jobs.Running limit) text = (run_answer limit text).text
-text_for jobs.Answering text = script_text text
+-- work on a text: what is written for it, with its status, of a script how many replies begin with
+-- a question mark; and what stands written where a fault breaks the work off
+pub record Work : Type 1 where
+  pub answer : List ℕ → FileAnswer
+  pub Stands : List ℕ → StreamFault → Option (List ℕ) → Option (List ℕ) → Type 0
 
-abbrev pub count_for : Job → List ℕ → ℕ
-count_for jobs.Listing text = (asm_answer text).status
-count_for jobs.Taping text = (tape_answer text).status
-count_for (jobs.Running limit) text = (run_answer limit text).status
-count_for jobs.Answering text = script_faults text
+-- work on a source
+abbrev pub source_work : (List ℕ → FileAnswer) → Work
+source_work answer =
+    record { answer = answer; Stands = λ text fault. StandsOf (answer text).text fault }
 
--- what stands written of a script, behind what is in front of it, where the fault breaks it off;
--- how much was read is not told
-abbrev pub StandsOfScript : List (List ℕ) → StreamFault → List ℕ → Option (List ℕ)
-    → Option (List ℕ) → Type 0
-StandsOfScript front fault text w₀ w =
-    (left : Option (List ℕ))
-    × StandsWritten front (script_language) opening_standing fault text left w₀ w
+-- a script, behind what is in front of it; how much was read is not told
+abbrev pub script_work : List (List ℕ) → Work
+script_work front = record {
+  answer = λ text. record {
+    text = concat (front ++ script_replies text);
+    status = script_faults text;
+  };
+  Stands = λ text fault w₀ w. (left : Option (List ℕ))
+      × StandsWritten front (script_language) opening_standing fault text left w₀ w;
+}
 
--- what stands written where a fault breaks a job off
-abbrev pub StandsFor : Job → StreamFault → List ℕ → Option (List ℕ) → Option (List ℕ) → Type 0
-StandsFor jobs.Listing fault text w₀ w = StandsOf (asm_answer text).text fault w₀ w
-StandsFor jobs.Taping fault text w₀ w = StandsOf (tape_answer text).text fault w₀ w
-StandsFor (jobs.Running limit) fault text w₀ w = StandsOf (run_answer limit text).text fault w₀ w
-StandsFor jobs.Answering fault text w₀ w = StandsOfScript [] fault text w₀ w
+abbrev pub work_for : Job → Work
+work_for jobs.Listing = source_work asm_answer
+work_for jobs.Taping = source_work tape_answer
+work_for (jobs.Running limit) = source_work (run_answer limit)
+work_for jobs.Answering = script_work []
 
--- what became of a job on a file, of which nothing may be known: its text was written, or the file
--- was not opened and nothing was written, or a fault broke the job off
-abbrev pub HasDone : Job → Option (List ℕ) → Result ℕ FileFault → Option (List ℕ) → Option (List ℕ)
+-- a script of several, with the line that names it
+abbrev pub part_work : List ℕ → Work
+part_work name = script_work (heading name ∷ [])
+
+-- what became of the work on a file, of which nothing may be known: its text was written, or the
+-- file was not opened and nothing was written, or a fault broke the work off
+abbrev pub HasDone : Work → Option (List ℕ) → Result ℕ FileFault → Option (List ℕ) → Option (List ℕ)
     → Type 0
-HasDone job known (Ok count) w₀ w =
-    IfSome known (λ text. Appends w₀ w (text_for job text) × (count ≡ count_for job text))
-HasDone job known (Err NotOpened) w₀ w = w ≡ w₀
-HasDone job known (Err (Broken fault)) w₀ w = IfSome known (λ text. StandsFor job fault text w₀ w)
-
--- the same of a script of several, with the line that names it
-abbrev pub HasDonePart : List ℕ → Option (List ℕ) → Result ℕ FileFault → Option (List ℕ)
-    → Option (List ℕ) → Type 0
-HasDonePart name known (Ok count) w₀ w =
-    IfSome known (λ text. Appends w₀ w (heading name ++ script_text text)
-    × (count ≡ script_faults text))
-HasDonePart name known (Err NotOpened) w₀ w = w ≡ w₀
-HasDonePart name known (Err (Broken fault)) w₀ w =
-    IfSome known (λ text. StandsOfScript (heading name ∷ []) fault text w₀ w)
+HasDone work known (Ok count) w₀ w = IfSome known (λ text.
+    Appends w₀ w (work.answer text).text × (count ≡ (work.answer text).status))
+HasDone work known (Err NotOpened) w₀ w = w ≡ w₀
+HasDone work known (Err (Broken fault)) w₀ w = IfSome known (λ text. work.Stands text fault w₀ w)
 
 -- a file is opened exactly as is known of it
 abbrev pub IsOpenedAs : Option Bool → Result ℕ FileFault → Type 0
 IsOpenedAs known outcome = IfSome known (λ opens. was_opened outcome ≡ opens)
 
--- a job on the file of a name, with the status for it; of a file is known whether it can be opened,
--- and which bytes it has
-abbrev pub IsWorked : Job → (List ℕ → Option Bool) → (List ℕ → Option (List ℕ)) → List ℕ → ℕ
-    → Option (List ℕ) → Option (List ℕ) → Type 0
-IsWorked job opens contents name status w₀ w =
-    (outcome : Result ℕ FileFault) × IsOpenedAs (opens name) outcome
-    × HasDone job (contents name) outcome w₀ w × (status ≡ status_for outcome)
+-- work on a file with the status for it; of the file may be known whether it can be opened, and
+-- which bytes it has
+abbrev pub IsWorked : Work → Option Bool → Option (List ℕ) → ℕ → Option (List ℕ)
+    → Option (List ℕ) → Type 0
+IsWorked work opens known status w₀ w =
+    (outcome : Result ℕ FileFault) × IsOpenedAs opens outcome × HasDone work known outcome w₀ w
+    × (status ≡ status_for outcome)
 
 -- the scripts of a batch, one after another: each is answered behind the line that names it; behind
 -- a status below 2 the next one follows, and 2 or 3 ends the batch. The status is the greatest, of
@@ -129,32 +119,24 @@ unfoldable pub IsBatch : (List ℕ → Option Bool) → (List ℕ → Option (Li
     → ℕ → Option (List ℕ) → Option (List ℕ) → Type 0
 IsBatch opens contents worst [] status w₀ w = (status ≡ worst) × (w ≡ w₀)
 IsBatch opens contents worst (name ∷ names) status w₀ w =
-    (outcome : Result ℕ FileFault) × (w₁ : Option (List ℕ)) × IsOpenedAs (opens name) outcome
-    × HasDonePart name (contents name) outcome w₀ w₁
-    × (((status_for outcome < 2)
-    × IsBatch opens contents (max worst (status_for outcome)) names status w₁ w)
-    ⊎ ((2 ≤ status_for outcome) × (status ≡ max worst (status_for outcome)) × (w ≡ w₁)))
-
--- a script on standard input, of which nothing may be known, with the status for it
-abbrev pub IsAnswered : Option (List ℕ) → ℕ → Option (List ℕ) → Option (List ℕ) → Type 0
-IsAnswered known status w₀ w =
-    (outcome : Result ℕ FileFault) × (was_opened outcome ≡ true)
-    × HasDone jobs.Answering known outcome w₀ w × (status ≡ status_for outcome)
+    (now : ℕ) × (w₁ : Option (List ℕ))
+    × IsWorked (part_work name) (opens name) (contents name) now w₀ w₁
+    × (((now < 2) × IsBatch opens contents (max worst now) names status w₁ w)
+    ⊎ ((2 ≤ now) × (status ≡ max worst now) × (w ≡ w₁)))
 
 -- what is written for a task, and the status of the program
 abbrev pub IsPerformed : {A : Type 0} → (List ℕ → Option Bool) → (List ℕ → Option (List ℕ))
     → Task A → Option (List ℕ) → ℕ → Option (List ℕ) → Option (List ℕ) → Type 0
-IsPerformed opens contents Stdin input status w₀ w = IsAnswered input status w₀ w
-IsPerformed opens contents (Asm name) input status w₀ w =
-    IsWorked jobs.Listing opens contents name status w₀ w
-IsPerformed opens contents (Tape name) input status w₀ w =
-    IsWorked jobs.Taping opens contents name status w₀ w
-IsPerformed opens contents (Run name limit) input status w₀ w =
-    IsWorked (jobs.Running limit) opens contents name status w₀ w
-IsPerformed opens contents (Script name) input status w₀ w =
-    IsWorked jobs.Answering opens contents name status w₀ w
-IsPerformed opens contents (Batch names) input status w₀ w =
-    IsBatch opens contents 0 names status w₀ w
+IsPerformed opens contents Stdin input = IsWorked (script_work []) (Some true) input
+IsPerformed opens contents (Asm name) input =
+    IsWorked (source_work asm_answer) (opens name) (contents name)
+IsPerformed opens contents (Tape name) input =
+    IsWorked (source_work tape_answer) (opens name) (contents name)
+IsPerformed opens contents (Run name limit) input =
+    IsWorked (source_work (run_answer limit)) (opens name) (contents name)
+IsPerformed opens contents (Script name) input =
+    IsWorked (script_work []) (opens name) (contents name)
+IsPerformed opens contents (Batch names) input = IsBatch opens contents 0 names
 
 -- a text told: whole, with the status that goes with it; or in part, with that of a write that
 -- failed
@@ -190,4 +172,5 @@ abbrev pub IsObeyed : (A : Type 0) → (List ℕ → Option Bool) → (List ℕ 
     → Option (List ℕ) → Type 0
 IsObeyed A opens contents typed input status w₀ w m₀ m =
     (IsPerformed {A = A} opens contents (task_for typed) input status w₀ w × (m ≡ m₀))
-    ⊎ ((fault : TaskFault A) × IsFaultOf typed fault × IsRefused fault status w₀ w m₀ m)
+    ⊎ ((fault : TaskFault A) × IsFaultOn command_line typed fault
+    × IsRefused fault status w₀ w m₀ m)

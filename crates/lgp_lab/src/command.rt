@@ -1,7 +1,8 @@
 //! What a line of a script asks for.
 
 ghost use Rattle.std.specs.Prelude.{◌≡◌, ◌≤◌, drop, is_some, length};
-ghost use Rattle.lgp_lab.specs.Command.{command_by, command_of, lone, lone_address, lone_number, number_at, press_command, put_command, span_at, text_behind};
+ghost use Rattle.lgp_word.specs.Digits.{address_text};
+ghost use Rattle.lgp_lab.specs.Command.{command_by, command_of, lone, lone_number, lone_operand, number_at, press_command, put_command, span_at, text_behind};
 
 use crate::limits::DIGIT_LIMIT;
 use crate::names::{Verb, button_named, position_named, switch_action, switch_named, verb_named};
@@ -108,9 +109,8 @@ pub fn lone_number(operands: &[u8]) -> Option<u64>
 }
 
 /// The address that is the only operand.
-#[tactic(auto, unfolding(crate::specs::Command::lone_address))]
 fn lone_address(operands: &[u8]) -> Option<Address>
-    ensures { result ≡ lone_address operands.now }
+    ensures { result ≡ lone_operand address_text operands.now }
 {
     let address = split_word(operands);
     if has_no_word(address.behind) {

@@ -1,8 +1,8 @@
 //! What the program's commands write for a file.
 
-ghost use Rattle.std.specs.Prelude.{◌≡◌, ◌++◌, ℕ, List, option_map, IfErr, IfOk, IfSome, OnOk, false};
+ghost use Rattle.std.specs.Prelude.{◌≡◌, ◌++◌, ℕ, List, Some, option_map, IfErr, IfOk, IfSome, OnOk, false};
 ghost use Rattle.std.specs.Io.KnownBytes.{Appends, IsAtEnd};
-ghost use Rattle.lgp_lab.specs.Files.{FileAnswer, IsFileAnswer, answer_left, answer_of, asm_answer, listed, run_answer, run_to, state_answer, tape_answer, taped};
+ghost use Rattle.lgp_lab.specs.Files.{FileAnswer, IsFileAnswer, answer_left, answer_of, asm_answer, listed, run_answer, run_to, tape_answer, taped};
 ghost use Rattle.lgp_table.specs.Interleaving.{at_boundary};
 ghost use Rattle.lgp_stream.specs.Language.{HasCause, StandsOf};
 ghost use Rattle.lgp_lab.specs.Refusal.{refusal_text};
@@ -142,7 +142,7 @@ fn push_left<A: Allocator + Copy>(
 ) -> Result<(), AllocError>
     requires { machine.now ≡ at_boundary machine.now.state }
     ensures { OnOk result
-        (text.new.items ≡ text.old.items ++ (state_answer machine.now.state).text) }
+        (text.new.items ≡ text.old.items ++ (answer_left (Some machine.now.state)).text) }
 {
     push_printed(alloc, text, machine.printed())?;
     push_panel(text, machine)
@@ -181,7 +181,7 @@ impl<A: Allocator + Copy> FileReply<A> {
     fn left_by(alloc: A, machine: &Machine<A>) -> Result<FileReply<A>, AllocError>
         requires { machine.now ≡ at_boundary machine.now.state }
         ensures text { IfOk result (λ reply.
-            reply.text.items ≡ (state_answer machine.now.state).text) }
+            reply.text.items ≡ (answer_left (Some machine.now.state)).text) }
         ensures status { IfOk result (λ reply. reply.status ≡ 0) }
     {
         let mut text = Vec::new(alloc);

@@ -1,7 +1,7 @@
 //! The refusals of the script language.
 
-ghost use Rattle.std.specs.Prelude.{◌≡◌, ◌++◌, OnOk, codes, decimal};
-ghost use Rattle.lgp_lab.specs.Refusal.{refusal_text};
+ghost use Rattle.std.specs.Prelude.{◌≡◌, ◌++◌, OnOk};
+ghost use Rattle.lgp_lab.specs.Refusal.{counted_text, refusal_text};
 
 use lgp_text::{Piece, push_pieces};
 use std::alloc::{AllocError, Allocator};
@@ -40,7 +40,7 @@ pub fn push_counted<A: Allocator>(
     number: u64,
 ) -> Result<(), AllocError>
     ensures { OnOk result (text.new.items
-        ≡ text.old.items ++ (front.now ++ (decimal number ++ codes "\n"))) }
+        ≡ text.old.items ++ counted_text front.now number) }
 {
     push_pieces(
         text,

@@ -16,13 +16,15 @@ pub struct Span {
 }
 
 impl Model for Span {
-    ghost use Rattle.lgp_lab.specs.Span.{IsOnDrum, WordRange};
+    ghost use Rattle.std.specs.Prelude.{◌+◌, ◌≤◌};
+    ghost use Rattle.lgp_word.specs.Drum.{drum_size};
+    ghost use Rattle.lgp_lab.specs.Span.{WordRange};
 
     ghost Value = { WordRange };
 
     ghost view = { λ span. record { first = span.first; count = span.count } };
 
-    ghost invariant = { λ span. IsOnDrum (record { first = span.first; count = span.count }) };
+    ghost invariant = { λ span. span.first + span.count ≤ drum_size };
 
     ghost inverse = { λ range. record { first = range.first; count = range.count } };
 }

@@ -1,11 +1,10 @@
 //! What the program does for a task: which file it reads, what it writes, and its status.
 
-ghost use Rattle.std.specs.Prelude.{◌≡◌, List, Option, ℕ, Bool, IfErr, IfOk, IfSome, false, is_ok, map, true};
+ghost use Rattle.std.specs.Prelude.{◌≡◌, [], List, Option, Some, ℕ, Bool, IfErr, IfOk, IfSome, false, is_ok, map, true};
 ghost use Rattle.std.specs.String.{string_bytes};
 ghost use Rattle.std.specs.Io.KnownBytes.{Appends};
 ghost use Rattle.lgp_stream.specs.Language.{HasCause};
-ghost use Rattle.lgp_lab.specs.Tasks.{HasDone, HasDonePart, IsAnswered, IsBatch, IsObeyed, IsOpenedAs, IsPerformed, IsRefused, IsTold, IsUnread, IsWorked, StandsFor, count_for, read_limit, status_for, text_for, unread_text, usage_status, was_opened};
-ghost use Rattle.lgp_lab.specs.declared.tasks.Job.TheVariants.{Answering};
+ghost use Rattle.lgp_lab.specs.Tasks.{HasDone, IsBatch, IsObeyed, IsOpenedAs, IsPerformed, IsRefused, IsTold, IsUnread, IsWorked, part_work, read_limit, script_work, status_for, unread_text, usage_status, work_for};
 
 use crate::files::{asm_file, run_file, tape_file};
 use crate::script::{answer_part, run_script};
@@ -101,13 +100,14 @@ pub fn work<A: Allocator + Copy, R: Feed, W: Sink>(
     requires reader { R.failed reader.old ≡ false }
     requires writer { W.failed writer.old ≡ false }
     ensures text { IfOk result (λ count. IfSome (R.remaining reader.old) (λ text.
-        Appends (W.contents writer.old) (W.contents writer.new) (text_for job text))) }
+        Appends (W.contents writer.old) (W.contents writer.new)
+        ((work_for job).answer text).text)) }
     ensures count { IfOk result (λ count. IfSome (R.remaining reader.old) (λ text.
-        count ≡ count_for job text)) }
+        count ≡ ((work_for job).answer text).status)) }
     ensures cause { IfErr result (λ fault.
         HasCause fault (R.failed reader.new) (W.failed writer.new)) }
     ensures stands { IfErr result (λ fault. IfSome (R.remaining reader.old) (λ text.
-        StandsFor job fault text (W.contents writer.old) (W.contents writer.new))) }
+        (work_for job).Stands text fault (W.contents writer.old) (W.contents writer.new))) }
 {
     match job {
         Job::Listing => asm_file(alloc, reader, writer),
@@ -127,7 +127,7 @@ pub fn work_on_file<A: Allocator + Copy, F: Folder, W: Sink>(
 ) -> Result<u64, FileFault>
     requires writer { W.failed writer.old ≡ false }
     ensures opened { IsOpenedAs (F.opens folder.now name.now) result }
-    ensures done { HasDone job (F.contents folder.now name.now) result
+    ensures done { HasDone (work_for job) (F.contents folder.now name.now) result
         (W.contents writer.old) (W.contents writer.new) }
 {
     let Ok(mut reader) = folder.open(name) else {
@@ -147,7 +147,7 @@ fn part<A: Allocator + Copy, F: Folder, W: Sink>(
     writer: &mut W,
 ) -> Result<u64, FileFault>
     ensures opened { IsOpenedAs (F.opens folder.now name.now) result }
-    ensures done { HasDonePart name.now (F.contents folder.now name.now) result
+    ensures done { HasDone (part_work name.now) (F.contents folder.now name.now) result
         (W.contents writer.old) (W.contents writer.new) }
 {
     let Ok(mut reader) = folder.open(name) else {
@@ -191,8 +191,8 @@ fn status_on_file<A: Allocator + Copy, F: Folder, W: Sink>(
     writer: &mut W,
 ) -> u8
     requires writer { W.failed writer.old ≡ false }
-    ensures { IsWorked job (F.opens folder.now) (F.contents folder.now) name.now result
-        (W.contents writer.old) (W.contents writer.new) }
+    ensures { IsWorked (work_for job) (F.opens folder.now name.now)
+        (F.contents folder.now name.now) result (W.contents writer.old) (W.contents writer.new) }
 {
     status_of(work_on_file(alloc, job, folder, name, writer))
 }
@@ -205,8 +205,8 @@ fn work_on_input<A: Allocator + Copy, R: Feed, W: Sink>(
 ) -> Result<u64, FileFault>
     requires input { R.failed input.old ≡ false }
     requires writer { W.failed writer.old ≡ false }
-    ensures opened { was_opened result ≡ true }
-    ensures done { HasDone Answering (R.remaining input.old) result
+    ensures opened { IsOpenedAs (Some true) result }
+    ensures done { HasDone (script_work []) (R.remaining input.old) result
         (W.contents writer.old) (W.contents writer.new) }
 {
     match work(alloc, Job::Answering, input, writer) {
@@ -223,7 +223,7 @@ fn status_on_input<A: Allocator + Copy, R: Feed, W: Sink>(
 ) -> u8
     requires input { R.failed input.old ≡ false }
     requires writer { W.failed writer.old ≡ false }
-    ensures { IsAnswered (R.remaining input.old) result
+    ensures { IsWorked (script_work []) (Some true) (R.remaining input.old) result
         (W.contents writer.old) (W.contents writer.new) }
 {
     status_of(work_on_input(alloc, input, writer))

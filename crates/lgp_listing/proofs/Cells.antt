@@ -50,7 +50,7 @@ kept true o cell e = (refl, e)
 kept false o cell e = cc
 
 -- what is read as an address and a word is their line
-pub cell_line-cell_in : (line : List ℕ) (cell : ℕ × ℕ) → cell_in line ≡ Some cell → IsLineOf cell.0 cell.1 line
+pub cell_line-cell_in : (line : List ℕ) (cell : ℕ × ℕ) → cell_in line ≡ Some cell → IsLineOf cell line
 unfolding cell_in
 cell_line-cell_in line cell read =
     let form = kept (length line == 14 && slice_index line 4 == 32 && slice_index line 13 == 10) (used_cell (address_text (take 4 line)) (word_of_digits (take 8 (drop 5 line)))) cell read in

@@ -1,9 +1,10 @@
 -- The law on the first fault of a text.
 use Rattle.std.proofs.Common.{◌≡◌, ◌+◌, ◌++◌, ◌⊎◌, ℕ, List, [], ◌∷◌, length, Some, None, refl, sym, ap, ◌∙◌, arith, inl, inr, ⊎_elim}
 use Rattle.std.proofs.lemmas.Option.{none-some}
+use Rattle.bstr.specs.Text.{lines_of}
 use Rattle.lgp_listing.specs.declared.reading.DumpFault.TheVariants.{Form, Order}
-use Rattle.lgp_listing.specs.Dump.{cell_in, fault_from}
-use Rattle.lgp_listing.specs.Laws.{IsLineOf, AreSound, FirstFaultsAreFirst}
+use Rattle.lgp_listing.specs.Dump.{cell_in, fault_from, first_fault}
+use Rattle.lgp_listing.specs.Laws.{IsLineOf, IsFormFault, IsOrderFault, AreSound}
 use Rattle.lgp_listing.proofs.Cells.{cell_in-cell_line, cell_line-cell_in}
 use Rattle.lgp_listing.proofs.FaultSteps.{at_form, at_order, onward, IsBelow, cases_line}
 
@@ -15,9 +16,8 @@ sound_from number least (line ∷ rest) e = ⊎_elim
     (⊎_elim
     (λ low. absurd (none-some (Order number) (sym e ∙ at_order _ rest number least low.cell low.read low.below)))
     (λ high. (
-      high.cell.0,
-      high.cell.1,
-      cell_line-cell_in _ _ high.read,
+      high.cell,
+      cell_line-cell_in line high.cell high.read,
       high.above,
       sound_from (number + 1) (high.cell.0 + 1) rest (sym (onward line rest number least high.cell high.read high.above) ∙ e),
     )))
@@ -52,7 +52,7 @@ form_from number least (line ∷ rest) told e = ⊎_elim
       behind = more.behind;
       lines_are = ap (λ t. line ∷ t) more.lines_are;
       told_is = omega (arith, more.told_is);
-      sound = (high.cell.0, high.cell.1, cell_line-cell_in line high.cell high.read, high.above, more.sound);
+      sound = (high.cell, cell_line-cell_in line high.cell high.read, high.above, more.sound);
       misformed = more.misformed;
     }))
     (cases_line line least)
@@ -98,7 +98,7 @@ order_from number least (line ∷ rest) told e = ⊎_elim
       behind = once.behind;
       lines_are = ap (λ t. line ∷ t) once.lines_are;
       told_is = omega (arith, once.told_is);
-      sound = (high.cell.0, high.cell.1, cell_line-cell_in _ _ high.read, high.above, tt);
+      sound = (high.cell, cell_line-cell_in line high.cell high.read, high.above, tt);
       cell = high.cell;
       last_is = high.read;
       low = once.low;
@@ -110,7 +110,7 @@ order_from number least (line ∷ rest) told e = ⊎_elim
       behind = later.behind;
       lines_are = ap (λ t. line ∷ t) later.lines_are;
       told_is = omega (arith, later.told_is);
-      sound = (high.cell.0, high.cell.1, cell_line-cell_in _ _ high.read, high.above, later.sound);
+      sound = (high.cell, cell_line-cell_in line high.cell high.read, high.above, later.sound);
       cell = later.cell;
       last_is = later.last_is;
       low = later.low;
@@ -119,42 +119,46 @@ order_from number least (line ∷ rest) told e = ⊎_elim
     (cases_line _ _)
 
 -- a line that is not read is no line of a word
-no_line : (line : List ℕ) → cell_in line ≡ None → (address word : ℕ) → IsLineOf address word line → ⊥
-no_line line none address word is =
-    grind (arith, cell_in-cell_line)
+no_line : (line : List ℕ) → cell_in line ≡ None → (cell : ℕ × ℕ) → IsLineOf cell line → ⊥
+no_line line none cell is =
+    none-some cell (sym none ∙ ap cell_in is.line_is ∙ cell_in-cell_line cell.0 cell.1 is.address_is is.word_is is.some)
 
-pub faults_law : FirstFaultsAreFirst
-faults_law = record {
-  form = λ text number e. (let at = form_from 1 0 _ _ e in record {
-    before = at.before;
-    line = at.line;
-    behind = at.behind;
-    lines_are = at.lines_are;
-    number_is = omega (arith, at.told_is);
-    sound = at.sound;
-    misformed = no_line _ at.misformed;
-  });
-  order = λ text number e. ⊎_elim
-      (λ once. absurd (omega (arith, once.low.below)))
-      (λ at.
-      let last = cell_line-cell_in _ _ at.last_is in
-      let line = cell_line-cell_in _ _ at.low.read in
-      record {
-        before = at.before;
-        last = at.last;
-        line = at.line;
-        behind = at.behind;
-        lines_are = at.lines_are;
-        number_is = omega (arith, at.told_is);
-        sound = at.sound;
-        last_address = at.cell.0;
-        last_word = at.cell.1;
-        last_is = last;
-        address = at.low.cell.0;
-        word = at.low.cell.1;
-        line_is = line;
-        not_above = omega (arith, at.low.below);
-      })
-      (order_from 1 0 _ _ e);
-  none = λ text e. sound_from 1 0 _ e;
-}
+pub form_law : (text : List ℕ) (number : ℕ) → first_fault text ≡ Some (Form number) → IsFormFault text number
+form_law text number e =
+    let at = form_from 1 0 (lines_of text) number e in
+    record {
+      before = at.before;
+      line = at.line;
+      behind = at.behind;
+      lines_are = at.lines_are;
+      number_is = omega (arith, at.told_is);
+      sound = at.sound;
+      misformed = no_line at.line at.misformed;
+    }
+
+pub order_law : (text : List ℕ) (number : ℕ) → first_fault text ≡ Some (Order number) → IsOrderFault text number
+order_law text number e = ⊎_elim
+    (λ once. absurd (omega (arith, once.low.below)))
+    (λ at.
+    let last = cell_line-cell_in at.last at.cell at.last_is in
+    let line = cell_line-cell_in at.line at.low.cell at.low.read in
+    record {
+      before = at.before;
+      last = at.last;
+      line = at.line;
+      behind = at.behind;
+      lines_are = at.lines_are;
+      number_is = omega (arith, at.told_is);
+      sound = at.sound;
+      last_cell = at.cell;
+      last_is = last;
+      cell = at.low.cell;
+      line_is = line;
+      not_above = omega (arith, at.low.below);
+    })
+    (order_from 1 0 (lines_of text) number e)
+
+pub none_law : (text : List ℕ) → first_fault text ≡ None → AreSound 0 (lines_of text)
+none_law text e = sound_from 1 0 (lines_of text) e
+
+pub ruleset fault_laws = (form_law, order_law, none_law)

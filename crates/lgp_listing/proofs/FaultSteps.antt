@@ -1,10 +1,10 @@
 -- The first fault of some lines, a line more.
 use Rattle.std.proofs.Common.{◌≡◌, ◌<◌, ◌≤◌, ◌+◌, ◌⊎◌, ℕ, List, ◌∷◌, Option, Some, None, refl, ap, ◌∙◌, inl, inr, nat_lt}
-use Rattle.std.specs.Option.{option_or}
+use Rattle.std.specs.Option.{option_map_or, option_or}
 use Rattle.std.proofs.lemmas.Bool.{cases_lt, cond-true, cond-false, lt-ltb, le-ltb}
 use Rattle.lgp_listing.specs.declared.reading.DumpFault.{DumpFault}
 use Rattle.lgp_listing.specs.declared.reading.DumpFault.TheVariants.{Form, Order}
-use Rattle.lgp_listing.specs.Dump.{cell_in, line_fault, least_after, fault_from}
+use Rattle.lgp_listing.specs.Dump.{cell_in, line_fault, fault_from}
 
 module _ (line : List ℕ) (rest : List (List ℕ)) (number least : ℕ) where
   abbrev behind : ℕ → Option DumpFault
@@ -12,7 +12,7 @@ module _ (line : List ℕ) (rest : List (List ℕ)) (number least : ℕ) where
 
   -- the fault of the line by what is read of it, and of those behind it
   abbrev by_cell : Option (ℕ × ℕ) → Option DumpFault
-  by_cell cell = option_or (line_fault number least cell) (behind (least_after cell))
+  by_cell cell = option_or (line_fault number least cell) (behind (option_map_or (λ c. c.0 + 1) cell 0))
 
   pub at_form : cell_in line ≡ None → fault_from number least (line ∷ rest) ≡ Some (Form number)
   unfolding fault_from

@@ -1,8 +1,9 @@
 -- What the operations and operands of disassembled words stand for.
-use Rattle.std.proofs.Common.{◌≡◌, ◌<◌, ◌+◌, ◌/◌, ◌%◌, ◌&&◌, ◌||◌, ◌==◌, ℕ, true, false, not, cond, nat_le, nat_lt, List, [], ◌∷◌, length, take, drop, Some, None, Ok, Err, ok_or, codes, refl, ap, ◌∙◌, arith}
+use Rattle.std.proofs.Common.{◌≡◌, ◌<◌, ◌+◌, ◌/◌, ◌%◌, ◌&&◌, ◌||◌, ◌==◌, ℕ, true, false, not, cond, nat_le, nat_lt, List, [], ◌∷◌, length, take, drop, Some, None, Ok, Err, ok_or, option_map, codes, refl, ap, ◌∙◌, arith}
 use Rattle.std.specs.List.{list_all, position_or_len}
 use Rattle.std.specs.Str.{bytes_eq}
 use Rattle.std.specs.Map.{lookup}
+use Rattle.std.specs.Option.{option_map_or}
 use Rattle.std.proofs.lemmas.Slice.Eq.{bytes_eq-Decides}
 use Rattle.std.proofs.lemmas.Bool.{cond-true, cond-false, ne_eqb, lt-ltb, leb-true, false_from_ne_true}
 use Rattle.lgp_word.specs.declared.order.Op.{Op}
@@ -18,8 +19,8 @@ use Rattle.lgp_assembler.specs.declared.operands.Meaning.TheVariants.{Cell, Noth
 use Rattle.lgp_assembler.specs.declared.operands.OperandFault.TheVariants.{Misformed, Unknown, Outside}
 use Rattle.lgp_assembler.specs.declared.address_operands.Offset.{Offset}
 use Rattle.lgp_assembler.specs.Operations.{operation_of}
-use Rattle.lgp_assembler.specs.AddressOperands.{is_name_byte, is_name, is_sign, offset_of, base_number, in_range, address_of_parts, address_operand}
-use Rattle.lgp_assembler.specs.Operands.{cell_of_order, sign_operand, order_operand, cell_of_digits, meaning_of}
+use Rattle.lgp_assembler.specs.AddressOperands.{is_name_byte, is_name, is_sign, offset_of, base_number, in_range, address_beside, address_operand}
+use Rattle.lgp_assembler.specs.Operands.{cell_of_order, sign_operand, order_operand, meaning_of}
 
 -- ---- operations
 
@@ -82,8 +83,8 @@ module _ (names : List (List ℕ × ℕ)) (place address : ℕ) (is_address : Is
   address_means =
       let none : Offset = record { minus = false; number = 0 } in
       let same : address + 0 ≡ address = omega arith in
-      ap (λ n. address_of_parts (offset_of (drop n text)) (base_number names place (take n text))) all_base
-      ∙ ap (address_of_parts (Some none)) base_is
+      ap (λ n. option_map_or (address_beside (base_number names place (take n text))) (offset_of (drop n text)) (Err Misformed)) all_base
+      ∙ ap (λ base. address_beside base none) base_is
       ∙ ap in_range same
       ∙ cond-true (nat_lt address 4096) (Ok address) (Err Outside) (lt-ltb address 4096 is_address)
 
@@ -103,7 +104,7 @@ module _ (names : List (List ℕ × ℕ)) (place address : ℕ) (is_address : Is
 
 pub word_means : (names : List (List ℕ × ℕ)) (place word : ℕ) → IsWord word → meaning_of names place Word (Some (digits_of word)) None ≡ Ok (Cell word)
 unfolding meaning_of
-word_means names place word is_word = ap cell_of_digits (word_of_digits-digits_of _ is_word)
+word_means names place word is_word = ap (λ o. ok_or (option_map Cell o) Misformed) (word_of_digits-digits_of word is_word)
 
 pub end_means : (names : List (List ℕ × ℕ)) (place : ℕ) → meaning_of names place End None None ≡ Ok Nothing
 unfolding meaning_of

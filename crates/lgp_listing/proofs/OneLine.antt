@@ -15,16 +15,16 @@ use Rattle.lgp_assembler.specs.declared.operations.Operation.{Operation}
 use Rattle.lgp_assembler.specs.declared.operations.Operation.TheVariants.{Order, MinusT, Word, End}
 use Rattle.lgp_assembler.specs.declared.operands.Meaning.TheVariants.{Cell}
 use Rattle.std.proofs.Common.{Ok}
-use Rattle.lgp_assembler.specs.Operations.{operation_of}
+use Rattle.lgp_assembler.specs.Operations.{least_operands, operation_of}
 use Rattle.lgp_assembler.specs.Operands.{meaning_of}
 use Rattle.lgp_assembler.specs.Fields.{LineFields, fields_of}
 use Rattle.lgp_assembler.specs.Places.{next_place, has_ended, names_of, is_taken}
-use Rattle.lgp_assembler.specs.Faults.{least_needed, fault_of, faults_in, missing_end}
+use Rattle.lgp_assembler.specs.Faults.{fault_of, faults_in, missing_end}
 use Rattle.lgp_assembler.specs.Parts.{ImageParts}
 use Rattle.lgp_assembler.specs.declared.refusal.Fault.{Fault}
 use Rattle.lgp_assembler.specs.Image.{passed_lines, all_lines, cells_in, start_in}
-use Rattle.lgp_listing.specs.Disassembly.{order_text, digits_text, disassembly}
-use Rattle.lgp_listing.specs.Laws.{one_line, AssemblesTo, EachWordAssembles}
+use Rattle.lgp_listing.specs.Disassembly.{order_text, disassembly}
+use Rattle.lgp_listing.specs.Laws.{one_line, AssemblesTo}
 use Rattle.lgp_listing.proofs.Meanings.{order_named, order_means, minus_means, word_means, end_means}
 
 -- ---- the bytes of a disassembled word
@@ -156,7 +156,7 @@ pub record GivesOne (operation : Operation) (operand : List ℕ) (word : ℕ) : 
   image : given (end_fields ∷ line_fields operation operand ∷ []) ≡ record { cells = (0, word) ∷ []; start = None; symbols = [] }
 
 -- an order takes one operand
-order_needs : (op : Op) → nat_lt 1 (least_needed (Some (Order op))) ≡ false
+order_needs : (op : Op) → nat_lt 1 (least_operands (Order op)) ≡ false
 order_needs Z = refl
 order_needs B = refl
 order_needs Y = refl
@@ -211,7 +211,7 @@ minus_named : operation_of (codes "-t") ≡ Some MinusT
 unfolding operation_of
 minus_named = refl
 
-digits_assemble : (word : ℕ) → IsWord word → AssemblesTo (one_line (digits_text word)) word
+digits_assemble : (word : ℕ) → IsWord word → AssemblesTo (one_line (codes "word " ++ digits_of word)) word
 unfolding digits_of four_digits
 digits_assemble word is_word =
     let high = word / 65536 in
@@ -220,9 +220,9 @@ digits_assemble word is_word =
     let behind = digit_byte (high / 256 % 16) ∷ digit_byte (high / 16 % 16) ∷ digit_byte (high % 16) ∷ four_digits low in
     let name = codes "ord" in
     let named : AreVisible (119 ∷ name) = (visible _ refl, (visible _ refl, (visible _ refl, (visible _ refl, tt)))) in
-    assembles _ _ _ _
-    (both_lines 119 first name behind Word (word_named) named (digits_visible _))
-    (word_gives (digits_of word) word (word_means [] 0 _ is_word))
+    assembles (one_line (codes "word " ++ digits_of word)) Word (digits_of word) word
+    (both_lines 119 first name behind Word (word_named) named (digits_visible word))
+    (word_gives (digits_of word) word (word_means [] 0 word is_word))
 
 minus_assembles : (address : ℕ) → IsAddress address
     → let order : OrderParts = record { minus = true; op = T; address = address } in AssemblesTo (one_line (order_text order)) (order_word order)
@@ -260,17 +260,17 @@ order_assembles true C address is_address allowed = absurd (true≢false (sym al
 order_assembles true A address is_address allowed = absurd (true≢false (sym allowed))
 order_assembles true S address is_address allowed = absurd (true≢false (sym allowed))
 
-pub each_word : EachWordAssembles
+pub each_word : (word : ℕ) → IsWord word → AssemblesTo (one_line (disassembly word)) word
 unfolding disassembly
 each_word word is_word = pick (decoded word) refl
   where
     pick : (order : Option OrderParts) → decoded word ≡ order → AssemblesTo (one_line (disassembly word)) word
-    pick None none = subst (λ t. AssemblesTo (one_line t) word) (sym (ap (λ o. option_map_or order_text o (digits_text word)) none)) (digits_assemble _ is_word)
+    pick None none = subst (λ t. AssemblesTo (one_line t) word) (sym (ap (λ o. option_map_or order_text o (codes "word " ++ digits_of word)) none)) (digits_assemble word is_word)
     pick (Some order) some =
         let parts = parts_of word in
         let kept = cond_some _ _ _ some in
         let test = and_parts (order_word parts == word) (takes_minus parts.op || not parts.minus) kept.0 in
         let word_is : order_word parts ≡ word = eqb-true (order_word parts) word test.0 in
-        let text_is : disassembly word ≡ order_text parts = ap (λ o. option_map_or order_text o (digits_text word)) (some ∙ ap Some (sym kept.1)) in
+        let text_is : disassembly word ≡ order_text parts = ap (λ o. option_map_or order_text o (codes "word " ++ digits_of word)) (some ∙ ap Some (sym kept.1)) in
         subst (λ t. AssemblesTo (one_line t) word) (sym text_is)
         (subst (AssemblesTo (one_line (order_text parts))) word_is (order_assembles _ _ _ (omega arith) test.1))

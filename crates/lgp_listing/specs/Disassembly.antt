@@ -11,10 +11,6 @@ order_text order =
     (if order.minus then codes "-" else [])
     ++ op_letter order.op ∷ codes " " ++ address_digits order.address
 
--- a word by its digits
-abbrev pub digits_text : ℕ → List ℕ
-digits_text word = codes "word " ++ digits_of word
-
 -- the text of a word: the order that it is, or else its digits
 unfoldable pub disassembly : ℕ → List ℕ
-disassembly word = option_map_or order_text (decoded word) (digits_text word)
+disassembly word = option_map_or order_text (decoded word) (codes "word " ++ digits_of word)

@@ -3,7 +3,7 @@
 use Rattle.std.specs.Prelude.{◌≡◌, ℕ, ◌+◌, ◌++◌, ◌==◌, ◌&&◌, nat_lt}
 use Rattle.std.specs.Prelude.{Bool, not, if◌then◌else◌, Option, Some, None}
 use Rattle.std.specs.Prelude.{List, [], ◌∷◌, length, take, drop, codes, slice_index, All}
-use Rattle.std.specs.Option.{option_or}
+use Rattle.std.specs.Option.{option_map_or, option_or}
 use Rattle.bstr.specs.Text.{lines_of}
 use Rattle.lgp_word.specs.Digits.{digits_of, address_digits, address_text, word_of_digits}
 use Rattle.lgp_word.specs.Word.{IsWord}
@@ -59,17 +59,13 @@ abbrev pub line_fault : ℕ → ℕ → Option (ℕ × ℕ) → Option DumpFault
 line_fault number least None = Some (Form number)
 line_fault number least (Some cell) = if nat_lt cell.0 least then Some (Order number) else None
 
--- the least address that may stand behind a line: the one after its own
-abbrev pub least_after : Option (ℕ × ℕ) → ℕ
-least_after None = 0
-least_after (Some cell) = cell.0 + 1
-
--- the first fault of some lines, from a number and a least address on
+-- the first fault of some lines, from a number and a least address on; the least address that may
+-- stand behind a line is the one after its own
 unfoldable pub fault_from : ℕ → ℕ → List (List ℕ) → Option DumpFault
 fault_from number least [] = None
 fault_from number least (line ∷ lines) =
     option_or (line_fault number least (cell_in line))
-    (fault_from (number + 1) (least_after (cell_in line)) lines)
+    (fault_from (number + 1) (option_map_or (λ cell. cell.0 + 1) (cell_in line) 0) lines)
 
 -- the first fault of a text, whose lines keep their line feeds and are counted from 1
 abbrev pub first_fault : List ℕ → Option DumpFault

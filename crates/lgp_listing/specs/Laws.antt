@@ -1,12 +1,10 @@
 -- Part of the public promise: laws on the definitions of this crate. This project's own choice.
-use Rattle.std.specs.Prelude.{◌≡◌, ◌≢◌, ℕ, ◌+◌, ◌≤◌, ◌++◌, Some, None, List, [], ◌∷◌, length, codes}
+use Rattle.std.specs.Prelude.{◌≡◌, ◌≢◌, ℕ, ◌+◌, ◌≤◌, ◌++◌, None, List, [], ◌∷◌, length, codes}
 use Rattle.bstr.specs.Text.{lines_of}
 use Rattle.lgp_word.specs.Address.{IsAddress}
 use Rattle.lgp_word.specs.Word.{IsWord}
 use Rattle.lgp_assembler.specs.Image.{faults_of, image_of}
-use Rattle.lgp_listing.specs.declared.reading.DumpFault.TheVariants.{Form, Order}
-use Rattle.lgp_listing.specs.Disassembly.{disassembly}
-use Rattle.lgp_listing.specs.Dump.{cell_line, first_fault}
+use Rattle.lgp_listing.specs.Dump.{cell_line}
 
 -- ---- each disassembled word assembles
 
@@ -19,24 +17,20 @@ pub record AssemblesTo (source : List ℕ) (word : ℕ) : Type 0 where
   pub faultless : faults_of source ≡ []
   pub image : image_of source ≡ record { cells = (0, word) ∷ []; start = None; symbols = [] }
 
-abbrev pub EachWordAssembles : Type 0
-EachWordAssembles = (word : ℕ) → IsWord word → AssemblesTo (one_line (disassembly word)) word
-
 -- ---- the first fault of a text is the first
 
 -- a line in form is that of an address and of a word that is not zero
-pub record IsLineOf (address word : ℕ) (line : List ℕ) : Type 0 where
-  pub address_is : IsAddress address
-  pub word_is : IsWord word
-  pub some : word ≢ 0
-  pub line_is : line ≡ cell_line address word
+pub record IsLineOf (cell : ℕ × ℕ) (line : List ℕ) : Type 0 where
+  pub address_is : IsAddress cell.0
+  pub word_is : IsWord cell.1
+  pub some : cell.1 ≢ 0
+  pub line_is : line ≡ cell_line cell.0 cell.1
 
 -- lines in form whose addresses go up, the first at least `least`
 abbrev pub AreSound : ℕ → List (List ℕ) → Type 0
 AreSound least [] = Unit {0}
 AreSound least (line ∷ lines) =
-    (address : ℕ) × (word : ℕ) × IsLineOf address word line
-    × (least ≤ address) × AreSound (address + 1) lines
+    (cell : ℕ × ℕ) × IsLineOf cell line × (least ≤ cell.0) × AreSound (cell.0 + 1) lines
 
 -- all lines before the line of this number are sound, and it is not in form
 pub record IsFormFault (text : List ℕ) (number : ℕ) : Type 0 where
@@ -46,7 +40,7 @@ pub record IsFormFault (text : List ℕ) (number : ℕ) : Type 0 where
   pub lines_are : lines_of text ≡ before ++ line ∷ behind
   pub number_is : number ≡ length before + 1
   pub sound : AreSound 0 before
-  pub misformed : (address word : ℕ) → ¬ (IsLineOf address word line)
+  pub misformed : (cell : ℕ × ℕ) → ¬ (IsLineOf cell line)
 
 -- all lines before the line of this number are sound, and it is in form with an address that is not
 -- above that of the line before it
@@ -58,17 +52,8 @@ pub record IsOrderFault (text : List ℕ) (number : ℕ) : Type 0 where
   pub lines_are : lines_of text ≡ before ++ last ∷ line ∷ behind
   pub number_is : number ≡ length before + 2
   pub sound : AreSound 0 (before ++ last ∷ [])
-  pub last_address : ℕ
-  pub last_word : ℕ
-  pub last_is : IsLineOf last_address last_word last
-  pub address : ℕ
-  pub word : ℕ
-  pub line_is : IsLineOf address word line
-  pub not_above : address ≤ last_address
-
-pub record FirstFaultsAreFirst : Type 0 where
-  pub form : (text : List ℕ) (number : ℕ) → first_fault text ≡ Some (Form number)
-      → IsFormFault text number
-  pub order : (text : List ℕ) (number : ℕ) → first_fault text ≡ Some (Order number)
-      → IsOrderFault text number
-  pub none : (text : List ℕ) → first_fault text ≡ None → AreSound 0 (lines_of text)
+  pub last_cell : ℕ × ℕ
+  pub last_is : IsLineOf last_cell last
+  pub cell : ℕ × ℕ
+  pub line_is : IsLineOf cell line
+  pub not_above : cell.0 ≤ last_cell.0

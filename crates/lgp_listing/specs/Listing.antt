@@ -4,6 +4,7 @@ use Rattle.std.specs.Prelude.{ℕ, ◌++◌, Option, Some, None, List, [], ◌�
 use Rattle.lgp_word.specs.Digits.{digits_of, address_digits}
 use Rattle.lgp_source.specs.Source.{SourceLine, lines_of}
 use Rattle.lgp_assembler.specs.Fields.{LineFields, fields_of}
+use Rattle.lgp_assembler.specs.Parts.{NameList}
 use Rattle.lgp_assembler.specs.Places.{names_of}
 use Rattle.lgp_assembler.specs.Image.{line_cell, all_lines}
 
@@ -19,7 +20,7 @@ listed_line cell text = margin cell ++ text ++ codes "\n"
 
 -- the lines of a listing that some lines of a source have behind those before them, the nearest
 -- first
-unfoldable pub listing_from : List (List ℕ × ℕ) → List LineFields → List SourceLine → List ℕ
+unfoldable pub listing_from : NameList → List LineFields → List SourceLine → List ℕ
 listing_from names earlier [] = []
 listing_from names earlier (line ∷ lines) =
     listed_line (line_cell names earlier (fields_of line)) line.text

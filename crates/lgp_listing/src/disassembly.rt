@@ -1,7 +1,8 @@
 //! The text of a word, as a source has it.
 
-ghost use Rattle.std.specs.Prelude.{◌≡◌, ◌+◌, ◌≤◌, ◌++◌, length};
+ghost use Rattle.std.specs.Prelude.{◌≡◌, ◌+◌, ◌≤◌, ◌++◌, codes, length};
 ghost use Rattle.arrayvec.specs.ArrayVec.{array_vec_len};
+ghost use Rattle.lgp_word.specs.Digits.{digits_of};
 ghost use Rattle.lgp_listing.specs.Disassembly as spec;
 
 use arrayvec::ArrayVec;
@@ -32,7 +33,7 @@ fn order_text(order: Order) -> ArrayVec<u8, 16>
 
 /// Any word as a source has it, by its digits.
 fn digits_text(word: Word) -> ArrayVec<u8, 16>
-    ensures { result.items ≡ spec.digits_text word }
+    ensures { result.items ≡ codes "word " ++ digits_of word }
 {
     let mut text = ArrayVec::new();
     add(&mut text, b"word ");

@@ -1,5 +1,5 @@
 -- A loader that has been started, and what its run leaves.
-use Rattle.std.proofs.Common.{◌≡◌, ℕ, zero, suc, ◌+◌, ◌<◌, ◌%◌, ◌^◌, ◌==◌, ◌&&◌, nat_lt, Bool, true, false, refl, sym, ap, ◌∙◌, subst, arith, List, [], ◌∷◌, length, slice_set}
+use Rattle.std.proofs.Common.{◌≡◌, ℕ, zero, suc, ◌+◌, ◌<◌, ◌%◌, ◌^◌, ◌==◌, ◌&&◌, nat_lt, Bool, true, false, refl, sym, ap, ◌∙◌, arith, List, [], ◌∷◌, length, slice_set}
 use Rattle.std.specs.List.{All, count_by, list_all}
 use Rattle.std.proofs.lemmas.Bool.{and_parts}
 use Rattle.std.proofs.lemmas.Bool.Decides.{nat_tests}
@@ -54,8 +54,7 @@ rests_after (word ∷ words) panel base rests = rests_after words (panel_after_s
 pub keyed_rests : (s : State) (words : List ℕ) → IsLoader words → is_at_rest (keyed s loader_base words).core.panel.status ≡ true
 keyed_rests s [] (all, some, fits) = absurd (let wrong : ⊥ = omega (arith, some) in wrong)
 keyed_rests s (word ∷ words) (all, some, fits) =
-    ap (λ (t : State). is_at_rest t.core.panel.status) (keyed_are s _ _ all fits)
-    ∙ rests_after words (panel_after_store s.core.panel loader_base word) (loader_base + 1) refl
+    grind (arith, keyed_are, rests_after)
 
 pub keyed_up : (s : State) (words : List ℕ) → IsLoader words → (keyed s loader_base words).core.panel.switches.six_bit ≡ false
 keyed_up s words (all, some, fits) =
@@ -86,7 +85,7 @@ begun_is s load (all, some, fits) =
     }) switches))
 
 pub runs_when_begun : (s : State) (load : TapeLoad) (last : Core) → IsLoader load.loader → Runs load.orders (first_core s load) last → Runs load.orders (begun s load).core last
-runs_when_begun s load last is runs = subst (λ (core : Core). Runs load.orders core last) (sym (ap (λ (t : State). t.core) (begun_is s load is))) runs
+runs_when_begun s load last is runs = grind (arith, begun_is)
 
 pub left_by_run : (s : State) (load : TapeLoad) (last : Core) → IsLoader load.loader → Runs load.orders (begun s load).core last
     → loaded s load ≡ record { core = last; printed = s.printed; clock = (loaded s load).clock }

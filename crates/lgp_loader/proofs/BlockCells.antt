@@ -135,7 +135,7 @@ fetch_store words place count long within = record {
 }
 
 pub one_up_there : (words : List ℕ) → HasBlockLoader words → slice_index words one_up_place ≡ one_up
-one_up_there words has = (fetches words 20 has refl).here
+one_up_there words has = (fetches _ 20 has refl).here
 
 -- the count that is left: it is zero behind the last word
 unfoldable pub count_left : ℕ → ℕ
@@ -145,7 +145,7 @@ count_left (suc more) = count_word (suc more)
 pub counted_up : (more : ℕ) → more < 4096 → added (count_word (suc more)) one_up ≡ sum_of (count_left more)
 unfolding added count_left
 counted_up zero few = refl
-counted_up (suc more) few = one_up_negative (count_word (suc (suc more))) (omega (arith, few)) (omega (arith, few)) ∙ ap sum_of (omega (arith, few))
+counted_up (suc more) few = grind (arith, one_up_negative)
 
 pub control_up : (place : ℕ) → place < 4096 → added (control_word place) one_up ≡ sum_of (control_word (place + 1))
 control_up place within = one_up_positive _ (omega arith) ∙ ap sum_of (omega arith)

@@ -50,17 +50,17 @@ pub blocks_run : (s : State) (blocks : List (List (ℕ × ℕ))) (start : Option
 unfolding block_tape_codes
 blocks_run s blocks start long are program few is =
     let load = block_load blocks start in
-    let through = through_blocks s.core.panel.switches (jump_order loader_base) (jump_order loader_base) (with_words s.core.words block_loader_words) [] [] 0 blocks start
-    (has_loader s.core.words long) nothing_skipped are program few is in
+    let through = through_blocks s.core.panel.switches (jump_order loader_base) (jump_order loader_base) _ [] [] 0 blocks _
+    (has_loader _ long) nothing_skipped are program few is in
     let last = (left_by_blocks s blocks start 0).core in
-    runs_when_begun s load last block_is_loader
+    runs_when_begun s _ _ block_is_loader
     (subst (λ ws. Runs load.orders (core_at s.core.panel.switches loader_base (jump_order loader_base) (jump_order loader_base) ws (off [] (block_tape_codes blocks start))) last)
-    (cells_empty s.core.words long) through)
+    (cells_empty _ long) through)
 
 pub blocks_leave : (s : State) (blocks : List (List (ℕ × ℕ))) (start : Option ℕ) → length s.core.words ≡ 4096
     → are_blocks blocks ≡ true → AreProgramCells (cells_of blocks) → length (cells_of blocks) ≤ 4096 → IfSome start IsAddress
     → loaded s (block_load blocks start) ≡ left_by_blocks s blocks start (loaded s (block_load blocks start)).clock
 blocks_leave s blocks start long are program few is =
-    left_by_run s (block_load blocks start) (left_by_blocks s blocks start 0).core block_is_loader (blocks_run s blocks start long are program few is)
+    left_by_run s _ _ block_is_loader (blocks_run s blocks _ long are program few is)
 
 pub ruleset block_laws = (blocks_leave, loading_time)

@@ -142,13 +142,13 @@ through_blocks switches accumulator register words passed skipped store [] start
     let ws = with_cells words store 0 in
     subst (λ left. Runs 5 (core_at switches loader_base accumulator register ws (off passed left))
     (block_final_core switches start (slice_set ws block_end_cell (end_word start)) (passed ++ left)))
-    (sym (end_shape skipped (word_codes (end_word start))))
-    (the_end switches accumulator register ws passed skipped start (has_with_cells words store 0 has) are is)
+    (sym (end_shape _ _))
+    (the_end switches _ _ ws _ _ _ (has_with_cells _ _ 0 has) are is)
 through_blocks switches accumulator register words passed skipped store ([] ∷ blocks) start has are blocks_are cells few is = absurd (let no : ⊥ = cc in no)
 through_blocks switches accumulator register words passed skipped store (((place, word) ∷ block) ∷ blocks) start has are blocks_are cells few is =
     let whole : List (ℕ × ℕ) = (place, word) ∷ block in
     let (is_one, others) = and_parts (is_block whole) (are_blocks blocks) blocks_are in
-    let follow = places_follow (place, word) block is_one in
+    let follow = places_follow (place, word) _ is_one in
     let control = control_word place in
     let number = count_word (suc (length block)) in
     let codes = words_codes whole in

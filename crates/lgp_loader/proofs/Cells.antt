@@ -48,7 +48,7 @@ program_elsewhere place free k within six nine same = grind (arith, nat_tests)
 
 pub fetch_0 : (words : List ℕ) → HasLoader words → Fetches words loader_base (plain_order P 0) P 0
 unfolding op_of
-fetch_0 words has = record { here = has.fixed 0 (omega arith) (omega arith) (omega arith); is_op = refl; is_at = refl }
+fetch_0 words has = grind arith
 
 pub fetch_1 : (words : List ℕ) → HasLoader words → Fetches words (loader_base + 1) (plain_order I 0) I 0
 unfolding op_of
@@ -105,10 +105,10 @@ pub return_skipped : AreSkipped (carriage_return ∷ [])
 return_skipped = record { no_stop = refl; none_enters = refl }
 
 no_stop_before : (skipped : List ℕ) (word : ℕ) → AreSkipped skipped → list_any is_stop (skipped ++ word_codes word) ≡ false
-no_stop_before skipped word are = rw (list_any-append is_stop skipped (word_codes word), are.no_stop, word_no_stop word) refl
+no_stop_before skipped word are = grind (arith, list_any-append, skipped, word_no_stop)
 
 word_enters : (skipped : List ℕ) (word : ℕ) → AreSkipped skipped → filter enters (skipped ++ word_codes word) ≡ word_codes word
-word_enters skipped word are = rw (filter-append enters skipped (word_codes word), are.none_enters, word_unfiltered word) refl
+word_enters skipped word are = grind (arith, filter-append, skipped, word_unfiltered)
 
 -- the codes that one input passes
 abbrev pub read_codes : List ℕ → ℕ → List ℕ

@@ -65,7 +65,7 @@ no_more_blocks (block ∷ blocks) are =
 -- the longest blocks are blocks of these cells
 with_block_is : (cell : ℕ × ℕ) (next : ℕ × ℕ) (block : List (ℕ × ℕ)) (blocks : List (List (ℕ × ℕ))) (joins : Bool) → follows cell next ≡ joins
     → with_block cell ((next ∷ block) ∷ blocks) ≡ cond joins ((cell ∷ (next ∷ block)) ∷ blocks) ((cell ∷ []) ∷ ((next ∷ block) ∷ blocks))
-with_block_is cell next block blocks joins same = ap (λ b. cond b ((cell ∷ (next ∷ block)) ∷ blocks) ((cell ∷ []) ∷ ((next ∷ block) ∷ blocks))) same
+with_block_is cell next block blocks joins same = grind arith
 
 with_block_blocks : (cell : ℕ × ℕ) (blocks : List (List (ℕ × ℕ))) → are_blocks blocks ≡ true → are_blocks (with_block cell blocks) ≡ true
 with_block_blocks cell [] are = refl
@@ -73,8 +73,7 @@ with_block_blocks cell ([] ∷ blocks) are = are
 with_block_blocks cell ((next ∷ block) ∷ blocks) are = by_test (follows cell next) refl where
   by_test : (joins : Bool) → follows cell next ≡ joins → are_blocks (with_block cell ((next ∷ block) ∷ blocks)) ≡ true
   by_test true same =
-      ap are_blocks (with_block_is _ _ _ _ _ same)
-      ∙ (ap (λ b. (b && is_block (next ∷ block)) && are_blocks blocks) same ∙ are)
+      grind (arith, with_block_is)
   by_test false same = ap are_blocks (with_block_is _ _ _ _ _ same) ∙ are
 
 pub longest_are_blocks : (cells : List (ℕ × ℕ)) → are_blocks (longest_blocks cells) ≡ true
@@ -96,7 +95,7 @@ with_block_apart cell ([] ∷ blocks) are apart = absurd (let no : ⊥ = cc in n
 with_block_apart cell ((next ∷ block) ∷ blocks) are apart = by_test (follows cell next) refl where
   by_test : (joins : Bool) → follows cell next ≡ joins → StandApart (with_block cell ((next ∷ block) ∷ blocks))
   by_test true same = subst StandApart (sym (with_block_is _ _ _ _ _ same)) (apart_longer cell next _ _ apart)
-  by_test false same = subst StandApart (sym (with_block_is _ _ _ _ _ same)) (ap (λ b. b && is_block (next ∷ block)) same, apart)
+  by_test false same = grind (arith, with_block_is)
 
 pub longest_stand_apart : (cells : List (ℕ × ℕ)) → StandApart (longest_blocks cells)
 longest_stand_apart [] = tt
@@ -126,7 +125,7 @@ with_block_begins cell ([] ∷ blocks) = record { block = []; behind = [] ∷ bl
 with_block_begins cell ((next ∷ block) ∷ blocks) = by_test (follows cell next) refl where
   by_test : (joins : Bool) → follows cell next ≡ joins → Begins cell (with_block cell ((next ∷ block) ∷ blocks))
   by_test true same = record { block = next ∷ block; behind = blocks; same = with_block_is _ _ _ _ _ same }
-  by_test false same = record { block = []; behind = (next ∷ block) ∷ blocks; same = with_block_is _ _ _ _ _ same }
+  by_test false same = grind (arith, with_block_is)
 
 -- cells that follow one another, and behind which the next cell does not, are the first of the longest blocks
 pub first_longest : (block rest : List (ℕ × ℕ)) → 0 < length block → IsChunkByPrefix follows (block ++ rest) (length block)
@@ -231,8 +230,7 @@ pieces_are_blocks counts cells is = (and_parts (sum counts == length cells) (are
 
 pub pieces_have_cells : (counts : List ℕ) (cells : List (ℕ × ℕ)) → is_cutting counts cells ≡ true → cells_of (pieces_of counts cells) ≡ cells
 pieces_have_cells counts cells is =
-    let (sums, are) = and_parts (sum counts == length cells) (are_blocks (pieces_of counts cells)) is in
-    pieces_have counts cells (grind (arith, nat_tests))
+    grind (arith, pieces_have)
 
 pub as_many_pieces : (counts : List ℕ) (cells : List (ℕ × ℕ)) → length (pieces_of counts cells) ≡ length counts
 as_many_pieces [] cells = refl

@@ -83,19 +83,7 @@ pub performs : (switches : Switches) (counter accumulator register : ℕ) (words
     → Leads (core_at switches counter accumulator register words tape) last
 unfolding core_after print_of
 performs switches counter accumulator register words tape word op address fetches silent blind last is =
-    let now = core_at switches (address_after counter) accumulator word words tape in
-    let at_address : (row op (sign_of word) (address_at word) now).prints ≡ None = subst (λ m. (row op (sign_of word) m now).prints ≡ None) (sym fetches.is_at) silent in
-    let at_word : (row (op_at word) (sign_of word) (address_at word) now).prints ≡ None =
-    prints_row (op_at word) op (sign_of word) (address_at word) now None fetches.is_op at_address in
-    record {
-      calm = record {
-        works = refl;
-        silent = subst (λ here. (row (op_at here) (sign_of here) (address_at here) (core_at switches (address_after counter) accumulator here words tape)).prints ≡ None)
-            (sym fetches.here) at_word;
-        blind = rw (fetches.here, fetches.is_op, fetches.is_at) blind;
-      };
-      next = rw (fetches.here, fetches.is_op, fetches.is_at) is;
-    }
+    grind (arith, prints_row)
 
 -- p 0000 starts the reader
 pub reader_starts : (switches : Switches) (counter accumulator register : ℕ) (words passed left : List ℕ) (word : ℕ)

@@ -104,20 +104,20 @@ pub blocks_over : (s : State) (blocks : List (List (ℕ × ℕ))) (start : Optio
     → IsLoadedOver s.core.words (loaded s (block_load blocks start)).core.words (cells_of blocks)
 blocks_over s blocks start long are program own is =
     let few = own.few in
-    let left = blocks_leave s blocks start long are program (omega (arith, few)) is in
-    subst (λ (ws : List ℕ). IsLoadedOver s.core.words ws (cells_of blocks)) (sym (ap (λ (t : State). t.core.words) left)) (words_over_blocks s.core.words blocks start long own)
+    let left = blocks_leave s _ _ long are program (omega (arith, few)) is in
+    subst (λ (ws : List ℕ). IsLoadedOver s.core.words ws (cells_of blocks)) (sym (ap (λ (t : State). t.core.words) left)) (words_over_blocks _ blocks start long own)
 
 pub single_over : (s : State) (image : ImageParts) → length s.core.words ≡ 4096 → AreProgramCells image.cells → HaveOwnPlaces image.cells → IfSome image.start IsAddress
     → IsLoadedOver s.core.words (loaded s (single_load image)).core.words image.cells
 single_over s image long program own is =
-    subst (λ (ws : List ℕ). IsLoadedOver s.core.words ws image.cells) (sym (ap (λ (t : State). t.core.words) (single_leaves s _ long program is))) (words_over_single _ image long own)
+    grind (arith, single_leaves, words_over_single, own)
 
 -- ---- how long it takes
 
 -- activities, each of which begins at a clock and ends at the next one
 costs_between : (f : ℕ → State) (clock : ℕ → ℕ) (first count : ℕ) → ((k : ℕ) → k < count → clock (first + k) + cost (f (first + k)) ≡ clock (first + k + 1))
     → clock first + sum_by cost (map f (range_with_len first count)) ≡ clock (first + count)
-costs_between f clock first zero each = let same : clock first ≡ clock (first + 0) = ap clock (let e : first ≡ first + 0 = omega arith in e) in omega (arith, same)
+costs_between f clock first zero each = grind arith
 costs_between f clock first (suc count) each =
     let others = map f (range_with_len (first + 1) count) in
     let parts : sum_by cost (f first ∷ others) ≡ cost (f first) + sum_by cost others = sum_by-cons _ (f first) others in
@@ -171,7 +171,7 @@ time_loaded now s load at = ap (λ (c : Configuration). c.state.clock) at ∙ lo
 
 pub program_loaded : (now : Configuration) (s : State) (load : TapeLoad) (cells : List (ℕ × ℕ)) → now ≡ at_boundary (loaded s load) → length s.core.words ≡ 4096
     → LeavesProgram load cells → IsLoadedOver s.core.words now.state.core.words cells
-program_loaded now s load cells at long leaves = subst (λ (c : Configuration). IsLoadedOver s.core.words c.state.core.words cells) (sym at) (leaves s long)
+program_loaded now s load cells at long leaves = grind arith
 
 -- the same behind a load
 pub program_read : (load : TapeLoad) (cells : List (ℕ × ℕ)) (before after : Configuration) (answer : Result ℕ LoadFault)

@@ -51,22 +51,18 @@ one_more_performed now then s done so is clock = record {
 -- a machine at rest takes a short tape
 pub no_mount_fault : (fault : MountFault) (rests : Bool) (codes : List ℕ) → (fault ≡ Moving → rests ≡ false) → (fault ≡ TooLong → IsTrue rests × (tape_limit < length codes))
     → rests ≡ true → length codes ≤ tape_limit → ⊥
-no_mount_fault Moving rests codes moving long at_rest short = let not = moving refl in cc
+no_mount_fault Moving rests codes moving long at_rest _ = let not = moving refl in cc
 no_mount_fault TooLong rests codes moving long at_rest short = let (rest, over) = long refl in omega (arith, over, short)
 
 -- where the clock's end is met, the clock after loading would be past it
 pub past_by_keying : (s : State) (load : TapeLoad) → clock_end < (keyed s loader_base load.loader).clock → clock_end < (loaded s load).clock
 past_by_keying s load past =
-    let begun = begun_later s load in
-    let later = loading_time s load in
-    omega (arith, past, begun, later)
+    grind (arith, begun_later, loading_time)
 
 pub past_by_jump : (now : Configuration) (s : State) (load : TapeLoad) → now ≡ at_boundary (about_to_jump (prepared s load) loader_base)
     → clock_end < now.state.clock + cost now.state → clock_end < (loaded s load).clock
 past_by_jump now s load at past =
-    let same : now.state.clock + cost now.state ≡ (begun s load).clock = ap (λ (c : Configuration). c.state.clock + cost c.state) at in
-    let later = loading_time s load in
-    omega (arith, past, same, later)
+    grind (arith, loading_time)
 
 pub past_by_order : (now : Configuration) (s : State) (load : TapeLoad) → (done : ℕ) × (done < load.orders) × (now ≡ at_boundary (after (begun s load) done)) → clock_end < now.state.clock + cost now.state → clock_end < (loaded s load).clock
 past_by_order now s load (done, less, at) past =

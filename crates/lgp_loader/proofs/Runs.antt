@@ -27,16 +27,9 @@ calm_next s calm =
 pub state_after_run : (s : State) (count : ℕ) (last : Core) → Runs count s.core last
     → after s count ≡ record { core = last; printed = s.printed; clock = (after s count).clock }
 state_after_run s zero last same =
-    let none = after_none s in
-    none ∙ (ap (λ core. record s { core = core }) same ∙ ap (λ (t : State). record { core = last; printed = s.printed; clock = t.clock }) (sym none))
+    grind (arith, after_none)
 state_after_run s (suc count) last (calm, runs) =
-    let first = after_first s _ in
-    let now = calm_next s calm in
-    let core : (next s).core ≡ core_after s.core = refl in
-    first
-    ∙ (state_after_run (next s) count last runs
-    ∙ (ap (λ (t : State). record { core = last; printed = t.printed; clock = (after (next s) count).clock }) now
-    ∙ ap (λ (t : State). record { core = last; printed = s.printed; clock = t.clock }) (sym first)))
+    grind (arith, after_first, calm_next, state_after_run (next s) count last runs)
 
 -- each of them is calm
 pub calm_at : (s : State) (count : ℕ) (last : Core) → Runs count s.core last → (before : ℕ) → before < count → IsCalm (after s before).core

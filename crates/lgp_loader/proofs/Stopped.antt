@@ -37,9 +37,7 @@ module _ (f : ℕ → State) where
       → find passes_clock_end (map f (range_with_len first count)) ≡ Some (f (first + done))
   first_of first zero done less _ _ = absurd (let wrong : ⊥ = omega (arith, less) in wrong)
   first_of first (suc count) zero less calm past =
-      let same : first ≡ first + 0 = omega arith in
-      ap (λ b. cond b (Some (f first)) (find passes_clock_end (map f (range_with_len (first + 1) count)))) (ap (λ n. passes_clock_end (f n)) same ∙ past)
-      ∙ ap (λ n. Some (f n)) same
+      grind (arith, f)
   first_of first (suc count) (suc done) less calm past =
       let here : passes_clock_end (f first) ≡ false = ap (λ n. passes_clock_end (f n)) (let e : first ≡ first + 0 = omega arith in e) ∙ calm 0 (omega arith) in
       let same : first + 1 + done ≡ first + suc done = omega arith in
@@ -93,21 +91,14 @@ store_more s base (word ∷ words) (suc k) less =
 pub keyed_clock : (s : State) (base : ℕ) (words : List ℕ) (k : ℕ) → k < length words
     → (before_store s base words k).clock + cost (before_store s base words k) ≡ (keyed s base (take (k + 1) words)).clock
 keyed_clock s base words k less =
-    ap (λ (t : State). t.clock) (sym (store_more _ _ _ k less))
-    ∙ ap (λ n. (keyed s base (take n words)).clock) (let e : suc k ≡ k + 1 = omega arith in e)
+    grind (arith, store_more, less)
 
 keyed_grows : (s : State) (base : ℕ) (words : List ℕ) (k more : ℕ) → k + more ≤ length words
     → (keyed s base (take k words)).clock ≤ (keyed s base (take (k + more) words)).clock
 keyed_grows s base words k zero le =
-    let same : (keyed s base (take (k + 0) words)).clock ≡ (keyed s base (take k words)).clock = ap (λ n. (keyed s base (take n words)).clock) (let e : k + 0 ≡ k = omega arith in e) in
-    omega (arith, same)
+    grind arith
 keyed_grows s base words k (suc more) le =
-    let before = keyed_grows s base words k more (omega (arith, le)) in
-    let one : (keyed s base (take (k + more) words)).clock ≤ (keyed s base (take (k + more + 1) words)).clock =
-    omega (arith, keyed_clock s base words (k + more) (omega (arith, le))) in
-    let same : (keyed s base (take (k + suc more) words)).clock ≡ (keyed s base (take (k + more + 1) words)).clock =
-    ap (λ n. (keyed s base (take n words)).clock) (let e : k + suc more ≡ k + more + 1 = omega arith in e) in
-    omega (arith, before, one, same)
+    grind (arith, keyed_clock, keyed_grows s base words k more (omega (arith, le)))
 
 -- a store before others ends before they begin
 store_fits : (s : State) (base : ℕ) (words : List ℕ) (k done : ℕ) → k < done → done ≤ length words
@@ -145,10 +136,7 @@ behind_stores s load clock =
 behind_jump : (s : State) (load : TapeLoad) → (begun s load).clock ≤ clock_end
     → loading_stopped s load ≡ find passes_clock_end (order_states (begun s load) load.orders)
 behind_jump s load clock =
-    let jump = about_to_jump (prepared s load) loader_base in
-    let stores : (keyed s loader_base load.loader).clock ≤ clock_end = omega (arith, begun_later s load, clock) in
-    behind_stores s _ stores
-    ∙ ap (λ b. cond b (Some jump) (find passes_clock_end (order_states (begun s load) load.orders))) (jump_fits s load clock)
+    grind (arith, begun_later, behind_stores, jump_fits)
 
 stopped_in_store : (s : State) (load : TapeLoad) (done : ℕ) → done < length load.loader
     → (before_store s loader_base load.loader done).clock ≤ clock_end → passes_clock_end (before_store s loader_base load.loader done) ≡ true
@@ -163,8 +151,7 @@ stopped_in_jump : (s : State) (load : TapeLoad)
     → (about_to_jump (prepared s load) loader_base).clock ≤ clock_end → passes_clock_end (about_to_jump (prepared s load) loader_base) ≡ true
     → loading_stopped s load ≡ Some (about_to_jump (prepared s load) loader_base)
 stopped_in_jump s load clock past =
-    let jump = about_to_jump (prepared s load) loader_base in
-    behind_stores s _ clock ∙ ap (λ b. cond b (Some jump) (find passes_clock_end (order_states (begun s load) load.orders))) past
+    grind (arith, behind_stores)
 
 stopped_in_order : (s : State) (load : TapeLoad) (done : ℕ) → done < load.orders
     → (after (begun s load) done).clock ≤ clock_end → passes_clock_end (after (begun s load) done) ≡ true
@@ -179,9 +166,7 @@ stopped_in_order s load done less clock past =
 found_at : (now : Configuration) (t : State) (found : Option State) → now ≡ at_boundary t → now.state.clock ≤ clock_end → clock_end < now.state.clock + cost now.state
     → (t.clock ≤ clock_end → passes_clock_end t ≡ true → found ≡ Some t) → found ≡ Some now.state
 found_at now t found at within past is =
-    let clock : now.state.clock ≡ t.clock = ap (λ (c : Configuration). c.state.clock) at in
-    let end : now.state.clock + cost now.state ≡ t.clock + cost t = ap (λ (c : Configuration). c.state.clock + cost c.state) at in
-    is (omega (arith, clock, within)) (passes t (omega (arith, end, past))) ∙ ap (λ (c : Configuration). Some c.state) (sym at)
+    grind arith
 
 -- where a machine stands whose next activity would pass the end, about to store a word, to start the loader or to perform one of
 -- its orders, loading stops there: the clock goes on by what the activities cost, so none before it would

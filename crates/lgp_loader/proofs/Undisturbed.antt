@@ -24,7 +24,7 @@ pub blocks_undisturbed : (s : State) (blocks : List (List (ℕ × ℕ))) (start 
     → count_by is_word_time events ≡ total_cost (begun s (block_load blocks start)) (block_load blocks start).orders
     → (switches : Switches) × (after_events (at_boundary (begun s (block_load blocks start))) events ≡ at_boundary (with_switches (loaded s (block_load blocks start)) switches))
 blocks_undisturbed s blocks start events long are program few is such times =
-    undisturbed_run s (block_load blocks start) (left_by_blocks s blocks start 0).core events (blocks_run s blocks start long are program few is) such times
+    undisturbed_run s _ (left_by_blocks s blocks start 0).core events (blocks_run s blocks _ long are program few is) such times
 
 pub single_undisturbed : (s : State) (image : ImageParts) (events : List Event)
     → length s.core.words ≡ 4096 → AreProgramCells image.cells → IfSome image.start IsAddress
@@ -39,7 +39,7 @@ pub blocks_blind : (s : State) (blocks : List (List (ℕ × ℕ))) (start : Opti
     → are_blocks blocks ≡ true → AreProgramCells (cells_of blocks) → length (cells_of blocks) ≤ 4096 → IfSome start IsAddress
     → before < (block_load blocks start).orders → looks_at_switches (after (begun s (block_load blocks start)) before) ≡ false
 blocks_blind s blocks start before long are program few is less =
-    let calm = calm_in_run s (block_load blocks start) (left_by_blocks s blocks start 0).core (blocks_run s blocks start long are program few is) before less in
+    let calm = calm_in_run s _ (left_by_blocks s blocks start 0).core (blocks_run s blocks _ long are program few is) _ less in
     calm.blind
 
 pub single_blind : (s : State) (image : ImageParts) (before : ℕ) → length s.core.words ≡ 4096 → AreProgramCells image.cells → IfSome image.start IsAddress

@@ -29,24 +29,14 @@ part_of kinds.BadByte line = option_map (λ place. (place, 1)) line.bad_byte
 part_of kinds.AfterEnd line = head_part line
 part_of kinds.BadLabel line = head_part line
 part_of kinds.LabelTwice line = head_part line
-part_of kinds.UnknownOrder line = token_part line.operation
-part_of kinds.MissingOperand line = token_part line.operation
-part_of kinds.PastEnd line = token_part line.operation
-part_of kinds.InLoader line = token_part line.operation
-part_of kinds.PlaceTaken line = token_part line.operation
 part_of kinds.Extra line = operands_part line.operands
 part_of kinds.BadOperand line = operands_part line.operands
 part_of kinds.UnknownName line = operands_part line.operands
 part_of kinds.OutOfRange line = operands_part line.operands
 part_of kinds.NoEnd line = None
+part_of other line = token_part line.operation
 
 -- ---- what is shown: a line's first 200 bytes
-
-abbrev pub most_shown : ℕ
-most_shown = 200
-
-abbrev pub shown_part : List ℕ → List ℕ
-shown_part text = take most_shown text
 
 -- a byte that no line may have is shown as a question mark
 abbrev pub shown_byte : ℕ → ℕ
@@ -63,24 +53,23 @@ indent = codes "        "
 -- the line, and ` ..` behind it where not all of it is shown
 abbrev pub shown_line : List ℕ → List ℕ
 shown_line text =
-    indent ++ (map shown_byte (shown_part text)
-    ++ (if nat_lt most_shown (length text) then codes " ..\n" else codes "\n"))
+    indent ++ (map shown_byte (take 200 text)
+    ++ (if nat_lt 200 (length text) then codes " ..\n" else codes "\n"))
 
 -- the line of the mark, where a byte of the part is shown
 abbrev pub mark_line : List ℕ → List ℕ → List ℕ
 mark_line front [] = []
-mark_line front (first ∷ part) =
-    indent ++ (map (byte_below false) front ++ (map (byte_below true) (first ∷ part) ++ codes "\n"))
-
-abbrev pub shown_mark : Option (ℕ × ℕ) → List ℕ → List ℕ
-shown_mark None shown = []
-shown_mark (Some part) shown = mark_line (take part.0 shown) (take part.1 (drop part.0 shown))
+mark_line front part =
+    indent ++ (map (byte_below false) front ++ (map (byte_below true) part ++ codes "\n"))
 
 -- ---- a text's first line with its mark; the empty text has none
 
 abbrev pub marked_line : FaultKind → SourceLine → List ℕ
 marked_line kind line =
-    shown_line line.text ++ shown_mark (part_of kind line) (shown_part line.text)
+    let shown = take 200 line.text in
+    shown_line line.text
+    ++ option_map_or (λ part. mark_line (take part.0 shown) (take part.1 (drop part.0 shown)))
+    (part_of kind line) []
 
 unfoldable pub marked_text : FaultKind → List ℕ → List ℕ
 marked_text kind text = option_map_or (marked_line kind) (slice_get (lines_of text) 0) []

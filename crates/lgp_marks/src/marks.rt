@@ -1,8 +1,9 @@
 //! A faulty line of a source, with a mark below the part that its fault speaks of.
 
-ghost use Rattle.std.specs.Prelude.{◌≡◌, ◌++◌, OnOk, drop, map, option_map, take};
+ghost use Rattle.std.specs.Prelude.{◌≡◌, ◌++◌, [], OnOk, drop, map, option_map, take};
+ghost use Rattle.std.specs.Option.{option_map_or};
 ghost use Rattle.lgp_source.specs.Seen.{line_seen, token_seen};
-ghost use Rattle.lgp_marks.specs.Marks.{byte_below, shown_line, mark_line, shown_mark, marked_line, marked_text, operands_part, part_of, shown_byte, token_part};
+ghost use Rattle.lgp_marks.specs.Marks.{byte_below, shown_line, mark_line, marked_line, marked_text, operands_part, part_of, shown_byte, token_part};
 
 use lgp_assembler::FaultKind;
 use lgp_source::{Line, Lines, Token};
@@ -160,7 +161,8 @@ fn push_mark<A: Allocator>(
     part: Option<(usize, usize)>,
     shown: &[u8],
 ) -> Result<(), AllocError>
-    ensures { OnOk result (text.new.items ≡ text.old.items ++ shown_mark part shown.now) }
+    ensures { OnOk result (text.new.items ≡ text.old.items ++ option_map_or
+        (λ it. mark_line (take it.0 shown.now) (take it.1 (drop it.0 shown.now))) part []) }
 {
     let Some(part) = part else {
         return Ok(());

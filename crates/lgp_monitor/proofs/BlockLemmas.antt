@@ -1,19 +1,18 @@
 -- Dumps that are restored, and what blocks leave in the transcript.
-use Rattle.std.proofs.Common.{◌≡◌, ◌<◌, ◌+◌, ◌++◌, ◌==◌, ℕ, Bool, true, false, cond, List, [], ◌∷◌, ◌≤◌, length, drop, get_or, set, fold, map, Option, Some, None, Result, Err, refl, sym, ap, subst, ◌∙◌}
+use Rattle.std.proofs.Common.{◌≡◌, ◌<◌, ◌+◌, ◌++◌, ◌==◌, ℕ, Bool, true, false, cond, ◌&&◌, is_none, List, [], ◌∷◌, ◌≤◌, codes, decimal, length, drop, get_or, set, fold, map, Option, Some, None, option_map, option_to_list, Result, Err, refl, sym, ap, subst, ◌∙◌}
 use Rattle.std.specs.List.{AllByRecursion}
 use Rattle.std.specs.Str.Lines.{lines}
-use Rattle.std.specs.Option.{IfNone, IfSome}
+use Rattle.std.specs.Option.{IfNone, IfSome, option_map_or}
 use Rattle.std.specs.Result.{IfErr, IsErrOf}
 use Rattle.std.proofs.lemmas.List.{append_assoc, append-nil, drop_all, drop_more}
 use Rattle.bstr.specs.Text.{lines_of}
 use Rattle.lgp_word.specs.Drum.{blank_words}
 use Rattle.lgp_stream.specs.KeptLine.{kept_of}
 use Rattle.lgp_stream.specs.Language.{state_after}
-use Rattle.lgp_transcript.specs.Transcript.{IsLine, IsToldByTranscript, Recorded, after_lines, untouched}
+use Rattle.lgp_transcript.specs.Transcript.{IsLine, IsToldByTranscript, Recorded, after_lines, untouched, with_line, with_standing}
 use Rattle.lgp_transcript.proofs.AfterLemmas.{after-append, after-none}
 use Rattle.lgp_transcript.proofs.LineLaws.{IsTold, IsTold-all, IsTold-lines, IsTold-meaning, IsTold-none, lines_are_lines}
-use Rattle.lgp_desk.specs.Desk.{Seat, role_at, seat_after, taken_seat}
-use Rattle.lgp_desk.specs.Handing.{Handed, Line, Whole, behind_handed, handed, handed_block, handed_by}
+use Rattle.lgp_desk.specs.Desk.{Handed, Line, Seat, Whole, behind_handed, handed, handed_by, role_at, seat_after, taken_seat}
 use Rattle.lgp_desk.specs.Roles.{Block}
 use Rattle.lgp_desk.specs.declared.desk.Manner.{Manner}
 use Rattle.lgp_desk.specs.declared.role.Role.{Role}
@@ -27,8 +26,10 @@ use Rattle.lgp_listing.proofs.DumpsReadBack.{dump_faultless, one_drum}
 use Rattle.lgp_lab.specs.Script.{script_language}
 use Rattle.lgp_lab.specs.Standing.{Standing, opening_standing}
 use Rattle.lgp_monitor.specs.Attending.{IsSayable, attended_language, handed_over, monitor_blocks, prompt_at, takes_commands_at}
-use Rattle.lgp_monitor.specs.Blocks.{behind_block, behind_tape, cells_changed, changed_cells, dump_fault_text, dumped_words, is_restore, is_tape, put_cell, restore_lines, restore_reply, restored_text, restoring_lines, rests_at, with_cell}
+use Rattle.lgp_lab.specs.TapeCommands.{answer_to_tape_text}
+use Rattle.lgp_monitor.specs.Blocks.{behind_block, cells_changed, changed_cells, dump_fault_text, dumped_words, is_restore, is_tape, put_cell, restore_lines, restore_reply, rests_at}
 use Rattle.lgp_monitor.specs.Monitor.{meaning_at, monitor_language}
+use Rattle.lgp_monitor.specs.Reasons.{reasoned}
 use Rattle.lgp_monitor.proofs.LineLemmas.{free-at, free-put}
 
 -- ---- the words of a dump
@@ -37,11 +38,14 @@ record IsDumpOf (text words : List ℕ) : Type 0 where
   pub is_drum : IsDrum words
   pub text_is : dump_of words ≡ text
 
-abbrev with_line : List ℕ → List ℕ → List ℕ
-with_line words line = with_cell words (cell_in line)
+abbrev with_cell : List ℕ → Option (ℕ × ℕ) → List ℕ
+with_cell words read = option_map_or (λ cell. set words cell.0 cell.1) read words
+
+abbrev with_read : List ℕ → List ℕ → List ℕ
+with_read words line = with_cell words (cell_in line)
 
 read_on : (number least : ℕ) (words : List ℕ) (lines : List (List ℕ)) (text : List ℕ)
-    → IsReadSo number least words lines text → IsDumpOf text (fold with_line words lines)
+    → IsReadSo number least words lines text → IsDumpOf text (fold with_read words lines)
 read_on number least words [] text so =
     record { is_drum = so.is_drum; text_is = read_all number least words [] text so refl }
 read_on number least words (line ∷ rest) text so =
@@ -49,18 +53,18 @@ read_on number least words (line ∷ rest) text so =
     (λ cell read. read_on (number + 1) (cell.0 + 1) (set words cell.0 cell.1) rest text
     (read_more number least words line rest text so cell read)) where
       by_cell : (cell : Option (ℕ × ℕ)) → cell_in line ≡ cell
-          → ((read : ℕ × ℕ) → cell_in line ≡ Some read → IsDumpOf text (fold with_line (set words read.0 read.1) rest))
-          → IsDumpOf text (fold with_line (with_cell words (cell_in line)) rest)
+          → ((read : ℕ × ℕ) → cell_in line ≡ Some read → IsDumpOf text (fold with_read (set words read.0 read.1) rest))
+          → IsDumpOf text (fold with_read (with_cell words (cell_in line)) rest)
       by_cell None e more = absurd (in_form number least words line rest text so e)
       by_cell (Some cell) e more =
-          subst (λ (read : Option (ℕ × ℕ)). IsDumpOf text (fold with_line (with_cell words read) rest)) (sym e) (more cell e)
+          subst (λ (read : Option (ℕ × ℕ)). IsDumpOf text (fold with_read (with_cell words read) rest)) (sym e) (more cell e)
 
 pub drum_is_dumped : (drum text : List ℕ) → IsDrum drum → dump_of drum ≡ text → drum ≡ dumped_words text
 unfolding dumped_words
 drum_is_dumped drum text is_drum is =
     let read = read_on 1 0 blank_words (lines_of text) text
     (read_none blank_words text refl (dump_faultless drum text is_drum (sym is))) in
-    one_drum drum (fold with_line blank_words (lines_of text)) is_drum read.is_drum (is ∙ sym read.text_is)
+    one_drum drum (fold with_read blank_words (lines_of text)) is_drum read.is_drum (is ∙ sym read.text_is)
 
 -- ---- the words that change, one place more
 
@@ -105,46 +109,52 @@ put_all now whole cells i past e =
     sym (ap (λ (cs : List (ℕ × ℕ)). after_lines script_language now (map put_cell cs)) (drop_all i cells past)
     ∙ after-none script_language now) ∙ e
 
+abbrev lines_if : Bool → List (ℕ × ℕ) → List (List ℕ)
+lines_if put cells = cond put (map put_cell cells) []
+
 pub not_put : (recorded : Recorded Standing) (rests : Bool) (cells : List (ℕ × ℕ)) → rests ≡ false
-    → recorded ≡ after_lines script_language recorded (restoring_lines None rests cells)
+    → recorded ≡ after_lines script_language recorded (lines_if rests cells)
 not_put recorded rests cells e =
-    sym (ap (λ (b : Bool). after_lines script_language recorded (restoring_lines None b cells)) e
+    sym (ap (λ (b : Bool). after_lines script_language recorded (lines_if b cells)) e
     ∙ after-none script_language recorded)
 
 -- ---- a text that is a drum's dump, and one that is none
+
+abbrev restored_text : Bool → ℕ → List ℕ
+restored_text rests count = cond rests (codes "restored " ++ (decimal count ++ codes "\n")) (reasoned (codes "? 2 Moving\n"))
 
 abbrev words_at : Recorded Standing → List ℕ
 words_at recorded = recorded.standing.debugger.state.core.words
 
 pub restored_reply : (recorded : Recorded Standing) (drum dump : List ℕ) → IsDrum drum → dump_of drum ≡ dump
-    → restored_text None (rests_at recorded) (changed_cells 0 (words_at recorded) drum) ≡ restore_reply recorded dump
+    → restored_text (rests_at recorded) (length (changed_cells 0 (words_at recorded) drum)) ≡ restore_reply recorded dump
 unfolding restore_reply
 restored_reply recorded drum dump is_drum is =
-    ap (λ (fault : Option DumpFault). restored_text fault (rests_at recorded) (changed_cells 0 (words_at recorded) drum))
-    (sym (dump_faultless drum dump is_drum (sym is)))
-    ∙ ap (λ (words : List ℕ). restored_text (first_fault dump) (rests_at recorded) (changed_cells 0 (words_at recorded) words))
+    ap (λ (words : List ℕ). restored_text (rests_at recorded) (length (changed_cells 0 (words_at recorded) words)))
     (drum_is_dumped drum dump is_drum is)
+    ∙ ap (λ (fault : Option DumpFault). option_map_or dump_fault_text fault (restored_text (rests_at recorded) (length (cells_changed recorded dump))))
+    (sym (dump_faultless drum dump is_drum (sym is)))
 
 pub restored_lines : (recorded : Recorded Standing) (drum dump : List ℕ) → IsDrum drum → dump_of drum ≡ dump
-    → restoring_lines None (rests_at recorded) (changed_cells 0 (words_at recorded) drum) ≡ restore_lines recorded dump
+    → lines_if (rests_at recorded) (changed_cells 0 (words_at recorded) drum) ≡ restore_lines recorded dump
 unfolding restore_lines
 restored_lines recorded drum dump is_drum is =
-    ap (λ (fault : Option DumpFault). restoring_lines fault (rests_at recorded) (changed_cells 0 (words_at recorded) drum))
-    (sym (dump_faultless drum dump is_drum (sym is)))
-    ∙ ap (λ (words : List ℕ). restoring_lines (first_fault dump) (rests_at recorded) (changed_cells 0 (words_at recorded) words))
+    ap (λ (words : List ℕ). lines_if (rests_at recorded) (changed_cells 0 (words_at recorded) words))
     (drum_is_dumped drum dump is_drum is)
+    ∙ ap (λ (fault : Option DumpFault). lines_if (is_none fault && rests_at recorded) (cells_changed recorded dump))
+    (sym (dump_faultless drum dump is_drum (sym is)))
 
 pub faulty_reply : (recorded : Recorded Standing) (dump : List ℕ) (fault : DumpFault) → first_fault dump ≡ Some fault
     → dump_fault_text fault ≡ restore_reply recorded dump
 unfolding restore_reply
 faulty_reply recorded dump fault is =
-    sym (ap (λ (found : Option DumpFault). restored_text found (rests_at recorded) (cells_changed recorded dump)) is)
+    sym (ap (λ (found : Option DumpFault). option_map_or dump_fault_text found (restored_text (rests_at recorded) (length (cells_changed recorded dump)))) is)
 
 pub faulty_after : (recorded : Recorded Standing) (dump : List ℕ) (fault : DumpFault) → first_fault dump ≡ Some fault
     → recorded ≡ after_lines script_language recorded (restore_lines recorded dump)
 unfolding restore_lines
 faulty_after recorded dump fault is =
-    sym (ap (λ (found : Option DumpFault). after_lines script_language recorded (restoring_lines found (rests_at recorded) (cells_changed recorded dump))) is
+    sym (ap (λ (found : Option DumpFault). after_lines script_language recorded (lines_if (is_none found && rests_at recorded) (cells_changed recorded dump))) is
     ∙ after-none script_language recorded)
 
 -- the fault that is told is the first one, where it is not want of memory
@@ -166,13 +176,12 @@ free-cells : (cells : List (ℕ × ℕ)) → AllByRecursion IsLine (map put_cell
 free-cells [] = tt
 free-cells (cell ∷ more) = (free-put cell.0 cell.1, free-cells more)
 
-free-restoring : (fault : Option DumpFault) (rests : Bool) (cells : List (ℕ × ℕ)) → AllByRecursion IsLine (restoring_lines fault rests cells)
-free-restoring (Some fault) rests cells = tt
-free-restoring None true cells = free-cells cells
-free-restoring None false cells = tt
+free-restoring : (put : Bool) (cells : List (ℕ × ℕ)) → AllByRecursion IsLine (lines_if put cells)
+free-restoring true cells = free-cells cells
+free-restoring false cells = tt
 
 free-block : (block : Option Block) (behind : List Handed) → AllByRecursion IsHandedLine behind
-    → AllByRecursion IsHandedLine (handed_block monitor_language takes_commands_at prompt_at monitor_blocks block behind)
+    → AllByRecursion IsHandedLine (option_to_list (option_map Whole block) ++ behind)
 free-block None behind rest = rest
 free-block (Some block) behind rest = (tt, rest)
 
@@ -200,15 +209,15 @@ free-handed seat (line ∷ more) free =
 abbrev IsTold-at : Recorded Standing → Type 0
 IsTold-at recorded = IsTold script_language opening_standing recorded.standing recorded.transcript
 
-told_block : (recorded : Recorded Standing) (kind text : List ℕ) → IsTold-at recorded → is_tape kind ≡ false
-    → IsTold-at (behind_block recorded kind text)
+told_block : (recorded : Recorded Standing) (block : Block) → IsTold-at recorded → is_tape block.kind ≡ false
+    → IsTold-at (behind_block recorded block)
 unfolding behind_block restore_lines after_lines
-told_block recorded kind text told none = by_kind (is_restore kind) (is_tape kind) none where
+told_block recorded block told none = by_kind (is_restore block.kind) (is_tape block.kind) none where
   by_kind : (restores tapes : Bool) → tapes ≡ false
-      → IsTold-at (cond restores (after_lines script_language recorded (restore_lines recorded text)) (cond tapes (behind_tape recorded kind text) recorded))
+      → IsTold-at (cond restores (after_lines script_language recorded (restore_lines recorded block.text)) (cond tapes (with_standing (with_line recorded block.kind) (answer_to_tape_text recorded.standing block.text).after) recorded))
   by_kind true tapes e =
-      IsTold-lines script_language opening_standing recorded.standing recorded.transcript (restore_lines recorded text) told
-      (free-restoring (first_fault text) (rests_at recorded) (cells_changed recorded text))
+      IsTold-lines script_language opening_standing recorded.standing recorded.transcript (restore_lines recorded block.text) told
+      (free-restoring (is_none (first_fault block.text) && rests_at recorded) (cells_changed recorded block.text))
   by_kind false false e = told
   by_kind false true e = cc (e)
 
@@ -220,7 +229,7 @@ told_on recorded (Line line ∷ more) told free sayable =
     (IsTold-meaning script_language opening_standing recorded (meaning_at recorded line) told (free-at recorded line free.0))
     free.1 sayable.1
 told_on recorded (Whole block ∷ more) told free sayable =
-    told_on (monitor_blocks.after recorded block) more (told_block recorded block.kind block.text told sayable.0) free.1 sayable.1
+    told_on (monitor_blocks.after recorded block) more (told_block recorded block told sayable.0) free.1 sayable.1
 
 pub told_at_desk : (manner : Manner) (typed : List ℕ) → AllByRecursion IsSayable (handed_over manner typed)
     → IsToldByTranscript script_language opening_standing

@@ -1,6 +1,5 @@
 -- The digits behind a point.
-use Rattle.std.proofs.Common.{◌≡◌, ℕ, zero, suc, ◌+◌, ◌-◌, ◌*◌, ◌/◌, ◌%◌, ◌^◌, ◌<◌, List, [], ◌∷◌, ◌++◌, refl, arith, ap, sym, ◌∙◌, append-nil, append_assoc, ◌==◌, false}
-use Rattle.std.proofs.lemmas.Bool.Decides.{nat_tests}
+use Rattle.std.proofs.Common.{◌≡◌, ℕ, zero, suc, ◌+◌, ◌-◌, ◌*◌, ◌/◌, ◌%◌, ◌^◌, ◌<◌, List, [], ◌∷◌, ◌++◌, arith, ap, sym, ◌∙◌, append-nil, append_assoc}
 use Rattle.lgp_monitor.specs.Scaled.{decimals}
 
 first-digit : (more rest : ℕ) → 0 < more → 0 < rest → decimals more rest ≡ (48 + rest / 10 ^ 9) ∷ decimals (more - 1) (rest % 10 ^ 9 * 10)
@@ -8,14 +7,12 @@ unfolding decimals
 first-digit zero rest some left = absurd (omega (arith, some))
 first-digit (suc more) zero some left = absurd (omega (arith, left))
 first-digit (suc more) (suc rest) some left =
-    let there : (suc rest == 0) ≡ false = grind (arith, nat_tests) in
-    let one_less : suc more - 1 ≡ more = omega arith in
-    rw (there, one_less) refl
+    grind arith
 
 -- a text with one digit more behind it
 pub next-digit : (text whole : List ℕ) (more rest : ℕ) → 0 < more → 0 < rest → text ++ decimals more rest ≡ whole → (text ++ (48 + rest / 10 ^ 9) ∷ []) ++ decimals (more - 1) (rest % 10 ^ 9 * 10) ≡ whole
 next-digit text whole more rest some left is =
-    append_assoc text ((48 + rest / 10 ^ 9) ∷ []) (decimals (more - 1) (rest % 10 ^ 9 * 10)) ∙ (ap (λ (digits : List ℕ). text ++ digits) (sym (first-digit more rest some left)) ∙ is)
+    append_assoc text ((48 + rest / 10 ^ 9) ∷ []) (decimals (more - 1) (rest % 10 ^ 9 * 10)) ∙ (ap (λ (digits : List ℕ). text ++ digits) (sym (first-digit _ _ some left)) ∙ is)
 
 pub no-room : (text whole : List ℕ) (more rest : ℕ) → more ≡ 0 → text ++ decimals more rest ≡ whole → text ≡ whole
 unfolding decimals

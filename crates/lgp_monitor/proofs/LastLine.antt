@@ -1,22 +1,18 @@
 -- Where the line begins in which a place lies.
-use Rattle.std.proofs.Common.{◌≡◌, ◌<◌, ◌-◌, ◌==◌, ℕ, zero, suc, true, false, List, slice_index, ap, refl, sym, ◌∙◌, arith}
+use Rattle.std.proofs.Common.{◌≡◌, ◌<◌, ◌-◌, ◌==◌, ℕ, zero, suc, true, false, List, slice_index, refl, arith}
 use Rattle.lgp_monitor.specs.Reasons.{line_start}
 
 pub behind_line_feed : (text : List ℕ) (start : ℕ) → 0 < start → (slice_index text (start - 1) == 10) ≡ true → line_start text start ≡ start
 unfolding line_start
 behind_line_feed text zero above feed = refl
 behind_line_feed text (suc n) above feed =
-    let last : suc n - 1 ≡ n = omega arith in
-    let here : (slice_index text n == 10) ≡ true = ap (λ (i : ℕ). slice_index text i == 10) (sym last) ∙ feed in
-    rw here refl
+    grind arith
 
 pub within_line : (text : List ℕ) (start : ℕ) → 0 < start → (slice_index text (start - 1) == 10) ≡ false → line_start text (start - 1) ≡ line_start text start
 unfolding line_start
 within_line text zero above feed = absurd (omega (arith, above))
 within_line text (suc n) above feed =
-    let last : suc n - 1 ≡ n = omega arith in
-    let here : (slice_index text n == 10) ≡ false = ap (λ (i : ℕ). slice_index text i == 10) (sym last) ∙ feed in
-    ap (λ (i : ℕ). line_start text i) last ∙ rw here refl
+    grind arith
 
 pub at_first : (text : List ℕ) (start : ℕ) → start ≡ 0 → line_start text start ≡ start
 unfolding line_start

@@ -1,5 +1,5 @@
 -- What typed lines stand for are lines, so that a transcript's lines are those.
-use Rattle.std.proofs.Common.{◌≡◌, ℕ, zero, suc, ◌+◌, ◌/◌, ◌%◌, ◌&&◌, not, Bool, true, false, cond, List, [], ◌∷◌, ◌++◌, take, drop, get_or, refl, codes, arith}
+use Rattle.std.proofs.Common.{◌≡◌, ℕ, zero, suc, ◌+◌, ◌&&◌, not, Bool, true, false, cond, List, [], ◌∷◌, ◌++◌, take, drop, get_or, refl, codes, arith}
 use Rattle.std.proofs.lemmas.Bool.Decides.{nat_tests}
 use Rattle.std.specs.List.{AllByRecursion, list_all, position_or_len}
 use Rattle.std.specs.Str.Lines.{lines}
@@ -11,7 +11,7 @@ use Rattle.lgp_transcript.specs.Transcript.{AreLines, IsLine, IsToldByTranscript
 use Rattle.lgp_transcript.proofs.LineLaws.{told_by_transcript}
 use Rattle.lgp_lab.specs.Script.{script_language}
 use Rattle.lgp_lab.specs.Standing.{Standing, opening_standing}
-use Rattle.lgp_monitor.specs.Monitor.{go_lines, jump_line, meaning_at, meaning_of, monitor_language, placed_line, put_line, run_line, typed_at}
+use Rattle.lgp_monitor.specs.Monitor.{go_lines, jump_line, meaning_at, meaning_of, monitor_language, placed_line, put_line, run_line}
 use Rattle.lgp_monitor.specs.declared.typed.Typed.{Typed}
 use Rattle.lgp_monitor.specs.declared.typed.Typed.TheVariants as typed
 
@@ -22,12 +22,12 @@ free-append (x ∷ xs) ys free more = (free.0, free-append xs ys free.1 more)
 free-take : (n : ℕ) (line : List ℕ) → IsLine line → IsLine (take n line)
 free-take zero line free = tt
 free-take (suc n) [] free = tt
-free-take (suc n) (b ∷ line) free = (free.0, free-take n line free.1)
+free-take (suc n) (b ∷ line) free = (free.0, free-take n _ free.1)
 
 free-drop : (n : ℕ) (line : List ℕ) → IsLine line → IsLine (drop n line)
 free-drop zero line free = free
 free-drop (suc n) [] free = tt
-free-drop (suc n) (b ∷ line) free = free-drop n line free.1
+free-drop (suc n) (b ∷ line) free = free-drop n _ free.1
 
 -- an element of a list that has no line feed, and what is there past its end
 free-digit : (xs : List ℕ) (i : ℕ) → IsLine xs → is_line_feed (get_or xs i 0) ≡ false
@@ -36,7 +36,7 @@ free-digit (x ∷ xs) zero free = free.0
 free-digit (x ∷ xs) (suc i) free = free-digit xs i free.1
 
 digits_are_free : IsLine digits
-digits_are_free = (refl, (refl, (refl, (refl, (refl, (refl, (refl, (refl, (refl, (refl, (refl, (refl, (refl, (refl, (refl, (refl, tt))))))))))))))))
+digits_are_free = grind arith
 
 free-byte : (value : ℕ) → is_line_feed (digit_byte value) ≡ false
 unfolding digit_byte
@@ -44,21 +44,21 @@ free-byte value = free-digit digits value digits_are_free
 
 free-four : (number : ℕ) → IsLine (four_digits number)
 unfolding four_digits
-free-four number = (free-byte (number / 4096 % 16), (free-byte (number / 256 % 16), (free-byte (number / 16 % 16), (free-byte (number % 16), tt))))
+free-four number = grind (arith, free-byte)
 
 free-digits : (bits : ℕ) → IsLine (digits_of bits)
 unfolding digits_of
-free-digits bits = free-append (four_digits (bits / 65536)) (four_digits (bits % 65536)) (free-four (bits / 65536)) (free-four (bits % 65536))
+free-digits bits = grind (arith, free-append, free-four)
 
 free-decimal : (value : ℕ) → is_line_feed (48 + value) ≡ false
 free-decimal value = grind (arith, nat_tests)
 
 free-address : (address : ℕ) → IsLine (address_digits address)
-free-address address = (free-decimal (address / 64 / 10), (free-decimal (address / 64 % 10), (free-decimal (address % 64 / 10), (free-decimal (address % 64 % 10), tt))))
+free-address address = grind (arith, free-decimal)
 
 pub free-put : (address word : ℕ) → IsLine (put_line address word)
 unfolding put_line
-free-put address word = (refl, (refl, (refl, (refl, free-append (address_digits address) (codes " " ++ digits_of word) (free-address address) (refl, free-digits word)))))
+free-put address word = grind (arith, free-append, free-address, free-digits)
 
 free-jump : (address : ℕ) → IsLine (jump_line address)
 unfolding jump_line
@@ -76,15 +76,15 @@ checked (b ∷ line) all = both (is_line_feed b) refl all (λ rest. checked line
 
 free-go : (address : ℕ) → AllByRecursion IsLine (go_lines address)
 unfolding go_lines
-free-go address = (checked (codes "press manual") refl, (free-jump address, (checked (codes "press fill") refl, (checked (codes "press oneop") refl, (checked (codes "press execute") refl, (checked (codes "orders 1") refl, (checked (codes "press normal") refl, (checked (codes "press start") refl, tt))))))))
+free-go address = (checked (codes "press manual") refl, (free-jump _, (checked (codes "press fill") refl, (checked (codes "press oneop") refl, (checked (codes "press execute") refl, (checked (codes "orders 1") refl, (checked (codes "press normal") refl, (checked (codes "press start") refl, tt))))))))
 
 free-stand_in : (line : List ℕ) → IsLine line → IsLine (stand_in (kept_of line))
 unfolding stand_in kept_of
-free-stand_in line free = by_longer (kept_of line).longer (kept_of line).blank where
+free-stand_in line free = by_longer _ _ where
   by_longer : (longer blank : Bool) → IsLine (cond longer (take line_limit line ++ cond blank 32 46 ∷ []) (take line_limit line))
-  by_longer true true = free-append (take line_limit line) (32 ∷ []) (free-take line_limit line free) (refl, tt)
-  by_longer true false = free-append (take line_limit line) (46 ∷ []) (free-take line_limit line free) (refl, tt)
-  by_longer false blank = free-take line_limit line free
+  by_longer true true = free-append _ _ (free-take line_limit line free) (refl, tt)
+  by_longer true false = free-append _ _ (free-take line_limit line free) (refl, tt)
+  by_longer false blank = free-take line_limit _ free
 
 free-run : (line : List ℕ) → IsLine line → IsLine (run_line (kept_of line).front)
 unfolding run_line behind_word without_spaces kept_of
@@ -95,41 +95,39 @@ free-run line free = (
     (
       refl,
       free-drop (position_or_len is_space (drop (position_or_len is_visible (take line_limit line)) (take line_limit line))) (drop (position_or_len is_visible (take line_limit line)) (take line_limit line))
-          (free-drop (position_or_len is_visible (take line_limit line)) (take line_limit line) (free-take line_limit line free)),
+          (free-drop (position_or_len is_visible (take line_limit line)) (take line_limit line) (free-take line_limit _ free)),
     ),
   ),
 )
 
 free-without : (line : List ℕ) → IsLine line → IsLine (without_spaces line)
 unfolding without_spaces
-free-without line free = free-drop (position_or_len is_visible line) line free
+free-without line free = free-drop _ _ free
 
 free-first : (line : List ℕ) → IsLine line → IsLine (first_word line)
 unfolding first_word
-free-first line free = free-take (position_or_len is_space (without_spaces line)) (without_spaces line) (free-without line free)
+free-first line free = grind (arith, free-take, free-without)
 
 free-behind : (line : List ℕ) → IsLine line → IsLine (behind_word line)
 unfolding behind_word
-free-behind line free = free-drop (position_or_len is_space (without_spaces line)) (without_spaces line) (free-without line free)
+free-behind line free = grind (arith, free-drop, free-without)
 
 free-front : (line : List ℕ) → IsLine line → IsLine (kept_of line).front
 unfolding kept_of
-free-front line free = free-take line_limit line free
+free-front line free = free-take line_limit _ free
 
 free-placed : (address : ℕ) (line : List ℕ) → IsLine line → IsLine (placed_line address (kept_of line).front)
 unfolding placed_line
 free-placed address line free =
-    let front = free-front line free in
-    free-append (first_word (kept_of line).front) (codes " " ++ (address_digits address ++ behind_word (behind_word (kept_of line).front))) (free-first (kept_of line).front front)
-    (refl, free-append (address_digits address) (behind_word (behind_word (kept_of line).front)) (free-address address) (free-behind (behind_word (kept_of line).front) (free-behind (kept_of line).front front)))
+    grind (arith, free-front, free-append, free-first, free-address, free-behind)
 
 free-meaning : (asked : Typed) (line : List ℕ) → IsLine line → AreLines (meaning_of asked (kept_of line))
-free-meaning typed.Itself line free = (free-stand_in line free, tt)
-free-meaning typed.Misformed line free = (free-stand_in line free, tt)
-free-meaning (typed.Placed address) line free = (free-placed address line free, tt)
-free-meaning (typed.Go address) line free = free-go address
-free-meaning (typed.Put address word) line free = (free-put address word, tt)
-free-meaning (typed.Told telling limit) line free = (free-run line free, tt)
+free-meaning typed.Itself line free = (free-stand_in _ free, tt)
+free-meaning typed.Misformed line free = (free-stand_in _ free, tt)
+free-meaning (typed.Placed address) line free = (free-placed _ _ free, tt)
+free-meaning (typed.Go address) line free = free-go _
+free-meaning (typed.Put address word) line free = (free-put _ _, tt)
+free-meaning (typed.Told telling limit) line free = (free-run _ free, tt)
 free-meaning (typed.Asked question) line free = tt
 free-meaning typed.Transcript line free = tt
 free-meaning typed.New line free = tt
@@ -138,7 +136,7 @@ free-meaning (typed.HelpOf verb) line free = tt
 
 pub free-at : (recorded : Recorded Standing) (line : List ℕ) → IsLine line → AreLines (meaning_at recorded line)
 unfolding meaning_at
-free-at recorded line free = free-meaning (typed_at recorded line) line free
+free-at recorded line free = free-meaning _ _ free
 
 pub told_by_script : (text : List ℕ) → IsToldByTranscript script_language opening_standing (state_after monitor_language (untouched opening_standing) (lines text))
-told_by_script text = told_by_transcript script_language opening_standing meaning_at monitor_language (λ recorded line. refl) (λ recorded line free. free-at recorded line free) text
+told_by_script text = told_by_transcript script_language opening_standing meaning_at monitor_language (λ recorded line. refl) (λ recorded line free. free-at recorded _ free) text

@@ -11,15 +11,19 @@ use Rattle.lgp_stream.specs.LineWords.{behind_word, first_word, has_no_word, is_
 use Rattle.lgp_text.specs.NamedValues.{named}
 use Rattle.lgp_lab.specs.Command.{command_of, lone_number}
 use Rattle.lgp_lab.specs.declared.command.Command.TheVariants as commands
-use Rattle.lgp_lab.specs.HistoryCommands.{answer_to_run}
-use Rattle.lgp_lab.specs.Script.{answer_in, answer_to_command, answer_to_line, script_language}
+use Rattle.lgp_lab.specs.HistoryCommands.{answer_to_run, orders_run}
+use Rattle.lgp_lab.specs.Script.{answer_to_command, answer_to_line, script_language}
 use Rattle.lgp_lab.specs.SourceText.{SourceText}
-use Rattle.lgp_lab.specs.Standing.{Answer, Standing}
-use Rattle.lgp_transcript.specs.Transcript.{Recorded, after_lines, ended, replies_text, text_of, with_line, with_standing}
-use Rattle.lgp_monitor.specs.Monitor.{counter_at, names_at, run_line, told_of, told_reply, typed_at}
-use Rattle.lgp_lab.specs.Span.{WordRange}
-use Rattle.lgp_monitor.specs.Typed.{address_typed, asked_alone, asked_at, asked_by, help_by, help_typed, number_by, number_typed, numbers_by, numbers_typed, placed_range, placed_range_by, put_by, put_typed, put_word, range_at, typed_by, typed_line, typed_of, value_at}
+use Rattle.lgp_lab.specs.Standing.{Answer, Standing, labels_of}
+use Rattle.lgp_transcript.specs.Transcript.{Recorded, after_lines, ended, replies_text, with_line, with_standing}
+use Rattle.lgp_monitor.specs.Monitor.{counter_at, names_at, run_line, told_reply, typed_at}
+use Rattle.lgp_monitor.specs.Typed.{address_at, asked_alone, asked_at, asked_by, asked_with, numbers_typed, point_at, range_at, typed_by, typed_of, value_at}
+use Rattle.lgp_debugger.specs.Debugging.{order_origins}
+use Rattle.lgp_monitor.specs.Telling.{told_text}
+use Rattle.lgp_monitor.specs.Scaled.{point_of}
 use Rattle.lgp_monitor.specs.Verbs.{verb_names}
+use Rattle.lgp_monitor.specs.declared.question.Question.{Question}
+use Rattle.lgp_monitor.specs.declared.question.Question.TheVariants as questions
 use Rattle.lgp_monitor.specs.declared.telling.Telling.{Telling}
 use Rattle.lgp_monitor.specs.declared.typed.Typed.{Typed}
 use Rattle.lgp_monitor.specs.declared.typed.Typed.TheVariants as typed
@@ -150,39 +154,29 @@ misformed telling limit e = cc
 itself : IsOther typed.Itself
 itself telling limit e = cc
 
+placed : (address : ℕ) → IsOther (typed.Placed address)
+placed address telling limit e = cc
+
+put : (address word : ℕ) → IsOther (typed.Put address word)
+put address word telling limit e = cc
+
+shown : (question : Question) → IsOther (typed.Asked question)
+shown question telling limit e = cc
+
 help : IsOther typed.Help
 help telling limit e = cc
 
-other_word : (address : ℕ) (word : Option ℕ) → IsOther (put_word address word)
-other_word address (Some word) = λ telling limit e. cc
-other_word address None = misformed
+help_of : (verb : Verb) → IsOther (typed.HelpOf verb)
+help_of verb telling limit e = cc
 
-other_put : (names : List (List ℕ × ℕ)) (address : Option ℕ) (operands : List ℕ) → IsOther (put_by names address operands)
-other_put names (Some address) operands = other_word address (value_at names address operands)
-other_put names None operands = misformed
+other_by : {T : Type 0} (ask : T → Typed) (read : Option T) → ((x : T) → IsOther (ask x)) → IsOther (asked_by ask read)
+other_by ask (Some x) asked = asked x
+other_by ask None asked = misformed
 
 other_at : (command : AddressCommand) (address : ℕ) → IsOther (asked_at command address)
 other_at address_commands.Script address = λ telling limit e. cc
 other_at address_commands.Go address = λ telling limit e. cc
 other_at address_commands.Why address = λ telling limit e. cc
-
-other_address : (command : AddressCommand) (address : Option ℕ) → IsOther (asked_by command address)
-other_address command (Some address) = other_at command address
-other_address command None = misformed
-
-other_range : (range : Option WordRange) → IsOther (placed_range_by range)
-other_range (Some range) = λ telling limit e. cc
-other_range None = misformed
-
-other_numbers : (range : Option WordRange) (point : Option ℕ) → IsOther (numbers_by range point)
-other_numbers (Some range) (Some point) = λ telling limit e. cc
-other_numbers (Some range) None = misformed
-other_numbers None (Some point) = misformed
-other_numbers None None = misformed
-
-other_help : (verb : Option Verb) → IsOther (help_by verb)
-other_help (Some verb) = λ telling limit e. cc
-other_help None = misformed
 
 alone : (command : LoneCommand) → IsOther (asked_alone command)
 alone lone_commands.Script = itself
@@ -191,58 +185,44 @@ alone lone_commands.Labels = λ telling limit e. cc
 alone lone_commands.Transcript = λ telling limit e. cc
 alone lone_commands.New = λ telling limit e. cc
 
-puts : (names : List (List ℕ × ℕ)) (counter : ℕ) (operands : List ℕ) → IsOther (put_typed names counter operands)
-unfolding put_typed
-puts names counter operands = other_put names _ _
-
-addresses : (names : List (List ℕ × ℕ)) (counter : ℕ) (command : AddressCommand) (operands : List ℕ) → IsOther (address_typed names counter command operands)
-unfolding address_typed
-addresses names counter command operands = other_if _ _ _ (other_address command _) misformed
-
-ranges : (names : List (List ℕ × ℕ)) (counter : ℕ) (operands : List ℕ) → IsOther (placed_range names counter operands)
-unfolding placed_range
-ranges names counter operands = other_range (range_at names counter operands)
-
 numbers : (names : List (List ℕ × ℕ)) (counter : ℕ) (operands : List ℕ) → IsOther (numbers_typed names counter operands)
 unfolding numbers_typed
-numbers names counter operands = other_if _ _ _ (other_numbers _ _) misformed
-
-helps : (operands : List ℕ) → IsOther (help_typed operands)
-unfolding help_typed
-helps operands =
-    other_if (has_no_word operands) typed.Help _ help
-    (other_if (has_no_word (behind_word operands)) (help_by (named verb_names (first_word operands))) typed.Misformed (other_help (named verb_names (first_word operands))) misformed)
+numbers names counter operands =
+    other_if (has_no_word (behind_word (behind_word (behind_word operands)))) _ _
+    (other_by _ (range_at names counter (first_word operands) (first_word (behind_word operands))) (λ range.
+    other_by _ (point_of (point_at (behind_word (behind_word operands)))) (λ point. shown (questions.Numbers range point)))) misformed
 
 -- the operand of a run that is told
 record IsTold (verb : Option Verb) (operands : List ℕ) (limit : ℕ) : Type 0 where
   operand : lone_number operands ≡ Some limit
   name : option_map tells verb ≡ Some true
 
-told_by : (command : NumberCommand) (number : Option ℕ) (operands : List ℕ) (telling : Telling) (limit : ℕ) → lone_number operands ≡ number → number_by command number ≡ typed.Told telling limit → IsTold (Some (verbs.Number command)) operands limit
+told_by : (command : NumberCommand) (number : Option ℕ) (operands : List ℕ) (telling : Telling) (limit : ℕ) → lone_number operands ≡ number → asked_by (asked_with command) number ≡ typed.Told telling limit → IsTold (Some (verbs.Number command)) operands limit
 told_by command None operands telling limit is e = absurd (misformed telling limit e)
 told_by number_commands.Script (Some number) operands telling limit is e = absurd (itself telling limit e)
 told_by (number_commands.Told how) (Some number) operands telling limit is e =
     let same : number ≡ limit = cc in
     record { operand = is ∙ ap Some same; name = refl }
 
-number_told : (command : NumberCommand) (operands : List ℕ) (telling : Telling) (limit : ℕ) → number_typed command operands ≡ typed.Told telling limit → IsTold (Some (verbs.Number command)) operands limit
-unfolding number_typed
-number_told command operands telling limit e = told_by command (lone_number operands) operands telling limit refl e
+told_for : (names : List (List ℕ × ℕ)) (counter : ℕ) (verb : Verb) (operands : List ℕ) (telling : Telling) (limit : ℕ) → typed_by names counter operands verb ≡ typed.Told telling limit → IsTold (Some verb) operands limit
+unfolding typed_by
+told_for names counter (verbs.Lone command) operands telling limit e = absurd (other_if _ _ _ (alone command) misformed telling limit e)
+told_for names counter (verbs.Address command) operands telling limit e = absurd (other_by _ _ (other_at command) telling limit e)
+told_for names counter (verbs.Number command) operands telling limit e = told_by command (lone_number operands) operands telling limit refl e
+told_for names counter verbs.Range operands telling limit e = absurd (other_by _ _ (λ range. placed range.first) telling limit e)
+told_for names counter verbs.ScaledRange operands telling limit e = absurd (numbers names counter operands telling limit e)
+told_for names counter verbs.Word operands telling limit e =
+    absurd (other_by _ (address_at names counter (first_word operands)) (λ address. other_by _ (value_at names address (behind_word operands)) (put address)) telling limit e)
+told_for names counter verbs.Command operands telling limit e = absurd (other_if _ _ _ help (other_by _ _ help_of) telling limit e)
+told_for names counter verbs.Text operands telling limit e = absurd (misformed telling limit e)
+told_for names counter verbs.Key operands telling limit e = absurd (misformed telling limit e)
+told_for names counter verbs.Source operands telling limit e = absurd (misformed telling limit e)
+told_for names counter verbs.File operands telling limit e = absurd (misformed telling limit e)
+told_for names counter verbs.End operands telling limit e = absurd (misformed telling limit e)
 
-told_only : (names : List (List ℕ × ℕ)) (counter : ℕ) (verb : Option Verb) (operands : List ℕ) (telling : Telling) (limit : ℕ) → typed_by names counter verb operands ≡ typed.Told telling limit → IsTold verb operands limit
+told_only : (names : List (List ℕ × ℕ)) (counter : ℕ) (verb : Option Verb) (operands : List ℕ) (telling : Telling) (limit : ℕ) → asked_by (typed_by names counter operands) verb ≡ typed.Told telling limit → IsTold verb operands limit
 told_only names counter None operands telling limit e = absurd (misformed telling limit e)
-told_only names counter (Some (verbs.Lone command)) operands telling limit e = absurd (other_if _ _ _ (alone command) misformed telling limit e)
-told_only names counter (Some (verbs.Address command)) operands telling limit e = absurd (addresses names counter command operands telling limit e)
-told_only names counter (Some (verbs.Number command)) operands telling limit e = number_told command operands telling limit e
-told_only names counter (Some verbs.Range) operands telling limit e = absurd (ranges names counter operands telling limit e)
-told_only names counter (Some verbs.ScaledRange) operands telling limit e = absurd (numbers names counter operands telling limit e)
-told_only names counter (Some verbs.Word) operands telling limit e = absurd (puts names counter operands telling limit e)
-told_only names counter (Some verbs.Command) operands telling limit e = absurd (helps operands telling limit e)
-told_only names counter (Some verbs.Text) operands telling limit e = absurd (misformed telling limit e)
-told_only names counter (Some verbs.Key) operands telling limit e = absurd (misformed telling limit e)
-told_only names counter (Some verbs.Source) operands telling limit e = absurd (misformed telling limit e)
-told_only names counter (Some verbs.File) operands telling limit e = absurd (misformed telling limit e)
-told_only names counter (Some verbs.End) operands telling limit e = absurd (misformed telling limit e)
+told_only names counter (Some verb) operands telling limit e = told_for names counter verb operands telling limit e
 
 -- what such a line is: outside a source, kept whole, a name longer than `run` and the operand of one
 record IsToldLine (is_open : Bool) (kept : Kept) (limit : ℕ) : Type 0 where
@@ -260,27 +240,21 @@ long_name (Some verb) line e name =
     let two : nat_lt 2 (length (first_word line)) ≡ true = ap (λ (t : Bool). not t || nat_lt 2 (length (first_word line))) (sym telling) ∙ long in
     grind (arith, nat_tests)
 
-by_flags : (is_open longer blank comment : Bool) (asked : Typed) (telling : Telling) (limit : ℕ) → typed.Told telling limit ≡ cond (is_open || longer || blank || comment) typed.Itself asked → (is_open ≡ false) × (asked ≡ typed.Told telling limit)
-by_flags false false false false asked telling limit e = (refl, sym e)
-by_flags true longer blank comment asked telling limit e = absurd (itself telling limit (sym e))
-by_flags false true blank comment asked telling limit e = absurd (itself telling limit (sym e))
-by_flags false false true comment asked telling limit e = absurd (itself telling limit (sym e))
-by_flags false false false true asked telling limit e = absurd (itself telling limit (sym e))
+by_flags : (is_open longer blank comment command : Bool) (asked : Typed) (telling : Telling) (limit : ℕ) → typed.Told telling limit ≡ cond (is_open || longer || blank || comment || command) typed.Itself asked → (is_open ≡ false) × (asked ≡ typed.Told telling limit)
+by_flags false false false false false asked telling limit e = (refl, sym e)
+by_flags true longer blank comment command asked telling limit e = absurd (itself telling limit (sym e))
+by_flags false true blank comment command asked telling limit e = absurd (itself telling limit (sym e))
+by_flags false false true comment command asked telling limit e = absurd (itself telling limit (sym e))
+by_flags false false false true command asked telling limit e = absurd (itself telling limit (sym e))
+by_flags false false false false true asked telling limit e = absurd (itself telling limit (sym e))
 
-by_command : (command : Bool) (asked : Typed) (telling : Telling) (limit : ℕ) → cond command typed.Itself asked ≡ typed.Told telling limit → asked ≡ typed.Told telling limit
-by_command true asked telling limit e = absurd (itself telling limit e)
-by_command false asked telling limit e = e
-
-line_told : (names : List (List ℕ × ℕ)) (counter : ℕ) (line : List ℕ) (telling : Telling) (limit : ℕ) → typed_line names counter line ≡ typed.Told telling limit → IsTold (named verb_names (first_word line)) (behind_word line) limit
-unfolding typed_line
-line_told names counter line telling limit e = told_only names counter (named verb_names (first_word line)) (behind_word line) telling limit (by_command (is_some (command_of line)) (typed_by names counter (named verb_names (first_word line)) (behind_word line)) telling limit e)
-
-told_line : (is_open : Bool) (names : List (List ℕ × ℕ)) (counter : ℕ) (kept : Kept) (telling : Telling) (limit : ℕ) → typed.Told telling limit ≡ typed_of is_open names counter kept → IsToldLine is_open kept limit
+told_line : (is_open : Bool) (names : List (List ℕ × ℕ)) (counter : ℕ) (kept : Kept) (telling : Telling) (limit : ℕ) → typed.Told telling limit ≡ typed_of names counter is_open kept → IsToldLine is_open kept limit
 unfolding typed_of
 told_line is_open names counter kept telling limit e =
-    let flags = by_flags is_open kept.longer kept.blank (slice_index kept.front 0 == 59) (typed_line names counter kept.front) telling limit e in
-    let told = line_told names counter kept.front telling limit flags.1 in
-    record { closed = flags.0; operand = told.operand; long = long_name (named verb_names (first_word kept.front)) kept.front refl told.name }
+    let verb = named verb_names (first_word kept.front) in
+    let flags = by_flags is_open kept.longer kept.blank (slice_index kept.front 0 == 59) (is_some (command_of kept.front)) (asked_by (typed_by names counter (behind_word kept.front)) verb) telling limit e in
+    let told = told_only names counter verb (behind_word kept.front) telling limit flags.1 in
+    record { closed = flags.0; operand = told.operand; long = long_name verb kept.front refl told.name }
 
 none_opened : (opened : Option SourceText) → is_some opened ≡ false → opened ≡ None
 none_opened None e = refl
@@ -290,9 +264,9 @@ none_opened (Some source) e = absurd (clash e) where
 
 closed_answer : (s : Standing) (line : List ℕ) → s.opened ≡ None → answer_to_line s line ≡ answer_to_command s line
 unfolding answer_to_line
-closed_answer s line closed = ap (λ (o : Option SourceText). answer_in o s line) closed
+closed_answer s line closed = rw closed refl
 
-run_answer : (s : Standing) (names : List (List ℕ × ℕ)) (counter : ℕ) (text : List ℕ) (telling : Telling) (limit : ℕ) → typed.Told telling limit ≡ typed_of (is_some s.opened) names counter (kept_of text) → answer_to_line s (run_line (kept_of text).front) ≡ answer_to_run s limit
+run_answer : (s : Standing) (names : List (List ℕ × ℕ)) (counter : ℕ) (text : List ℕ) (telling : Telling) (limit : ℕ) → typed.Told telling limit ≡ typed_of names counter (is_some s.opened) (kept_of text) → answer_to_line s (run_line (kept_of text).front) ≡ answer_to_run s limit
 unfolding run_line
 run_answer s names counter text telling limit e =
     let front : List ℕ = (kept_of text).front in
@@ -306,10 +280,13 @@ run_answer s names counter text telling limit e =
 
 -- ---- what is kept and what is answered
 
+abbrev told_of : Standing → Telling → ℕ → List ℕ
+told_of s telling limit = told_text telling (labels_of s.source) s.debugger.state (order_origins s.debugger) (orders_run limit s.debugger)
+
 pub told_after : (r₀ r₁ r₂ : Recorded Standing) (s₁ s₂ : Standing) (kept : Kept) (text : List ℕ) (telling : Telling) (limit : ℕ) (run : List ℕ) → kept ≡ kept_of text → typed.Told telling limit ≡ typed_at r₀ text
     → run ≡ run_line kept.front → r₁ ≡ with_line r₀ run → s₁ ≡ r₁.standing → s₂ ≡ (answer_to_run s₁ limit).after → r₂ ≡ with_standing r₁ s₂
     → r₂ ≡ after_lines script_language r₀ (run_line kept.front ∷ [])
-unfolding typed_at after_lines text_of
+unfolding typed_at after_lines
 told_after r₀ r₁ r₂ s₁ s₂ kept text telling limit run is asked line kept_line lent done after =
     let lines : run ≡ run_line (kept_of text).front = line ∙ ap (λ (k : Kept). run_line k.front) is in
     let stood : s₁ ≡ r₀.standing = lent ∙ ap (λ (r : Recorded Standing). r.standing) kept_line in

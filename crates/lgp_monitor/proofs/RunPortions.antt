@@ -10,11 +10,12 @@ use Rattle.lgp_machine.specs.Answers.{passes_clock_end}
 use Rattle.lgp_history.specs.Step.{Perform}
 use Rattle.lgp_history.specs.declared.rule.Rule.{Rule}
 use Rattle.lgp_debugger.specs.Debugging.{Debugging, after_step, performed}
-use Rattle.lgp_debugger.specs.Run.{IsRun, at_clock_end, ended_for, first_stop, one_order_more, run_of, unless_stopped}
+use Rattle.lgp_debugger.specs.Run.{IsRun, ended_for, first_stop, one_order_more, run_of, unless_stopped}
 use Rattle.lgp_debugger.specs.declared.fault.Ran.{Ran}
 use Rattle.lgp_debugger.specs.declared.fault.Reason.{Reason}
 use Rattle.lgp_debugger.specs.declared.fault.Reason.TheVariants as reasons
 use Rattle.lgp_debugger.specs.declared.fault.RunFault.{RunFault}
+use Rattle.lgp_debugger.specs.declared.fault.RunRefusal.TheVariants.{ClockEnd}
 use Rattle.lgp_debugger.proofs.PerformedLemmas.{performed_state}
 use Rattle.lgp_debugger.proofs.RunLemmas.{HasRun, more}
 
@@ -54,8 +55,8 @@ performed_rules first (suc done) = performed_rules first done
 
 -- so many orders in front of others
 more_sum : (first then : ℕ) (run : Result Ran RunFault) → more first (more then run) ≡ more (first + then) run
-more_sum first then (Ok ran) = let count : ran.orders + then + first ≡ ran.orders + (first + then) = omega arith in ap (λ (n : ℕ). Ok (record ran { orders = n })) count
-more_sum first then (Err fault) = let count : fault.orders + then + first ≡ fault.orders + (first + then) = omega arith in ap (λ (n : ℕ). Err (record fault { orders = n })) count
+more_sum first then (Ok ran) = grind arith
+more_sum first then (Err fault) = grind arith
 
 no_more : (run : Result Ran RunFault) → more 0 run ≡ run
 no_more (Ok ran) = ap (λ (n : ℕ). Ok (record ran { orders = n })) (add-zero ran.orders)
@@ -75,7 +76,7 @@ module _ (rules : List Rule) where
   unfolding run_of
   no_order s e = rw e refl
 
-  passing : (n : ℕ) (s : State) → rests s ≡ false → passes_clock_end s ≡ true → run_of rules (suc n) s ≡ at_clock_end
+  passing : (n : ℕ) (s : State) → rests s ≡ false → passes_clock_end s ≡ true → run_of rules (suc n) s ≡ Err (record { orders = 0; fault = ClockEnd })
   unfolding run_of
   passing n s e f = rw (e, f) refl
 
@@ -100,35 +101,35 @@ module _ (rules : List Rule) where
       → one_order_more (unless_stopped stop (behind portion rest (next s) run)) ≡ behind (suc portion) rest s (one_order_more (unless_stopped stop run))
   behind_order (Some number) portion rest s run = refl
   behind_order None portion rest s (Ok ran) =
-      either_more (is_limit ran.reason) portion (run_of rules rest (after (next s) portion)) ran
-      ∙ ap (λ (t : State). cond (is_limit ran.reason) (more (suc portion) (run_of rules rest t)) (Ok (record ran { orders = ran.orders + 1 }))) (sym (after_first s portion))
+      either_more _ _ _ _
+      ∙ ap (λ (t : State). cond (is_limit ran.reason) (more (suc portion) (run_of rules rest t)) (Ok (record ran { orders = ran.orders + 1 }))) (sym (after_first s _))
   behind_order None portion rest s (Err fault) = refl
 
   run_behind : (portion rest : ℕ) (s : State) → run_of rules (portion + rest) s ≡ behind portion rest s (run_of rules portion s)
   run_behind zero rest s = by_rest (rests s) refl where
     by_rest : (resting : Bool) → rests s ≡ resting → run_of rules (zero + rest) s ≡ behind zero rest s (run_of rules zero s)
-    by_rest true e = ap (λ (n : ℕ). run_of rules n s) (zero-add rest) ∙ at_rest rest s e ∙ sym (ap (behind zero rest s) (at_rest zero s e))
+    by_rest true e = ap (λ (n : ℕ). run_of rules n s) (zero-add rest) ∙ at_rest _ s e ∙ sym (ap (behind zero rest s) (at_rest _ s e))
     by_rest false e =
         ap (λ (n : ℕ). run_of rules n s) (zero-add rest)
-        ∙ sym (ap (behind zero rest s) (no_order s e) ∙ no_more (run_of rules rest (after s 0)) ∙ ap (run_of rules rest) (after_none s))
+        ∙ sym (ap (behind zero rest s) (no_order s e) ∙ no_more _ ∙ ap (run_of rules rest) (after_none s))
   run_behind (suc portion) rest s = by_rest (rests s) refl (run_behind portion rest (next s)) where
     by_clock : (passed : Bool) → rests s ≡ false → passes_clock_end s ≡ passed
         → run_of rules (portion + rest) (next s) ≡ behind portion rest (next s) (run_of rules portion (next s))
         → run_of rules (suc portion + rest) s ≡ behind (suc portion) rest s (run_of rules (suc portion) s)
     by_clock true e f later =
         let all : suc portion + rest ≡ suc (portion + rest) = omega arith in
-        ap (λ (n : ℕ). run_of rules n s) all ∙ passing (portion + rest) s e f ∙ sym (ap (behind (suc portion) rest s) (passing portion s e f))
+        ap (λ (n : ℕ). run_of rules n s) all ∙ passing _ s e f ∙ sym (ap (behind (suc portion) rest s) (passing _ s e f))
     by_clock false e f later =
         let all : suc portion + rest ≡ suc (portion + rest) = omega arith in
         ap (λ (n : ℕ). run_of rules n s) all ∙ an_order (portion + rest) s e f
         ∙ ap (λ (run : Result Ran RunFault). one_order_more (unless_stopped (first_stop rules s) run)) later
-        ∙ behind_order (first_stop rules s) portion rest s (run_of rules portion (next s))
+        ∙ behind_order _ _ _ s _
         ∙ sym (ap (behind (suc portion) rest s) (an_order portion s e f))
 
     by_rest : (resting : Bool) → rests s ≡ resting → run_of rules (portion + rest) (next s) ≡ behind portion rest (next s) (run_of rules portion (next s))
         → run_of rules (suc portion + rest) s ≡ behind (suc portion) rest s (run_of rules (suc portion) s)
-    by_rest true e later = at_rest (suc portion + rest) s e ∙ sym (ap (behind (suc portion) rest s) (at_rest (suc portion) s e))
-    by_rest false e later = by_clock (passes_clock_end s) e refl later
+    by_rest true e later = at_rest _ s e ∙ sym (ap (behind (suc portion) rest s) (at_rest _ s e))
+    by_rest false e later = by_clock _ e refl later
 
   -- ---- how many orders it performs: all of its limit, where that ended it
 
@@ -144,16 +145,16 @@ module _ (rules : List Rule) where
   counted : (n : ℕ) (s : State) → Counts n (run_of rules n s)
   counted zero s = by_rest (rests s) refl where
     by_rest : (resting : Bool) → rests s ≡ resting → Counts zero (run_of rules zero s)
-    by_rest true e = subst (Counts zero) (sym (at_rest zero s e)) (omega arith, λ f. cc)
+    by_rest true e = subst (Counts zero) (sym (at_rest _ s e)) (omega arith, λ f. cc)
     by_rest false e = subst (Counts zero) (sym (no_order s e)) (omega arith, λ f. refl)
   counted (suc n) s = by_rest (rests s) refl (counted n (next s)) where
     by_clock : (passed : Bool) → rests s ≡ false → passes_clock_end s ≡ passed → Counts n (run_of rules n (next s)) → Counts (suc n) (run_of rules (suc n) s)
     by_clock true e f later = subst (Counts (suc n)) (sym (passing n s e f)) tt
-    by_clock false e f later = subst (Counts (suc n)) (sym (an_order n s e f)) (counts_more (first_stop rules s) n (run_of rules n (next s)) later)
+    by_clock false e f later = subst (Counts (suc n)) (sym (an_order n s e f)) (counts_more _ n _ later)
 
     by_rest : (resting : Bool) → rests s ≡ resting → Counts n (run_of rules n (next s)) → Counts (suc n) (run_of rules (suc n) s)
-    by_rest true e later = subst (Counts (suc n)) (sym (at_rest (suc n) s e)) (omega arith, λ f. cc)
-    by_rest false e later = by_clock (passes_clock_end s) e refl later
+    by_rest true e later = subst (Counts (suc n)) (sym (at_rest _ s e)) (omega arith, λ f. cc)
+    by_rest false e later = by_clock _ e refl later
 
   pub orders_within : (n : ℕ) (s : State) (ran : Ran) → run_of rules n s ≡ Ok ran → ran.orders ≤ n
   orders_within n s ran is = (subst (Counts n) is (counted n s)).0
@@ -173,23 +174,23 @@ module _ (first now next : Debugging) (done portion limit : ℕ) (h : HasRun tru
       → run_of first.rules (done + (portion + rest)) first.state ≡ more done (behind first.rules portion rest now.state outcome)
   higher rest outcome is =
       h.goes_on (portion + rest)
-      ∙ ap (more done) (run_behind first.rules portion rest now.state ∙ ap (behind first.rules portion rest now.state) (its portion outcome is))
+      ∙ ap (more done) (run_behind first.rules portion rest now.state ∙ ap (behind first.rules portion rest now.state) (its _ _ is))
 
   -- behind a portion that ended by its limit
   pub portion_done : (ran : Ran) → IsRun now.rules portion now next (Ok ran) → is_limit ran.reason ≡ true → HasRun true first next (done + portion)
   portion_done ran run limited =
-      let all = orders_all now.rules portion now.state ran run.ran limited in
+      let all = orders_all _ _ _ ran run.ran limited in
       let reached : next ≡ performed now portion = run.performed ∙ ap (performed now) all in
-      let state : next.state ≡ after now.state portion = ap (λ (d : Debugging). d.state) reached ∙ performed_state now portion in
+      let state : next.state ≡ after now.state portion = ap (λ (d : Debugging). d.state) reached ∙ performed_state _ _ in
       record {
         goes_on = λ n.
             let shift : done + portion + n ≡ done + (portion + n) = omega arith in
             ap (λ (k : ℕ). run_of first.rules k first.state) shift ∙ higher n (Ok ran) run.ran
             ∙ ap (λ (b : Bool). more done (cond b (more portion (run_of first.rules n (after now.state portion))) (Ok ran))) limited
-            ∙ more_sum done portion (run_of first.rules n (after now.state portion))
+            ∙ more_sum _ _ _
             ∙ ap (λ (s : State). more (done + portion) (run_of first.rules n s)) (sym state);
-        reached = reached ∙ ap (λ (d : Debugging). performed d portion) h.reached ∙ sym (performed_sum first done portion);
-        same_rules = ap (λ (d : Debugging). d.rules) reached ∙ performed_rules now portion ∙ h.same_rules;
+        reached = reached ∙ ap (λ (d : Debugging). performed d portion) h.reached ∙ sym (performed_sum _ _ _);
+        same_rules = ap (λ (d : Debugging). d.rules) reached ∙ performed_rules _ _ ∙ h.same_rules;
       }
 
   -- behind a portion in which the run has ended
@@ -212,10 +213,10 @@ module _ (first now next : Debugging) (done portion limit : ℕ) (h : HasRun tru
       → run_of first.rules limit first.state ≡ more done outcome
   run_ended outcome is within =
       let shift : limit ≡ done + (limit - done) = omega (arith, within) in
-      ap (λ (k : ℕ). run_of first.rules k first.state) shift ∙ h.goes_on (limit - done) ∙ ap (more done) (its (limit - done) outcome is)
+      ap (λ (k : ℕ). run_of first.rules k first.state) shift ∙ h.goes_on (limit - done) ∙ ap (more done) (its _ _ is)
 
   -- the orders of a portion behind those before it
   pub performed_behind : (orders : ℕ) → next ≡ performed now orders → next ≡ performed first (orders + done)
   performed_behind orders is =
       let shift : done + orders ≡ orders + done = omega arith in
-      is ∙ ap (λ (d : Debugging). performed d orders) h.reached ∙ sym (performed_sum first done orders) ∙ ap (performed first) shift
+      is ∙ ap (λ (d : Debugging). performed d orders) h.reached ∙ sym (performed_sum _ _ _) ∙ ap (performed first) shift

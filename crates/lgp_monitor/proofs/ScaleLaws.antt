@@ -1,9 +1,8 @@
 -- Numbers with their point behind place 30, and those for which ten decimals are enough.
 use Rattle.std.proofs.Common.{◌≡◌, ℕ, ◌+◌, ◌-◌, ◌*◌, ◌/◌, ◌%◌, ◌^◌, ◌≤◌, Bool, true, false, if◌then◌else◌, List, ◌++◌, refl, arith, ap, sym, ◌∙◌, pow-add, mul_assoc, append-nil, codes, decimal}
 use Rattle.std.proofs.Math.Nat.{div-eq_of_lt-le, one-le-pow}
-use Rattle.lgp_word.specs.Order.{sign_of}
 use Rattle.lgp_trace.specs.AccountLines.{minus_text, number_text}
-use Rattle.lgp_monitor.specs.Scaled.{scaled_text, size_of, units_at, units_text}
+use Rattle.lgp_monitor.specs.Scaled.{scaled_text, units_at, units_text}
 
 units-whole : (size : ℕ) → units_at 30 size ≡ size * 10 ^ 10
 unfolding units_at
@@ -26,12 +25,12 @@ text-by false word = refl
 pub text-behind_place_30 : (word : ℕ) → scaled_text 30 word ≡ number_text word
 unfolding scaled_text
 text-behind_place_30 word =
-    rw (units-whole (size_of word), text-whole (size_of word)) (text-by (sign_of word) word)
+    rw (units-whole _, text-whole _) (text-by _ _)
 
 pub units-exact : (point size units : ℕ) → size * 10 ^ 10 ≡ units * 2 ^ (30 - point) → units_at point size ≡ units
 unfolding units_at
 units-exact point size units exact =
-    rw exact (quotient units (2 ^ (30 - point)) (one-le-pow (30 - point) 2 (omega arith))) where
+    rw exact (quotient _ _ (one-le-pow (30 - point) 2 (omega arith))) where
       quotient : (units divisor : ℕ) → 1 ≤ divisor → (2 * (units * divisor) + divisor) / (2 * divisor) ≡ units
       quotient units divisor some = div-eq_of_lt-le (2 * divisor) (omega arith) (omega arith)
 
@@ -42,11 +41,11 @@ powers places few =
 
 late : (size places : ℕ) → places ≤ 10 → size * 10 ^ 10 ≡ size * 5 ^ 10 * 2 ^ (10 - places) * 2 ^ places
 late size places few =
-    let factors : size * 5 ^ 10 * 2 ^ (10 - places) * 2 ^ places ≡ size * 5 ^ 10 * 2 ^ 10 = mul_assoc (size * 5 ^ 10) (2 ^ (10 - places)) (2 ^ places) ∙ ap (λ n. size * 5 ^ 10 * n) (powers places few) in
+    let factors : size * 5 ^ 10 * 2 ^ (10 - places) * 2 ^ places ≡ size * 5 ^ 10 * 2 ^ 10 = mul_assoc (size * 5 ^ 10) (2 ^ (10 - places)) (2 ^ places) ∙ ap (λ n. size * 5 ^ 10 * n) (powers _ few) in
     let whole : size * 10 ^ 10 ≡ size * 5 ^ 10 * 2 ^ 10 = omega arith in
     whole ∙ sym factors
 
 pub units-late : (point size : ℕ) → 20 ≤ point → size * 10 ^ 10 ≡ units_at point size * 2 ^ (30 - point)
 units-late point size is_late =
-    let exact = late size (30 - point) (omega arith) in
-    rw (units-exact point size (size * 5 ^ 10 * 2 ^ (10 - (30 - point))) exact) exact
+    let exact = late _ _ (omega arith) in
+    rw (units-exact _ _ _ exact) exact

@@ -1,17 +1,14 @@
 -- A line of a script that asks for a run: it is answered as the run.
-use Rattle.std.proofs.Common.{◌≡◌, ◌∙◌, ℕ, ◌≤◌, Bool, false, cond, Option, None, Some, List, [], ◌∷◌, ◌++◌, length, nat_lt, sym, ap, arith}
-use Rattle.std.proofs.lemmas.Bool.Decides.{nat_tests}
+use Rattle.std.proofs.Common.{◌≡◌, ◌∙◌, ℕ, ◌≤◌, false, None, Some, List, [], ◌∷◌, ◌++◌, length, sym, ap, arith}
 use Rattle.std.proofs.lemmas.List.{append-nil}
+use Rattle.std.specs.Option.{option_map_or}
 use Rattle.lgp_stream.specs.KeptLine.{line_limit}
-use Rattle.lgp_transcript.specs.Transcript.{Recorded, after_lines, ended, replies_text, text_of, with_line, with_standing}
-use Rattle.lgp_lab.specs.Command.{command_of, text_behind}
+use Rattle.lgp_transcript.specs.Transcript.{Recorded, after_lines, ended, replies_text, with_line, with_standing}
+use Rattle.lgp_lab.specs.Command.{command_of}
 use Rattle.lgp_lab.specs.HistoryCommands.{answer_to_run}
-use Rattle.lgp_lab.specs.Script.{answer_by, answer_in, answer_to_command, answer_to_line, is_passed_over, script_language}
-use Rattle.lgp_lab.specs.SourceText.{SourceText}
-use Rattle.lgp_lab.specs.Standing.{Answer, Standing, refused, silent}
-use Rattle.lgp_lab.specs.declared.command.Command.{Command}
+use Rattle.lgp_lab.specs.Script.{answer_to_command, answer_to_line, is_passed_over, script_language}
+use Rattle.lgp_lab.specs.Standing.{Answer, Standing}
 use Rattle.lgp_lab.specs.declared.command.Command.TheVariants as commands
-use Rattle.lgp_lab.specs.declared.refusal.Refusal.TheVariants.{TooLong}
 
 -- outside a source, passed over by nothing and not too long
 record AsksForRun (line : List ℕ) (limit : ℕ) : Type 0 where
@@ -22,24 +19,19 @@ record AsksForRun (line : List ℕ) (limit : ℕ) : Type 0 where
 run_answer : (s : Standing) (line : List ℕ) (limit : ℕ) → AsksForRun line limit → s.opened ≡ None → answer_to_line s line ≡ answer_to_run s limit
 unfolding answer_to_line answer_to_command
 run_answer s line limit asks closed =
-    let short = asks.short in
-    let within : nat_lt line_limit (length line) ≡ false = grind (arith, nat_tests) in
-    ap (λ (o : Option SourceText). answer_in o s line) closed
-    ∙ ap (λ (b : Bool). cond b (silent s) (cond (nat_lt line_limit (length line)) (refused TooLong s) (answer_by s (command_of line) (text_behind line)))) asks.answered
-    ∙ ap (λ (b : Bool). cond b (refused TooLong s) (answer_by s (command_of line) (text_behind line))) within
-    ∙ ap (λ (c : Option Command). answer_by s c (text_behind line)) asks.command
+    grind arith
 
 pub run_after : (r₀ r₁ r₂ : Recorded Standing) (s₁ s₂ : Standing) (line : List ℕ) (limit : ℕ) → command_of line ≡ Some (commands.Run limit) → is_passed_over line ≡ false → length line ≤ line_limit → r₀.standing.opened ≡ None
     → r₁ ≡ with_line r₀ line → s₁ ≡ r₁.standing → s₂ ≡ (answer_to_run s₁ limit).after → r₂ ≡ with_standing r₁ s₂
     → r₂ ≡ after_lines script_language r₀ (line ∷ [])
-unfolding after_lines text_of
+unfolding after_lines
 run_after r₀ r₁ r₂ s₁ s₂ line limit command answered short closed kept_line lent done after =
     let asks : AsksForRun line limit = record { command = command; answered = answered; short = short } in
     let stood : s₁ ≡ r₀.standing = lent ∙ ap (λ (r : Recorded Standing). r.standing) kept_line in
     let stands : s₂ ≡ (answer_to_line r₀.standing line).after =
     done ∙ (ap (λ (s : Standing). (answer_to_run s limit).after) stood ∙ ap (λ (a : Answer). a.after) (sym (run_answer r₀.standing line limit asks closed))) in
     after ∙ (ap (λ (r : Recorded Standing). with_standing r s₂) kept_line
-    ∙ (ap (λ (t : List ℕ). record { standing = s₂; transcript = r₀.transcript ++ t }) (sym (append-nil (ended line)))
+    ∙ (ap (λ (t : List ℕ). record { standing = s₂; transcript = r₀.transcript ++ t }) (sym (append-nil (ended _)))
     ∙ ap (λ (s : Standing). record { standing = s; transcript = r₀.transcript ++ (ended line ++ []) }) stands))
 
 pub run_replies : (r₀ r₁ : Recorded Standing) (s₁ : Standing) (line : List ℕ) (limit : ℕ) (before after : List ℕ) → command_of line ≡ Some (commands.Run limit) → is_passed_over line ≡ false → length line ≤ line_limit → r₀.standing.opened ≡ None

@@ -1,14 +1,16 @@
 -- Part of the public promise: how the monitor answers a block of lines under the name of what it is
 -- for, and where that leaves it. `restore` puts the words of a dump on the drum, by lines of a
 -- script; `tape` mounts a tape for whose text no line of a script has room.
-use Rattle.std.specs.Prelude.{ℕ, ◌+◌, ◌==◌, Bool, if◌then◌else◌, Option, Some, None, List, [], ◌∷◌}
+use Rattle.std.specs.Prelude.{ℕ, ◌+◌, ◌==◌, ◌&&◌, Bool, if◌then◌else◌, is_none, List, [], ◌∷◌}
 use Rattle.std.specs.Prelude.{◌++◌, codes, decimal, fold, length, map, slice_set}
+use Rattle.std.specs.Option.{option_map_or}
 use Rattle.std.specs.Str.{bytes_eq}
 use Rattle.bstr.specs.Text.{lines_of}
 use Rattle.lgp_word.specs.Drum.{blank_words}
 use Rattle.lgp_stream.specs.LineWords.{first_word}
 use Rattle.lgp_table.specs.Console.{is_at_rest}
-use Rattle.lgp_transcript.specs.Transcript.{Recorded, after_lines, ended}
+use Rattle.lgp_desk.specs.Roles.{Block}
+use Rattle.lgp_transcript.specs.Transcript.{Recorded, after_lines, with_line, with_standing}
 use Rattle.lgp_listing.specs.Dump.{cell_in, first_fault}
 use Rattle.lgp_listing.specs.declared.reading.DumpFault.{DumpFault}
 use Rattle.lgp_listing.specs.declared.reading.DumpFault.TheVariants as faults
@@ -29,12 +31,10 @@ is_tape kind = bytes_eq (first_word kind) (codes "tape")
 -- ---- restore
 
 -- the words of a dump's drum: those of its lines at their addresses, and zeros
-abbrev pub with_cell : List ℕ → Option (ℕ × ℕ) → List ℕ
-with_cell words (Some cell) = slice_set words cell.0 cell.1
-with_cell words None = words
-
 unfoldable pub dumped_words : List ℕ → List ℕ
-dumped_words dump = fold (λ words line. with_cell words (cell_in line)) blank_words (lines_of dump)
+dumped_words dump =
+    fold (λ words line. option_map_or (λ cell. slice_set words cell.0 cell.1) (cell_in line) words)
+    blank_words (lines_of dump)
 
 -- the addresses, from one on, at which other words stand than before, each with its new word
 unfoldable pub changed_cells : ℕ → List ℕ → List ℕ → List (ℕ × ℕ)
@@ -54,50 +54,40 @@ dump_fault_text (faults.Order line) =
     ++ (decimal line ++ codes " is not above that of the line before it\n")
 dump_fault_text faults.Memory = []
 
-abbrev pub restored_text : Option DumpFault → Bool → List (ℕ × ℕ) → List ℕ
-restored_text (Some fault) rests cells = dump_fault_text fault
-restored_text None rests cells =
-    if rests then codes "restored " ++ (decimal (length cells) ++ codes "\n")
-    else reasoned (codes "? 2 Moving\n")
+module _ (recorded : Recorded Standing) where
+  -- the words that a dump changes
+  abbrev pub cells_changed : List ℕ → List (ℕ × ℕ)
+  cells_changed dump =
+      changed_cells 0 recorded.standing.debugger.state.core.words (dumped_words dump)
 
-abbrev pub restoring_lines : Option DumpFault → Bool → List (ℕ × ℕ) → List (List ℕ)
-restoring_lines (Some fault) rests cells = []
-restoring_lines None rests cells = if rests then map put_cell cells else []
+  abbrev pub rests_at : Bool
+  rests_at = is_at_rest (panel_at recorded.standing).status
 
--- the words that a dump changes
-abbrev pub cells_changed : Recorded Standing → List ℕ → List (ℕ × ℕ)
-cells_changed recorded dump =
-    changed_cells 0 recorded.standing.debugger.state.core.words (dumped_words dump)
+  unfoldable pub restore_reply : List ℕ → List ℕ
+  restore_reply dump =
+      option_map_or dump_fault_text (first_fault dump) (if rests_at
+      then codes "restored " ++ (decimal (length (cells_changed dump)) ++ codes "\n")
+      else reasoned (codes "? 2 Moving\n"))
 
-abbrev pub rests_at : Recorded Standing → Bool
-rests_at recorded = is_at_rest (panel_at recorded.standing).status
+  -- the lines of a script that it stands for
+  unfoldable pub restore_lines : List ℕ → List (List ℕ)
+  restore_lines dump =
+      if is_none (first_fault dump) && rests_at then map put_cell (cells_changed dump) else []
 
-unfoldable pub restore_reply : Recorded Standing → List ℕ → List ℕ
-restore_reply recorded dump =
-    restored_text (first_fault dump) (rests_at recorded) (cells_changed recorded dump)
+  -- ---- the reply to a block, and where the monitor stands behind it; no line of a script says
+  -- which tape it is, so its name stands in the transcript
 
--- the lines of a script that it stands for
-unfoldable pub restore_lines : Recorded Standing → List ℕ → List (List ℕ)
-restore_lines recorded dump =
-    restoring_lines (first_fault dump) (rests_at recorded) (cells_changed recorded dump)
+  unfoldable pub block_reply : Block → List ℕ
+  block_reply block =
+      if is_restore block.kind then restore_reply block.text
+      else (if is_tape block.kind
+      then reasoned (answer_to_tape_text recorded.standing block.text).reply
+      else codes "? 1 Form: there is no such block\n")
 
--- ---- tape: no line of a script says which it is, so its name stands in the transcript
-
-unfoldable pub behind_tape : Recorded Standing → List ℕ → List ℕ → Recorded Standing
-behind_tape recorded kind text = record {
-  standing = (answer_to_tape_text recorded.standing text).after;
-  transcript = recorded.transcript ++ ended kind;
-}
-
--- ---- the reply to a block, and where the monitor stands behind it
-
-unfoldable pub block_reply : Recorded Standing → List ℕ → List ℕ → List ℕ
-block_reply recorded kind text =
-    if is_restore kind then restore_reply recorded text
-    else (if is_tape kind then reasoned (answer_to_tape_text recorded.standing text).reply
-    else codes "? 1 Form: there is no such block\n")
-
-unfoldable pub behind_block : Recorded Standing → List ℕ → List ℕ → Recorded Standing
-behind_block recorded kind text =
-    if is_restore kind then after_lines script_language recorded (restore_lines recorded text)
-    else (if is_tape kind then behind_tape recorded kind text else recorded)
+  unfoldable pub behind_block : Block → Recorded Standing
+  behind_block block =
+      if is_restore block.kind then after_lines script_language recorded (restore_lines block.text)
+      else (if is_tape block.kind
+      then with_standing (with_line recorded block.kind)
+      (answer_to_tape_text recorded.standing block.text).after
+      else recorded)

@@ -1,56 +1,38 @@
 -- Part of the public promise: what is answered where a point closes a source with faults: each
 -- fault with its line of the source and a mark below the part that is at fault.
-use Rattle.std.specs.Prelude.{ℕ, ◌-◌, Bool, not, ◌&&◌, if◌then◌else◌, Option, Some, None}
-use Rattle.std.specs.Prelude.{option_map, List, [], ◌∷◌, ◌++◌, codes, decimal, slice_get}
+use Rattle.std.specs.Prelude.{ℕ, ◌-◌, not, ◌&&◌, ◌||◌, ◌==◌, if◌then◌else◌, Option, Some, None}
+use Rattle.std.specs.Prelude.{option_map, List, [], ◌++◌, codes, decimal, flat_map, length, slice_get}
+use Rattle.std.specs.Option.{option_map_or}
 use Rattle.std.specs.Str.{bytes_eq}
 use Rattle.lgp_source.specs.Source.{SourceLine, lines_of}
 use Rattle.lgp_assembler.specs.Image.{faults_of}
 use Rattle.lgp_assembler.specs.KindNames.{kind_name}
 use Rattle.lgp_assembler.specs.declared.refusal.Fault.{Fault}
-use Rattle.lgp_assembler.specs.declared.refusal.FaultKind.{FaultKind}
 use Rattle.lgp_marks.specs.Marks.{marked_text}
 use Rattle.lgp_stream.specs.KeptLine.{Kept}
 use Rattle.lgp_lab.specs.SourceText.{SourceText}
 use Rattle.lgp_lab.specs.Standing.{opened_text}
 
--- the number of a fault's line and its kind, as scripts have them
-unfoldable pub fault_line : Fault → List ℕ
-fault_line fault =
-    codes "line " ++ (decimal fault.line ++ (codes " " ++ (kind_name fault.kind ++ codes "\n")))
-
 -- the text of the line at a place, counted from 0; behind the last line there is none
 abbrev pub text_at : List SourceLine → ℕ → Option (List ℕ)
 text_at lines place = option_map (λ (line : SourceLine). line.text) (slice_get lines place)
 
-abbrev pub marked_at : FaultKind → Option (List ℕ) → List ℕ
-marked_at kind None = []
-marked_at kind (Some text) = marked_text kind text
-
--- faults of a source of these lines, each with its marked line
+-- a fault of a source of these lines: the number of its line and its kind, as scripts have them,
+-- and its marked line
 unfoldable pub marked_fault : List SourceLine → Fault → List ℕ
-marked_fault lines fault = fault_line fault ++ marked_at fault.kind (text_at lines (fault.line - 1))
+marked_fault lines fault =
+    codes "line " ++ (decimal fault.line ++ (codes " " ++ (kind_name fault.kind ++ (codes "\n"
+    ++ option_map_or (marked_text fault.kind) (text_at lines (fault.line - 1)) []))))
 
-unfoldable pub marked_faults : List SourceLine → List Fault → List ℕ
-marked_faults lines [] = []
-marked_faults lines (fault ∷ more) = marked_fault lines fault ++ marked_faults lines more
-
--- the reply to the end of a source with these faults, if there are any
-abbrev pub faulty_by : List SourceLine → List Fault → Option (List ℕ)
-faulty_by lines [] = None
-faulty_by lines (fault ∷ more) = Some (codes "? 9 Faults\n" ++ marked_faults lines (fault ∷ more))
-
-unfoldable pub faulty_reply : List ℕ → Option (List ℕ)
-faulty_reply source = faulty_by (lines_of source) (faults_of source)
-
--- a source that is empty has no line to show, and of one that is too long nothing is kept
+-- the reply to the end of a source, if it has faults; a source that is empty has no line to show,
+-- and of one that is too long nothing is kept
 abbrev pub shown_faults : List ℕ → Option (List ℕ)
-shown_faults [] = None
-shown_faults (first ∷ more) = faulty_reply (first ∷ more)
+shown_faults source =
+    if (length source == 0) || (length (faults_of source) == 0) then None
+    else Some (codes "? 9 Faults\n" ++ flat_map (marked_fault (lines_of source)) (faults_of source))
 
--- whether a line is a point alone, which ends a source
-unfoldable pub is_source_end : Kept → Bool
-is_source_end kept = not kept.longer && bytes_eq kept.front (codes ".")
-
--- the reply to a line that closes a source with faults; None to any other
+-- the reply to a line that closes a source with faults, a point alone; None to any other
 unfoldable pub closing_reply : Option SourceText → Kept → Option (List ℕ)
-closing_reply opened kept = if is_source_end kept then shown_faults (opened_text opened) else None
+closing_reply opened kept =
+    if not kept.longer && bytes_eq kept.front (codes ".") then shown_faults (opened_text opened)
+    else None

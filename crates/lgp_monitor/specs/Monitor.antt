@@ -1,7 +1,9 @@
 -- Part of the public promise: the monitor, a language in which a typed line stands for lines of a
 -- script.
-use Rattle.std.specs.Prelude.{ℕ, if◌then◌else◌, is_some, Option, Some, None, Result, Ok, Err}
-use Rattle.std.specs.Prelude.{List, [], ◌∷◌, ◌++◌, codes}
+use Rattle.std.specs.Prelude.{ℕ, if◌then◌else◌, is_some, Option, Some, None, unwrap_or}
+use Rattle.std.specs.Prelude.{List, [], ◌∷◌, ◌++◌, codes, flat_map}
+use Rattle.std.specs.Option.{option_map_or}
+use Rattle.std.specs.Result.{result_err}
 use Rattle.lgp_word.specs.Digits.{address_digits, digits_of}
 use Rattle.lgp_word.specs.Order.{plain_order}
 use Rattle.lgp_word.specs.declared.order.Op.TheVariants.{U}
@@ -25,7 +27,7 @@ use Rattle.lgp_monitor.specs.Questions.{answer_to}
 use Rattle.lgp_monitor.specs.Reasons.{explained, reasoned}
 use Rattle.lgp_monitor.specs.Telling.{told_text}
 use Rattle.lgp_monitor.specs.Typed.{typed_of}
-use Rattle.lgp_monitor.specs.Verbs.{form_of, operands_form, takes_address, verb_names}
+use Rattle.lgp_monitor.specs.Verbs.{operands_form, takes_address, verb_names}
 use Rattle.lgp_monitor.specs.declared.telling.Telling.{Telling}
 use Rattle.lgp_monitor.specs.declared.verb.Verb.{Verb}
 use Rattle.lgp_monitor.specs.declared.typed.Typed.{Typed}
@@ -40,16 +42,12 @@ put_line address word = codes "put " ++ (address_digits address ++ (codes " " ++
 -- to start at an address: the jump there is keyed in and executed as one order, and the machine is
 -- started in Normal
 unfoldable pub jump_line : ℕ → List ℕ
-jump_line address =
-    codes "type " ++ digits_of (plain_order U address)
-
-abbrev pub lines_behind_jump : List (List ℕ)
-lines_behind_jump =
-    codes "press fill" ∷ codes "press oneop" ∷ codes "press execute" ∷ codes "orders 1"
-    ∷ codes "press normal" ∷ codes "press start" ∷ []
+jump_line address = codes "type " ++ digits_of (plain_order U address)
 
 unfoldable pub go_lines : ℕ → List (List ℕ)
-go_lines address = codes "press manual" ∷ jump_line address ∷ lines_behind_jump
+go_lines address =
+    codes "press manual" ∷ jump_line address ∷ codes "press fill" ∷ codes "press oneop"
+    ∷ codes "press execute" ∷ codes "orders 1" ∷ codes "press normal" ∷ codes "press start" ∷ []
 
 -- a run that is told: the command `run` with the operands of its line
 unfoldable pub run_line : List ℕ → List ℕ
@@ -60,7 +58,7 @@ unfoldable pub placed_line : ℕ → List ℕ → List ℕ
 placed_line address line =
     first_word line ++ (codes " " ++ (address_digits address ++ behind_word (behind_word line)))
 
--- of a line of which this is kept
+-- of a line of which this is kept; what is shown stands for no line
 abbrev pub meaning_of : Typed → Kept → Meaning
 meaning_of typed.Itself kept = Lines (stand_in kept ∷ [])
 meaning_of typed.Misformed kept = Lines (stand_in kept ∷ [])
@@ -68,24 +66,17 @@ meaning_of (typed.Placed address) kept = Lines (placed_line address kept.front �
 meaning_of (typed.Go address) kept = Lines (go_lines address)
 meaning_of (typed.Put address word) kept = Lines (put_line address word ∷ [])
 meaning_of (typed.Told telling limit) kept = Lines (run_line kept.front ∷ [])
-meaning_of (typed.Asked question) kept = Lines []
-meaning_of typed.Transcript kept = Lines []
 meaning_of typed.New kept = Anew
-meaning_of typed.Help kept = Lines []
-meaning_of (typed.HelpOf verb) kept = Lines []
+meaning_of asked kept = Lines []
 
 -- ---- replies
 
 unfoldable pub form_line : List ℕ → Verb → List ℕ
 form_line name verb = name ++ (operands_form verb ++ codes "\n")
 
--- the forms of commands, a line each
-unfoldable pub form_lines : List (List ℕ × Verb) → List ℕ
-form_lines [] = []
-form_lines (name ∷ more) = form_line name.0 name.1 ++ form_lines more
-
-abbrev pub help_text : List ℕ
-help_text = form_lines verb_names
+-- the forms of all commands, a line each
+unfoldable pub help_text : List ℕ
+help_text = flat_map (λ name. form_line name.0 name.1) verb_names
 
 -- why a line is in no command's form: its first operand is no address, or it is not written so
 abbrev pub fault_reason : OperandFault → List ℕ
@@ -93,103 +84,76 @@ fault_reason Misformed = codes " is no address: a track and a sector, each 00 to
 fault_reason Unknown = codes " names no label of the last source"
 fault_reason Outside = codes " is not on the drum"
 
-abbrev pub address_reason : Result ℕ OperandFault → List ℕ → List ℕ → List ℕ
-address_reason (Ok address) operand form = form
-address_reason (Err fault) operand form = operand ++ fault_reason fault
+module _ (names : List (List ℕ × ℕ)) (counter : ℕ) where
+  abbrev pub reason_by : List ℕ → Option Verb → List ℕ
+  reason_by line None = codes "there is no such command, help lists them"
+  reason_by line (Some verb) =
+      let form = first_word line ++ operands_form verb in
+      let operand = first_word (behind_word line) in
+      if takes_address verb then (if has_no_word (behind_word line) then form
+      else option_map_or (λ fault. operand ++ fault_reason fault)
+      (result_err (address_operand names counter operand)) form)
+      else form
 
-unfoldable pub operand_reason : List (List ℕ × ℕ) → ℕ → List ℕ → List ℕ → List ℕ
-operand_reason names counter operands form =
-    if has_no_word operands then form
-    else address_reason (address_operand names counter (first_word operands)) (first_word operands)
-    form
-
-abbrev pub reason_by : List (List ℕ × ℕ) → ℕ → Option Verb → List ℕ → List ℕ
-reason_by names counter None line = codes "there is no such command, help lists them"
-reason_by names counter (Some verb) line =
-    let form = form_of (first_word line) verb in
-    if takes_address verb then operand_reason names counter (behind_word line) form else form
-
-unfoldable pub misformed_text : List (List ℕ × ℕ) → ℕ → List ℕ → List ℕ
-misformed_text names counter line =
-    codes "? 1 Form: "
-    ++ (reason_by names counter (named verb_names (first_word line)) line ++ codes "\n")
-
--- the form of the command that stands behind another
-abbrev pub form_behind : List ℕ → Verb → List ℕ
-form_behind line verb = form_line (first_word (behind_word line)) verb
-
--- the reply to the line that closes a source with faults, if it does, else another one
-abbrev pub marked_or : Option (List ℕ) → List ℕ → List ℕ
-marked_or (Some marked) other = marked
-marked_or None other = other
-
--- what is written about the orders of a run
-abbrev pub told_of : Standing → Telling → ℕ → List ℕ
-told_of standing telling limit =
-    told_text telling (labels_of standing.source) standing.debugger.state
-    (order_origins standing.debugger)
-    (orders_run limit standing.debugger)
-
--- the names of the last source that assembled, and the counter
-abbrev pub names_at : Recorded Standing → List (List ℕ × ℕ)
-names_at recorded = labels_of recorded.standing.source
-
-abbrev pub counter_at : Recorded Standing → ℕ
-counter_at recorded = recorded.standing.debugger.state.core.panel.counter
+  unfoldable pub misformed_text : List ℕ → List ℕ
+  misformed_text line =
+      codes "? 1 Form: " ++ (reason_by line (named verb_names (first_word line)) ++ codes "\n")
 
 abbrev pub panel_at : Standing → Panel
 panel_at standing = standing.debugger.state.core.panel
 
--- the reply to a script's line, a refusal with its reason
-abbrev pub explained_reply : Recorded Standing → List ℕ → List ℕ
-explained_reply recorded line = reasoned (replies_text script_language recorded (line ∷ []))
+module _ (recorded : Recorded Standing) where
+  -- the names of the last source that assembled, and the counter
+  abbrev pub names_at : List (List ℕ × ℕ)
+  names_at = labels_of recorded.standing.source
 
--- the reply to a script's line of which this is kept
-abbrev pub itself_reply : Recorded Standing → Kept → List ℕ
-itself_reply recorded kept =
-    marked_or (closing_reply recorded.standing.opened kept)
-    (explained_reply recorded (stand_in kept))
+  abbrev pub counter_at : ℕ
+  counter_at = (panel_at recorded.standing).counter
 
--- what is written about the orders of a run, and the reply to its script's line
-abbrev pub told_reply : Recorded Standing → Telling → ℕ → List ℕ → List ℕ
-told_reply recorded telling limit line =
-    told_of recorded.standing telling limit
-    ++ replies_text script_language recorded (run_line line ∷ [])
+  -- the reply to a script's line, a refusal with its reason
+  abbrev pub explained_reply : List ℕ → List ℕ
+  explained_reply line = reasoned (replies_text script_language recorded (line ∷ []))
 
--- the same with what is said behind it, where its script's line leaves the machine
-abbrev pub explained_run : Recorded Standing → Telling → ℕ → List ℕ → List ℕ
-explained_run recorded telling limit line =
-    let panel = panel_at (after_lines script_language recorded (run_line line ∷ [])).standing in
-    explained panel.status panel.mode (told_reply recorded telling limit line)
+  -- what is written about the orders of a run, and the reply to its script's line
+  abbrev pub told_reply : Telling → ℕ → List ℕ → List ℕ
+  told_reply telling limit line =
+      told_text telling names_at recorded.standing.debugger.state
+      (order_origins recorded.standing.debugger) (orders_run limit recorded.standing.debugger)
+      ++ replies_text script_language recorded (run_line line ∷ [])
 
-abbrev pub reply_of : Recorded Standing → Typed → Kept → List ℕ
-reply_of recorded typed.Itself kept = itself_reply recorded kept
-reply_of recorded typed.Misformed kept =
-    misformed_text (names_at recorded) (counter_at recorded) kept.front
-reply_of recorded (typed.Placed address) kept =
-    explained_reply recorded (placed_line address kept.front)
-reply_of recorded (typed.Go address) kept = replies_text script_language recorded (go_lines address)
-reply_of recorded (typed.Put address word) kept = explained_reply recorded (put_line address word)
-reply_of recorded (typed.Told telling limit) kept = explained_run recorded telling limit kept.front
-reply_of recorded (typed.Asked question) kept = answer_to question recorded.standing
-reply_of recorded typed.Transcript kept = recorded.transcript
-reply_of recorded typed.New kept = codes "new\n"
-reply_of recorded typed.Help kept = help_text
-reply_of recorded (typed.HelpOf verb) kept = form_behind kept.front verb
+  -- the same with what is said behind it, where its script's line leaves the machine
+  abbrev pub explained_run : Telling → ℕ → List ℕ → List ℕ
+  explained_run telling limit line =
+      let panel = panel_at (after_lines script_language recorded (run_line line ∷ [])).standing in
+      explained panel.status panel.mode (told_reply telling limit line)
+
+  -- the reply to a line of which this is kept; to one that closes a source with faults, their marks
+  abbrev pub reply_of : Typed → Kept → List ℕ
+  reply_of typed.Itself kept =
+      unwrap_or (closing_reply recorded.standing.opened kept) (explained_reply (stand_in kept))
+  reply_of typed.Misformed kept = misformed_text names_at counter_at kept.front
+  reply_of (typed.Placed address) kept = explained_reply (placed_line address kept.front)
+  reply_of (typed.Go address) kept = replies_text script_language recorded (go_lines address)
+  reply_of (typed.Put address word) kept = explained_reply (put_line address word)
+  reply_of (typed.Told telling limit) kept = explained_run telling limit kept.front
+  reply_of (typed.Asked question) kept = answer_to question recorded.standing
+  reply_of typed.Transcript kept = recorded.transcript
+  reply_of typed.New kept = codes "new\n"
+  reply_of typed.Help kept = help_text
+  reply_of (typed.HelpOf verb) kept = form_line (first_word (behind_word kept.front)) verb
+
+  -- what a line asks for; in an open source each line is the source's
+  unfoldable pub typed_at : List ℕ → Typed
+  typed_at line =
+      typed_of names_at counter_at (is_some recorded.standing.opened) (kept_of line)
+
+  unfoldable pub meaning_at : List ℕ → Meaning
+  meaning_at line = meaning_of (typed_at line) (kept_of line)
+
+  unfoldable pub reply_at : List ℕ → List ℕ
+  reply_at line = reply_of (typed_at line) (kept_of line)
 
 -- ---- the language
-
--- what a line asks for; in an open source each line is the source's
-unfoldable pub typed_at : Recorded Standing → List ℕ → Typed
-typed_at recorded line =
-    typed_of (is_some recorded.standing.opened) (names_at recorded) (counter_at recorded)
-    (kept_of line)
-
-unfoldable pub meaning_at : Recorded Standing → List ℕ → Meaning
-meaning_at recorded line = meaning_of (typed_at recorded line) (kept_of line)
-
-unfoldable pub reply_at : Recorded Standing → List ℕ → List ℕ
-reply_at recorded line = reply_of recorded (typed_at recorded line) (kept_of line)
 
 abbrev pub monitor_language : Language (Recorded Standing)
 monitor_language = record {

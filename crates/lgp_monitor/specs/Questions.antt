@@ -1,6 +1,7 @@
 -- Part of the public promise: what is shown and changes nothing: words as numbers, where a word
 -- came from, the names of the last source, the rules.
 use Rattle.std.specs.Prelude.{ℕ, ◌+◌, ◌++◌, if◌then◌else◌, nat_lt, List, [], ◌∷◌, codes, decimal}
+use Rattle.std.specs.Prelude.{flat_map}
 use Rattle.lgp_word.specs.Digits.{address_digits, digits_of}
 use Rattle.lgp_fraction.specs.Arithmetic.{half}
 use Rattle.lgp_fraction.specs.Decimal.{decimal_text}
@@ -21,16 +22,12 @@ number_line point address word =
     ++ (codes " " ++ (digits_of word ++ (codes "  " ++ (decimal_text (half word) ++ (codes "  "
     ++ (scaled_text point word ++ codes "\n"))))))
 
--- the value of a name: an address, or the place behind the drum's last
-abbrev pub value_text : ℕ → List ℕ
-value_text value = if nat_lt value 4096 then address_digits value else codes "past the drum"
-
+-- a name and its value: an address, or the place behind the drum's last
 unfoldable pub label_line : List ℕ × ℕ → List ℕ
-label_line symbol = symbol.0 ++ (codes " " ++ (value_text symbol.1 ++ codes "\n"))
-
-unfoldable pub label_lines : List (List ℕ × ℕ) → List ℕ
-label_lines [] = []
-label_lines (symbol ∷ more) = label_line symbol ++ label_lines more
+label_line symbol =
+    symbol.0 ++ (codes " "
+    ++ ((if nat_lt symbol.1 4096 then address_digits symbol.1 else codes "past the drum")
+    ++ codes "\n"))
 
 -- the command that makes a rule, and its address
 abbrev pub rule_command : Rule → List ℕ
@@ -41,23 +38,23 @@ abbrev pub rule_address : Rule → ℕ
 rule_address (At address) = address
 rule_address (Changed address) = address
 
--- a rule's number, the command that made it, its address, and behind it the address's label
-unfoldable pub rule_line : List (List ℕ × ℕ) → ℕ → Rule → List ℕ
-rule_line names number rule =
-    codes "rule " ++ (decimal number ++ (rule_command rule ++ (address_digits (rule_address rule)
-    ++ (label_of names (rule_address rule) ++ codes "\n"))))
+module _ (names : List (List ℕ × ℕ)) where
+  -- a rule's number, the command that made it, its address, and behind it the address's label
+  unfoldable pub rule_line : ℕ → Rule → List ℕ
+  rule_line number rule =
+      codes "rule " ++ (decimal number ++ (rule_command rule ++ (address_digits (rule_address rule)
+      ++ (label_of names (rule_address rule) ++ codes "\n"))))
 
--- rules whose first has this number
-unfoldable pub rule_lines : List (List ℕ × ℕ) → ℕ → List Rule → List ℕ
-rule_lines names number [] = []
-rule_lines names number (rule ∷ more) =
-    rule_line names number rule ++ rule_lines names (number + 1) more
+  -- rules whose first has this number
+  unfoldable pub rule_lines : ℕ → List Rule → List ℕ
+  rule_lines number [] = []
+  rule_lines number (rule ∷ more) = rule_line number rule ++ rule_lines (number + 1) more
 
 unfoldable pub answer_to : Question → Standing → List ℕ
 answer_to (questions.Numbers range point) standing =
     lines_text (number_line point) standing.debugger.state range.first range.count
 answer_to (questions.Why address) standing =
     why_text (label_of (labels_of standing.source)) standing.debugger address
-answer_to questions.Labels standing = label_lines (labels_of standing.source)
+answer_to questions.Labels standing = flat_map label_line (labels_of standing.source)
 answer_to questions.Rules standing =
     rule_lines (labels_of standing.source) 0 standing.debugger.rules

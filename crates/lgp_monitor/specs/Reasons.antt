@@ -1,7 +1,8 @@
 -- Part of the public promise: what is said behind replies: the reasons of refusals, and how the
 -- machine stands behind a run that is told.
-use Rattle.std.specs.Prelude.{ℕ, zero, suc, ◌-◌, ◌==◌, if◌then◌else◌, Option, Some, None, List, []}
+use Rattle.std.specs.Prelude.{ℕ, zero, suc, ◌-◌, ◌==◌, if◌then◌else◌, Option, None, List, []}
 use Rattle.std.specs.Prelude.{◌∷◌, ◌++◌, codes, drop, length, slice_index, take}
+use Rattle.std.specs.Option.{option_map_or}
 use Rattle.std.specs.Str.{bytes_eq}
 use Rattle.lgp_stream.specs.LineWords.{behind_word, first_word}
 use Rattle.lgp_table.specs.declared.panel.Mode.{Mode}
@@ -56,17 +57,13 @@ refusal_in line =
     then named refusal_numbers (first_word (behind_word line)) else None
 
 -- a reply with the reason behind its last line
-abbrev pub with_reason : RefusalKind → List ℕ → List ℕ
-with_reason kind reply =
+abbrev pub with_reason : List ℕ → RefusalKind → List ℕ
+with_reason reply kind =
     take (length reply - 1) reply ++ (codes ": " ++ (reason_of kind ++ codes "\n"))
 
 -- a reply, of which the last line has its reason behind it where that is a refusal
-abbrev pub reasoned_by : Option RefusalKind → List ℕ → List ℕ
-reasoned_by (Some kind) reply = with_reason kind reply
-reasoned_by None reply = reply
-
 unfoldable pub reasoned : List ℕ → List ℕ
-reasoned reply = reasoned_by (refusal_in (last_line reply)) reply
+reasoned reply = option_map_or (with_reason reply) (refusal_in (last_line reply)) reply
 
 -- what is told of a run behind which the machine stands so: where the reply at its end leaves open
 -- how the machine stands, with a line that says it

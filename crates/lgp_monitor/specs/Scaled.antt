@@ -2,19 +2,17 @@
 -- with at most ten decimals, to the nearest, without the zeros at their end: exactly, where they
 -- are enough.
 use Rattle.std.specs.Prelude.{ℕ, zero, suc, ◌-◌, ◌*◌, ◌/◌, ◌%◌, ◌^◌, ◌++◌, ◌==◌, if◌then◌else◌}
-use Rattle.std.specs.Prelude.{nat_le, Option, Some, None, List, [], ◌∷◌, codes, decimal}
+use Rattle.std.specs.Prelude.{nat_le, Option, Some, None, option_and_then, List, [], ◌∷◌, codes}
+use Rattle.std.specs.Prelude.{decimal}
 use Rattle.lgp_word.specs.Decimal.{decimal_digit, decimal_number}
 use Rattle.lgp_word.specs.Order.{sign_of}
 use Rattle.lgp_fraction.specs.Rounding.{nearest_size}
 use Rattle.lgp_trace.specs.AccountLines.{minus_text}
 
 -- the place that a text says: one or two digits, 0 to 30
-abbrev pub point_by : Option ℕ → Option ℕ
-point_by (Some place) = if nat_le place 30 then Some place else None
-point_by None = None
-
 unfoldable pub point_of : List ℕ → Option ℕ
-point_of text = point_by (decimal_number 2 text)
+point_of text =
+    option_and_then (λ place. if nat_le place 30 then Some place else None) (decimal_number 2 text)
 
 -- a word as a number without its sign, where the point is behind place 30
 abbrev pub size_of : ℕ → ℕ
@@ -32,13 +30,11 @@ decimals (suc more) number =
     if number == 0 then []
     else decimal_digit (number / 10 ^ 9) ∷ decimals more (number % 10 ^ 9 * 10)
 
--- what stands behind a whole number for so many units
-abbrev pub behind_whole : ℕ → List ℕ
-behind_whole units = if units == 0 then [] else codes "." ++ decimals 10 units
-
 -- so many units of 10^-10
 unfoldable pub units_text : ℕ → List ℕ
-units_text units = decimal (units / 10 ^ 10) ++ behind_whole (units % 10 ^ 10)
+units_text units =
+    let rest = units % 10 ^ 10 in
+    decimal (units / 10 ^ 10) ++ (if rest == 0 then [] else codes "." ++ decimals 10 rest)
 
 -- a word as a number whose point is behind a place
 unfoldable pub scaled_text : ℕ → ℕ → List ℕ

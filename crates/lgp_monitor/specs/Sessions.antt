@@ -19,28 +19,28 @@ use Rattle.lgp_desk.specs.declared.desk.Manner.TheVariants.{Echoing}
 use Rattle.lgp_monitor.specs.Attending.{attended_faults, attended_language, attended_text}
 use Rattle.lgp_monitor.specs.Attending.{prompt_at}
 
--- what became of typed lines, of which nothing may be known: they were answered to their end, or a
--- fault broke the work off
-abbrev pub HasAnswered : Manner → Option (List ℕ) → Result ℕ StreamFault → Option (List ℕ)
-    → Option (List ℕ) → Type 0
-HasAnswered manner known (Ok count) w₀ w =
-    IfSome known (λ typed. Appends w₀ w (attended_text manner typed)
-    × (count ≡ attended_faults manner typed))
-HasAnswered manner known (Err fault) w₀ w = IfSome known (λ typed. (left : Option (List ℕ))
-    × StandsWritten (opening_text manner (prompt_at (untouched opening_standing)) ∷ [])
-    attended_language
-    (taken_seat manner (untouched opening_standing)) fault typed left w₀ w)
-
 -- the status for what became of typed lines
 abbrev pub session_status : Result ℕ StreamFault → ℕ
 session_status (Ok count) = answered_status count
 session_status (Err fault) = broken_status fault
 
--- a session, with the status for it
-abbrev pub IsHeld : Manner → Option (List ℕ) → ℕ → Option (List ℕ) → Option (List ℕ) → Type 0
-IsHeld manner known status w₀ w =
-    (outcome : Result ℕ StreamFault) × HasAnswered manner known outcome w₀ w
-    × (status ≡ session_status outcome)
+-- lines that are typed, of which nothing may be known
+module _ (manner : Manner) (known : Option (List ℕ)) where
+  -- what became of them: they were answered to their end, or a fault broke the work off
+  abbrev pub HasAnswered : Result ℕ StreamFault → Option (List ℕ) → Option (List ℕ) → Type 0
+  HasAnswered (Ok count) w₀ w =
+      IfSome known (λ typed. Appends w₀ w (attended_text manner typed)
+      × (count ≡ attended_faults manner typed))
+  HasAnswered (Err fault) w₀ w = IfSome known (λ typed. (left : Option (List ℕ))
+      × StandsWritten (opening_text manner (prompt_at (untouched opening_standing)) ∷ [])
+      attended_language
+      (taken_seat manner (untouched opening_standing)) fault typed left w₀ w)
+
+  -- a session, with the status for it
+  abbrev pub IsHeld : ℕ → Option (List ℕ) → Option (List ℕ) → Type 0
+  IsHeld status w₀ w =
+      (outcome : Result ℕ StreamFault) × HasAnswered outcome w₀ w
+      × (status ≡ session_status outcome)
 
 -- where the lines of files come first, a prompt stands behind them only
 abbrev pub manner_behind : List (List ℕ) → Manner → Manner

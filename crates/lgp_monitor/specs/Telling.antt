@@ -1,6 +1,7 @@
 -- Part of the public promise: what is written about the orders of a run, with names as labels of
 -- the addresses that are their values.
-use Rattle.std.specs.Prelude.{ℕ, ◌==◌, ◌++◌, if◌then◌else◌, List, [], ◌∷◌, Option, codes}
+use Rattle.std.specs.Prelude.{ℕ, ◌==◌, ◌++◌, List, [], Option, codes, find}
+use Rattle.std.specs.Option.{option_map_or}
 use Rattle.lgp_table.specs.After.{after}
 use Rattle.lgp_table.specs.State.{State}
 use Rattle.lgp_history.specs.declared.origin.Origin.{Origin}
@@ -14,25 +15,17 @@ use Rattle.lgp_monitor.specs.declared.telling.Telling.TheVariants as tellings
 
 -- what stands behind an address: a blank and the first name that has it as its value, or nothing
 unfoldable pub label_of : List (List ℕ × ℕ) → ℕ → List ℕ
-label_of [] address = []
-label_of (name ∷ more) address =
-    if name.1 == address then codes " " ++ name.0 else label_of more address
-
--- the account of each order below the heading, with where its order came from
-abbrev pub traced : List (List ℕ × ℕ) → State → (ℕ → Option Origin) → ℕ → List ℕ
-traced names s origins orders = heading_text ++ told (label_of names) s origins orders
-
--- what all orders took together
-abbrev pub profiled : List (List ℕ × ℕ) → State → ℕ → List ℕ
-profiled names s orders = profile_text (label_of names) orders (profile_of s orders)
-
--- the rows of the drum, from the turn in which the first order begins
-abbrev pub pictured : List (List ℕ × ℕ) → State → ℕ → List ℕ
-pictured names s orders =
-    rows_begun s.clock ++ (drawn s orders ++ rows_ended (after s orders).clock)
+label_of names address =
+    option_map_or (λ name. codes " " ++ name.0) (find (λ name. name.1 == address) names) []
 
 -- what is written about so many orders from a state on
 unfoldable pub told_text : Telling → List (List ℕ × ℕ) → State → (ℕ → Option Origin) → ℕ → List ℕ
-told_text tellings.Trace names s origins orders = traced names s origins orders
-told_text tellings.Profile names s origins orders = profiled names s orders
-told_text tellings.Drum names s origins orders = pictured names s orders
+-- the account of each order below the heading, with where its order came from
+told_text tellings.Trace names s origins orders =
+    heading_text ++ told (label_of names) s origins orders
+-- what all orders took together
+told_text tellings.Profile names s origins orders =
+    profile_text (label_of names) orders (profile_of s orders)
+-- the rows of the drum, from the turn in which the first order begins
+told_text tellings.Drum names s origins orders =
+    rows_begun s.clock ++ (drawn s orders ++ rows_ended (after s orders).clock)

@@ -1,15 +1,15 @@
 -- Part of the public promise: what a typed line asks for.
 use Rattle.std.specs.Prelude.{ℕ, ◌==◌, ◌||◌, Bool, if◌then◌else◌, is_some, Option, Some, None}
-use Rattle.std.specs.Prelude.{Result, Ok, Err, List, codes, slice_index, ℤ, pos, ◌*ℤ◌}
-use Rattle.std.specs.Option.{option_or}
+use Rattle.std.specs.Prelude.{List, codes, slice_index, pos, ◌*ℤ◌, option_and_then, option_map}
+use Rattle.std.specs.Prelude.{unwrap_or}
+use Rattle.std.specs.Option.{option_map_or, option_or}
+use Rattle.std.specs.Result.{result_ok}
 use Rattle.std.specs.Str.{byte, bytes_eq}
 use Rattle.lgp_word.specs.Digits.{word_of_digits}
 use Rattle.lgp_fraction.specs.Arithmetic.{low_bits}
 use Rattle.lgp_fraction.specs.Decimal.{decimal_fraction}
-use Rattle.lgp_fraction.specs.declared.fraction.FractionFault.{FractionFault}
 use Rattle.lgp_assembler.specs.AddressOperands.{address_operand}
 use Rattle.lgp_assembler.specs.Patch.{operation_word}
-use Rattle.lgp_assembler.specs.declared.operands.OperandFault.{OperandFault}
 use Rattle.lgp_stream.specs.KeptLine.{Kept}
 use Rattle.lgp_stream.specs.LineWords.{behind_word, first_word, has_no_word}
 use Rattle.lgp_text.specs.NamedValues.{named}
@@ -29,79 +29,57 @@ use Rattle.lgp_monitor.specs.declared.verb.Verb.TheVariants as verbs
 use Rattle.lgp_monitor.specs.declared.typed.Typed.{Typed}
 use Rattle.lgp_monitor.specs.declared.typed.Typed.TheVariants as typed
 
--- ---- addresses
+-- ---- words of operands
 
--- an address is written as an operand of the last source: as ttss, by a name, or by `*`, which is
--- here the counter, and perhaps with a sign and a number behind
-abbrev pub address_by : Result ℕ OperandFault → Option ℕ
-address_by (Ok address) = Some address
-address_by (Err fault) = None
-
-unfoldable pub address_at : List (List ℕ × ℕ) → ℕ → List ℕ → Option ℕ
-address_at names counter text = address_by (address_operand names counter text)
-
--- ---- the word behind `put ttss`
-
-abbrev pub word_by : Result ℕ OperandFault → Option ℕ
-word_by (Ok word) = Some word
-word_by (Err fault) = None
-
+-- the first of some operands
 abbrev pub operand_at : List ℕ → Option (List ℕ)
 operand_at operands = if has_no_word operands then None else Some (first_word operands)
 
--- an operation of the last source with at most two operands, where the place of the word is that of
--- its `*`
-unfoldable pub operation_at : List (List ℕ × ℕ) → ℕ → List ℕ → Option ℕ
-operation_at names place line =
-    if has_no_word (behind_word (behind_word (behind_word line)))
-    then word_by (operation_word names place (first_word line) (operand_at (behind_word line))
-    (operand_at (behind_word (behind_word line))))
-    else None
+-- what stands behind a command's name, where it is one word at most
+abbrev pub lone_word : List ℕ → Option (List ℕ)
+lone_word operands = if has_no_word (behind_word operands) then Some (first_word operands) else None
 
--- behind `=` a whole number and the place behind which its point is, 30 where none is given
+-- the place behind which a number's point is, 30 where none is given
 abbrev pub point_at : List ℕ → List ℕ
-point_at operands = if has_no_word operands then codes "30" else first_word operands
-
-unfoldable pub whole_at : List (List ℕ × ℕ) → ℕ → List ℕ → Option ℕ
-whole_at names place operands =
-    if has_no_word (behind_word (behind_word operands))
-    then word_by (operation_word names place (codes "int") (Some (first_word operands))
-    (Some (point_at (behind_word operands))))
-    else None
-
--- a fraction
-abbrev pub fraction_by : Result ℤ FractionFault → Option ℕ
-fraction_by (Ok steps) = Some (low_bits (pos 2 *ℤ steps))
-fraction_by (Err fault) = None
-
-unfoldable pub fraction_at : List ℕ → Option ℕ
-fraction_at text = fraction_by (decimal_fraction text)
+point_at operands = unwrap_or (operand_at operands) (codes "30")
 
 -- eight digits or a fraction
-abbrev pub digits_or_fraction : List ℕ → Option ℕ
-digits_or_fraction text = option_or (word_of_digits text) (fraction_at text)
+unfoldable pub digits_or_fraction : List ℕ → Option ℕ
+digits_or_fraction text =
+    option_or (word_of_digits text)
+    (option_map (λ steps. low_bits (pos 2 *ℤ steps)) (result_ok (decimal_fraction text)))
 
--- `=` and a number, eight digits, a fraction, or an operation
-unfoldable pub value_at : List (List ℕ × ℕ) → ℕ → List ℕ → Option ℕ
-value_at names place operands =
-    if bytes_eq (first_word operands) (codes "=") then whole_at names place (behind_word operands)
-    else (if has_no_word (behind_word operands)
-    then option_or (digits_or_fraction (first_word operands)) (operation_at names place operands)
-    else operation_at names place operands)
+-- ---- the word behind `put ttss`, with the names of the last source and the place of the word
+
+module _ (names : List (List ℕ × ℕ)) (place : ℕ) where
+  -- an operation of the last source with at most two operands, of which `*` is the place
+  unfoldable pub operation_at : List ℕ → Option ℕ
+  operation_at line =
+      if has_no_word (behind_word (behind_word (behind_word line)))
+      then result_ok (operation_word names place (first_word line) (operand_at (behind_word line))
+      (operand_at (behind_word (behind_word line))))
+      else None
+
+  -- behind `=` a whole number and the place behind which its point is
+  unfoldable pub whole_at : List ℕ → Option ℕ
+  whole_at operands =
+      if has_no_word (behind_word (behind_word operands))
+      then result_ok (operation_word names place (codes "int") (Some (first_word operands))
+      (Some (point_at (behind_word operands))))
+      else None
+
+  -- `=` and a number, eight digits, a fraction, or an operation
+  unfoldable pub value_at : List ℕ → Option ℕ
+  value_at operands =
+      if bytes_eq (first_word operands) (codes "=") then whole_at (behind_word operands)
+      else option_or (option_and_then digits_or_fraction (lone_word operands))
+      (operation_at operands)
 
 -- ---- the commands
 
-abbrev pub put_word : ℕ → Option ℕ → Typed
-put_word address (Some word) = typed.Put address word
-put_word address None = typed.Misformed
-
-abbrev pub put_by : List (List ℕ × ℕ) → Option ℕ → List ℕ → Typed
-put_by names (Some address) operands = put_word address (value_at names address operands)
-put_by names None operands = typed.Misformed
-
-unfoldable pub put_typed : List (List ℕ × ℕ) → ℕ → List ℕ → Typed
-put_typed names counter operands =
-    put_by names (address_at names counter (first_word operands)) (behind_word operands)
+-- what is asked for with what was read of the operands; nothing where they are not in form
+abbrev pub asked_by : {T : Type 0} → (T → Typed) → Option T → Typed
+asked_by ask read = option_map_or ask read typed.Misformed
 
 -- what a command asks for with an address; one of scripts has there its `ttss`
 abbrev pub asked_at : AddressCommand → ℕ → Typed
@@ -109,69 +87,10 @@ asked_at address_commands.Script address = typed.Placed address
 asked_at address_commands.Go address = typed.Go address
 asked_at address_commands.Why address = typed.Asked (questions.Why address)
 
-abbrev pub asked_by : AddressCommand → Option ℕ → Typed
-asked_by command (Some address) = asked_at command address
-asked_by command None = typed.Misformed
-
-unfoldable pub address_typed : List (List ℕ × ℕ) → ℕ → AddressCommand → List ℕ → Typed
-address_typed names counter command operands =
-    if has_no_word (behind_word operands)
-    then asked_by command (address_at names counter (first_word operands)) else typed.Misformed
-
--- a range of words, by an address and a number
-abbrev pub range_by : Option ℕ → Option ℕ → Option WordRange
-range_by (Some address) (Some count) = range_of address count
-range_by _ _ = None
-
-unfoldable pub range_at : List (List ℕ × ℕ) → ℕ → List ℕ → Option WordRange
-range_at names counter operands =
-    range_by (address_at names counter (first_word operands)) (lone_number (behind_word operands))
-
-abbrev pub placed_range_by : Option WordRange → Typed
-placed_range_by (Some range) = typed.Placed range.first
-placed_range_by None = typed.Misformed
-
-unfoldable pub placed_range : List (List ℕ × ℕ) → ℕ → List ℕ → Typed
-placed_range names counter operands = placed_range_by (range_at names counter operands)
-
--- a range of words as numbers, and the place behind which their point is, 30 where none is given
-abbrev pub numbers_by : Option WordRange → Option ℕ → Typed
-numbers_by (Some range) (Some point) = typed.Asked (questions.Numbers range point)
-numbers_by _ _ = typed.Misformed
-
-abbrev pub first_range : List (List ℕ × ℕ) → ℕ → List ℕ → Option WordRange
-first_range names counter operands =
-    range_by (address_at names counter (first_word operands))
-    (lone_number (first_word (behind_word operands)))
-
-unfoldable pub numbers_typed : List (List ℕ × ℕ) → ℕ → List ℕ → Typed
-numbers_typed names counter operands =
-    if has_no_word (behind_word (behind_word (behind_word operands)))
-    then numbers_by (first_range names counter operands)
-    (point_of (point_at (behind_word (behind_word operands))))
-    else typed.Misformed
-
 -- what a command asks for with a number; one of scripts as it stands
 abbrev pub asked_with : NumberCommand → ℕ → Typed
 asked_with number_commands.Script number = typed.Itself
 asked_with (number_commands.Told telling) limit = typed.Told telling limit
-
-abbrev pub number_by : NumberCommand → Option ℕ → Typed
-number_by command (Some number) = asked_with command number
-number_by command None = typed.Misformed
-
-unfoldable pub number_typed : NumberCommand → List ℕ → Typed
-number_typed command operands = number_by command (lone_number operands)
-
-abbrev pub help_by : Option Verb → Typed
-help_by (Some verb) = typed.HelpOf verb
-help_by None = typed.Misformed
-
-unfoldable pub help_typed : List ℕ → Typed
-help_typed operands =
-    if has_no_word operands then typed.Help
-    else (if has_no_word (behind_word operands)
-    then help_by (named verb_names (first_word operands)) else typed.Misformed)
 
 -- what a command asks for by itself; one of scripts as it stands
 abbrev pub asked_alone : LoneCommand → Typed
@@ -181,35 +100,53 @@ asked_alone lone_commands.Labels = typed.Asked questions.Labels
 asked_alone lone_commands.Transcript = typed.Transcript
 asked_alone lone_commands.New = typed.New
 
-abbrev pub lone_typed : LoneCommand → List ℕ → Typed
-lone_typed command operands = if has_no_word operands then asked_alone command else typed.Misformed
+-- with the names of the last source and the counter
+module _ (names : List (List ℕ × ℕ)) (counter : ℕ) where
+  -- an address is written as an operand of the last source: as ttss, by a name, or by `*`, which is
+  -- here the counter, and perhaps with a sign and a number behind
+  unfoldable pub address_at : List ℕ → Option ℕ
+  address_at text = result_ok (address_operand names counter text)
 
--- a command with its operands, by what stands behind its name; of some the script's own form is the
--- only one
-abbrev pub typed_by : List (List ℕ × ℕ) → ℕ → Option Verb → List ℕ → Typed
-typed_by names counter (Some (verbs.Lone command)) operands = lone_typed command operands
-typed_by names counter (Some (verbs.Address command)) operands =
-    address_typed names counter command operands
-typed_by names counter (Some (verbs.Number command)) operands = number_typed command operands
-typed_by names counter (Some verbs.Range) operands = placed_range names counter operands
-typed_by names counter (Some verbs.ScaledRange) operands = numbers_typed names counter operands
-typed_by names counter (Some verbs.Word) operands = put_typed names counter operands
-typed_by names counter (Some verbs.Command) operands = help_typed operands
-typed_by names counter _ operands = typed.Misformed
+  -- a range of words, by an address and a number
+  unfoldable pub range_at : List ℕ → List ℕ → Option WordRange
+  range_at address count =
+      option_and_then (λ first. option_and_then (range_of first) (lone_number count))
+      (address_at address)
 
--- a line in the form of a script's command asks for that
-unfoldable pub typed_line : List (List ℕ × ℕ) → ℕ → List ℕ → Typed
-typed_line names counter line =
-    if is_some (command_of line) then typed.Itself
-    else typed_by names counter (named verb_names (first_word line)) (behind_word line)
+  -- a range of words as numbers, and the place behind which their point is
+  unfoldable pub numbers_typed : List ℕ → Typed
+  numbers_typed operands =
+      let count = behind_word operands in
+      let point = behind_word count in
+      if has_no_word (behind_word point)
+      then asked_by (λ range. asked_by (λ place. typed.Asked (questions.Numbers range place))
+      (point_of (point_at point))) (range_at (first_word operands) (first_word count))
+      else typed.Misformed
 
--- lines that are taken as they stand: all of an open source, too long ones, and those on which
--- nothing is asked
-abbrev pub stands_for_itself : Bool → Kept → Bool
-stands_for_itself is_open kept =
-    is_open || kept.longer || kept.blank || (slice_index kept.front 0 == byte ";")
+  -- a command with its operands, by what stands behind its name; of some the script's own form is
+  -- the only one
+  unfoldable pub typed_by : List ℕ → Verb → Typed
+  typed_by operands (verbs.Lone command) =
+      if has_no_word operands then asked_alone command else typed.Misformed
+  typed_by operands (verbs.Address command) =
+      asked_by (asked_at command) (option_and_then address_at (lone_word operands))
+  typed_by operands (verbs.Number command) = asked_by (asked_with command) (lone_number operands)
+  typed_by operands verbs.Range =
+      asked_by (λ range. typed.Placed range.first)
+      (range_at (first_word operands) (behind_word operands))
+  typed_by operands verbs.ScaledRange = numbers_typed operands
+  typed_by operands verbs.Word =
+      asked_by (λ place. asked_by (typed.Put place) (value_at names place (behind_word operands)))
+      (address_at (first_word operands))
+  typed_by operands verbs.Command =
+      if has_no_word operands then typed.Help
+      else asked_by typed.HelpOf (option_and_then (named verb_names) (lone_word operands))
+  typed_by operands verb = typed.Misformed
 
--- what a line asks for, with the names of the last source and the counter
-unfoldable pub typed_of : Bool → List (List ℕ × ℕ) → ℕ → Kept → Typed
-typed_of is_open names counter kept =
-    if stands_for_itself is_open kept then typed.Itself else typed_line names counter kept.front
+  -- what a line asks for: those are taken as they stand that are an open source's, too long, in the
+  -- form of a script's command, or without anything that is asked
+  unfoldable pub typed_of : Bool → Kept → Typed
+  typed_of is_open kept =
+      if is_open || kept.longer || kept.blank || (slice_index kept.front 0 == byte ";")
+      || is_some (command_of kept.front) then typed.Itself
+      else asked_by (typed_by (behind_word kept.front)) (named verb_names (first_word kept.front))

@@ -1,7 +1,7 @@
 -- Part of the public promise: the commands of the monitor, each with what stands behind its name.
 -- Those of the script language are among them, the desk's `quit`, and those that name a file, which
 -- the monitor's program takes.
-use Rattle.std.specs.Prelude.{ℕ, Bool, true, false, List, [], ◌∷◌, ◌++◌, codes}
+use Rattle.std.specs.Prelude.{ℕ, Bool, true, false, List, [], ◌∷◌, codes}
 use Rattle.lgp_monitor.specs.declared.telling.Telling.TheVariants as tellings
 use Rattle.lgp_monitor.specs.declared.verb.AddressCommand.TheVariants as address_commands
 use Rattle.lgp_monitor.specs.declared.verb.LoneCommand.TheVariants as lone_commands
@@ -67,10 +67,6 @@ operands_form verbs.Source =
 operands_form verbs.File = codes " FILE, in the program lgp_monitor"
 operands_form verbs.Command = codes " or help COMMAND"
 operands_form verbs.End = codes ", which ends the program lgp_monitor"
-
--- the form in which a command is written
-abbrev pub form_of : List ℕ → Verb → List ℕ
-form_of name verb = name ++ operands_form verb
 
 -- whether an address stands first behind a command's name
 abbrev pub takes_address : Verb → Bool

@@ -2,10 +2,10 @@
 
 ghost use Rattle.std.specs.Prelude.{◌≡◌, ◌≢◌, ◌++◌, ◌==◌, ◌∷◌, [], if◌then◌else◌, length, map, decimal, codes, IfErr, IfOk, OnOk, Some, None};
 ghost use Rattle.lgp_listing.specs.Dump.{IsDrum, first_fault};
-ghost use Rattle.lgp_transcript.specs.Transcript.{after_lines};
+ghost use Rattle.lgp_transcript.specs.Transcript.{after_lines, with_line, with_standing};
 ghost use Rattle.lgp_lab.specs.Script.{script_language};
 ghost use Rattle.lgp_lab.specs.TapeCommands.{answer_to_tape_text};
-ghost use Rattle.lgp_monitor.specs.Blocks.{behind_block, behind_tape, block_reply, changed_cells, dump_fault_text, dumped_words, is_restore, is_tape, put_cell, restore_lines, restore_reply, restored_text, restoring_lines, rests_at};
+ghost use Rattle.lgp_monitor.specs.Blocks.{behind_block, block_reply, changed_cells, dump_fault_text, dumped_words, is_restore, is_tape, put_cell, restore_lines, restore_reply, rests_at};
 ghost use Rattle.lgp_monitor.specs.Reasons.{reasoned};
 
 use crate::monitor::put_line;
@@ -126,11 +126,12 @@ fn restore_drum<A: Allocator + Copy, B: Allocator>(
     reply: &mut Vec<u8, B>,
 ) -> Result<(), AllocError>
     ensures reply { OnOk result (reply.new.items ≡ reply.old.items
-        ++ restored_text None (rests_at recorder.old)
-        (changed_cells 0 recorder.old.standing.debugger.state.core.words drum.now)) }
+        ++ (if rests_at recorder.old then codes "restored " ++ (decimal (length
+        (changed_cells 0 recorder.old.standing.debugger.state.core.words drum.now)) ++ codes "\n")
+        else reasoned (codes "? 2 Moving\n"))) }
     ensures after { OnOk result (recorder.new ≡ after_lines script_language recorder.old
-        (restoring_lines None (rests_at recorder.old)
-        (changed_cells 0 recorder.old.standing.debugger.state.core.words drum.now))) }
+        (if rests_at recorder.old then map put_cell
+        (changed_cells 0 recorder.old.standing.debugger.state.core.words drum.now) else [])) }
 {
     let debugger = recorder.answers().debugger();
     if !debugger.look().status.is_at_rest() {
@@ -169,7 +170,6 @@ fn restore<A: Allocator + Copy, B: Allocator>(
 }
 
 /// Mounts a tape, with its name in the transcript.
-#[tactic(auto, unfolding(crate::specs::Blocks::behind_tape))]
 fn mount_tape<A: Allocator + Copy, B: Allocator>(
     alloc: A,
     recorder: &mut Recorder<Laboratory<A>, A>,
@@ -179,7 +179,9 @@ fn mount_tape<A: Allocator + Copy, B: Allocator>(
 ) -> Result<(), AllocError>
     ensures reply { OnOk result (reply.new.items ≡ reply.old.items
         ++ reasoned (answer_to_tape_text recorder.old.standing text.now).reply) }
-    ensures after { OnOk result (recorder.new ≡ behind_tape recorder.old kind.now text.now) }
+    ensures after { OnOk result (recorder.new ≡ with_standing
+        (with_line recorder.old kind.now)
+        (answer_to_tape_text recorder.old.standing text.now).after) }
 {
     let mut said = Vec::new(alloc);
     recorder.keep_line(kind)?;
@@ -197,8 +199,10 @@ pub(crate) fn answer_block<A: Allocator + Copy, B: Allocator>(
     reply: &mut Vec<u8, B>,
 ) -> Result<(), AllocError>
     ensures reply { OnOk result (reply.new.items
-        ≡ reply.old.items ++ block_reply recorder.old kind.now text.now) }
-    ensures after { OnOk result (recorder.new ≡ behind_block recorder.old kind.now text.now) }
+        ≡ reply.old.items ++ block_reply recorder.old
+        (record { kind = kind.now; text = text.now })) }
+    ensures after { OnOk result (recorder.new
+        ≡ behind_block recorder.old (record { kind = kind.now; text = text.now })) }
 {
     if is_restore(kind) {
         return restore(alloc, recorder, text, reply);

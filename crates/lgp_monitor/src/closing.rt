@@ -1,9 +1,13 @@
 //! What is answered where a point closes a source with faults.
 
-ghost use Rattle.std.specs.Prelude.{◌≡◌, ◌+◌, ◌^◌, ◌<◌, ◌≤◌, ◌++◌, IfOk, OnOk, codes, drop, option_map};
-ghost use Rattle.std.specs.Option.{option_copied};
+ghost use Rattle.std.specs.Prelude.{◌≡◌, ◌+◌, ◌^◌, ◌<◌, ◌≤◌, ◌++◌, ◌==◌, IfOk, None, OnOk, Some, [], codes, decimal, drop, flat_map, if◌then◌else◌, length, not, option_map, ◌&&◌};
+ghost use Rattle.std.specs.Str.{bytes_eq};
+ghost use Rattle.std.specs.Option.{option_copied, option_map_or};
+ghost use Rattle.lgp_assembler.specs.Image.{faults_of};
+ghost use Rattle.lgp_assembler.specs.KindNames.{kind_name};
+ghost use Rattle.lgp_marks.specs.Marks.{marked_text};
 ghost use Rattle.lgp_source.specs.Source.{lines_of};
-ghost use Rattle.lgp_monitor.specs.Closing.{closing_reply, fault_line, faulty_reply, is_source_end, marked_at, marked_fault, marked_faults, shown_faults, text_at};
+ghost use Rattle.lgp_monitor.specs.Closing.{closing_reply, marked_fault, shown_faults, text_at};
 
 use lgp_assembler::{AssembleError, Fault, FaultKind, assemble};
 use lgp_lab::Laboratory;
@@ -15,9 +19,10 @@ use std::alloc::{AllocError, Allocator};
 use std::marker::Model;
 
 /// Appends the number of a fault's line and its kind.
-#[tactic(auto, unfolding(crate::specs::Closing::fault_line))]
 fn push_fault_line<A: Allocator>(text: &mut Vec<u8, A>, fault: &Fault) -> Result<(), AllocError>
-    ensures { OnOk result (text.new.items ≡ text.old.items ++ fault_line fault.now) }
+    ensures { OnOk result (text.new.items ≡ text.old.items
+        ++ (codes "line " ++ (decimal fault.now.line
+        ++ (codes " " ++ (kind_name fault.now.kind ++ codes "\n"))))) }
 {
     push_pieces(
         text,
@@ -38,7 +43,7 @@ fn push_marked_at<A: Allocator>(
     kind: FaultKind,
 ) -> Result<(), AllocError>
     ensures { OnOk result (text.new.items
-        ≡ text.old.items ++ marked_at kind (option_copied line.entry)) }
+        ≡ text.old.items ++ option_map_or (marked_text kind) (option_copied line.entry) []) }
 {
     match line {
         Some(line) => push_marked(text, line, kind),
@@ -165,14 +170,13 @@ fn push_marked_fault<A: Allocator>(
 }
 
 /// Appends faults, each with its marked line of the source.
-#[tactic(auto, unfolding(crate::specs::Closing::marked_faults))]
 fn push_marked_faults<A: Allocator>(
     text: &mut Vec<u8, A>,
     source: &[u8],
     faults: &[Fault],
 ) -> Result<(), AllocError>
     ensures { OnOk result (text.new.items
-        ≡ text.old.items ++ marked_faults (lines_of source.now) faults.now) }
+        ≡ text.old.items ++ flat_map (marked_fault (lines_of source.now)) faults.now) }
 {
     let mut lines = Passed::new(source);
     for fault in faults {
@@ -188,7 +192,7 @@ fn faults_reply<A: Allocator>(
     faults: &[Fault],
 ) -> Result<Vec<u8, A>, AllocError>
     ensures { IfOk result (λ reply. reply.items
-        ≡ codes "? 9 Faults\n" ++ marked_faults (lines_of source.now) faults.now) }
+        ≡ codes "? 9 Faults\n" ++ flat_map (marked_fault (lines_of source.now)) faults.now) }
 {
     let mut reply = Vec::new(alloc);
     reply.extend_from_slice(b"? 9 Faults\n")?;
@@ -197,13 +201,14 @@ fn faults_reply<A: Allocator>(
 }
 
 /// The reply to the end of a source, if it has faults.
-#[tactic(auto, unfolding(crate::specs::Closing::faulty_reply))]
 fn faulty_reply<A: Allocator + Copy>(
     alloc: A,
     source: &[u8],
 ) -> Result<Option<Vec<u8, A>>, AllocError>
     ensures { IfOk result (λ reply. option_map (λ it. it.items) reply
-        ≡ faulty_reply source.now) }
+        ≡ (if length (faults_of source.now) == 0 then None
+        else Some (codes "? 9 Faults\n"
+        ++ flat_map (marked_fault (lines_of source.now)) (faults_of source.now)))) }
 {
     match assemble(alloc, source) {
         Ok(_) => Ok(None),
@@ -216,9 +221,8 @@ fn faulty_reply<A: Allocator + Copy>(
 }
 
 /// Whether a line ends a source.
-#[tactic(auto, unfolding(crate::specs::Closing::is_source_end))]
 fn is_source_end(line: &LineBytes) -> bool
-    ensures { result ≡ is_source_end line.now }
+    ensures { result ≡ (not line.now.longer && bytes_eq line.now.front (codes ".")) }
 {
     !line.is_longer() && line.front() == b".".as_slice()
 }

@@ -1,16 +1,21 @@
 //! The monitor: typed lines, each answered by the script lines that it stands for.
 
-ghost use Rattle.std.specs.Prelude.{◌≡◌, ◌++◌, ◌∷◌, [], List, ℕ, IfOk, OnOk, codes, is_some};
+ghost use Rattle.std.specs.Prelude.{◌≡◌, ◌++◌, ◌∷◌, [], List, ℕ, IfOk, OnOk, codes, flat_map, if◌then◌else◌, is_some, unwrap_or};
+ghost use Rattle.std.specs.Option.{option_map_or};
+ghost use Rattle.std.specs.Result.{result_err};
+ghost use Rattle.lgp_stream.specs.LineWords.{behind_word, first_word, has_no_word};
 ghost use Rattle.lgp_stream.specs.KeptLine.{kept_of};
+ghost use Rattle.lgp_assembler.specs.AddressOperands.{address_operand};
 ghost use Rattle.lgp_text.specs.NamedValues.{pairs_of};
 ghost use Rattle.lgp_transcript.specs.Transcript.{after_lines, after_meaning, replies_text, stand_in, untouched};
 ghost use Rattle.lgp_lab.specs.Script.{script_language};
 ghost use Rattle.lgp_lab.specs.Standing.{labels_of, opening_standing};
 ghost use Rattle.lgp_monitor.specs.Blocks.{behind_block, block_reply};
+ghost use Rattle.lgp_monitor.specs.Closing.{closing_reply};
 ghost use Rattle.lgp_monitor.specs.Typed.{typed_of};
-ghost use Rattle.lgp_monitor.specs.Monitor.{address_reason, counter_at, explained_reply, explained_run, fault_reason, form_behind, form_line, form_lines, go_lines, help_text, itself_reply, jump_line, meaning_of, misformed_text, monitor_language, names_at, operand_reason, panel_at, placed_line, put_line, reason_by, reply_of, run_line, told_reply, typed_at};
+ghost use Rattle.lgp_monitor.specs.Monitor.{counter_at, explained_reply, explained_run, fault_reason, form_line, go_lines, help_text, jump_line, meaning_of, misformed_text, monitor_language, names_at, panel_at, placed_line, put_line, reason_by, reply_of, run_line, told_reply, typed_at};
 ghost use Rattle.lgp_monitor.specs.Reasons.{explained};
-ghost use Rattle.lgp_monitor.specs.Verbs.{form_of};
+ghost use Rattle.lgp_monitor.specs.Verbs.{operands_form};
 
 use crate::blocks::answer_block;
 use crate::closing::closing_reply;
@@ -171,7 +176,8 @@ fn answer_itself<A: Allocator + Copy, P: Progress>(
 ) -> Result<(), AllocError>
     ensures reply { (text : List ℕ) → line.now ≡ kept_of text
         → OnOk result (reply.new.items
-        ≡ reply.old.items ++ itself_reply recorder.old line.now) }
+        ≡ reply.old.items ++ unwrap_or (closing_reply recorder.old.standing.opened line.now)
+        (explained_reply recorder.old (stand_in line.now))) }
     ensures after { (text : List ℕ) → line.now ≡ kept_of text
         → OnOk result (recorder.new
         ≡ after_lines script_language recorder.old (stand_in line.now ∷ [])) }
@@ -277,7 +283,7 @@ fn explain_told<A: Allocator + Copy>(
 
 /// Appends the form of a command.
 fn push_form<A: Allocator>(text: &mut Vec<u8, A>, name: &[u8], verb: Verb) -> Result<(), AllocError>
-    ensures { OnOk result (text.new.items ≡ text.old.items ++ form_of name.now verb) }
+    ensures { OnOk result (text.new.items ≡ text.old.items ++ (name.now ++ operands_form verb)) }
 {
     text.extend_from_slice(name)?;
     text.extend_from_slice(operands_form(verb))
@@ -305,16 +311,17 @@ fn push_form_behind<A: Allocator>(
     line: &[u8],
     verb: Verb,
 ) -> Result<(), AllocError>
-    ensures { OnOk result (text.new.items ≡ text.old.items ++ form_behind line.now verb) }
+    ensures { OnOk result (text.new.items
+        ≡ text.old.items ++ form_line (first_word (behind_word line.now)) verb) }
 {
     let command = split_word(line);
     push_form_line(text, split_word(command.behind).word, verb)
 }
 
 /// Appends the forms of commands.
-#[tactic(auto, unfolding(crate::specs::Monitor::form_lines))]
 fn push_forms<A: Allocator>(text: &mut Vec<u8, A>, names: &[Named<Verb>]) -> Result<(), AllocError>
-    ensures { OnOk result (text.new.items ≡ text.old.items ++ form_lines (pairs_of names.now)) }
+    ensures { OnOk result (text.new.items ≡ text.old.items
+        ++ flat_map (λ name. form_line name.0 name.1) (pairs_of names.now)) }
 {
     for name in names {
         push_form_line(text, name.name, name.value)?;
@@ -323,6 +330,7 @@ fn push_forms<A: Allocator>(text: &mut Vec<u8, A>, names: &[Named<Verb>]) -> Res
 }
 
 /// Appends the forms of all commands.
+#[tactic(auto, unfolding(crate::specs::Monitor::help_text))]
 fn push_help<A: Allocator>(text: &mut Vec<u8, A>) -> Result<(), AllocError>
     ensures { OnOk result (text.new.items ≡ text.old.items ++ help_text) }
 {
@@ -391,7 +399,8 @@ fn push_address_reason<A: Allocator>(
     verb: Verb,
 ) -> Result<(), AllocError>
     ensures { OnOk result (text.new.items
-        ≡ text.old.items ++ address_reason address operand.now (form_of name.now verb)) }
+        ≡ text.old.items ++ option_map_or (λ fault. operand.now ++ fault_reason fault)
+        (result_err address) (name.now ++ operands_form verb)) }
 {
     match address {
         Ok(_) => push_form(text, name, verb),
@@ -403,7 +412,6 @@ fn push_address_reason<A: Allocator>(
 }
 
 /// Appends why a line is in no command's form whose command takes an address first.
-#[tactic(auto, unfolding(crate::specs::Monitor::operand_reason))]
 fn push_operand_reason<A: Allocator>(
     text: &mut Vec<u8, A>,
     names: &[(Name, u16)],
@@ -413,7 +421,10 @@ fn push_operand_reason<A: Allocator>(
     operands: &[u8],
 ) -> Result<(), AllocError>
     ensures { OnOk result (text.new.items ≡ text.old.items
-        ++ operand_reason names.now counter operands.now (form_of name.now verb)) }
+        ++ (if has_no_word operands.now then name.now ++ operands_form verb
+        else option_map_or (λ fault. first_word operands.now ++ fault_reason fault)
+        (result_err (address_operand names.now counter (first_word operands.now)))
+        (name.now ++ operands_form verb))) }
 {
     if has_no_word(operands) {
         return push_form(text, name, verb);
@@ -432,7 +443,7 @@ fn push_reason<A: Allocator>(
     line: &[u8],
 ) -> Result<(), AllocError>
     ensures { OnOk result (text.new.items
-        ≡ text.old.items ++ reason_by names.now counter verb line.now) }
+        ≡ text.old.items ++ reason_by names.now counter line.now verb) }
 {
     let Split { word, behind } = split_word(line);
     match verb {
@@ -502,8 +513,8 @@ fn begin_anew<A: Allocator + Copy>(
 
 /// What a line asks for where a laboratory stands.
 fn typed_at<A: Allocator + Copy>(laboratory: &Laboratory<A>, line: &LineBytes) -> Typed
-    ensures { result ≡ typed_of (is_some laboratory.now.opened) (labels_of laboratory.now.source)
-        laboratory.now.debugger.state.core.panel.counter line.now }
+    ensures { result ≡ typed_of (labels_of laboratory.now.source)
+        laboratory.now.debugger.state.core.panel.counter (is_some laboratory.now.opened) line.now }
 {
     typed_of(
         laboratory.has_open_source(),
@@ -576,8 +587,10 @@ impl<A: Allocator + Copy, P: Progress> Monitor<Laboratory<A>, A, P> {
         reply: &mut Vec<u8, B>,
     ) -> Result<(), AllocError>
         ensures reply { OnOk result (reply.new.items
-            ≡ reply.old.items ++ block_reply self.old kind.now text.now) }
-        ensures after { OnOk result (self.new ≡ behind_block self.old kind.now text.now) }
+            ≡ reply.old.items ++ block_reply self.old
+            (record { kind = kind.now; text = text.now })) }
+        ensures after { OnOk result (self.new
+            ≡ behind_block self.old (record { kind = kind.now; text = text.now })) }
     {
         answer_block(self.alloc, &mut self.recorder, kind, text, reply)
     }

@@ -1,11 +1,12 @@
 //! What is shown and changes nothing.
 
-ghost use Rattle.std.specs.Prelude.{◌≡◌, ◌++◌, ◌+◌, ◌<◌, OnOk};
+ghost use Rattle.std.specs.Prelude.{◌≡◌, ◌++◌, ◌+◌, ◌<◌, OnOk, codes, flat_map, if◌then◌else◌, nat_lt};
+ghost use Rattle.lgp_word.specs.Digits.{address_digits};
 ghost use Rattle.lgp_lab.specs.DrumCommands.{lines_text};
 ghost use Rattle.lgp_lab.specs.Standing.{labels_of};
 ghost use Rattle.lgp_trace.specs.OriginLines.{why_text};
 ghost use Rattle.lgp_monitor.specs.Telling.{label_of};
-ghost use Rattle.lgp_monitor.specs.Questions.{answer_to, label_line, label_lines, number_line, rule_address, rule_command, rule_line, rule_lines, value_text};
+ghost use Rattle.lgp_monitor.specs.Questions.{answer_to, label_line, number_line, rule_address, rule_command, rule_line, rule_lines};
 
 use crate::labels::{NamedAddresses, push_name};
 use crate::scaled::{Point, push_scaled};
@@ -78,7 +79,8 @@ fn push_numbers<A: Allocator>(
 
 /// Appends a name's value.
 fn push_value<A: Allocator>(text: &mut Vec<u8, A>, value: u16) -> Result<(), AllocError>
-    ensures { OnOk result (text.new.items ≡ text.old.items ++ value_text value) }
+    ensures { OnOk result (text.new.items ≡ text.old.items
+        ++ (if nat_lt value 4096 then address_digits value else codes "past the drum")) }
 {
     match Address::new(value) {
         Some(address) => text.extend_from_slice(&address.print()),
@@ -102,12 +104,11 @@ fn push_label_line<A: Allocator>(
 }
 
 /// Appends the lines of names.
-#[tactic(auto, unfolding(crate::specs::Questions::label_lines))]
 fn push_label_lines<A: Allocator>(
     text: &mut Vec<u8, A>,
     symbols: &[(Name, u16)],
 ) -> Result<(), AllocError>
-    ensures { OnOk result (text.new.items ≡ text.old.items ++ label_lines symbols.now) }
+    ensures { OnOk result (text.new.items ≡ text.old.items ++ flat_map label_line symbols.now) }
 {
     for symbol in symbols {
         push_label_line(text, symbol)?;

@@ -137,7 +137,7 @@ fn push_with_reason<A: Allocator>(
     kind: RefusalKind,
     reply: &[u8],
 ) -> Result<(), AllocError>
-    ensures { OnOk result (text.new.items ≡ text.old.items ++ with_reason kind reply.now) }
+    ensures { OnOk result (text.new.items ≡ text.old.items ++ with_reason reply.now kind) }
 {
     push_pieces(
         text,

@@ -1,9 +1,9 @@
 //! Words as numbers whose point is behind a place.
 
-ghost use Rattle.std.specs.Prelude.{◌≡◌, ℕ, ◌++◌, ◌^◌, ◌<◌, ◌≤◌, OnOk};
+ghost use Rattle.std.specs.Prelude.{◌≡◌, ℕ, ◌++◌, ◌^◌, ◌<◌, ◌≤◌, ◌==◌, [], OnOk, codes, if◌then◌else◌};
 ghost use Rattle.lgp_word.specs.Order.{sign_of};
 ghost use Rattle.lgp_trace.specs.AccountLines.{minus_text};
-ghost use Rattle.lgp_monitor.specs.Scaled.{behind_whole, decimals, point_of, scaled_text, size_of, units_at, units_text};
+ghost use Rattle.lgp_monitor.specs.Scaled.{decimals, point_of, scaled_text, size_of, units_at, units_text};
 
 use lgp_text::{Piece, push_pieces};
 use lgp_word::{Word, read_decimal};
@@ -99,7 +99,8 @@ fn push_decimals<A: Allocator>(text: &mut Vec<u8, A>, number: u64) -> Result<(),
 /// Appends what stands behind a whole number for so many units.
 fn push_behind_whole<A: Allocator>(text: &mut Vec<u8, A>, units: u64) -> Result<(), AllocError>
     requires { units < 10 ^ 10 }
-    ensures { OnOk result (text.new.items ≡ text.old.items ++ behind_whole units) }
+    ensures { OnOk result (text.new.items ≡ text.old.items
+        ++ (if units == 0 then [] else codes "." ++ decimals 10 units)) }
 {
     if units == 0 {
         return Ok(());

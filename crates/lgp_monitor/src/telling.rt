@@ -4,7 +4,7 @@ ghost use Rattle.std.specs.Prelude.{◌≡◌, ◌++◌, OnOk};
 ghost use Rattle.lgp_debugger.specs.Debugging.{order_origins};
 ghost use Rattle.lgp_lab.specs.HistoryCommands.{answer_to_run, orders_run};
 ghost use Rattle.lgp_lab.specs.Standing.{labels_of};
-ghost use Rattle.lgp_monitor.specs.Telling.{pictured, profiled, told_text, traced};
+ghost use Rattle.lgp_monitor.specs.Telling.{told_text};
 
 use crate::labels::NamedAddresses;
 use lgp_assembler::Name;
@@ -38,8 +38,11 @@ const NO_MEMORY: RunFault = RunFault {
 struct OrderByOrder;
 
 impl Teller for OrderByOrder {
-    ghost told = { λ _ names s origins orders. traced names s origins orders };
+    ghost use Rattle.lgp_monitor.specs.declared.telling.Telling.{Telling};
 
+    ghost told = { λ _. told_text Telling.Trace };
+
+    #[tactic(auto, unfolding(crate::specs::Telling::told_text))]
     fn run<A: Allocator + Copy>(
         &self,
         _alloc: A,
@@ -59,8 +62,11 @@ impl Teller for OrderByOrder {
 struct AddedUp;
 
 impl Teller for AddedUp {
-    ghost told = { λ _ names s _ orders. profiled names s orders };
+    ghost use Rattle.lgp_monitor.specs.declared.telling.Telling.{Telling};
 
+    ghost told = { λ _. told_text Telling.Profile };
+
+    #[tactic(auto, unfolding(crate::specs::Telling::told_text))]
     fn run<A: Allocator + Copy>(
         &self,
         alloc: A,
@@ -88,8 +94,11 @@ impl Teller for AddedUp {
 struct AlongTheDrum;
 
 impl Teller for AlongTheDrum {
-    ghost told = { λ _ names s _ orders. pictured names s orders };
+    ghost use Rattle.lgp_monitor.specs.declared.telling.Telling.{Telling};
 
+    ghost told = { λ _. told_text Telling.Drum };
+
+    #[tactic(auto, unfolding(crate::specs::Telling::told_text))]
     fn run<A: Allocator + Copy>(
         &self,
         _alloc: A,
@@ -110,7 +119,6 @@ impl Teller for AlongTheDrum {
 }
 
 /// Does what the command `run` does, told so.
-#[tactic(auto, unfolding(crate::specs::Telling::told_text))]
 pub fn run_told<A: Allocator + Copy>(
     laboratory: &mut Laboratory<A>,
     telling: Telling,

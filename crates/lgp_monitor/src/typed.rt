@@ -1,10 +1,17 @@
 //! What a typed line asks for.
 
-ghost use Rattle.std.specs.Prelude.{◌≡◌, ◌==◌, slice_index};
+ghost use Rattle.std.specs.Prelude.{◌≡◌, ◌==◌, ◌||◌, ◌*ℤ◌, codes, if◌then◌else◌, is_some, option_and_then, option_map, pos, slice_index, unwrap_or};
 ghost use Rattle.std.specs.Option.{option_copied};
+ghost use Rattle.std.specs.Result.{result_ok};
 ghost use Rattle.std.specs.Str.{byte};
-ghost use Rattle.lgp_monitor.specs.Scaled.{point_of};
-ghost use Rattle.lgp_monitor.specs.Typed.{address_at, address_typed, asked_alone, asked_at, asked_with, digits_or_fraction, first_range, fraction_at, help_typed, lone_typed, number_typed, numbers_by, numbers_typed, operand_at, operation_at, placed_range, point_at, put_by, put_typed, range_at, range_by, stands_for_itself, typed_by, typed_line, typed_of, value_at, whole_at, word_by};
+ghost use Rattle.lgp_fraction.specs.Arithmetic.{low_bits};
+ghost use Rattle.lgp_fraction.specs.Decimal.{decimal_fraction};
+ghost use Rattle.lgp_lab.specs.Command.{command_of, lone_number};
+ghost use Rattle.lgp_lab.specs.Span.{range_of};
+ghost use Rattle.lgp_stream.specs.LineWords.{behind_word, first_word, has_no_word};
+ghost use Rattle.lgp_text.specs.NamedValues.{named};
+ghost use Rattle.lgp_monitor.specs.Verbs.{verb_names};
+ghost use Rattle.lgp_monitor.specs.Typed.{address_at, asked_alone, asked_at, asked_by, asked_with, digits_or_fraction, lone_word, numbers_typed, operand_at, operation_at, point_at, range_at, typed_by, typed_of, value_at, whole_at};
 
 use crate::question::Question;
 use crate::scaled::Point;
@@ -57,7 +64,7 @@ fn address_at(names: &[(Name, u16)], counter: Address, text: &[u8]) -> Option<Ad
 
 /// A word, where there is one.
 fn word_by(word: Result<Word, OperandFault>) -> Option<Word>
-    ensures { result ≡ word_by word }
+    ensures { result ≡ result_ok word }
 {
     match word {
         Ok(word) => Some(word),
@@ -125,9 +132,9 @@ fn whole_at(names: &[(Name, u16)], place: Address, operands: &[u8]) -> Option<Wo
 }
 
 /// The word of a fraction's text.
-#[tactic(auto, unfolding(crate::specs::Typed::fraction_at))]
 fn fraction_at(text: &[u8]) -> Option<Word>
-    ensures { result ≡ fraction_at text.now }
+    ensures { result
+        ≡ option_map (λ steps. low_bits (pos 2 *ℤ steps)) (result_ok (decimal_fraction text.now)) }
 {
     match Fraction::from_decimal(text) {
         Ok(fraction) => Some(fraction.word()),
@@ -136,6 +143,7 @@ fn fraction_at(text: &[u8]) -> Option<Word>
 }
 
 /// The word of eight digits or of a fraction.
+#[tactic(auto, unfolding(crate::specs::Typed::digits_or_fraction))]
 fn digits_or_fraction(text: &[u8]) -> Option<Word>
     ensures { result ≡ digits_or_fraction text.now }
 {
@@ -165,7 +173,8 @@ fn value_at(names: &[(Name, u16)], place: Address, operands: &[u8]) -> Option<Wo
 
 /// A word for an address.
 fn put_by(names: &[(Name, u16)], address: Option<Address>, operands: &[u8]) -> Typed
-    ensures { result ≡ put_by names.now address operands.now }
+    ensures { result ≡ asked_by (λ place. asked_by (Typed.Put place)
+        (value_at names.now place operands.now)) address }
 {
     let Some(address) = address else {
         return Typed::Misformed;
@@ -177,9 +186,10 @@ fn put_by(names: &[(Name, u16)], address: Option<Address>, operands: &[u8]) -> T
 }
 
 /// The operands of `put`.
-#[tactic(auto, unfolding(crate::specs::Typed::put_typed))]
 fn put_typed(names: &[(Name, u16)], counter: Address, operands: &[u8]) -> Typed
-    ensures { result ≡ put_typed names.now counter operands.now }
+    ensures { result ≡ asked_by (λ place. asked_by (Typed.Put place)
+        (value_at names.now place (behind_word operands.now)))
+        (address_at names.now counter (first_word operands.now)) }
 {
     let Split { word, behind } = split_word(operands);
     put_by(names, address_at(names, counter, word), behind)
@@ -197,14 +207,14 @@ fn asked_at(command: AddressCommand, address: Address) -> Typed
 }
 
 /// The operand of a command that takes an address.
-#[tactic(auto, unfolding(crate::specs::Typed::address_typed))]
 fn address_typed(
     names: &[(Name, u16)],
     counter: Address,
     command: AddressCommand,
     operands: &[u8],
 ) -> Typed
-    ensures { result ≡ address_typed names.now counter command operands.now }
+    ensures { result ≡ asked_by (asked_at command)
+        (option_and_then (address_at names.now counter) (lone_word operands.now)) }
 {
     let Split { word, behind } = split_word(operands);
     if !has_no_word(behind) {
@@ -218,7 +228,8 @@ fn address_typed(
 
 /// So many words from an address on.
 fn range_by(address: Option<Address>, count: Option<u64>) -> Option<Span>
-    ensures { result ≡ range_by address count }
+    ensures { result
+        ≡ option_and_then (λ first. option_and_then (range_of first) count) address }
 {
     match (address, count) {
         (Some(address), Some(count)) => Span::new(address, count),
@@ -229,16 +240,17 @@ fn range_by(address: Option<Address>, count: Option<u64>) -> Option<Span>
 /// A range of words.
 #[tactic(auto, unfolding(crate::specs::Typed::range_at))]
 fn range_at(names: &[(Name, u16)], counter: Address, operands: &[u8]) -> Option<Span>
-    ensures { result ≡ range_at names.now counter operands.now }
+    ensures { result ≡ range_at names.now counter
+        (first_word operands.now) (behind_word operands.now) }
 {
     let Split { word, behind } = split_word(operands);
     range_by(address_at(names, counter, word), lone_number(behind))
 }
 
 /// The operands of a script's command that takes a range of words.
-#[tactic(auto, unfolding(crate::specs::Typed::placed_range))]
 fn placed_range(names: &[(Name, u16)], counter: Address, operands: &[u8]) -> Typed
-    ensures { result ≡ placed_range names.now counter operands.now }
+    ensures { result ≡ asked_by (λ range. Typed.Placed range.first)
+        (range_at names.now counter (first_word operands.now) (behind_word operands.now)) }
 {
     match range_at(names, counter, operands) {
         Some(range) => Typed::Placed(range.first()),
@@ -247,8 +259,10 @@ fn placed_range(names: &[(Name, u16)], counter: Address, operands: &[u8]) -> Typ
 }
 
 /// The range of words of the first two operands.
+#[tactic(auto, unfolding(crate::specs::Typed::range_at))]
 fn first_range(names: &[(Name, u16)], counter: Address, operands: &[u8]) -> Option<Span>
-    ensures { result ≡ first_range names.now counter operands.now }
+    ensures { result ≡ range_at names.now counter
+        (first_word operands.now) (first_word (behind_word operands.now)) }
 {
     let Split { word, behind } = split_word(operands);
     range_by(
@@ -259,7 +273,8 @@ fn first_range(names: &[(Name, u16)], counter: Address, operands: &[u8]) -> Opti
 
 /// A range of words as numbers with this point.
 fn numbers_by(range: Option<Span>, point: Option<Point>) -> Typed
-    ensures { result ≡ numbers_by range point }
+    ensures { result ≡ asked_by (λ words. asked_by (λ place.
+        Typed.Asked (Question.Numbers words place)) point) range }
 {
     match (range, point) {
         (Some(range), Some(point)) => Typed::Asked(Question::Numbers(range, point)),
@@ -295,9 +310,8 @@ fn asked_with(command: NumberCommand, number: u64) -> Typed
 }
 
 /// The operand of a command that takes a number.
-#[tactic(auto, unfolding(crate::specs::Typed::number_typed))]
 fn number_typed(command: NumberCommand, operands: &[u8]) -> Typed
-    ensures { result ≡ number_typed command operands.now }
+    ensures { result ≡ asked_by (asked_with command) (lone_number operands.now) }
 {
     match lone_number(operands) {
         Some(number) => asked_with(command, number),
@@ -306,9 +320,9 @@ fn number_typed(command: NumberCommand, operands: &[u8]) -> Typed
 }
 
 /// The operand of `help`.
-#[tactic(auto, unfolding(crate::specs::Typed::help_typed))]
 fn help_typed(operands: &[u8]) -> Typed
-    ensures { result ≡ help_typed operands.now }
+    ensures { result ≡ (if has_no_word operands.now then Typed.Help
+        else asked_by Typed.HelpOf (option_and_then (named verb_names) (lone_word operands.now))) }
 {
     if has_no_word(operands) {
         return Typed::Help;
@@ -338,7 +352,8 @@ fn asked_alone(command: LoneCommand) -> Typed
 
 /// A command that takes no operand.
 fn lone_typed(command: LoneCommand, operands: &[u8]) -> Typed
-    ensures { result ≡ lone_typed command operands.now }
+    ensures { result
+        ≡ (if has_no_word operands.now then asked_alone command else Typed.Misformed) }
 {
     if has_no_word(operands) {
         asked_alone(command)
@@ -348,8 +363,9 @@ fn lone_typed(command: LoneCommand, operands: &[u8]) -> Typed
 }
 
 /// A command with its operands, by what stands behind its name. Of some the script's own form is the only one.
+#[tactic(auto, unfolding(crate::specs::Typed::typed_by))]
 fn typed_by(names: &[(Name, u16)], counter: Address, verb: Option<Verb>, operands: &[u8]) -> Typed
-    ensures { result ≡ typed_by names.now counter verb operands.now }
+    ensures { result ≡ asked_by (typed_by names.now counter operands.now) verb }
 {
     match verb {
         Some(Verb::Lone(command)) => lone_typed(command, operands),
@@ -366,9 +382,10 @@ fn typed_by(names: &[(Name, u16)], counter: Address, verb: Option<Verb>, operand
 }
 
 /// What a line asks for where it is not taken as it stands.
-#[tactic(auto, unfolding(crate::specs::Typed::typed_line))]
 fn typed_line(names: &[(Name, u16)], counter: Address, line: &[u8]) -> Typed
-    ensures { result ≡ typed_line names.now counter line.now }
+    ensures { result ≡ (if is_some (command_of line.now) then Typed.Itself
+        else asked_by (typed_by names.now counter (behind_word line.now))
+        (named verb_names (first_word line.now))) }
 {
     if is_command(line) {
         return Typed::Itself;
@@ -389,7 +406,8 @@ pub fn is_comment(line: &[u8]) -> bool
 
 /// Whether a line is taken as it stands.
 fn stands_for_itself(is_open: bool, line: &LineBytes) -> bool
-    ensures { result ≡ stands_for_itself is_open line.now }
+    ensures { result ≡ (is_open || line.now.longer || line.now.blank
+        || (slice_index line.now.front 0 == byte ";")) }
 {
     is_open || line.is_longer() || line.has_no_word() || is_comment(line.front())
 }
@@ -397,7 +415,7 @@ fn stands_for_itself(is_open: bool, line: &LineBytes) -> bool
 /// What a line asks for, where a source is open and where none is, with the names of the last source and the counter.
 #[tactic(auto, unfolding(crate::specs::Typed::typed_of))]
 pub fn typed_of(is_open: bool, names: &[(Name, u16)], counter: Address, line: &LineBytes) -> Typed
-    ensures { result ≡ typed_of is_open names.now counter line.now }
+    ensures { result ≡ typed_of names.now counter is_open line.now }
 {
     if stands_for_itself(is_open, line) {
         return Typed::Itself;

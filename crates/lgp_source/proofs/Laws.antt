@@ -5,7 +5,7 @@ use Rattle.std.proofs.lemmas.Bool.{cases_Bool, cases_eq, cases_lt, cond-true, co
 use Rattle.std.proofs.lemmas.List.{get_or-drop, drop-drop, drop-take, take-take}
 use Rattle.std.proofs.lemmas.List.Sums.{passes_at_first, fails_before_first}
 use Rattle.lgp_source.specs.Source.{SourceToken, is_blank, tokens_from, token_at, body_from, before_comment, tokens_of}
-use Rattle.lgp_source.specs.Runs.{follows_blank, begins_comment, IsUpToComment, IsLongestRun, AreLongestRuns, IsSpanned, AllAreSpanned, AreInOrder, AreSlices}
+use Rattle.lgp_source.specs.Runs.{follows_blank, begins_comment, IsUpToComment, IsLongestRun, IsSlice, Each, IsSpanned, AllAreSpanned, AreInOrder}
 use Rattle.lgp_source.proofs.Places.{after_blank, after_visible, at_token, run_more, run_none, place_within}
 
 -- ---- a rest of a text, byte by byte
@@ -55,16 +55,16 @@ module _ (whole : List ℕ) where
             ap is_blank (sym (get_or-drop place whole m 0)) ∙ ap (λ xs. is_blank (get_or xs m 0)) (sym e) ∙ passes_at_first is_blank body 0 below;
       }
 
-  pub all_runs : (place : ℕ) (fresh : Bool) (rest : List ℕ) → rest ≡ drop place whole → (fresh ≡ true → follows_blank whole place ≡ true) → AreLongestRuns whole (tokens_from place fresh rest)
+  pub all_runs : (place : ℕ) (fresh : Bool) (rest : List ℕ) → rest ≡ drop place whole → (fresh ≡ true → follows_blank whole place ≡ true) → Each (IsLongestRun whole) (tokens_from place fresh rest)
   all_runs place fresh [] e starts = tt
   all_runs place true (b ∷ rest) e starts = ⊎_elim
-      (λ blank. subst (AreLongestRuns whole) (sym (after_blank place b true rest blank)) (all_runs (place + 1) true rest (onward place b rest e) (λ _. follows _ b _ e ∙ blank)))
-      (λ visible. subst (AreLongestRuns whole) (sym (at_token _ b rest visible))
-      (one_run _ b _ e visible (starts refl), all_runs (place + 1) false rest (onward place b rest e) (λ f. absurd (false≢true f))))
+      (λ blank. subst (Each (IsLongestRun whole)) (sym (after_blank place b true rest blank)) (all_runs (place + 1) true rest (onward place b rest e) (λ _. follows place b rest e ∙ blank)))
+      (λ visible. subst (Each (IsLongestRun whole)) (sym (at_token place b rest visible))
+      (one_run place b rest e visible (starts refl), all_runs (place + 1) false rest (onward place b rest e) (λ f. absurd (false≢true f))))
       (cases_Bool (is_blank b))
   all_runs place false (b ∷ rest) e starts = ⊎_elim
-      (λ blank. subst (AreLongestRuns whole) (sym (after_blank place b false rest blank)) (all_runs (place + 1) true rest (onward place b rest e) (λ _. follows _ b _ e ∙ blank)))
-      (λ visible. subst (AreLongestRuns whole) (sym (after_visible place b rest visible)) (all_runs (place + 1) false rest (onward place b rest e) (λ f. absurd (false≢true f))))
+      (λ blank. subst (Each (IsLongestRun whole)) (sym (after_blank place b false rest blank)) (all_runs (place + 1) true rest (onward place b rest e) (λ _. follows place b rest e ∙ blank)))
+      (λ visible. subst (Each (IsLongestRun whole)) (sym (after_visible place b rest visible)) (all_runs (place + 1) false rest (onward place b rest e) (λ f. absurd (false≢true f))))
       (cases_Bool (is_blank b))
 
   -- a visible place that is not the one of a blank comes later
@@ -179,8 +179,8 @@ up_to_comment text =
 
 -- ---- the tokens of a text
 
-pub longest_runs : (text : List ℕ) → AreLongestRuns (before_comment text) (tokens_of text)
-longest_runs text = all_runs _ 0 _ (before_comment text) refl (λ _. refl)
+pub longest_runs : (text : List ℕ) → Each (IsLongestRun (before_comment text)) (tokens_of text)
+longest_runs text = all_runs (before_comment text) 0 true (before_comment text) refl (λ _. refl)
 
 pub each_spanned : (text : List ℕ) → AllAreSpanned (before_comment text) (tokens_of text)
 each_spanned text = λ k high visible. all_spanned _ 0 _ (before_comment text) refl k (omega arith) high visible (λ f. absurd (true≢false f))
@@ -194,12 +194,12 @@ part_of_front text n first past order within =
     ap (λ m. take (past - first) (drop first (take m text))) size ∙ ap (take (past - first)) (drop-take first (n - first) text)
     ∙ take-take (past - first) (n - first) (drop first text) (omega arith)
 
-runs_are_slices : (text body : List ℕ) (tokens : List SourceToken) → body ≡ take (length body) text → AreLongestRuns body tokens → AreSlices text tokens
+runs_are_slices : (text body : List ℕ) (tokens : List SourceToken) → body ≡ take (length body) text → Each (IsLongestRun body) tokens → Each (IsSlice text) tokens
 runs_are_slices text body [] front runs = tt
 runs_are_slices text body (token ∷ tokens) front runs =
     grind (arith, part_of_front, runs_are_slices text body tokens front runs.1)
 
-pub token_slices : (text : List ℕ) → AreSlices text (tokens_of text)
-token_slices text = grind (arith, runs_are_slices, up_to_comment, longest_runs)
+pub token_slices : (text : List ℕ) → Each (IsSlice text) (tokens_of text)
+token_slices text = runs_are_slices text (before_comment text) (tokens_of text) (up_to_comment text).front (longest_runs text)
 
 pub ruleset token_laws = (up_to_comment, longest_runs, token_slices, each_spanned, tokens_in_order)

@@ -1,10 +1,10 @@
 -- Lines of graphic bytes without a `;`: how they are cut, and what two words with spaces before them are as tokens.
 use Rattle.std.proofs.Common.{◌≡◌, ◌≢◌, ◌≤◌, ◌+◌, ◌++◌, ◌&&◌, ◌==◌, ℕ, suc, Bool, true, false, List, [], ◌∷◌, length, take, drop, Some, None, refl, sym, ap, ◌∙◌, arith}
 use Rattle.std.specs.List.{position_or_len, position}
-use Rattle.std.specs.Option.{option_map_or}
-use Rattle.std.proofs.lemmas.Bool.{cond-false, ne_eqb, and_from}
+use Rattle.std.specs.Prelude.{if◌then◌else◌, is_some}
+use Rattle.std.proofs.lemmas.Bool.{cond-false, ne_eqb, le-leb, le-ltb, and_from}
 use Rattle.std.proofs.lemmas.List.{append-nil, take_at, drop_at}
-use Rattle.lgp_source.specs.Source.{SourceToken, SourceLine, pieces, text_of, is_blank, is_bad, body_from, before_comment, tokens_from, tokens_of, statement_of, line_of, bad_line, good_line, line_with}
+use Rattle.lgp_source.specs.Source.{SourceToken, SourceLine, before_pieces, pieces, text_of, is_blank, is_bad, body_from, before_comment, tokens_from, tokens_of, line_of, line_with}
 use Rattle.lgp_source.proofs.Places.{run_more, run_none, past_token}
 
 -- a byte from the space to `~`, but no `;`
@@ -130,6 +130,6 @@ statement_line number n o name operand is_name is_operand =
       second = token_of (behind + 1) (o ∷ operand);
       name_is = refl;
       operand_is = refl;
-      line_is = ap (λ place. option_map_or (bad_line number text) place (good_line number text)) (no_bad_byte text plain)
-          ∙ ap (λ ts. line_with number text ts (statement_of ts)) tokens;
+      line_is = ap (λ bad. line_with number text bad (if is_some bad then [] else tokens_of text)) (no_bad_byte text plain)
+          ∙ ap (line_with number text None) tokens;
     }

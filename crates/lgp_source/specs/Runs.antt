@@ -19,24 +19,23 @@ pub record IsUpToComment (text body : List ℕ) : Type 0 where
   pub none_before : (k : ℕ) → k < length body → begins_comment text k ≡ false
   pub then_comment : length body < length text → begins_comment text (length body) ≡ true
 
+-- a token is the slice of a text at its span
+abbrev pub IsSlice : List ℕ → SourceToken → Type 0
+IsSlice text token = token.text ≡ take (token.past - token.first) (drop token.first text)
+
 -- a token is a longest run of bytes that are no blanks, and the slice at its span
 pub record IsLongestRun (body : List ℕ) (token : SourceToken) : Type 0 where
   pub some : token.first < token.past
   pub within : token.past ≤ length body
-  pub slice : token.text ≡ take (token.past - token.first) (drop token.first body)
+  pub slice : IsSlice body token
   pub visible : (k : ℕ) → token.first ≤ k → k < token.past → is_blank (slice_index body k) ≡ false
   pub starts : follows_blank body token.first ≡ true
   pub ends : token.past < length body → is_blank (slice_index body token.past) ≡ true
 
-abbrev pub AreLongestRuns : List ℕ → List SourceToken → Type 0
-AreLongestRuns body [] = Unit {0}
-AreLongestRuns body (token ∷ tokens) = IsLongestRun body token × AreLongestRuns body tokens
-
--- each token is the slice of the line's text at its span
-abbrev pub AreSlices : List ℕ → List SourceToken → Type 0
-AreSlices text [] = Unit {0}
-AreSlices text (token ∷ tokens) =
-    (token.text ≡ take (token.past - token.first) (drop token.first text)) × AreSlices text tokens
+-- P holds of each item
+abbrev pub Each : {A : Type 0} → (A → Type 0) → List A → Type 0
+Each P [] = Unit {0}
+Each P (item ∷ items) = P item × Each P items
 
 -- a place lies within the span of one of the tokens
 abbrev pub IsSpanned : ℕ → List SourceToken → Type 0

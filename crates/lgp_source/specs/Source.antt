@@ -2,9 +2,8 @@
 -- choice.
 use Rattle.std.specs.Prelude.{ℕ, ◌+◌, Bool, true, false, not, ◌==◌, ◌&&◌, ◌||◌, nat_le, nat_lt}
 use Rattle.std.specs.Prelude.{if◌then◌else◌, List, [], ◌∷◌, length, Option, Some, None, slice_get}
-use Rattle.std.specs.Prelude.{position}
+use Rattle.std.specs.Prelude.{position, is_some}
 use Rattle.std.specs.List.{position_or_len, before_first}
-use Rattle.std.specs.Option.{option_map_or}
 
 -- a token: its bytes, and its span in the line's text
 pub record SourceToken : Type 0 where
@@ -98,36 +97,22 @@ abbrev pub statement_of : List SourceToken → List SourceToken
 statement_of [] = []
 statement_of (token ∷ tokens) = if token.first == 0 then tokens else token ∷ tokens
 
-abbrev pub line_with : ℕ → List ℕ → List SourceToken → List SourceToken → SourceLine
-line_with number text tokens statement = record {
+abbrev pub line_with : ℕ → List ℕ → Option ℕ → List SourceToken → SourceLine
+line_with number text bad tokens = record {
   number = number;
   text = text;
   label = label_of tokens;
-  operation = slice_get statement 0;
-  operands = slice_get statement 1 ∷ slice_get statement 2 ∷ [];
-  bad_byte = None;
-  extra = nat_lt 3 (length statement);
+  operation = slice_get (statement_of tokens) 0;
+  operands = slice_get (statement_of tokens) 1 ∷ slice_get (statement_of tokens) 2 ∷ [];
+  bad_byte = bad;
+  extra = nat_lt 3 (length (statement_of tokens));
 }
 
--- the line of a text whose bytes are all good
-abbrev pub good_line : ℕ → List ℕ → SourceLine
-good_line number text = line_with number text (tokens_of text) (statement_of (tokens_of text))
-
--- the line of a text with a bad byte, which has no tokens
-abbrev pub bad_line : ℕ → List ℕ → ℕ → SourceLine
-bad_line number text place = record {
-  number = number;
-  text = text;
-  label = None;
-  operation = None;
-  operands = None ∷ None ∷ [];
-  bad_byte = Some place;
-  extra = false;
-}
-
+-- the line of a text; one with a bad byte has no tokens
 abbrev pub line_of : ℕ → List ℕ → SourceLine
 line_of number text =
-    option_map_or (bad_line number text) (position is_bad text) (good_line number text)
+    let bad = position is_bad text in
+    line_with number text bad (if is_some bad then [] else tokens_of text)
 
 -- lines from a number on
 unfoldable pub numbered_lines : ℕ → List (List ℕ) → List SourceLine

@@ -4,7 +4,7 @@
 ghost use Rattle.std.specs.Prelude.{◌≡◌, ◌≤◌, List, length};
 ghost use Rattle.std.specs.Iterator.{YieldsFirstBy, item_count};
 ghost use Rattle.lgp_source.specs.Source.{SourceLine, numbered_lines, lines_of, before_comment, tokens_of};
-ghost use Rattle.lgp_source.specs.Runs.{IsUpToComment, AreLongestRuns, AreSlices, AllAreSpanned, AreInOrder};
+ghost use Rattle.lgp_source.specs.Runs.{IsUpToComment, IsLongestRun, IsSlice, Each, AllAreSpanned, AreInOrder};
 ghost use Rattle.lgp_source.specs.Seen.{line_seen};
 
 use bstr::{ByteSlice, LinesWithTerminator};
@@ -73,8 +73,8 @@ impl<'a> Iterator for Lines<'a> {
 #[tactic(auto, using(crate::proofs::Laws::token_laws))]
 pub fn tokens_are_longest_runs(text: &[u8])
     ensures body { IsUpToComment text.now (before_comment text.now) }
-    ensures runs { AreLongestRuns (before_comment text.now) (tokens_of text.now) }
-    ensures slices { AreSlices text.now (tokens_of text.now) }
+    ensures runs { Each (IsLongestRun (before_comment text.now)) (tokens_of text.now) }
+    ensures slices { Each (IsSlice text.now) (tokens_of text.now) }
     ensures whole { AllAreSpanned (before_comment text.now) (tokens_of text.now) }
     ensures in_order { AreInOrder 0 (tokens_of text.now) }
 {

@@ -1,7 +1,7 @@
 -- Part of the public promise: what a language of lines is, the replies to a text in it, and what
 -- stands written of them where the text was not answered to its end.
 use Rattle.std.specs.Prelude.{◌≡◌, ℕ, ◌+◌, ◌-◌, ◌^◌, ◌≤◌, ◌==◌, Bool, true, min, List, [], ◌∷◌}
-use Rattle.std.specs.Prelude.{◌++◌, length, take, count_by, slice_index, Option, Some, ⊤}
+use Rattle.std.specs.Prelude.{◌++◌, fold, length, take, count_by, slice_index, Option, Some, ⊤}
 use Rattle.std.specs.List.{concat}
 use Rattle.std.specs.Io.KnownBytes.{Appends, Consumes}
 use Rattle.std.specs.Str.{byte}
@@ -23,8 +23,7 @@ replies_to language s (line ∷ more) =
     language.reply s line ∷ replies_to language (language.after s line) more
 
 abbrev pub state_after : {S : Type 0} → Language S → S → List (List ℕ) → S
-state_after language s [] = s
-state_after language s (line ∷ more) = state_after language (language.after s line) more
+state_after language s lines = fold language.after s lines
 
 -- the replies to a text: to its lines, and to its end
 unfoldable pub text_replies : {S : Type 0} → Language S → S → List ℕ → List (List ℕ)
@@ -74,14 +73,18 @@ pub record HasWrittenReplies (w₀ w : Option (List ℕ)) (replies : List (List 
   pub joined : replies ≡ first ++ (lacking ∷ rest)
   pub sent : Appends w₀ w (concat first)
 
+-- what stands written of replies after each fault, where nothing is read on the way
+abbrev pub HasStopped : StreamFault → Option (List ℕ) → Option (List ℕ) → List (List ℕ) → Type 0
+HasStopped Read w₀ w replies = ⊥
+HasStopped (Write count) w₀ w replies = HasWrittenBytes count w₀ w replies
+HasStopped Memory w₀ w replies = HasWrittenReplies w₀ w replies
+
 -- what stands written after each fault, of replies in front and of the replies to a text
 abbrev pub StandsWritten : {S : Type 0} → List (List ℕ) → Language S → S → StreamFault → List ℕ
     → Option (List ℕ) → Option (List ℕ) → Option (List ℕ) → Type 0
 StandsWritten front language s Read text left w₀ w = HasReadPart front language s text left w₀ w
-StandsWritten front language s (Write count) text left w₀ w =
-    HasWrittenBytes count w₀ w (front ++ text_replies language s text)
-StandsWritten front language s Memory text left w₀ w =
-    HasWrittenReplies w₀ w (front ++ text_replies language s text)
+StandsWritten front language s fault text left w₀ w =
+    HasStopped fault w₀ w (front ++ text_replies language s text)
 
 -- whose failure a fault tells: the reader's, the writer's
 abbrev pub HasCause : StreamFault → Bool → Bool → Type 0
@@ -89,21 +92,13 @@ HasCause Read reader writer = reader ≡ true
 HasCause (Write count) reader writer = writer ≡ true
 HasCause Memory reader writer = ⊤
 
--- what stands written of replies after each fault, where nothing is read on the way
-abbrev pub HasStopped : StreamFault → Option (List ℕ) → Option (List ℕ) → List (List ℕ) → Type 0
-HasStopped Read w₀ w replies = ⊥
-HasStopped (Write count) w₀ w replies = HasWrittenBytes count w₀ w replies
-HasStopped Memory w₀ w replies = HasWrittenReplies w₀ w replies
-
 -- what stands written of one text after each fault: nothing, or so many of its first bytes as are
 -- counted
 abbrev pub StandsOf : List ℕ → StreamFault → Option (List ℕ) → Option (List ℕ) → Type 0
-StandsOf text Read w₀ w = Appends w₀ w []
 StandsOf text (Write count) w₀ w = HasWrittenBytes count w₀ w (text ∷ [])
-StandsOf text Memory w₀ w = Appends w₀ w []
+StandsOf text fault w₀ w = Appends w₀ w []
 
 -- a fault, counted behind so many bytes
 abbrev pub fault_behind : ℕ → StreamFault → StreamFault
-fault_behind bytes Read = Read
 fault_behind bytes (Write taken) = Write (min (taken + bytes) count_limit)
-fault_behind bytes Memory = Memory
+fault_behind bytes fault = fault

@@ -41,11 +41,11 @@ module _ {E : Type 0} (gives : Text → Result ℕ E → Type 0)
       let parsed = parses text (Ok n) reads in
       let accepted : is_unsigned_in 0 18446744073709551615 text ≡ true =
       Accepts-accepts false (Unsigned 0 18446744073709551615) text (parsed.0.0, parsed.0.1, omega arith, omega arith) in
-      number_by (is_unsigned_in 0 18446744073709551615 text) n _ (λ _. parsed.1)
+      number_by _ n _ (λ _. parsed.1)
       (λ refused. absurd (not_both _ accepted refused))
   number-read text None reads =
       let fails = parses text (Err reads.0) reads.1 in
-      number_by (is_unsigned_in 0 18446744073709551615 text) 0 _
+      number_by _ 0 _
       (λ accepted. let read = accepts-Accepts false (Unsigned 0 18446744073709551615) text accepted in absurd (fails (read.0, read.1)))
       (λ _. refl)
 

@@ -16,9 +16,9 @@ the_only kind only (inr h) = absurd h
 pub refusal-among : {A : Type 0} (fault : TaskFault A) (kind : ErrorKind) (kinds : Kinds)
     → IsAmong kind kinds → IsRefusalOf (kind ∷ []) fault → IsRefusalOf kinds fault
 refusal-among (Usage text) kind kinds among because =
-    (kind, among, ap is_request (sym (the_only because.0 kind because.1)) ∙ because.2)
+    (kind, among, ap is_request (sym (the_only _ _ because.1)) ∙ because.2)
 refusal-among (Help text) kind kinds among because =
-    (kind, among, ap is_request (sym (the_only because.0 kind because.1)) ∙ because.2)
+    (kind, among, ap is_request (sym (the_only _ _ because.1)) ∙ because.2)
 refusal-among Memory kind kinds among because = tt
 
 pub line-simple : is_simple command_line ≡ true

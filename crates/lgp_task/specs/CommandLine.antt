@@ -1,6 +1,6 @@
 -- Part of the public promise: the command line as `clap` is given it: each command with its
 -- arguments, one definition each.
-use Rattle.std.specs.Prelude.{pos, true, Some, [], codes}
+use Rattle.std.specs.Prelude.{ℕ, pos, true, Some, List, [], codes}
 use Rattle.clap.specs.Lexer.{usize_max}
 use Rattle.clap.specs.Words.{App, Rule, new_app, new_rule, with_rule, with_subcommand}
 use Rattle.clap.specs.declared.builder.action.ArgAction.TheVariants.{SetTrue}
@@ -27,43 +27,32 @@ limit_rule = record (new_rule (codes "LIMIT")) {
   parser = Some (Signed (pos 0) (pos 4294967295));
 }
 
-abbrev pub asm_command : App
-asm_command = with_rule (new_app (codes "asm")) file_rule
-
-abbrev pub tape_command : App
-tape_command = with_rule (new_app (codes "tape")) file_rule
+-- a command of this name, which takes a file
+abbrev pub file_command : List ℕ → App
+file_command name = with_rule (new_app name) file_rule
 
 abbrev pub run_command : App
-run_command = with_rule (with_rule (new_app (codes "run")) file_rule) limit_rule
-
-abbrev pub script_command : App
-script_command = with_rule (new_app (codes "script")) file_rule
+run_command = with_rule (file_command (codes "run")) limit_rule
 
 abbrev pub batch_command : App
 batch_command = with_rule (new_app (codes "batch")) files_rule
 
--- `lgp_lab`, which knows its version
-abbrev pub bare_line : App
-bare_line =
-    record { top = record (new_app (codes "lgp_lab")).top { has_version = true }; subs = [] }
+-- a program of this name, which knows its version
+abbrev pub bare_line : List ℕ → App
+bare_line name = record { top = record (new_app name).top { has_version = true }; subs = [] }
 
 -- the command line: `lgp_lab`, which takes one of the five commands, or none
 unfoldable pub command_line : App
 command_line =
     with_subcommand (with_subcommand (with_subcommand (with_subcommand (with_subcommand
-    bare_line
-    asm_command.top) tape_command.top) run_command.top) script_command.top) batch_command.top
+    (bare_line (codes "lgp_lab"))
+    (file_command (codes "asm")).top) (file_command (codes "tape")).top) run_command.top)
+    (file_command (codes "script")).top) batch_command.top
 
 -- --echo: there or not
 abbrev pub echo_rule : Rule
 echo_rule = record (new_rule (codes "echo")) { long = Some (codes "echo"); action = Some SetTrue }
 
--- the monitor's command line: `lgp_monitor`, which knows its version, and takes files and `--echo`
-abbrev pub bare_monitor_line : App
-bare_monitor_line = record {
-  top = record (new_app (codes "lgp_monitor")).top { has_version = true };
-  subs = [];
-}
-
+-- the monitor's command line: `lgp_monitor`, which takes files and `--echo`
 unfoldable pub monitor_line : App
-monitor_line = with_rule (with_rule bare_monitor_line any_files_rule) echo_rule
+monitor_line = with_rule (with_rule (bare_line (codes "lgp_monitor")) any_files_rule) echo_rule

@@ -1,6 +1,6 @@
 -- Part of the public promise: the task that the matches of a command line hold, and which refusals
 -- its faults allow.
-use Rattle.std.specs.Prelude.{◌≡◌, ℕ, Bool, true, false, List, [], Option, Some, None, codes}
+use Rattle.std.specs.Prelude.{◌≡◌, ℕ, Bool, true, false, List, [], Option, codes}
 use Rattle.std.specs.Prelude.{if◌then◌else◌, unwrap_or}
 use Rattle.std.specs.Option.{option_map_or}
 use Rattle.std.specs.Str.{bytes_eq}
@@ -45,8 +45,7 @@ task_named name rows =
 
 -- the task of the command that was matched; without one it is the script on standard input
 abbrev pub task_in : {A : Type 0} → Option (Text × List Row) → Task A
-task_in None = Stdin
-task_in (Some matched) = task_named matched.0 matched.1
+task_in matched = option_map_or (λ command. task_named command.0 command.1) matched Stdin
 
 -- what the words of the monitor's command line ask for
 pub record SessionTask : Type 0 where
@@ -75,9 +74,6 @@ task_for typed = task_in (subcommand_of command_line typed)
 abbrev pub IsFaultOn : {A : Type 0} → App → List Text → TaskFault A → Type 0
 IsFaultOn line typed fault =
     IsRefusalOf (fault_of line typed) fault × (takes line typed ≡ true → fault ≡ Memory)
-
-abbrev pub IsFaultOf : {A : Type 0} → List Text → TaskFault A → Type 0
-IsFaultOf typed fault = IsFaultOn command_line typed fault
 
 -- the files that a session's matches hold, and whether each line is shown above its reply
 abbrev pub echo_in : List Row → Bool

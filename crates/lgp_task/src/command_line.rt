@@ -1,9 +1,9 @@
 //! The command line as `clap` is given it, with its help.
 
-ghost use Rattle.std.specs.Prelude.{◌≡◌, IfOk, false};
+ghost use Rattle.std.specs.Prelude.{◌≡◌, IfOk, codes, false};
 ghost use Rattle.clap.specs.Words.{App, app_of, new_app, rule_of, with_rule, with_subcommand};
 ghost use Rattle.clap.specs.declared.builder.command.Command.TheViews.{out-Command as fields_of};
-ghost use Rattle.lgp_task.specs.CommandLine.{any_files_rule, asm_command, bare_line, bare_monitor_line, batch_command, command_line, echo_rule, file_rule, files_rule, limit_rule, monitor_line, run_command, script_command, tape_command};
+ghost use Rattle.lgp_task.specs.CommandLine.{any_files_rule, bare_line, batch_command, command_line, echo_rule, file_command, file_rule, files_rule, limit_rule, monitor_line, run_command};
 
 use clap::{Arg, ArgAction, Command, value_parser};
 use std::alloc::{AllocError, Global};
@@ -98,7 +98,7 @@ fn with_command<'a>(
 
 /// `asm FILE`
 fn asm_command<'a>(global: Global) -> Result<Command<'a>, AllocError>
-    ensures app { IfOk result (λ command. app_of command ≡ asm_command) }
+    ensures app { IfOk result (λ command. app_of command ≡ file_command (codes "asm")) }
     ensures own { IfOk result (λ command. (fields_of command).has_globals ≡ false) }
 {
     let asm = command(
@@ -114,7 +114,7 @@ fn asm_command<'a>(global: Global) -> Result<Command<'a>, AllocError>
 
 /// `tape FILE`
 fn tape_command<'a>(global: Global) -> Result<Command<'a>, AllocError>
-    ensures app { IfOk result (λ command. app_of command ≡ tape_command) }
+    ensures app { IfOk result (λ command. app_of command ≡ file_command (codes "tape")) }
     ensures own { IfOk result (λ command. (fields_of command).has_globals ≡ false) }
 {
     let tape = command(
@@ -148,7 +148,7 @@ fn run_command<'a>(global: Global) -> Result<Command<'a>, AllocError>
 
 /// `script FILE`
 fn script_command<'a>(global: Global) -> Result<Command<'a>, AllocError>
-    ensures app { IfOk result (λ command. app_of command ≡ script_command) }
+    ensures app { IfOk result (λ command. app_of command ≡ file_command (codes "script")) }
     ensures own { IfOk result (λ command. (fields_of command).has_globals ≡ false) }
 {
     let script = command(
@@ -180,7 +180,7 @@ fn batch_command<'a>(global: Global) -> Result<Command<'a>, AllocError>
 
 /// `lgp_lab`, without its commands, which knows its version.
 fn bare_line<'a>(global: Global) -> Result<Command<'a>, AllocError>
-    ensures { IfOk result (λ line. app_of line ≡ bare_line) }
+    ensures { IfOk result (λ line. app_of line ≡ bare_line (codes "lgp_lab")) }
 {
     let line = command(
         global,
@@ -220,7 +220,7 @@ fn echo<'a>(global: Global) -> Arg<'a>
 
 /// `lgp_monitor`, without its arguments, which knows its version.
 fn bare_monitor_line<'a>(global: Global) -> Result<Command<'a>, AllocError>
-    ensures app { IfOk result (λ line. app_of line ≡ bare_monitor_line) }
+    ensures app { IfOk result (λ line. app_of line ≡ bare_line (codes "lgp_monitor")) }
 {
     let line = command(
         global,

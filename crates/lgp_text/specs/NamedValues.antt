@@ -1,5 +1,5 @@
 -- Part of the public promise: names, each with what it stands for.
-use Rattle.std.specs.Prelude.{ℕ, Option, List, [], ◌∷◌}
+use Rattle.std.specs.Prelude.{ℕ, Option, List, map}
 use Rattle.std.specs.Map.{lookup}
 use Rattle.std.specs.Str.{bytes_eq}
 use Rattle.lgp_text.specs.declared.names.Named.{Named}
@@ -9,5 +9,4 @@ abbrev pub named : {T : Type 0} → List (List ℕ × T) → List ℕ → Option
 named names name = lookup (bytes_eq name) names
 
 abbrev pub pairs_of : {T : Type 0} → List (Named T) → List (List ℕ × T)
-pairs_of [] = []
-pairs_of (known ∷ more) = (known.name.now, known.value) ∷ pairs_of more
+pairs_of names = map (λ known. (known.name.now, known.value)) names

@@ -1,5 +1,5 @@
 -- Part of the public promise: the words and letters for what a panel shows.
-use Rattle.std.specs.Prelude.{ℕ, Bool, if◌then◌else◌, List, [], ◌∷◌, codes}
+use Rattle.std.specs.Prelude.{ℕ, Bool, if◌then◌else◌, List, [], ◌∷◌, codes, map}
 use Rattle.std.specs.Str.{byte}
 use Rattle.lgp_table.specs.declared.panel.Switches.{Switches}
 use Rattle.lgp_table.specs.declared.panel.Status.{Status}
@@ -30,9 +30,8 @@ switch_text down = if down then byte "d" else byte "u"
 
 unfoldable pub switches_text : Switches → List ℕ
 switches_text switches =
-    switch_text switches.b32 ∷ switch_text switches.b16 ∷ switch_text switches.b8
-    ∷ switch_text switches.b4
-    ∷ switch_text switches.transfer ∷ switch_text switches.six_bit ∷ []
+    map switch_text (switches.b32 ∷ switches.b16 ∷ switches.b8 ∷ switches.b4 ∷ switches.transfer
+    ∷ switches.six_bit ∷ [])
 
 unfoldable pub on_text : Bool → List ℕ
 on_text on = if on then codes "on" else codes "off"

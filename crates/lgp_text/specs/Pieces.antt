@@ -1,5 +1,6 @@
 -- Part of the public promise: the pieces of which a line of text is put together.
-use Rattle.std.specs.Prelude.{ℕ, List, [], ◌∷◌, ◌++◌, decimal}
+use Rattle.std.specs.Prelude.{ℕ, List, map, decimal}
+use Rattle.std.specs.List.{concat}
 use Rattle.lgp_word.specs.Digits.{address_digits, digits_of}
 use Rattle.lgp_text.specs.declared.pieces.Piece.{Piece}
 use Rattle.lgp_text.specs.declared.pieces.Piece.TheVariants.{Text, Number, Place, Digits}
@@ -13,5 +14,4 @@ piece_text (Digits bits) = digits_of bits
 
 -- pieces one after another
 abbrev pub pieces_text : List Piece → List ℕ
-pieces_text [] = []
-pieces_text (piece ∷ pieces) = piece_text piece ++ pieces_text pieces
+pieces_text pieces = concat (map piece_text pieces)

@@ -1,5 +1,5 @@
 -- A run in the middle whose orders are added up in a profile.
-use Rattle.std.proofs.Common.{◌≡◌, ◌∙◌, ℕ, ◌+◌, ◌≤◌, refl, ap, arith}
+use Rattle.std.proofs.Common.{◌≡◌, ◌∙◌, ℕ, suc, ◌+◌, ◌≤◌, refl, ap, arith}
 use Rattle.lgp_table.specs.Activity.{next}
 use Rattle.lgp_table.specs.After.{after}
 use Rattle.lgp_table.specs.State.{State}
@@ -10,9 +10,9 @@ use Rattle.lgp_debugger.specs.Run.{IsRun, orders_of}
 use Rattle.lgp_debugger.specs.declared.fault.Ran.{Ran}
 use Rattle.lgp_debugger.specs.declared.fault.RunFault.{RunFault}
 use Rattle.lgp_debugger.proofs.PerformedLemmas.{performed_state}
-use Rattle.lgp_trace.specs.Account.{account_of}
-use Rattle.lgp_trace.specs.Phases.{all_phases}
-use Rattle.lgp_trace.specs.Profile.{Profiled, empty_profile, profile_of, with_account}
+use Rattle.lgp_trace.specs.Account.{place_of}
+use Rattle.lgp_trace.specs.Phases.{all_phases, phases_of}
+use Rattle.lgp_trace.specs.Profile.{Profiled, empty_profile, profile_of, with_activity}
 use Rattle.lgp_trace.proofs.Sums.{profile_clock}
 
 -- so many orders from a state on were noted, and have led here
@@ -25,10 +25,14 @@ unfolding after profile_of
 notes_begun first profile none = record { stands = refl; noted = none }
 
 pub notes_more : (first now then : State) (profile more : Profiled) (done : ℕ) → HasNoted first now profile done → then ≡ next now
-    → more ≡ with_account profile (account_of now) → HasNoted first then more (done + 1)
+    → more ≡ with_activity profile (place_of now) (phases_of now) → HasNoted first then more (done + 1)
 unfolding after profile_of
 notes_more first now then profile more done h moved noted =
-    grind arith
+    let count : done + 1 ≡ suc done = omega arith in
+    record {
+      stands = rw count (moved ∙ ap next h.stands);
+      noted = rw count (noted ∙ ap (λ (p : Profiled). with_activity p (place_of now) (phases_of now)) h.noted ∙ ap (λ (s : State). with_activity (profile_of first done) (place_of s) (phases_of s)) h.stands);
+    }
 
 -- the clock has gone on by what was noted
 pub noted_clock : (first now : State) (profile : Profiled) (done : ℕ) → HasNoted first now profile done → now.clock ≡ first.clock + all_phases profile.phases

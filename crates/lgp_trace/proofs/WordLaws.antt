@@ -9,7 +9,7 @@ use Rattle.lgp_table.specs.State.{Core, State, word_at}
 use Rattle.lgp_table.specs.Activity.{after_fetch, begun_in, core_after, core_behind, next, stores}
 use Rattle.lgp_table.specs.declared.panel.Status.{Status}
 use Rattle.lgp_table.specs.declared.panel.Status.TheVariants.{Halted, Going, Executing, Waiting, Reading}
-use Rattle.lgp_trace.specs.Account.{account_of, stored_address, stored_at}
+use Rattle.lgp_trace.specs.Account.{account_of, order_of, stored_address}
 
 row-other : (op : Op) (minus : Bool) (m : ℕ) (core : Core) (address : ℕ) → cond (stores op) (Some m) None ≢ Some address → word_at (row op minus m core).core address ≡ word_at core address
 row-other op minus m core address = search rules
@@ -23,7 +23,7 @@ core_behind-other Executing core address other =
 core_behind-other Waiting core address other = refl
 core_behind-other Reading core address other = refl
 
-pub other_words : (s : State) (address : ℕ) → stored_at s ≢ Some address → word_at (next s).core address ≡ word_at s.core address
+pub other_words : (s : State) (address : ℕ) → stored_address (order_of s) ≢ Some address → word_at (next s).core address ≡ word_at s.core address
 unfolding core_after
 other_words s address other = core_behind-other _ _ _ other
 

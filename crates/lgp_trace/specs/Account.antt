@@ -44,9 +44,6 @@ abbrev pub stored_address : Option ℕ → Option ℕ
 stored_address None = None
 stored_address (Some order) = if stores (op_at order) then Some (address_at order) else None
 
-abbrev pub stored_at : State → Option ℕ
-stored_at s = stored_address (order_of s)
-
 -- all that is known when the activity begins
 abbrev pub begun_of : State → Begun
 begun_of s = record {
@@ -74,13 +71,4 @@ finished begun after = record {
 
 -- the account of the activity that begins here
 abbrev pub account_of : State → Account
-account_of s = record {
-  before = look_of s;
-  after = look_of (next s);
-  place = place_of s;
-  order = order_of s;
-  phases = phases_of s;
-  operand = option_map (operand_in (next s).core) (found_of s);
-  printed = print_of s.core;
-  passed = length (next s).core.tape.passed - length s.core.tape.passed;
-}
+account_of s = finished (begun_of s) (next s)

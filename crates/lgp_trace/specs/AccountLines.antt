@@ -1,10 +1,11 @@
 -- Part of the public promise. The lines of an account: one with its columns, then those that begin
 -- with eight blanks, each only where there is something to say. A label says what stands behind an
 -- address; for an address without one that is nothing.
-use Rattle.std.specs.Prelude.{ℕ, ◌-◌, ◌/◌, ◌^◌, ◌++◌, ◌==◌, ◌&&◌, Bool, true, false, if◌then◌else◌}
-use Rattle.std.specs.Prelude.{Option, Some, None, List, [], ◌∷◌, codes, decimal}
+use Rattle.std.specs.Prelude.{ℕ, ◌-◌, ◌/◌, ◌^◌, ◌++◌, ◌==◌, ◌&&◌, Bool, if◌then◌else◌}
+use Rattle.std.specs.Prelude.{Option, Some, None, List, [], ◌∷◌, codes, decimal, is_some}
+use Rattle.std.specs.Option.{option_map_or}
 use Rattle.lgp_word.specs.Digits.{address_digits, digits_of}
-use Rattle.lgp_word.specs.Order.{OrderParts, address_at, decoded, op_at, op_letter, sign_of}
+use Rattle.lgp_word.specs.Order.{address_at, decoded, op_at, op_letter, sign_of}
 use Rattle.lgp_word.specs.Order.{takes_minus}
 use Rattle.lgp_word.specs.declared.order.Op.{Op}
 use Rattle.lgp_word.specs.declared.order.Op.TheVariants.{Z, I, P}
@@ -30,29 +31,21 @@ heading_text =
 unfoldable pub place_text : (ℕ → List ℕ) → ℕ → List ℕ
 place_text label address = address_digits address ++ label address
 
--- whether the address of an order is that of a word: all but z, i and p
-abbrev pub refers : Op → Bool
-refers Z = false
-refers I = false
-refers P = false
-refers _ = true
-
 abbrev pub minus_text : Bool → List ℕ
 minus_text minus = if minus then codes "-" else []
 
--- the label behind the address of an order that refers to a word
+-- the label behind the address of an order that refers to a word: all but z, i and p do
 abbrev pub reference_text : (ℕ → List ℕ) → Op → ℕ → List ℕ
-reference_text label op address = if refers op then label address else []
+reference_text label Z address = []
+reference_text label I address = []
+reference_text label P address = []
+reference_text label _ address = label address
 
--- an order with its address, and with the label of the word that it refers to
-abbrev pub parts_text : (ℕ → List ℕ) → Bool → Op → ℕ → List ℕ
-parts_text label minus op address =
-    minus_text (takes_minus op && minus) ++ (op_letter op ∷ codes " "
-    ++ (address_digits address ++ reference_text label op address))
-
--- any word as the order that is performed
+-- any word as the order that is performed, with the label of the word that it refers to
 unfoldable pub performed_text : (ℕ → List ℕ) → ℕ → List ℕ
-performed_text label word = parts_text label (sign_of word) (op_at word) (address_at word)
+performed_text label word =
+    minus_text (takes_minus (op_at word) && sign_of word) ++ (op_letter (op_at word) ∷ codes " "
+    ++ (address_digits (address_at word) ++ reference_text label (op_at word) (address_at word)))
 
 -- a word as a number, one half of its bits with its sign: the binary point stands behind bit 30
 abbrev pub number_text : ℕ → List ℕ
@@ -60,25 +53,16 @@ number_text word =
     if sign_of word then codes "-" ++ decimal ((2 ^ 32 - word) / 2) else decimal (word / 2)
 
 -- an order behind the digits of the word that is one
-abbrev pub order_behind : (ℕ → List ℕ) → Option OrderParts → ℕ → List ℕ
-order_behind label None word = []
-order_behind label (Some order) word = codes " " ++ performed_text label word
+abbrev pub order_behind : (ℕ → List ℕ) → ℕ → List ℕ
+order_behind label word =
+    if is_some (decoded word) then codes " " ++ performed_text label word else []
 
 -- a word by its digits, as the order that it is, if it is one, and as a number
 unfoldable pub word_text : (ℕ → List ℕ) → ℕ → List ℕ
 word_text label word =
-    digits_of word ++ (order_behind label (decoded word) word ++ (codes " = " ++ number_text word))
+    digits_of word ++ (order_behind label word ++ (codes " = " ++ number_text word))
 
 -- ---- the line with columns
-
-abbrev pub at_text : (ℕ → List ℕ) → Option ℕ → List ℕ
-at_text label None = []
-at_text label (Some place) = place_text label place
-
--- the order; where there is none, the status in which the activity begins
-abbrev pub activity_text : (ℕ → List ℕ) → Option ℕ → Status → List ℕ
-activity_text label None status = status_text status
-activity_text label (Some order) status = performed_text label order
 
 unfoldable pub phases_text : Phases → List ℕ
 phases_text phases =
@@ -91,11 +75,13 @@ accumulator_text before after =
     if before == after
     then digits_of before else digits_of before ++ (codes " -> " ++ digits_of after)
 
--- where the order stands, and the order
+-- where the order stands, and the order; where there is none, the status in which the activity
+-- begins
 unfoldable pub order_columns : (ℕ → List ℕ) → Account → List ℕ
 order_columns label account =
-    left_aligned 12 (at_text label account.place)
-    ++ (codes " " ++ left_aligned 14 (activity_text label account.order account.before.status))
+    left_aligned 12 (option_map_or (place_text label) account.place [])
+    ++ (codes " " ++ left_aligned 14
+    (option_map_or (performed_text label) account.order (status_text account.before.status)))
 
 -- how long its phases took, and the accumulator
 unfoldable pub result_columns : Account → List ℕ
@@ -141,10 +127,6 @@ unfoldable pub printed_line : ℕ → List ℕ
 printed_line code =
     codes "        printed code " ++ (decimal code ++ (sign_text (sign_at code) ++ codes "\n"))
 
-abbrev pub printed_lines : Option ℕ → List ℕ
-printed_lines None = []
-printed_lines (Some code) = printed_line code
-
 abbrev pub passed_lines : ℕ → List ℕ
 passed_lines count =
     if count == 0 then [] else codes "        codes passed: " ++ (decimal count ++ codes "\n")
@@ -152,7 +134,7 @@ passed_lines count =
 unfoldable pub account_details : (ℕ → List ℕ) → Account → List ℕ
 account_details label account =
     register_line account.before.status ++ (stored_lines label account.order account.operand
-    ++ (printed_lines account.printed ++ passed_lines account.passed))
+    ++ (option_map_or printed_line account.printed [] ++ passed_lines account.passed))
 
 -- all lines of an account
 abbrev pub account_text : (ℕ → List ℕ) → Account → List ℕ

@@ -6,15 +6,11 @@ use Rattle.std.specs.Str.{byte}
 abbrev pub blanks : ℕ → List ℕ
 blanks count = replicate count (byte " ")
 
--- blanks behind a text that is so long, up to a width
-abbrev pub blanks_behind : ℕ → ℕ → List ℕ
-blanks_behind width long = blanks (width - long)
-
 abbrev pub right_aligned : ℕ → ℕ → List ℕ
 right_aligned width number = blanks (width - length (decimal number)) ++ decimal number
 
 abbrev pub left_aligned : ℕ → List ℕ → List ℕ
-left_aligned width text = text ++ blanks_behind width (length text)
+left_aligned width text = text ++ blanks (width - length text)
 
 -- a number in its column behind a blank
 unfoldable pub spaced_number : ℕ → ℕ → List ℕ

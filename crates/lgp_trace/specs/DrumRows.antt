@@ -2,7 +2,7 @@
 -- each turn with its clock in front. In the k-th column of a row the head reads the position k, and
 -- in the last one 0.
 use Rattle.std.specs.Prelude.{ℕ, zero, suc, ◌+◌, ◌-◌, ◌%◌, ◌++◌, ◌==◌, if◌then◌else◌, Option, Some}
-use Rattle.std.specs.Prelude.{None, List, [], ◌∷◌, codes, replicate}
+use Rattle.std.specs.Prelude.{None, List, [], ◌∷◌, codes, replicate, is_some}
 use Rattle.std.specs.Str.{byte}
 use Rattle.lgp_trace.specs.Columns.{blanks, right_aligned}
 use Rattle.lgp_trace.specs.Account.{stored_address}
@@ -16,8 +16,7 @@ waited (suc before) sign = replicate before (byte ".") ++ sign ∷ []
 
 -- a word that is waited for is read, or stored by an order that stores
 abbrev pub use_sign : Option ℕ → ℕ
-use_sign None = byte "R"
-use_sign (Some address) = byte "W"
+use_sign stored = if is_some stored then byte "W" else byte "R"
 
 -- the third phase: a wait for a word, or dashes where none is awaited
 abbrev pub seek_signs : Option Operand → Option ℕ → ℕ → List ℕ

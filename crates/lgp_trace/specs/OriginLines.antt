@@ -1,9 +1,9 @@
 -- Part of the public promise. What is written about where words came from. A label says what stands
 -- behind an address.
 use Rattle.std.specs.Prelude.{ℕ, ◌++◌, ◌==◌, if◌then◌else◌, Option, Some, None, List, [], codes}
-use Rattle.std.specs.Prelude.{decimal}
+use Rattle.std.specs.Prelude.{decimal, is_some}
 use Rattle.lgp_word.specs.Digits.{digits_of}
-use Rattle.lgp_word.specs.Order.{OrderParts, decoded}
+use Rattle.lgp_word.specs.Order.{decoded}
 use Rattle.lgp_table.specs.State.{word_at}
 use Rattle.lgp_history.specs.Origins.{latest_change}
 use Rattle.lgp_history.specs.declared.origin.Changer.{Changer}
@@ -37,15 +37,10 @@ changer_text label (Order order) = past_order_text label order
 changer_text label (Hand clock) = codes "hand, clock " ++ decimal clock
 
 -- a lost word as the order that it is, or else by its digits and as a number
-unfoldable pub lost_text : (ℕ → List ℕ) → Option OrderParts → ℕ → List ℕ
-lost_text label None word = digits_of word ++ (codes " = " ++ number_text word)
-lost_text label (Some order) word = performed_text label word
-
-unfoldable pub put_there : List ℕ
-put_there = codes "put there by "
-
-unfoldable pub before_it_was : List ℕ
-before_it_was = codes "; before it was "
+unfoldable pub lost_text : (ℕ → List ℕ) → ℕ → List ℕ
+lost_text label word =
+    if is_some (decoded word)
+    then performed_text label word else digits_of word ++ (codes " = " ++ number_text word)
 
 unfoldable pub this_order_was : List ℕ
 this_order_was = codes "        this order was "
@@ -53,8 +48,8 @@ this_order_was = codes "        this order was "
 -- what put a word where it stands, and what stood there before
 unfoldable pub origin_text : (ℕ → List ℕ) → Origin → List ℕ
 origin_text label origin =
-    put_there ++ (changer_text label origin.changer
-    ++ (before_it_was ++ (lost_text label (decoded origin.lost) origin.lost ++ codes "\n")))
+    codes "put there by " ++ (changer_text label origin.changer
+    ++ (codes "; before it was " ++ (lost_text label origin.lost ++ codes "\n")))
 
 -- below the line of an order that is not as it was when the kept steps begin
 unfoldable pub origin_lines : (ℕ → List ℕ) → Option Origin → List ℕ

@@ -18,9 +18,10 @@ all_phases phases = phases.find + phases.take + phases.seek + phases.act
 abbrev pub only_act : ℕ → Phases
 only_act times = record { find = 0; take = 0; seek = 0; act = times }
 
--- an order that begins at this clock
-abbrev pub order_phases : BegunOrder → Tape → ℕ → Phases
-order_phases order tape clock =
+-- an order that begins at this clock, or an activity without one
+abbrev pub phases_with : Option BegunOrder → Status → Tape → ℕ → Phases
+phases_with None status tape clock = only_act (time_alone status tape)
+phases_with (Some order) status tape clock =
     let find = find_time order.place clock in
     let take = take_time order.place in
     record {
@@ -29,11 +30,6 @@ order_phases order tape clock =
       seek = seek_time (op_at order.word) (address_at order.word) (clock + (find + take));
       act = act_time (op_at order.word) (address_at order.word) tape;
     }
-
--- the same, or an activity without an order
-abbrev pub phases_with : Option BegunOrder → Status → Tape → ℕ → Phases
-phases_with None status tape clock = only_act (time_alone status tape)
-phases_with (Some order) status tape clock = order_phases order tape clock
 
 -- the phases of the activity that begins here
 unfoldable pub phases_of : State → Phases

@@ -1,11 +1,12 @@
 //! The lines of an account.
 
-ghost use Rattle.std.specs.Prelude.{◌≡◌, ◌++◌, ◌^◌, ◌<◌, OnOk, codes, decimal};
-ghost use Rattle.lgp_trace.specs.AccountLines.{account_details, account_line, account_text, accumulator_text, activity_text, at_text, change_text, heading_text, number_text, order_behind, order_columns, passed_lines, performed_text, phases_text, place_text, printed_line, printed_lines, reference_text, register_line, result_columns, sign_text, stored_line, stored_lines, word_text};
+ghost use Rattle.std.specs.Prelude.{◌≡◌, ◌++◌, ◌^◌, ◌<◌, OnOk, [], codes, decimal};
+ghost use Rattle.std.specs.Option.{option_map_or};
+ghost use Rattle.lgp_text.specs.PanelWords.{status_text};
+ghost use Rattle.lgp_trace.specs.AccountLines.{account_details, account_line, account_text, accumulator_text, change_text, heading_text, number_text, order_behind, order_columns, passed_lines, performed_text, phases_text, place_text, printed_line, reference_text, register_line, result_columns, sign_text, stored_line, stored_lines, word_text};
 ghost use Rattle.lgp_trace.specs.Columns.{left_aligned};
 ghost use Rattle.lgp_trace.specs.Phases.{all_phases};
 ghost use Rattle.lgp_flexo.specs.Code.{sign_at};
-ghost use Rattle.lgp_word.specs.Order.{decoded};
 
 use crate::account::{Account, Operand};
 use crate::columns::{push_blanks_behind, push_right, push_spaced};
@@ -96,7 +97,7 @@ fn push_order_behind<L: Labels, A: Allocator>(
     labels: &L,
 ) -> Result<(), AllocError>
     ensures { OnOk result (text.new.items
-        ≡ text.old.items ++ order_behind (L.label labels.now) (decoded word) word) }
+        ≡ text.old.items ++ order_behind (L.label labels.now) word) }
 {
     if decode(word).is_none() {
         return Ok(());
@@ -128,7 +129,7 @@ fn push_at<L: Labels, A: Allocator>(
     labels: &L,
 ) -> Result<(), AllocError>
     ensures { OnOk result (text.new.items
-        ≡ text.old.items ++ at_text (L.label labels.now) place) }
+        ≡ text.old.items ++ option_map_or (place_text (L.label labels.now)) place []) }
 {
     match place {
         Some(place) => push_place(text, place, labels),
@@ -144,7 +145,8 @@ fn push_at_column<L: Labels, A: Allocator>(
     labels: &L,
 ) -> Result<(), AllocError>
     ensures { OnOk result (text.new.items
-        ≡ text.old.items ++ left_aligned 12 (at_text (L.label labels.now) place)) }
+        ≡ text.old.items
+        ++ left_aligned 12 (option_map_or (place_text (L.label labels.now)) place [])) }
 {
     let begins = text.len();
     push_at(text, place, labels)?;
@@ -159,7 +161,8 @@ fn push_activity<L: Labels, A: Allocator>(
     labels: &L,
 ) -> Result<(), AllocError>
     ensures { OnOk result (text.new.items
-        ≡ text.old.items ++ activity_text (L.label labels.now) order status) }
+        ≡ text.old.items
+        ++ option_map_or (performed_text (L.label labels.now)) order (status_text status)) }
 {
     match order {
         Some(order) => push_performed(text, order, labels),
@@ -176,7 +179,8 @@ fn push_activity_column<L: Labels, A: Allocator>(
     labels: &L,
 ) -> Result<(), AllocError>
     ensures { OnOk result (text.new.items
-        ≡ text.old.items ++ left_aligned 14 (activity_text (L.label labels.now) order status)) }
+        ≡ text.old.items ++ left_aligned 14
+        (option_map_or (performed_text (L.label labels.now)) order (status_text status))) }
 {
     let begins = text.len();
     push_activity(text, order, status, labels)?;
@@ -385,7 +389,8 @@ fn push_printed<A: Allocator>(
     text: &mut Vec<u8, A>,
     printed: Option<Code>,
 ) -> Result<(), AllocError>
-    ensures { OnOk result (text.new.items ≡ text.old.items ++ printed_lines printed) }
+    ensures { OnOk result
+        (text.new.items ≡ text.old.items ++ option_map_or printed_line printed []) }
 {
     match printed {
         Some(code) => push_printed_line(text, code),

@@ -1,7 +1,7 @@
 //! Columns of a line.
 
 ghost use Rattle.std.specs.Prelude.{◌≡◌, ◌-◌, ◌++◌, replicate, OnOk, vec_len};
-ghost use Rattle.lgp_trace.specs.Columns.{blanks_behind, right_aligned, spaced_number};
+ghost use Rattle.lgp_trace.specs.Columns.{blanks, right_aligned, spaced_number};
 
 use itoa::Buffer;
 use std::alloc::{AllocError, Allocator};
@@ -55,7 +55,7 @@ pub fn push_blanks_behind<A: Allocator>(
     begins: usize,
 ) -> Result<(), AllocError>
     ensures { OnOk result (text.new.items
-        ≡ text.old.items ++ blanks_behind width (vec_len text.old - begins)) }
+        ≡ text.old.items ++ blanks (width - (vec_len text.old - begins))) }
 {
     let long = text.len().saturating_sub(begins) as u64;
     push_copies(text, b' ', width.saturating_sub(long))

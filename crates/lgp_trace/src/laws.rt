@@ -4,7 +4,7 @@ ghost use Rattle.std.specs.Prelude.{◌≡◌, ◌≢◌, ◌+◌, ℕ, Some, le
 ghost use Rattle.lgp_table.specs.Activity.{cost, next};
 ghost use Rattle.lgp_table.specs.After.{after};
 ghost use Rattle.lgp_table.specs.State.{State, word_at};
-ghost use Rattle.lgp_trace.specs.Account.{account_of, place_of, stored_at};
+ghost use Rattle.lgp_trace.specs.Account.{account_of, order_of, place_of, stored_address};
 ghost use Rattle.lgp_trace.specs.Profile.{profile_of};
 ghost use Rattle.lgp_trace.specs.Phases.{IsFirstRead, all_phases, phases_of};
 ghost use Rattle.lgp_trace.specs.DrumRows.{signs_of};
@@ -31,7 +31,7 @@ pub fn phases_read()
 /// An activity changes no word of the drum but the one that it stores.
 #[tactic(auto, using(crate::proofs::WordLaws::other_words))]
 pub fn words_stay()
-    ensures { (s : State) → (address : ℕ) → stored_at s ≢ Some address
+    ensures { (s : State) → (address : ℕ) → stored_address (order_of s) ≢ Some address
         → word_at (next s).core address ≡ word_at s.core address }
 {}
 

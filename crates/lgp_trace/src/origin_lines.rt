@@ -1,9 +1,8 @@
 //! Where words came from, in words.
 
-ghost use Rattle.std.specs.Prelude.{◌≡◌, ◌++◌, ◌^◌, ◌<◌, OnOk, decimal};
-ghost use Rattle.lgp_word.specs.Order.{decoded};
+ghost use Rattle.std.specs.Prelude.{◌≡◌, ◌++◌, ◌^◌, ◌<◌, OnOk, codes, decimal};
 ghost use Rattle.lgp_debugger.specs.Debugging.{order_origin};
-ghost use Rattle.lgp_trace.specs.OriginLines.{ago_text, before_it_was, changer_text, lost_text, origin_lines, origin_text, past_order_text, put_there, reason_text, stood_text, this_order_was, told_account, why_line, why_text};
+ghost use Rattle.lgp_trace.specs.OriginLines.{ago_text, changer_text, lost_text, origin_lines, origin_text, past_order_text, reason_text, stood_text, this_order_was, told_account, why_line, why_text};
 ghost use Rattle.lgp_trace.specs.Phases.{all_phases};
 
 use crate::account::Account;
@@ -108,7 +107,7 @@ fn push_lost<L: Labels, A: Allocator>(
     labels: &L,
 ) -> Result<(), AllocError>
     ensures { OnOk result (text.new.items
-        ≡ text.old.items ++ lost_text (L.label labels.now) (decoded word) word) }
+        ≡ text.old.items ++ lost_text (L.label labels.now) word) }
 {
     if decode(word).is_some() {
         return push_performed(text, word, labels);
@@ -118,17 +117,15 @@ fn push_lost<L: Labels, A: Allocator>(
 }
 
 /// Appends the words before what changed a word.
-#[tactic(auto, unfolding(crate::specs::OriginLines::put_there))]
 fn push_put_there<A: Allocator>(text: &mut Vec<u8, A>) -> Result<(), AllocError>
-    ensures { OnOk result (text.new.items ≡ text.old.items ++ put_there) }
+    ensures { OnOk result (text.new.items ≡ text.old.items ++ codes "put there by ") }
 {
     text.extend_from_slice(b"put there by ")
 }
 
 /// Appends the words before a lost word.
-#[tactic(auto, unfolding(crate::specs::OriginLines::before_it_was))]
 fn push_before_it_was<A: Allocator>(text: &mut Vec<u8, A>) -> Result<(), AllocError>
-    ensures { OnOk result (text.new.items ≡ text.old.items ++ before_it_was) }
+    ensures { OnOk result (text.new.items ≡ text.old.items ++ codes "; before it was ") }
 {
     text.extend_from_slice(b"; before it was ")
 }

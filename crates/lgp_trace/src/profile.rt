@@ -2,7 +2,7 @@
 
 ghost use Rattle.std.specs.Prelude.{◌≡◌, ◌+◌, ◌^◌, ◌<◌, ◌≤◌, IfOk, slice_index, sum};
 ghost use Rattle.lgp_trace.specs.Phases.{all_phases};
-ghost use Rattle.lgp_trace.specs.Profile.{added_phases, empty_profile, with_account, with_phases};
+ghost use Rattle.lgp_trace.specs.Profile.{added_phases, empty_profile, with_activity};
 
 use crate::account::Account;
 use crate::phases::{Phases, only_act};
@@ -56,7 +56,7 @@ impl<A: Allocator> Profile<A> {
     /// Adds an activity by its account.
     pub fn note(&mut self, account: &Account)
         requires { all_phases self.old.phases + all_phases account.now.phases < 2 ^ 64 }
-        ensures { self.new ≡ with_account self.old account.now }
+        ensures { self.new ≡ with_activity self.old account.now.place account.now.phases }
     {
         self.add(account.place, account.phases);
     }
@@ -66,7 +66,7 @@ impl<A: Allocator> Profile<A> {
     #[tactic(auto, using(crate::proofs::Sums::sums))]
     pub(crate) fn add(&mut self, place: Option<Address>, more: Phases)
         requires { all_phases self.old.phases + all_phases more < 2 ^ 64 }
-        ensures { self.new ≡ with_phases self.old place more }
+        ensures { self.new ≡ with_activity self.old place more }
     {
         let times = more.find + more.take + more.seek + more.act;
         self.phases = added(self.phases, more);

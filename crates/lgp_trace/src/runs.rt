@@ -2,9 +2,9 @@
 
 ghost use Rattle.std.specs.Prelude.{◌≡◌, ◌+◌, ◌≤◌, OnErr, OnOk, sum};
 ghost use Rattle.lgp_debugger.specs.Run.{IsOrderOfRun, IsRun, orders_of};
-ghost use Rattle.lgp_trace.specs.Account.{account_of};
-ghost use Rattle.lgp_trace.specs.Phases.{all_phases};
-ghost use Rattle.lgp_trace.specs.Profile.{profile_of, with_account};
+ghost use Rattle.lgp_trace.specs.Account.{place_of};
+ghost use Rattle.lgp_trace.specs.Phases.{all_phases, phases_of};
+ghost use Rattle.lgp_trace.specs.Profile.{profile_of, with_activity};
 
 use crate::account::place_of;
 use crate::phases::Phases;
@@ -22,8 +22,8 @@ fn note_order<H: History<A>, A: Allocator, B: Allocator>(
 ) -> Result<Option<u8>, StepFault>
     requires { all_phases profile.old.phases ≤ debugger.old.state.clock }
     ensures order { IsOrderOfRun debugger.old.rules debugger.old debugger.new result }
-    ensures noted { OnOk result
-        (profile.new ≡ with_account profile.old (account_of debugger.old.state)) }
+    ensures noted { OnOk result (profile.new ≡ with_activity profile.old
+        (place_of debugger.old.state) (phases_of debugger.old.state)) }
     ensures profile_stays { OnErr result (profile.new ≡ profile.old) }
 {
     let place = place_of(debugger.machine());

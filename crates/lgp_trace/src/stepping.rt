@@ -1,13 +1,13 @@
 //! A debugger's order performed and accounted for.
 
-ghost use Rattle.std.specs.Prelude.{◌≡◌, ◌+◌, ◌<◌, ◌≤◌, ◌↔◌, false, Err, IsTrue, OnErr, OnOk};
-ghost use Rattle.lgp_table.specs.Activity.{cost};
+ghost use Rattle.std.specs.Prelude.{◌≡◌, ◌+◌, ◌-◌, ◌<◌, ◌≤◌, ◌↔◌, false, if◌then◌else◌, Some, None, Err, IsTrue, OnErr, OnOk};
+ghost use Rattle.lgp_table.specs.Activity.{cost, seeks};
 ghost use Rattle.lgp_table.specs.Console.{is_at_rest};
 ghost use Rattle.lgp_history.specs.Step.{Perform};
 ghost use Rattle.lgp_debugger.specs.Debugging.{after_step};
 ghost use Rattle.lgp_machine.specs.Answers.{clock_end};
 ghost use Rattle.lgp_trace.specs.Account.{account_of};
-ghost use Rattle.lgp_trace.specs.OrderInside.{passed_in, with_deeds, with_looks};
+ghost use Rattle.lgp_trace.specs.OrderInside.{passed_in, phases_in};
 
 use crate::account::{Account, Begun, Operand};
 use lgp_debugger::{Debugger, StepFault};
@@ -87,7 +87,14 @@ fn going_account<H: History<A>, A: Allocator>(
 /// first, while they still stand where the debugger keeps them.
 #[inline(always)]
 fn put_looks(account: &mut Account, before: &Look, after: &Look)
-    ensures { account.new ≡ with_looks before.now after.now account.old }
+    ensures { account.new ≡ record account.old {
+      before = record before.now {
+        status = Status.Going;
+        mode = after.now.mode;
+        switches = after.now.switches;
+      };
+      after = after.now;
+    } }
 {
     account.after.switches = after.switches;
     account.before.switches = account.after.switches;
@@ -119,7 +126,12 @@ fn put_deeds(
     printed: Option<Code>,
 )
     requires { 2 ≤ rest }
-    ensures { account.new ≡ with_deeds op find rest operand printed account.old }
+    ensures { account.new ≡ record account.old {
+      phases = phases_in op find rest;
+      operand = if seeks op then Some operand else None;
+      printed = if seeks op then None else printed;
+      passed = passed_in op (rest - 1);
+    } }
 {
     account.phases.find = find;
     account.phases.take = 1;

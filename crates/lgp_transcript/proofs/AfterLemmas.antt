@@ -6,10 +6,12 @@ use Rattle.std.proofs.lemmas.List.{append-nil, map-append, take_more}
 use Rattle.std.proofs.lemmas.List.Folds.{concat-append}
 use Rattle.lgp_stream.specs.Language.{Language, replies_to, state_after}
 use Rattle.lgp_stream.proofs.StreamLemmas.{replies_to-append, state_after-append}
-use Rattle.lgp_transcript.specs.Transcript.{Recorded, after_lines, bytes_of, ended, replies_text, text_of}
+use Rattle.lgp_transcript.specs.Transcript.{Recorded, after_lines, bytes_of, ended, replies_text}
+
+abbrev text_of : List (List ℕ) → List ℕ
+text_of lines = concat (map ended lines)
 
 text_of-append : (xs ys : List (List ℕ)) → text_of (xs ++ ys) ≡ text_of xs ++ text_of ys
-unfolding text_of
 text_of-append [] ys = refl
 text_of-append (x ∷ xs) ys = ap (λ (more : List ℕ). ended x ++ more) (text_of-append xs ys) ∙ sym (append_assoc (ended x) (concat (map ended xs)) (concat (map ended ys)))
 
@@ -26,7 +28,7 @@ replies-append language r xs ys =
     ap concat (replies_to-append language _ xs ys) ∙ concat-append (replies_to language r.standing xs) (replies_to language (state_after language r.standing xs) ys)
 
 pub after-none : {S : Type 0} (language : Language S) (r : Recorded S) → after_lines language r [] ≡ r
-unfolding after_lines text_of
+unfolding after_lines
 after-none language r = ap (λ (t : List ℕ). record { standing = r.standing; transcript = t }) (append-nil r.transcript)
 
 pub replies-none : {S : Type 0} (language : Language S) (r : Recorded S) → replies_text language r [] ≡ []

@@ -1,5 +1,5 @@
 -- What is done by lines that stand for others is what the transcript says.
-use Rattle.std.proofs.Common.{◌≡◌, ℕ, zero, suc, ◌-◌, Bool, true, false, cond, List, [], ◌∷◌, ◌++◌, length, take, get_or, map, refl, sym, ap, subst, ◌∙◌, arith, eqb, append_assoc, length-append}
+use Rattle.std.proofs.Common.{◌≡◌, ℕ, zero, suc, ◌-◌, ◌==◌, Bool, true, false, cond, List, [], ◌∷◌, ◌++◌, length, take, get_or, map, refl, sym, ap, subst, ◌∙◌, arith, eqb, append_assoc, length-append}
 use Rattle.std.specs.List.{AllByRecursion, concat, onto_first, slice_split}
 use Rattle.std.specs.Str.Lines.{lines, lines_of_parts, strip_carriage_return}
 use Rattle.std.proofs.lemmas.List.{append-nil}
@@ -7,9 +7,12 @@ use Rattle.std.proofs.Math.Seq.{get_or-append_seam, take-append_seam}
 use Rattle.lgp_stream.specs.Language.{Language, state_after}
 use Rattle.lgp_stream.specs.StreamInside.{IsCut}
 use Rattle.lgp_stream.proofs.CutLemmas.{IsCut-feed, IsCut-lines, IsCut-none, IsCut-push}
-use Rattle.lgp_transcript.specs.Transcript.{AreLines, HasMeanings, IsLine, IsToldByTranscript, Meaning, Anew, Lines, Recorded, StandForLines, after_lines, after_meaning, ended, ends_with_return, text_of, untouched}
+use Rattle.lgp_transcript.specs.Transcript.{AreLines, HasMeanings, IsLine, IsToldByTranscript, Meaning, Anew, Lines, Recorded, StandForLines, after_lines, after_meaning, ended, untouched}
 
 -- ---- a line behind complete ones
+
+abbrev ends_with_return : List ℕ → Bool
+ends_with_return line = get_or line (length line - 1) 0 == 13
 
 IsCut-all : (bytes : List ℕ) (complete : List (List ℕ)) (piece line : List ℕ) → IsCut bytes complete piece → IsLine line → IsCut (bytes ++ line) complete (piece ++ line)
 IsCut-all bytes complete piece [] cut free = rw (append-nil bytes, append-nil piece) cut
@@ -66,12 +69,11 @@ IsTold-line : {S : Type 0} (language : Language S) (opening standing : S) (trans
 IsTold-line {S} language opening standing transcript line told free = record {
   said = told.said ++ line ∷ [];
   cut = IsCut-ended transcript told.said line told.cut free;
-  stands = grind (arith, state_after-last)
+  stands = grind (arith, state_after-last);
 }
 
 pub IsTold-lines : {S : Type 0} (language : Language S) (opening standing : S) (transcript : List ℕ) (lines : List (List ℕ)) → IsTold language opening standing transcript → AllByRecursion IsLine lines
-    → IsTold language opening (state_after language standing lines) (transcript ++ text_of lines)
-unfolding text_of
+    → IsTold language opening (state_after language standing lines) (transcript ++ concat (map ended lines))
 IsTold-lines language opening standing transcript [] told free = rw (append-nil transcript) told
 IsTold-lines language opening standing transcript (line ∷ lines) told free =
     rw (append_assoc transcript (ended _) (concat (map ended _))) at

@@ -1,6 +1,6 @@
 -- Part of the public promise: a language of lines that stand for lines of another one, and the
 -- transcript, a text of that other language which says what was done.
-use Rattle.std.specs.Prelude.{◌≡◌, ℕ, ◌==◌, ◌-◌, Bool, false, if◌then◌else◌, List, [], ◌∷◌, ◌++◌}
+use Rattle.std.specs.Prelude.{◌≡◌, ℕ, ◌==◌, ◌-◌, false, if◌then◌else◌, List, [], ◌∷◌, ◌++◌}
 use Rattle.std.specs.Prelude.{length, map, codes, slice_index}
 use Rattle.std.specs.List.{AllByRecursion, concat}
 use Rattle.std.specs.Borrow.{Bor}
@@ -21,15 +21,9 @@ pub data Meaning : Type 0 where
 
 -- a line as a text has it: behind a carriage return stands another one, since a text's line loses
 -- one
-abbrev pub ends_with_return : List ℕ → Bool
-ends_with_return line = slice_index line (length line - 1) == 13
-
 unfoldable pub ended : List ℕ → List ℕ
-ended line = line ++ (if ends_with_return line then codes "\r\n" else codes "\n")
-
--- the text of lines
-unfoldable pub text_of : List (List ℕ) → List ℕ
-text_of lines = concat (map ended lines)
+ended line =
+    line ++ (if slice_index line (length line - 1) == 13 then codes "\r\n" else codes "\n")
 
 -- the bytes of borrowed texts
 abbrev pub bytes_of : List (Bor (List ℕ)) → List (List ℕ)
@@ -50,47 +44,47 @@ AreLines (Lines lines) = AllByRecursion IsLine lines
 AreLines Anew = Unit {0}
 
 module _ {S : Type 0} where
-  -- after lines of the other language, and the replies to them
-  unfoldable pub after_lines : Language S → Recorded S → List (List ℕ) → Recorded S
-  after_lines language recorded lines = record {
-    standing = state_after language recorded.standing lines;
-    transcript = recorded.transcript ++ text_of lines;
-  }
-
-  unfoldable pub replies_text : Language S → Recorded S → List (List ℕ) → List ℕ
-  replies_text language recorded lines = concat (replies_to language recorded.standing lines)
-
-  -- with a line more in the transcript, and where it stands otherwise
-  abbrev pub with_line : Recorded S → List ℕ → Recorded S
-  with_line recorded line =
-      record { standing = recorded.standing; transcript = recorded.transcript ++ ended line }
-
-  abbrev pub with_standing : Recorded S → S → Recorded S
-  with_standing recorded standing = record { standing = standing; transcript = recorded.transcript }
-
   -- before the first line
   abbrev pub untouched : S → Recorded S
   untouched standing = record { standing = standing; transcript = [] }
 
+  -- with a line more in the transcript, and where it stands otherwise
+  abbrev pub with_line : Recorded S → List ℕ → Recorded S
+  with_line recorded line = record recorded { transcript = recorded.transcript ++ ended line }
+
+  abbrev pub with_standing : Recorded S → S → Recorded S
+  with_standing recorded standing = record recorded { standing = standing }
+
+  -- lines stand for lines
+  abbrev pub StandForLines : (Recorded S → List ℕ → Meaning) → Type 0
+  StandForLines meaning =
+      (recorded : Recorded S) (line : List ℕ) → IsLine line → AreLines (meaning recorded line)
+
+-- the other language
+module _ {S : Type 0} (language : Language S) where
+  -- after lines of it, and the replies to them
+  unfoldable pub after_lines : Recorded S → List (List ℕ) → Recorded S
+  after_lines recorded lines = record {
+    standing = state_after language recorded.standing lines;
+    transcript = recorded.transcript ++ concat (map ended lines);
+  }
+
+  unfoldable pub replies_text : Recorded S → List (List ℕ) → List ℕ
+  replies_text recorded lines = concat (replies_to language recorded.standing lines)
+
   -- after a line of this meaning
-  abbrev pub after_meaning : Language S → S → Recorded S → Meaning → Recorded S
-  after_meaning language opening recorded (Lines lines) = after_lines language recorded lines
-  after_meaning language opening recorded Anew = untouched opening
+  abbrev pub after_meaning : S → Recorded S → Meaning → Recorded S
+  after_meaning opening recorded (Lines lines) = after_lines recorded lines
+  after_meaning opening recorded Anew = untouched opening
 
--- a language of lines with a meaning each: its lines do to a transcript and to where it stands what
--- they mean
-abbrev pub HasMeanings : {S : Type 0} → Language S → S → (Recorded S → List ℕ → Meaning)
-    → Language (Recorded S) → Type 0
-HasMeanings {S} language opening meaning typed =
-    (recorded : Recorded S) (line : List ℕ)
-    → typed.after recorded line ≡ after_meaning language opening recorded (meaning recorded line)
+  -- a language of lines with a meaning each: its lines do to a transcript and to where it stands
+  -- what they mean
+  abbrev pub HasMeanings : S → (Recorded S → List ℕ → Meaning) → Language (Recorded S) → Type 0
+  HasMeanings opening meaning typed =
+      (recorded : Recorded S) (line : List ℕ)
+      → typed.after recorded line ≡ after_meaning opening recorded (meaning recorded line)
 
--- lines stand for lines
-abbrev pub StandForLines : {S : Type 0} → (Recorded S → List ℕ → Meaning) → Type 0
-StandForLines {S} meaning =
-    (recorded : Recorded S) (line : List ℕ) → IsLine line → AreLines (meaning recorded line)
-
--- wherever a text leads, the other language puts it there for the transcript
-abbrev pub IsToldByTranscript : {S : Type 0} → Language S → S → Recorded S → Type 0
-IsToldByTranscript language opening recorded =
-    recorded.standing ≡ state_after language opening (lines recorded.transcript)
+  -- wherever a text leads, the other language puts it there for the transcript
+  abbrev pub IsToldByTranscript : S → Recorded S → Type 0
+  IsToldByTranscript opening recorded =
+      recorded.standing ≡ state_after language opening (lines recorded.transcript)

@@ -97,7 +97,7 @@ impl<L: Answers<A>, A: Allocator + Copy> Recorder<L, A> {
     }
 
     /// Answers a line, and keeps it. A refused growth may leave it kept and not answered.
-    #[tactic(auto, unfolding(crate::specs::Transcript::after_lines, crate::specs::Transcript::replies_text, crate::specs::Transcript::text_of))]
+    #[tactic(auto, unfolding(crate::specs::Transcript::after_lines, crate::specs::Transcript::replies_text))]
     pub fn answer_line(&mut self, line: &[u8], reply: &mut Vec<u8, A>) -> Result<(), AllocError>
         ensures reply { OnOk result (reply.new.items
             ≡ reply.old.items ++ replies_text L.language self.old (line.now ∷ [])) }

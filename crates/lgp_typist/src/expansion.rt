@@ -1,7 +1,7 @@
 //! What is typed at a desk for what stands in files.
 
-ghost use Rattle.std.specs.Prelude.{◌≡◌, ◌*◌, ◌<◌, ◌++◌, OnOk, length, take};
-ghost use Rattle.lgp_typist.specs.Expansions.{bad_sign_text, block_head, codes_of_line, counted_trouble, ended_text, file_note, fixed_trouble, line_codes, line_note, line_of, named_note, refusal_front, tape_line, tape_lines, trouble_text, typed_block, typed_kept, typed_mount, typed_refusal, typed_restore, typed_source, typed_tape};
+ghost use Rattle.std.specs.Prelude.{◌≡◌, ◌*◌, ◌<◌, ◌++◌, OnOk, codes, drop, length, take};
+ghost use Rattle.lgp_typist.specs.Expansions.{counted_trouble, ended_text, file_note, fixed_trouble, line_note, line_of, named_note, tape_line, tape_lines, typed_block, typed_kept, typed_refusal, typed_restore, typed_source, typed_tape};
 
 use crate::filing::FileTrouble;
 use lgp_flexo::{Code, write_tape_text};
@@ -103,13 +103,13 @@ pub(crate) fn push_source<A: Allocator>(
 }
 
 /// Appends the line that opens a block of a kind, for the file of a name.
-#[tactic(auto, unfolding(crate::specs::Expansions::block_head))]
 fn push_block_head<A: Allocator>(
     text: &mut Vec<u8, A>,
     kind: &'static [u8],
     name: &[u8],
 ) -> Result<(), AllocError>
-    ensures { OnOk result (text.new.items ≡ text.old.items ++ block_head kind.now name.now) }
+    ensures { OnOk result (text.new.items ≡ text.old.items
+        ++ (codes "#< " ++ (kind.now ++ (codes " " ++ (name.now ++ codes "\n"))))) }
 {
     push_pieces(
         text,
@@ -167,10 +167,9 @@ fn front_of(tape: &[Code], count: usize) -> &[Code]
 }
 
 /// The codes of a line of a tape's block.
-#[tactic(auto, unfolding(crate::specs::Expansions::codes_of_line))]
 fn codes_of_line(tape: &[Code], number: usize) -> &[Code]
-    requires { number * line_codes < length tape.now }
-    ensures { result.now ≡ codes_of_line tape.now number }
+    requires { number * 1000 < length tape.now }
+    ensures { result.now ≡ take 1000 (drop (number * 1000) tape.now) }
 {
     front_of(&tape[number * LINE_CODES..], LINE_CODES)
 }
@@ -183,7 +182,7 @@ fn push_tape_line<A: Allocator + Copy>(
     tape: &[Code],
     number: usize,
 ) -> Result<(), AllocError>
-    requires { number * line_codes < length tape.now }
+    requires { number * 1000 < length tape.now }
     ensures { OnOk result (text.new.items ≡ text.old.items ++ tape_line tape.now number) }
 {
     let line = write_tape_text(alloc, codes_of_line(tape, number))?;
@@ -207,9 +206,9 @@ fn push_tape_lines<A: Allocator + Copy>(
 }
 
 /// Appends the line that mounts a tape.
-#[tactic(auto, unfolding(crate::specs::Expansions::typed_mount))]
 fn push_mount<A: Allocator>(text: &mut Vec<u8, A>, tape: &[u8]) -> Result<(), AllocError>
-    ensures { OnOk result (text.new.items ≡ text.old.items ++ typed_mount tape.now) }
+    ensures { OnOk result (text.new.items ≡ text.old.items
+        ++ (codes "mount " ++ (tape.now ++ codes "\n"))) }
 {
     push_pieces(
         text,
@@ -246,7 +245,8 @@ fn push_bad_sign<A: Allocator>(
     place: u64,
     line: u64,
 ) -> Result<(), AllocError>
-    ensures { OnOk result (text.new.items ≡ text.old.items ++ bad_sign_text place line) }
+    ensures { OnOk result (text.new.items ≡ text.old.items
+        ++ counted_trouble (FileTrouble.BadSign place line)) }
 {
     push_pieces(
         text,
@@ -292,18 +292,18 @@ fn push_counted_trouble<A: Allocator>(
 }
 
 /// Appends why a file is refused.
-#[tactic(auto, unfolding(crate::specs::Expansions::trouble_text))]
 fn push_trouble<A: Allocator>(text: &mut Vec<u8, A>, trouble: FileTrouble) -> Result<(), AllocError>
-    ensures { OnOk result (text.new.items ≡ text.old.items ++ trouble_text trouble) }
+    ensures { OnOk result (text.new.items ≡ text.old.items
+        ++ (fixed_trouble trouble ++ counted_trouble trouble)) }
 {
     text.extend_from_slice(fixed_trouble(trouble))?;
     push_counted_trouble(text, trouble)
 }
 
 /// Appends the front of the refusal of a file.
-#[tactic(auto, unfolding(crate::specs::Expansions::refusal_front))]
 fn push_refusal_front<A: Allocator>(text: &mut Vec<u8, A>, name: &[u8]) -> Result<(), AllocError>
-    ensures { OnOk result (text.new.items ≡ text.old.items ++ refusal_front name.now) }
+    ensures { OnOk result (text.new.items ≡ text.old.items
+        ++ (codes "#> ? 13 File " ++ (name.now ++ codes ": "))) }
 {
     push_pieces(
         text,

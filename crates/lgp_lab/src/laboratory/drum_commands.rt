@@ -2,7 +2,9 @@
 
 ghost use Rattle.std.specs.Prelude.{◌≡◌, ◌++◌, OnOk, codes, decimal};
 ghost use Rattle.lgp_listing.specs.Dump.{cell_line, dump_of};
-ghost use Rattle.lgp_lab.specs.DrumCommands.{answer_to_dump, answer_to_put, answer_to_show, answer_to_words, dump_text, lines_text, order_line};
+ghost use Rattle.lgp_history.specs.Step.{Put};
+ghost use Rattle.lgp_lab.specs.Standing.{answer_to_step};
+ghost use Rattle.lgp_lab.specs.DrumCommands.{answer_to_words, dump_text, lines_text, order_line};
 
 use super::Laboratory;
 use crate::refusal::{Refusal, push_counted, push_refusal};
@@ -23,8 +25,10 @@ impl<A: Allocator + Copy> Laboratory<A> {
         reply: &mut Vec<u8, A>,
     ) -> Result<(), AllocError>
         ensures reply { OnOk result (reply.new.items
-            ≡ reply.old.items ++ (answer_to_put self.old address word).reply) }
-        ensures after { OnOk result (self.new ≡ (answer_to_put self.old address word).after) }
+            ≡ reply.old.items
+            ++ (answer_to_step (codes "ok\n") self.old (Put address word)).reply) }
+        ensures after { OnOk result (self.new
+            ≡ (answer_to_step (codes "ok\n") self.old (Put address word)).after) }
     {
         match self.debugger.put(address, word) {
             Ok(()) => reply.extend_from_slice(b"ok\n"),
@@ -36,7 +40,7 @@ impl<A: Allocator + Copy> Laboratory<A> {
     /// Shows words by their digits.
     pub(super) fn words(&self, span: &Span, reply: &mut Vec<u8, A>) -> Result<(), AllocError>
         ensures { OnOk result (reply.new.items
-            ≡ reply.old.items ++ (answer_to_words self.now span.now).reply) }
+            ≡ reply.old.items ++ (answer_to_words cell_line self.now span.now).reply) }
     {
         push_words(reply, self.debugger.machine(), span)
     }
@@ -44,7 +48,7 @@ impl<A: Allocator + Copy> Laboratory<A> {
     /// Shows words by their disassembly.
     pub(super) fn show(&self, span: &Span, reply: &mut Vec<u8, A>) -> Result<(), AllocError>
         ensures { OnOk result (reply.new.items
-            ≡ reply.old.items ++ (answer_to_show self.now span.now).reply) }
+            ≡ reply.old.items ++ (answer_to_words order_line self.now span.now).reply) }
     {
         push_orders(reply, self.debugger.machine(), span)
     }
@@ -52,7 +56,7 @@ impl<A: Allocator + Copy> Laboratory<A> {
     /// Shows all words that are not zero.
     pub(super) fn dump(&self, reply: &mut Vec<u8, A>) -> Result<(), AllocError>
         ensures { OnOk result (reply.new.items
-            ≡ reply.old.items ++ (answer_to_dump self.now).reply) }
+            ≡ reply.old.items ++ dump_text self.now.debugger.state.core.words) }
     {
         push_dump(self.alloc, reply, self.debugger.machine())
     }

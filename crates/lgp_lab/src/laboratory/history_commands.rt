@@ -33,7 +33,7 @@ impl<A: Allocator + Copy> Laboratory<A> {
     }
 
     /// Takes a rule out.
-    #[tactic(auto, unfolding(crate::specs::HistoryCommands::answer_to_drop, crate::specs::HistoryCommands::dropped_text))]
+    #[tactic(auto, unfolding(crate::specs::HistoryCommands::answer_to_drop))]
     pub(super) fn drop_rule(
         &mut self,
         number: u64,

@@ -1,9 +1,11 @@
 //! Pressing, waiting, performing orders, the panel.
 
-ghost use Rattle.std.specs.Prelude.{◌≡◌, ◌++◌, ◌≤◌, IfOk, IsTrue, OnOk, length};
+ghost use Rattle.std.specs.Prelude.{◌≡◌, ◌++◌, ◌≤◌, IfOk, IsTrue, OnOk, codes, length};
 ghost use Rattle.lgp_table.specs.Interleaving.{is_boundary};
 ghost use Rattle.lgp_stream.specs.KeptLine.{line_limit};
-ghost use Rattle.lgp_lab.specs.MachineCommands.{answer_to_orders, answer_to_panel, answer_to_press, answer_to_turn, answer_to_type, clock_text, orders_text, panel_text, reader_text, registers_text, typed, typed_text};
+ghost use Rattle.lgp_flexo.specs.TapeText.{codes_of_text};
+ghost use Rattle.lgp_lab.specs.Refusal.{counted_text};
+ghost use Rattle.lgp_lab.specs.MachineCommands.{answer_to_keys, answer_to_orders, answer_to_press, answer_to_turn, orders_text, panel_text, reader_text, registers_text, typed, typed_text};
 ghost use Rattle.lgp_text.specs.PanelWords.{mode_text, on_text, status_text, switches_text};
 
 use super::Laboratory;
@@ -38,8 +40,9 @@ impl<A: Allocator + Copy> Laboratory<A> {
     ) -> Result<(), AllocError>
         requires { length text.now ≤ line_limit }
         ensures reply { OnOk result (reply.new.items
-            ≡ reply.old.items ++ (answer_to_type self.old text.now).reply) }
-        ensures after { OnOk result (self.new ≡ (answer_to_type self.old text.now).after) }
+            ≡ reply.old.items ++ (answer_to_keys self.old (codes_of_text text.now)).reply) }
+        ensures after { OnOk result (self.new
+            ≡ (answer_to_keys self.old (codes_of_text text.now)).after) }
     {
         match read_codes(self.alloc, text)? {
             Ok(codes) => {
@@ -84,7 +87,7 @@ impl<A: Allocator + Copy> Laboratory<A> {
     /// Shows the panel.
     pub(super) fn panel(&self, reply: &mut Vec<u8, A>) -> Result<(), AllocError>
         ensures { OnOk result (reply.new.items
-            ≡ reply.old.items ++ (answer_to_panel self.now).reply) }
+            ≡ reply.old.items ++ panel_text self.now.debugger.state) }
     {
         push_panel(reply, self.debugger.machine())
     }
@@ -137,7 +140,7 @@ fn push_keys<A: Allocator>(text: &mut Vec<u8, A>, keys: Keys) -> Result<(), Allo
 
 /// Appends a clock.
 pub(super) fn push_clock<A: Allocator>(text: &mut Vec<u8, A>, clock: u64) -> Result<(), AllocError>
-    ensures { OnOk result (text.new.items ≡ text.old.items ++ clock_text clock) }
+    ensures { OnOk result (text.new.items ≡ text.old.items ++ counted_text (codes "clock ") clock) }
 {
     push_counted(text, b"clock ", clock)
 }

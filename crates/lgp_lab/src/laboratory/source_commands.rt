@@ -1,10 +1,10 @@
 //! Sources and their listings.
 
-ghost use Rattle.std.specs.Prelude.{◌≡◌, ◌++◌, List, ℕ, None, Some, OnOk, codes};
+ghost use Rattle.std.specs.Prelude.{◌≡◌, ◌++◌, [], List, ℕ, Some, OnOk, codes};
 ghost use Rattle.lgp_stream.specs.KeptLine.{kept_of};
-ghost use Rattle.lgp_lab.specs.SourceCommands.{answer_in_source, answer_to_list, answer_to_end, answer_to_source, cells_text, faults_text, start_text};
+ghost use Rattle.lgp_lab.specs.SourceCommands.{answer_in_source, answer_to_end, cells_text, faults_text, list_text, start_text};
+ghost use Rattle.lgp_lab.specs.SourceText.{source_of};
 ghost use Rattle.lgp_assembler.specs.Image.{image_of};
-ghost use Rattle.lgp_lab.specs.Standing.{with_opened};
 
 use super::Laboratory;
 use crate::program::Program;
@@ -19,7 +19,7 @@ use std::alloc::{AllocError, Allocator};
 impl<A: Allocator + Copy> Laboratory<A> {
     /// Opens a source: the lines that follow are its lines.
     pub(super) fn open_source(&mut self)
-        ensures { self.new ≡ (answer_to_source self.old).after }
+        ensures { self.new ≡ record self.old { opened = Some (source_of []) } }
     {
         self.opened = Some(SourceText::new(self.alloc));
     }
@@ -53,9 +53,9 @@ impl<A: Allocator + Copy> Laboratory<A> {
         reply: &mut Vec<u8, A>,
     ) -> Result<(), AllocError>
         ensures reply { OnOk result (reply.new.items
-            ≡ reply.old.items ++ (answer_to_end (with_opened self.old None) source).reply) }
+            ≡ reply.old.items ++ (answer_to_end self.old source).reply) }
         ensures after { OnOk result (self.new
-            ≡ (answer_to_end (with_opened self.old None) source).after) }
+            ≡ (answer_to_end self.old source).after) }
     {
         self.opened = None;
         if source.is_too_long() {
@@ -87,7 +87,7 @@ impl<A: Allocator + Copy> Laboratory<A> {
     #[tactic(auto, unfolding(crate::specs::SourceCommands::list_text))]
     pub(super) fn list(&self, reply: &mut Vec<u8, A>) -> Result<(), AllocError>
         ensures { OnOk result (reply.new.items
-            ≡ reply.old.items ++ (answer_to_list self.now).reply) }
+            ≡ reply.old.items ++ list_text self.now.source) }
     {
         let Some(program) = &self.program else {
             push_refusal(reply, Refusal::NoImage)?;

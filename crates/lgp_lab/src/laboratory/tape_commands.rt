@@ -3,7 +3,8 @@
 ghost use Rattle.std.specs.Prelude.{◌≡◌, ◌++◌, ◌≤◌, IfErr, IfOk, OnOk, codes, decimal, length, vec_len};
 ghost use Rattle.lgp_flexo.specs.TapeText.{codes_of_text};
 ghost use Rattle.lgp_stream.specs.KeptLine.{line_limit};
-ghost use Rattle.lgp_lab.specs.TapeCommands.{answer_to_mount, answer_to_printed, answer_to_tape, answer_to_tape_text, count_text, printed_text};
+ghost use Rattle.lgp_lab.specs.TapeCommands.{answer_to_tape, answer_to_tape_text, printed_text};
+ghost use Rattle.lgp_lab.specs.Refusal.{counted_text};
 
 use super::Laboratory;
 use crate::refusal::{Refusal, push_refusal};
@@ -17,8 +18,9 @@ impl<A: Allocator + Copy> Laboratory<A> {
     pub(super) fn mount(&mut self, text: &[u8], reply: &mut Vec<u8, A>) -> Result<(), AllocError>
         requires { length text.now ≤ line_limit }
         ensures reply { OnOk result (reply.new.items
-            ≡ reply.old.items ++ (answer_to_mount self.old text.now).reply) }
-        ensures after { OnOk result (self.new ≡ (answer_to_mount self.old text.now).after) }
+            ≡ reply.old.items ++ (answer_to_tape self.old (codes_of_text text.now)).reply) }
+        ensures after { OnOk result (self.new
+            ≡ (answer_to_tape self.old (codes_of_text text.now)).after) }
     {
         match read_codes(self.alloc, text)? {
             Ok(codes) => self.mount_codes(codes, reply),
@@ -64,7 +66,7 @@ impl<A: Allocator + Copy> Laboratory<A> {
     /// Shows what is printed.
     pub(super) fn printed(&self, reply: &mut Vec<u8, A>) -> Result<(), AllocError>
         ensures { OnOk result (reply.new.items
-            ≡ reply.old.items ++ (answer_to_printed self.now).reply) }
+            ≡ reply.old.items ++ printed_text self.now.debugger.state.printed) }
     {
         push_printed(self.alloc, reply, self.debugger.machine().printed())
     }
@@ -92,7 +94,7 @@ pub(super) fn read_codes<A: Allocator + Copy>(
 
 /// Appends the number of codes mounted.
 fn push_count<A: Allocator>(text: &mut Vec<u8, A>, count: u64) -> Result<(), AllocError>
-    ensures { OnOk result (text.new.items ≡ text.old.items ++ count_text count) }
+    ensures { OnOk result (text.new.items ≡ text.old.items ++ counted_text (codes "ok ") count) }
 {
     push_pieces(
         text,

@@ -1,5 +1,4 @@
 use Rattle.std.proofs.Common.{subst}
-use Rattle.lgp_loader.specs.BlockLoading.{longest_load}
 use Rattle.lgp_loader.specs.LoadedOver.{IsLoadedOver}
 use Rattle.lgp_loader.specs.Loading.{TapeLoad, loaded}
 use Rattle.lgp_loader.specs.ReadyInside.{IsReady}
@@ -14,15 +13,15 @@ returns-clause-orders g c =
 pub returns-clause-ready : goal.returns-clause-ready
 returns-clause-ready g c =
     let known = c.program_cells-cells.ensures in
-    let orders = longest_orders c.args.image.now c.program_cells-cells.result.now c.count_longest.result c.orders_for-orders.result
+    let orders = longest_orders c.args.image.now _ _ _
     known.cells c.count_longest.ensures.count c.orders_for-orders.ensures in
-    let same = same_load (longest_load c.args.image.now) c.in_ok-tape.tape.items c.orders_for-orders.result c.in_ok-tape.ensures.tape orders in
+    let same = same_load _ _ _ c.in_ok-tape.ensures.tape orders in
     λ s long. subst (IsReady s) same (longest_ready s c.args.image.now long known.program known.few known.start)
 
 pub returns-clause-program : goal.returns-clause-program
 returns-clause-program g c =
     let known = c.program_cells-cells.ensures in
-    let orders = longest_orders c.args.image.now c.program_cells-cells.result.now c.count_longest.result c.orders_for-orders.result
+    let orders = longest_orders c.args.image.now _ _ _
     known.cells c.count_longest.ensures.count c.orders_for-orders.ensures in
-    let same = same_load (longest_load c.args.image.now) c.in_ok-tape.tape.items c.orders_for-orders.result c.in_ok-tape.ensures.tape orders in
+    let same = same_load _ _ _ c.in_ok-tape.ensures.tape orders in
     λ s long. subst (λ (load : TapeLoad). IsLoadedOver s.core.words (loaded s load).core.words c.args.image.now.cells) same (longest_over s c.args.image.now long known.program known.places known.start)

@@ -24,12 +24,10 @@ loop-number-preserved g c =
           ∙ ap (λ (a : ℕ). cells ++ cond (old == new) [] ((a, new) ∷ [])) here
           ∙ ap (λ (o : ℕ). cells ++ cond (o == new) [] ((number, new) ∷ [])) old_is
           ∙ ap (λ (n : ℕ). cells ++ cond (get_or olds number 0 == n) [] ((number, n) ∷ [])) new_is)
-          ∙ changed_more cells (changed_cells 0 olds news) olds news number within_olds within_news c.loop-number.invariant.cells;
+          ∙ changed_more _ _ _ _ _ within_olds within_news c.loop-number.invariant.cells;
     }
 
 pub returns : goal.returns
 returns g c =
-    let olds = c.args.machine.now.state.core.words in
-    let news = c.args.drum.now in
-    changed_all c.loop-number.cells.items (changed_cells 0 olds news) olds news c.loop-number.number
+    changed_all _ _ _ _ _
     (omega (arith, c.loop-number.invariant.before (omega arith))) c.loop-number.invariant.cells

@@ -7,9 +7,9 @@ use Rattle.lgp_monitor.proofs.blocks.put_cells.Goals as goal
 
 pub loop-cell-preserved : goal.loop-cell-preserved
 loop-cell-preserved g c =
-    put_more c.loop-cell.recorder c.answer_line.new.self
-    (after_lines script_language c.args.recorder.now (map put_cell c.args.cells.now))
-    c.deref.result.now c.args.cells.now c.loop-cell.cell-index _ c.loop-cell-test.true
+    put_more _ _
+    _
+    _ _ _ _ c.loop-cell-test.true
     (c.deref.ensures.value ∙ c.in_ok-line.ensures ∙ ap put_cell c.cell-item.is) c.in_ok-answer_line.ensures.after c.loop-cell.invariant
 
 pub returns : goal.returns

@@ -23,49 +23,49 @@ not_order line e = cc (e)
 pub returns-in-Ok-clause-reply : goal.returns-in-Ok-clause-reply
 returns-in-Ok-clause-reply g c = on_ok_weaker c.restore_drum.result
     (λ is. is ∙ ap (λ (text : List ℕ). c.args.reply.now.items ++ text)
-    (restored_reply c.args.recorder.now c.in-Ok.drum c.args.dump.now c.in-Ok.ensures.words c.in-Ok.ensures.drum))
+    (restored_reply _ _ _ c.in-Ok.ensures.words c.in-Ok.ensures.drum))
     c.restore_drum.ensures.reply
 
 pub returns-in-Ok-clause-after : goal.returns-in-Ok-clause-after
 returns-in-Ok-clause-after g c = on_ok_weaker c.restore_drum.result
     (λ is. is ∙ ap (λ (lines : List (List ℕ)). after_lines script_language c.args.recorder.now lines)
-    (restored_lines c.args.recorder.now c.in-Ok.drum c.args.dump.now c.in-Ok.ensures.words c.in-Ok.ensures.drum))
+    (restored_lines _ _ _ c.in-Ok.ensures.words c.in-Ok.ensures.drum))
     c.restore_drum.ensures.after
 
 pub returns-in-Err-Form-clause-reply : goal.returns-in-Err-Form-clause-reply
 returns-in-Err-Form-clause-reply g c =
     let fault : DumpFault = Form c.in-Err-Form.line in
     let found : first_fault c.args.dump.now ≡ Some fault =
-    fault_is c.read_dump.result fault (first_fault c.args.dump.now) (c.in-Err-Form.is ∙ ap Err c.in-Err-Form.field-0-is) (not_form c.in-Err-Form.line)
+    fault_is _ _ _ (c.in-Err-Form.is ∙ ap Err c.in-Err-Form.field-0-is) (not_form _)
     c.read_dump.ensures.faulty c.read_dump.ensures.faultless in
     on_ok_weaker c.push_dump_fault.result
     (λ is. is ∙ ap (λ (line : ℕ). c.args.reply.now.items ++ dump_fault_text (Form line)) c.in-Err-Form.line-is
-    ∙ ap (λ (text : List ℕ). c.args.reply.now.items ++ text) (faulty_reply c.args.recorder.now c.args.dump.now fault found))
+    ∙ ap (λ (text : List ℕ). c.args.reply.now.items ++ text) (faulty_reply _ _ _ found))
     c.push_dump_fault.ensures
 
 pub returns-in-Err-Form-clause-after : goal.returns-in-Err-Form-clause-after
 returns-in-Err-Form-clause-after g c =
     let fault : DumpFault = Form c.in-Err-Form.line in
     let found : first_fault c.args.dump.now ≡ Some fault =
-    fault_is c.read_dump.result fault (first_fault c.args.dump.now) (c.in-Err-Form.is ∙ ap Err c.in-Err-Form.field-0-is) (not_form c.in-Err-Form.line)
+    fault_is _ _ _ (c.in-Err-Form.is ∙ ap Err c.in-Err-Form.field-0-is) (not_form _)
     c.read_dump.ensures.faulty c.read_dump.ensures.faultless in
-    on_ok_always c.push_dump_fault.result (faulty_after c.args.recorder.now c.args.dump.now fault found)
+    on_ok_always _ (faulty_after _ _ _ found)
 
 pub returns-in-Err-Order-clause-reply : goal.returns-in-Err-Order-clause-reply
 returns-in-Err-Order-clause-reply g c =
     let fault : DumpFault = Order c.in-Err-Order.line in
     let found : first_fault c.args.dump.now ≡ Some fault =
-    fault_is c.read_dump.result fault (first_fault c.args.dump.now) (c.in-Err-Order.is ∙ ap Err c.in-Err-Order.field-0-is) (not_order c.in-Err-Order.line)
+    fault_is _ _ _ (c.in-Err-Order.is ∙ ap Err c.in-Err-Order.field-0-is) (not_order _)
     c.read_dump.ensures.faulty c.read_dump.ensures.faultless in
     on_ok_weaker c.push_dump_fault-in-Err-Order.result
     (λ is. is ∙ ap (λ (line : ℕ). c.args.reply.now.items ++ dump_fault_text (Order line)) c.in-Err-Order.line-is
-    ∙ ap (λ (text : List ℕ). c.args.reply.now.items ++ text) (faulty_reply c.args.recorder.now c.args.dump.now fault found))
+    ∙ ap (λ (text : List ℕ). c.args.reply.now.items ++ text) (faulty_reply _ _ _ found))
     c.push_dump_fault-in-Err-Order.ensures
 
 pub returns-in-Err-Order-clause-after : goal.returns-in-Err-Order-clause-after
 returns-in-Err-Order-clause-after g c =
     let fault : DumpFault = Order c.in-Err-Order.line in
     let found : first_fault c.args.dump.now ≡ Some fault =
-    fault_is c.read_dump.result fault (first_fault c.args.dump.now) (c.in-Err-Order.is ∙ ap Err c.in-Err-Order.field-0-is) (not_order c.in-Err-Order.line)
+    fault_is _ _ _ (c.in-Err-Order.is ∙ ap Err c.in-Err-Order.field-0-is) (not_order _)
     c.read_dump.ensures.faulty c.read_dump.ensures.faultless in
-    on_ok_always c.push_dump_fault-in-Err-Order.result (faulty_after c.args.recorder.now c.args.dump.now fault found)
+    on_ok_always _ (faulty_after _ _ _ found)

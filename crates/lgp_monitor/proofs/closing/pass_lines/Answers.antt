@@ -8,7 +8,7 @@ behind n xs x rest e = sym (drop-drop 1 n xs) ∙ ap (drop 1) e
 
 none-left : {X : Type 0} (n count : ℕ) (xs : List X) → drop n xs ≡ [] → n ≤ count → drop count xs ≡ []
 none-left n count xs e few =
-    let none : length xs - n ≡ 0 = sym (length-drop n xs) ∙ ap length e in drop_all count xs (omega (arith, none, few))
+    let none : length xs - n ≡ 0 = sym (length-drop n xs) ∙ ap length e in drop_all _ xs (omega (arith, none, few))
 
 pub returns-in_default : goal.returns-in_default
 returns-in_default c =

@@ -1,18 +1,21 @@
-use Rattle.std.proofs.Common.{◌≡◌, ◌∙◌, ◌++◌, ◌∷◌, List, ℕ, ap, codes}
+use Rattle.std.proofs.Common.{◌≡◌, ◌∙◌, ◌++◌, ◌∷◌, [], List, ℕ, ap, codes}
 use Rattle.std.proofs.lemmas.Result.{on_ok_weaker}
 use Rattle.lgp_lab.specs.Script.{script_language}
 use Rattle.lgp_transcript.specs.Transcript.{after_lines, replies_text}
-use Rattle.lgp_monitor.specs.Monitor.{go_lines, jump_line, lines_behind_jump}
+use Rattle.lgp_monitor.specs.Monitor.{go_lines, jump_line}
 use Rattle.lgp_monitor.proofs.GoLemmas.{after-three, replies-three}
 use Rattle.lgp_monitor.proofs.monitor.go.Goals as goal
+
+abbrev lines_behind_jump : List (List ℕ)
+lines_behind_jump = codes "press fill" ∷ codes "press oneop" ∷ codes "press execute" ∷ codes "orders 1" ∷ codes "press normal" ∷ codes "press start" ∷ []
 
 pub returns-clause-reply : goal.returns-clause-reply
 unfolding go_lines
 returns-clause-reply g c =
     let jump : c.deref.result.now ≡ jump_line c.args.address = c.deref.ensures.value ∙ c.in_ok-jump.ensures in
     on_ok_weaker c.answer_lines.result
-    (λ is. replies-three script_language c.args.recorder.now c.answer_line.new.self c.answer_line-2.new.self (codes "press manual") c.deref.result.now lines_behind_jump
-    c.args.reply.now.items c.answer_line.new.reply.items c.answer_line-2.new.reply.items c.answer_lines.new.reply.items
+    (λ is. replies-three _ _ _ _ _ _ _
+    _ _ _ _
     c.in_ok-answer_line.ensures.after c.in_ok-answer_line-2.ensures.after c.in_ok-answer_line.ensures.reply c.in_ok-answer_line-2.ensures.reply is
     ∙ ap (λ (line : List ℕ). c.args.reply.now.items ++ replies_text script_language c.args.recorder.now (codes "press manual" ∷ line ∷ lines_behind_jump)) jump)
     c.answer_lines.ensures.reply
@@ -22,7 +25,7 @@ unfolding go_lines
 returns-clause-after g c =
     let jump : c.deref.result.now ≡ jump_line c.args.address = c.deref.ensures.value ∙ c.in_ok-jump.ensures in
     on_ok_weaker c.answer_lines.result
-    (λ is. after-three script_language c.args.recorder.now c.answer_line.new.self c.answer_line-2.new.self c.answer_lines.new.self (codes "press manual") c.deref.result.now lines_behind_jump
+    (λ is. after-three _ _ _ _ _ _ _ _
     c.in_ok-answer_line.ensures.after c.in_ok-answer_line-2.ensures.after is
     ∙ ap (λ (line : List ℕ). after_lines script_language c.args.recorder.now (codes "press manual" ∷ line ∷ lines_behind_jump)) jump)
     c.answer_lines.ensures.after

@@ -14,20 +14,20 @@ on_ok_always (Err e) p = tt
 
 pub returns-in-Transcript-clause-after : goal.returns-in-Transcript-clause-after
 returns-in-Transcript-clause-after g c = λ text kept asked.
-    on_ok_always c.extend_from_slice.result
-    (sym (ap (λ (asked : Typed). after_meaning script_language opening_standing c.args.recorder.now (meaning_of asked c.args.line.now)) c.in-Transcript.is ∙ after-none script_language c.args.recorder.now))
+    on_ok_always _
+    (sym (ap (λ (asked : Typed). after_meaning script_language opening_standing c.args.recorder.now (meaning_of asked c.args.line.now)) c.in-Transcript.is ∙ after-none _ _))
 
 pub returns-in-Help-clause-after : goal.returns-in-Help-clause-after
 returns-in-Help-clause-after g c = λ text kept asked.
-    on_ok_always c.push_help.result
-    (sym (ap (λ (asked : Typed). after_meaning script_language opening_standing c.args.recorder.now (meaning_of asked c.args.line.now)) c.in-Help.is ∙ after-none script_language c.args.recorder.now))
+    on_ok_always _
+    (sym (ap (λ (asked : Typed). after_meaning script_language opening_standing c.args.recorder.now (meaning_of asked c.args.line.now)) c.in-Help.is ∙ after-none _ _))
 
 pub returns-in-HelpOf-clause-after : goal.returns-in-HelpOf-clause-after
 returns-in-HelpOf-clause-after g c = λ text kept asked.
-    on_ok_always c.push_form_behind.result
-    (sym (ap (λ (asked : Typed). after_meaning script_language opening_standing c.args.recorder.now (meaning_of asked c.args.line.now)) c.in-HelpOf.is ∙ after-none script_language c.args.recorder.now))
+    on_ok_always _
+    (sym (ap (λ (asked : Typed). after_meaning script_language opening_standing c.args.recorder.now (meaning_of asked c.args.line.now)) c.in-HelpOf.is ∙ after-none _ _))
 
 pub returns-in-Asked-clause-after : goal.returns-in-Asked-clause-after
 returns-in-Asked-clause-after g c = λ text kept asked.
-    on_ok_always c.push_answer.result
-    (sym (ap (λ (asked : Typed). after_meaning script_language opening_standing c.args.recorder.now (meaning_of asked c.args.line.now)) c.in-Asked.is ∙ after-none script_language c.args.recorder.now))
+    on_ok_always _
+    (sym (ap (λ (asked : Typed). after_meaning script_language opening_standing c.args.recorder.now (meaning_of asked c.args.line.now)) c.in-Asked.is ∙ after-none _ _))

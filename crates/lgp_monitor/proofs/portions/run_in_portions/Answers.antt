@@ -21,7 +21,7 @@ pub returns-in-Err-clause-ran : goal.returns-in-Err-clause-ran
 returns-in-Err-clause-ran g c = λ is.
     let end : c.in-Err.fault.fault ≡ ClockEnd = ap (λ (f : RunFault). f.fault) (sym c.broken_off_behind.ensures) ∙ is in
     portion_broken c.args.debugger.now c.loop-done.debugger c.run_on.new.debugger c.loop-done.done c.max-portion.result c.args.limit c.loop-done.invariant.runs
-    c.in-Err.fault (c.in-Err.ensures.broken_off end) (omega arith)
+    c.in-Err.fault (c.in-Err.ensures.ran end) (omega arith)
     ∙ ap (λ (f : RunFault). Err f) (sym c.broken_off_behind.ensures)
 
 pub returns-in-Err-clause-performed : goal.returns-in-Err-clause-performed

@@ -8,6 +8,6 @@ pub returns : goal.returns
 returns c =
     let own = IfOk-at_ok _ c.in_ok-command.was c.requires.own in
     record {
-      app = IfOk-weaker c.subcommand.result _ _ (λ line adds app is_app.
+      app = IfOk-weaker c.subcommand.result _ _ (λ line adds _ is_app.
           adds.shape own ∙ ap (λ (a : App). with_subcommand (app_of c.args.line) a.top) (IfOk-at_ok _ c.in_ok-command.was is_app)) c.subcommand.ensures;
     }

@@ -44,5 +44,5 @@ returns-in-Err-clause-cause g c =
     let Among : App → Type 0 = λ line. IsAmong kind (fault_of line words) in
     elim (c.in-Err.ensures.kinds (ap is_simple_and_free c.in_ok-line.ensures ∙ monitor-free)) [
       | inl memory ↦ subst Refuses (sym (c.refusal.ensures.memory memory)) tt
-      | inr among ↦ refusal-among c.refusal.result kind kinds (subst Among c.in_ok-line.ensures among) c.refusal.ensures.cause
+      | inr among ↦ refusal-among _ _ _ (subst Among c.in_ok-line.ensures among) c.refusal.ensures.cause
     ]

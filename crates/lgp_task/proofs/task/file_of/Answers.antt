@@ -10,6 +10,6 @@ use Rattle.lgp_task.proofs.task.file_of.Goals as goal
 
 pub returns : goal.returns
 returns g c =
-    let text = ap (λ (s : Bor Text). s.now) c.unwrap_or.ensures ∙ unwrap_or-now c.get_str.result _ _ c.get_str.ensures
+    let text = ap (λ (s : Bor Text). s.now) c.unwrap_or.ensures ∙ unwrap_or-now _ _ _ c.get_str.ensures
     ∙ ap (λ (o : Option Text). unwrap_or o []) (first_value-rows (found_of c.args.matches.now) (codes "FILE")) in
     IfOk-weaker c.new.result _ _ (λ name e. e ∙ text) c.new.ensures

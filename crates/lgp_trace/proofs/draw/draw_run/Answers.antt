@@ -58,8 +58,8 @@ returns-in-Err-AtRest-clause-ran g c =
 pub returns-in-Err-ClockEnd-clause-ran : goal.returns-in-Err-ClockEnd-clause-ran
 returns-in-Err-ClockEnd-clause-ran g c =
     let is : c.draw_order-outcome.result.0 ≡ Err ClockEnd = search rules in
-    (run_refused_at_clock_end _ c.args.debugger.now c.loop-orders.debugger c.draw_order-outcome.new.debugger c.loop-orders.orders c.args.limit c.loop-orders.invariant.run
-    c.draw_order-outcome.result.0 is c.draw_order-outcome.ensures.order c.loop-orders-test.true).broken_off
+    (run_refused_at_clock_end true c.args.debugger.now c.loop-orders.debugger c.draw_order-outcome.new.debugger c.loop-orders.orders c.args.limit c.loop-orders.invariant.run
+    c.draw_order-outcome.result.0 is c.draw_order-outcome.ensures.order c.loop-orders-test.true).ran
 
 pub returns-then-is_at_rest-clause-ran : goal.returns-then-is_at_rest-clause-ran
 returns-then-is_at_rest-clause-ran g c =

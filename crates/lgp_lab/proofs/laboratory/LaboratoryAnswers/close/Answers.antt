@@ -1,8 +1,7 @@
-use Rattle.std.proofs.Common.{◌≡◌, ◌∙◌, ◌++◌, Some, None, ap, rules, sym}
-use Rattle.std.proofs.lemmas.List.{append-nil}
+use Rattle.std.proofs.Common.{◌≡◌, ◌∙◌, ◌++◌, Some, ap, rules, sym}
 use Rattle.std.proofs.lemmas.Result.{on_ok_weaker}
 use Rattle.lgp_lab.specs.SourceCommands.{answer_to_end}
-use Rattle.lgp_lab.specs.Standing.{Answer, Standing, with_opened}
+use Rattle.lgp_lab.specs.Standing.{Answer, Standing}
 use Rattle.lgp_lab.proofs.KeptLemmas.{closed_none, closed_some}
 use Rattle.lgp_lab.proofs.laboratory.LaboratoryAnswers.close.Goals as goal
 
@@ -12,13 +11,10 @@ returns-in-Some g c =
     record {
       reply = on_ok_weaker c.close_source.result
           (λ is. is ∙ ap (λ (a : Answer). c.args.reply.now.items ++ a.reply)
-          (ap (λ (s : Standing). answer_to_end (with_opened s None) c.in-Some.source) c.self.view_is ∙ sym (closed_some c.args.self.now c.in-Some.source opened)))
+          (ap (λ (s : Standing). answer_to_end s c.in-Some.source) c.self.view_is ∙ sym (closed_some _ _ opened)))
           c.close_source.ensures.reply;
     }
 
 pub returns-in-None : goal.returns-in-None
 returns-in-None g c =
-    let opened : c.args.self.now.opened ≡ None = sym (ap (λ (s : Standing). s.opened) c.self.view_is) ∙ search rules in
-    record {
-      reply = sym (append-nil c.args.reply.now.items) ∙ ap (λ (a : Answer). c.args.reply.now.items ++ a.reply) (sym (closed_none c.args.self.now opened));
-    }
+    search (rules, closed_none)

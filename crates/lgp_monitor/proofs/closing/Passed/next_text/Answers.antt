@@ -9,7 +9,7 @@ use Rattle.lgp_monitor.proofs.closing.Passed.next_text.Goals as goal
 text-behind : (n : ℕ) (lines : List SourceLine) → text_at (drop n lines) 0 ≡ text_at lines n
 text-behind zero lines = refl
 text-behind (suc n) [] = refl
-text-behind (suc n) (line ∷ lines) = text-behind n lines
+text-behind (suc n) (line ∷ lines) = text-behind n _
 
 pub invariant_of-self : goal.invariant_of-self
 invariant_of-self c =

@@ -1,7 +1,6 @@
 use Rattle.std.proofs.Common.{◌≡◌, ◌∙◌, ◌++◌, ap, rules}
 use Rattle.lgp_machine.specs.declared.look.Look.{Look}
 use Rattle.lgp_debugger.specs.Debugging.{Debugging}
-use Rattle.lgp_debugger.specs.Run.{orders_of}
 use Rattle.lgp_debugger.proofs.PerformedLemmas.{performed_state}
 use Rattle.lgp_trace.specs.DrumRows.{rows_begun, rows_ended}
 use Rattle.lgp_monitor.proofs.Pictures.{both, pictured_all}
@@ -13,7 +12,7 @@ returns-clause-told g c =
     let begun : c.push_rows_begun.new.text.items ≡ c.args.text.now.items ++ rows_begun c.look.result.clock = search rules in
     let ended : c.push_rows_ended.new.text.items ≡ c.draw_run-outcome.new.text.items ++ rows_ended c.look-2.result.clock = search rules in
     both outcome _ _ _
-    (λ told stands. pictured_all c.args._names.now c.look.result.clock c.look-2.result.clock c.args.debugger.now.state c.draw_run-outcome.new.debugger.state (orders_of outcome) c.args.text.now.items c.push_rows_begun.new.text.items
+    (λ told stands. pictured_all _ _ _ _ _ _ _ _ _
     c.draw_run-outcome.new.text.items c.push_rows_ended.new.text.items (ap (λ (l : Look). l.clock) c.look.ensures) (ap (λ (l : Look). l.clock) c.look-2.ensures) begun told
-    (ap (λ (d : Debugging). d.state) stands ∙ performed_state c.args.debugger.now (orders_of outcome)) ended)
+    (ap (λ (d : Debugging). d.state) stands ∙ performed_state _ _) ended)
     c.draw_run-outcome.ensures.told c.draw_run-outcome.ensures.performed

@@ -2,7 +2,7 @@ use Rattle.std.proofs.Common.{◌≡◌, ◌∙◌, ◌++◌, [], List, ℕ, ap,
 use Rattle.std.proofs.lemmas.List.{append-nil}
 use Rattle.std.proofs.lemmas.Result.{on_ok_weaker}
 use Rattle.lgp_stream.specs.KeptLine.{Kept, kept_of}
-use Rattle.lgp_transcript.specs.Transcript.{Recorded, after_lines, ended, replies_text, stand_in, text_of}
+use Rattle.lgp_transcript.specs.Transcript.{Recorded, after_lines, ended, replies_text, stand_in}
 use Rattle.lgp_transcript.proofs.StandIns.{kept-stand_in}
 use Rattle.lgp_transcript.proofs.recorder.Recorder.answer_kept.Goals as goal
 
@@ -19,7 +19,7 @@ returns-clause-reply g c = λ text kept.
     (c.answer.ensures.reply line (kept_alike c.args.line.now text kept))
 
 pub returns-clause-after : goal.returns-clause-after
-unfolding after_lines text_of
+unfolding after_lines
 returns-clause-after g c = λ text kept.
     let line = stand_in c.args.line.now in
     on_ok_weaker c.answer.result
