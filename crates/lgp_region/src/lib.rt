@@ -6,6 +6,7 @@
 #![tactic(auto)]
 
 mod block;
+mod link;
 mod memory;
 mod region;
 mod shelf;

@@ -3,14 +3,13 @@ ghost use Rattle.std.specs.Prelude.{◌≡◌, ◌%◌, ◌^◌, ◌<◌, ◌≤
 ghost use Rattle.lgp_region.specs.Room.{block_size, block_token};
 
 use crate::block::Block;
+use crate::link::{Chain, LINK_ROOM, Link, first_of, put};
 use crate::memory::Memory;
 use crate::shelf::{SHELVES, shelf, size_on};
-use lgp_parts::for_good;
+use lgp_parts::{Unfreed, for_good};
 use std::alloc::{AllocError, Allocator};
 use std::cell::Cell;
-
-/// How many freed blocks of a size are kept.
-const PLACES: usize = 4;
+use std::mem;
 
 /// How many bytes of its own memory a lasting region takes for itself.
 const OWN_ROOM: usize = 4096;
@@ -19,16 +18,21 @@ const OWN_ROOM: usize = 4096;
 ///
 /// A block has 16 bytes or twice, four times, .. as many, the smallest of these sizes that the
 /// request fits. It is a kept block of that size, or else cut off the front of what was never given
-/// out. A freed block is kept; the fifth one of a size is lost. Nothing is ever given back.
+/// out. A freed block is kept for a later request of its size; none is lost. Nothing is ever given back.
 ///
-/// A request is refused where what was never given out is smaller than its block, where it names an
+/// A request for which no block is kept is refused where what was never given out is smaller than its
+/// block and 32 bytes more for each block that was ever cut; and each request is refused that names an
 /// alignment above 16, or more than 32 gigabytes. A `&` to a region is an allocator too.
 #[derive(Drop)]
 pub struct Region {
     /// What was never given out.
     rest: Cell<Option<Memory>>,
-    /// The freed blocks, `PLACES` cells for each size, the smallest size first.
-    kept: [Cell<Option<Memory>>; 128],
+    /// How many bytes of it are promised for links: a link for each block that was given out, so that it can be kept when it is freed.
+    promised: Cell<usize>,
+    /// The freed blocks, a chain for each size, the smallest size first.
+    kept: [Chain; 32],
+    /// The links whose memory is empty.
+    spare: Chain,
 }
 
 impl Region {
@@ -36,21 +40,23 @@ impl Region {
     pub fn new(memory: Memory) -> Region {
         Region {
             rest: Cell::new(Some(memory)),
+            promised: Cell::new(0),
             kept: std::array::from_fn(|_| Cell::new(None)),
+            spare: Cell::new(None),
         }
     }
 
     /// A region that lasts as long as the program. It lies in the first 4,096 bytes of the memory itself, and gives out the bytes
-    /// behind them. Of less memory there is none.
+    /// after them. Of less memory there is none.
     pub fn lasting(memory: Memory) -> Result<&'static Region, AllocError>
         ensures { memory.size < 4096 → IsErr result }
     {
         if memory.size < OWN_ROOM {
             return Err(AllocError);
         }
-        let (front, behind) = memory.cut(OWN_ROOM);
+        let (front, left) = memory.cut(OWN_ROOM);
         let room = Region::new(front);
-        let whole = Box::new(&room, Region::new(behind))?;
+        let whole = Box::new(&room, Region::new(left))?;
         Ok(Box::leak(for_good(whole)))
     }
 
@@ -66,7 +72,7 @@ impl Region {
         let wanted = size_on(shelf);
         match self.kept_block(shelf, wanted) {
             Some(block) => Some(block),
-            None => self.cut(wanted),
+            None => self.cut(wanted, self.promised.get().saturating_add(LINK_ROOM)),
         }
     }
 
@@ -75,36 +81,52 @@ impl Region {
         requires { shelf < SHELVES }
         ensures { IfSome result (λ block. block.size ≡ wanted) }
     {
-        for cell in self.places(shelf) {
-            if let Some(block) = taken(cell, wanted) {
-                return Some(block);
-            }
+        let empty = self.no_bytes()?;
+        let mut link = first_of(&self.kept[shelf as usize])?;
+        let held = mem::replace(&mut link.held, empty);
+        put(&self.spare, link);
+        if held.size == wanted {
+            Some(held.block)
+        } else {
+            None
         }
-        None
     }
 
-    /// The cells for the blocks of a size.
-    fn places(&self, shelf: u32) -> &[Cell<Option<Memory>>]
-        requires { shelf < SHELVES }
-    {
-        let all = &self.kept[..];
-        let first = PLACES * shelf as usize;
-        &all[first..first + PLACES]
+    /// No bytes, from the front of what was never given out.
+    fn no_bytes(&self) -> Option<Memory> {
+        let (empty, rest) = self.rest.take()?.cut(0);
+        self.rest.set(Some(rest));
+        Some(empty)
     }
 
-    /// A block from the front of what was never given out, if that has so many bytes.
-    fn cut(&self, wanted: usize) -> Option<Block>
+    /// A block from the front of what was never given out, if as much as is promised then is left of it.
+    fn cut(&self, wanted: usize, promised: usize) -> Option<Block>
         requires { wanted % 16 ≡ 0 }
         ensures { IfSome result (λ block. block.size ≡ wanted) }
     {
-        let memory = self.rest.replace(None)?;
-        if memory.size < wanted {
+        let memory = self.rest.take()?;
+        if memory.size < wanted || memory.size - wanted < promised {
             self.rest.set(Some(memory));
             return None;
         }
-        let (front, behind) = memory.cut(wanted);
-        self.rest.set(Some(behind));
+        let (front, left) = memory.cut(wanted);
+        self.rest.set(Some(left));
+        self.promised.set(promised);
         Some(front.block)
+    }
+
+    /// A link that holds memory: a spare one, or a new one in the bytes that were promised for it.
+    fn link(&self, memory: Memory) -> Option<Box<Link, Unfreed>> {
+        if let Some(mut link) = first_of(&self.spare) {
+            link.held = memory;
+            return Some(link);
+        }
+        let block = self.cut(LINK_ROOM, self.promised.get().saturating_sub(LINK_ROOM))?;
+        let room = Memory {
+            block,
+            size: LINK_ROOM,
+        };
+        Link::within(room, memory)
     }
 
     /// Keeps a block that was given for a request of so many bytes.
@@ -116,32 +138,10 @@ impl Region {
             return;
         }
         let size = size_on(shelf);
-        put(self.places(shelf), Memory { block, size });
-    }
-}
-
-/// Puts memory into the first of these cells, what that cell held into the next, and so on up to an
-/// empty cell. What was in the last cell is lost, if none was empty.
-fn put(places: &[Cell<Option<Memory>>], memory: Memory) {
-    let mut left = Some(memory);
-    for cell in places {
-        if left.is_none() {
-            return;
+        if let Some(link) = self.link(Memory { block, size }) {
+            put(&self.kept[shelf as usize], link);
         }
-        left = cell.replace(left);
     }
-}
-
-/// The block in a cell, if it has this size. Otherwise the cell stays as it was.
-fn taken(cell: &Cell<Option<Memory>>, wanted: usize) -> Option<Block>
-    ensures { IfSome result (λ block. block.size ≡ wanted) }
-{
-    let memory = cell.replace(None)?;
-    if memory.size == wanted {
-        return Some(memory.block);
-    }
-    cell.set(Some(memory));
-    None
 }
 
 unsafe impl Allocator for Region {

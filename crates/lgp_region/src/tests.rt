@@ -25,11 +25,11 @@ fn met_of_three(region: &Region, bytes: usize) -> usize {
     if is_met(region, bytes) { 3 } else { 2 }
 }
 
-/// What a region of 64 bytes has for three requests of one size, for sizes around 16 and 32.
+/// What a region of 144 bytes has for three requests of one size, for sizes around 16 and 32. Each block has 32 bytes beside it.
 fn around_the_sizes<A: Allocator>(alloc: &A) -> Result<[usize; 6], AllocError> {
     let mut met = [0; 6];
-    for (place, bytes) in met.iter_mut().zip([1, 16, 17, 32, 33, 65]) {
-        *place = met_of_three(&region_of(alloc, 64)?, bytes);
+    for (place, bytes) in met.iter_mut().zip([1, 16, 17, 32, 33, 113]) {
+        *place = met_of_three(&region_of(alloc, 144)?, bytes);
     }
     Ok(met)
 }
@@ -53,13 +53,13 @@ fn met_one_by_one(region: &Region, bytes: usize) -> usize {
 
 #[test]
 fn what_is_freed_serves_the_next_request_of_its_size(rt: HostRuntime) -> Result<(), Fail> {
-    let region = region_of(&rt.alloc(), 64)?;
+    let region = region_of(&rt.alloc(), 96)?;
     assert_eq!(rt; met_one_by_one(&region, 60), 1_000);
     Ok(())
 }
 
-/// Whether a request is met behind one of another size that was freed, which took all memory.
-fn met_behind(region: &Region, first: usize, second: usize) -> [bool; 3] {
+/// Whether a request is met after one of another size that was freed, which took all memory.
+fn met_after(region: &Region, first: usize, second: usize) -> [bool; 3] {
     [
         is_met(region, first),
         is_met(region, second),
@@ -69,8 +69,8 @@ fn met_behind(region: &Region, first: usize, second: usize) -> [bool; 3] {
 
 #[test]
 fn a_freed_block_serves_no_other_size(rt: HostRuntime) -> Result<(), Fail> {
-    let region = region_of(&rt.alloc(), 64)?;
-    assert_eq!(rt; met_behind(&region, 64, 32), [true, false, true]);
+    let region = region_of(&rt.alloc(), 96)?;
+    assert_eq!(rt; met_after(&region, 64, 32), [true, false, true]);
     Ok(())
 }
 
@@ -85,24 +85,33 @@ fn at_once(region: &Region, most: usize) -> usize {
     at_once(region, most - 1).saturating_add(1)
 }
 
+/// How many blocks of 16 bytes a region that has memory for 1,000 of them gives out at the same time: at first, when all were freed,
+/// and when all were freed again.
+fn a_thousand_at_once(region: &Region) -> [usize; 3] {
+    [
+        at_once(region, 2_000),
+        at_once(region, 2_000),
+        at_once(region, 2_000),
+    ]
+}
+
 #[test]
-fn four_freed_blocks_of_a_size_are_kept(rt: HostRuntime) -> Result<(), Fail> {
-    let region = region_of(&rt.alloc(), 80)?;
-    let five = at_once(&region, 5);
-    assert_eq!(rt; (five, at_once(&region, 5), at_once(&region, 5)), (5, 4, 4));
+fn every_freed_block_is_kept(rt: HostRuntime) -> Result<(), Fail> {
+    let region = region_of(&rt.alloc(), 48_000)?;
+    assert_eq!(rt; a_thousand_at_once(&region), [1_000; 3]);
     Ok(())
 }
 
 #[test]
 fn bytes_beyond_a_multiple_of_16_are_not_used(rt: HostRuntime) -> Result<(), Fail> {
-    let region = region_of(&rt.alloc(), 47)?;
+    let region = region_of(&rt.alloc(), 111)?;
     assert_eq!(rt; at_once(&region, 5), 2);
     Ok(())
 }
 
 #[test]
 fn of_no_memory_nothing_is_given(rt: HostRuntime) -> Result<(), Fail> {
-    let region = region_of(&rt.alloc(), 16)?;
+    let region = region_of(&rt.alloc(), 48)?;
     let all = at_once(&region, 1);
     assert_eq!(rt;
         (all, is_met(&region, 17), is_met(&region, 1 << 40)),
@@ -123,7 +132,7 @@ fn grow_side_by_side(region: &Region) -> Result<bool, AllocError> {
 
 #[test]
 fn vectors_side_by_side_keep_their_numbers(rt: HostRuntime) -> Result<(), Fail> {
-    let region = region_of(&rt.alloc(), 1 << 10)?;
+    let region = region_of(&rt.alloc(), 1 << 11)?;
     assert!(rt; grow_side_by_side(&region)?);
     Ok(())
 }
@@ -141,8 +150,8 @@ fn around_its_own<A: Allocator>(alloc: &A) -> Result<[Option<usize>; 4], AllocEr
     Ok([
         met_by_lasting(alloc, 4_080)?,
         met_by_lasting(alloc, 4_096)?,
-        met_by_lasting(alloc, 4_112)?,
         met_by_lasting(alloc, 4_144)?,
+        met_by_lasting(alloc, 4_240)?,
     ])
 }
 
