@@ -38,33 +38,44 @@ export class Deeds {
         return this.#forgotten;
     }
 
-    /** Orders were performed. Two runs on end become one deed. */
+    /** Orders were performed: new ones, which leave nothing ahead, or again those that come next. Two runs on end become one deed. */
     orders(count, isAgain = false) {
+        if (count === 0) return;
         const last = this.#done.at(-1);
-        if (count > 0 && last?.line === undefined && last !== undefined) last.orders += count;
-        else if (count > 0) this.#done.push({ orders: count });
-        if (!isAgain && count > 0) this.#undone = [];
+        if (last !== undefined && last.line === undefined) last.orders += count;
+        else this.#done.push({ orders: count });
+        if (isAgain) this.#passOrders(count);
+        else this.#undone = [];
     }
 
-    /** A line that is a step was done. */
+    #passOrders(count) {
+        let missing = count;
+        while (missing > 0 && this.#undone.length > 0) {
+            const deed = this.#undone.shift();
+            if (deed.orders > missing) this.#undone.unshift({ orders: deed.orders - missing });
+            missing -= Math.min(missing, deed.orders);
+        }
+    }
+
+    /** A line that is a step was done: a new one, or again the one that comes next. */
     line(line, isAgain = false) {
         this.#done.push({ line, orders: 0 });
-        if (!isAgain) this.#undone = [];
+        if (isAgain) this.#undone.shift();
+        else this.#undone = [];
     }
 
-    /** So many orders, and what the operator did behind the first of them, were undone. */
+    /** So many orders, and what the operator did after the first of them, were undone. */
     back(orders) {
         const { stays, gone } = split(this.#done, orders);
         this.#done = stays;
         this.#undone = [...gone, ...this.#undone];
     }
 
-    /** Takes the next deed to be performed again, of at most so many orders; null where there is none. */
+    /** The deed that comes next where all is performed again, of at most so many orders; null where there is none. */
     next(limit) {
-        const deed = this.#undone.shift();
+        const deed = this.#undone[0];
         if (deed === undefined) return null;
-        if (deed.orders > limit) this.#undone.unshift({ orders: deed.orders - limit });
-        return deed.orders > limit ? { orders: limit } : deed;
+        return deed.line === undefined ? { orders: Math.min(limit, deed.orders) } : deed;
     }
 
     /** Only so many orders can be gone back over: those before are forgotten. */

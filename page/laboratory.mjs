@@ -4,6 +4,7 @@ import { Deeds } from "./deeds.mjs";
 import { learnLive } from "./learn.mjs";
 import { isIdle, linesIn, setUp } from "./lines.mjs";
 import * as replies from "./replies.mjs";
+import { ROOM, Room } from "./room.mjs";
 import { NoMemory } from "./session.mjs";
 
 /** How many words are shown around the counter. */
@@ -14,26 +15,36 @@ const TALK_KEPT = 300;
 const TOLD_AT_ONCE = 48;
 const PORTION = { first: 2000, most: 50_000_000, milliseconds: 50 };
 const TELL_EVERY = 250;
-const LONG_PRINT = 20_000;
+const IN_DIGITS = /^ *put +\d{4} +[0-9fgjkqw]{8} *$/;
 const STEPS = new Set(["put", "mount", "press", "type", "turn"]);
+
+/** A deed that was not begun, and the notice that says why. */
+class Held extends Error {
+    constructor(notice) {
+        super(notice.kind);
+        this.notice = notice;
+    }
+}
 
 /** The laboratory as the page has it. After each change it dispatches an event `change`; views read its fields. */
 export class Laboratory extends EventTarget {
-    /** The last panel, the words shown, and what has been printed. */
+    /** The last panel; the words shown, each with the order that changed it last, or null; and what has been printed. */
     panel = null;
     words = [];
     printed = { count: 0, text: "" };
-    /** The accounts of the last orders that were told, the rows of the drum of the last told run, and the last profile. */
+    /** The accounts of the last orders and the rows of their turns, as far as these orders were told; and the last profile. */
     accounts = [];
     rows = [];
     profile = null;
     /** Lines and their replies, the newest last. */
     talk = [];
+    /** The lines of the source that is open, or null. All that is sent goes into it until a point alone. */
+    openSource = null;
     /** The last source, its faults, and the labels of the last one that assembled. */
     source = "";
     assembled = null;
     labels = new Map();
-    /** The rules, and the lines of a script that are still to be done. */
+    /** The rules, each by the command that made it, and the lines of a script that are still to be done. */
     rules = [];
     script = null;
     /** What a run under way has done so far, or null, and what the last one did. */
@@ -41,6 +52,8 @@ export class Laboratory extends EventTarget {
     lastRun = null;
     /** What the reader of the page should know: a refusal, or a word of the page's own. */
     notice = null;
+    /** The lines of laboratories that were lost because memory had ended, until they are put away. */
+    lost = [];
     /** Whether rows of the drum are wanted with accounts. */
     wantsRows = true;
     deeds = new Deeds();
@@ -52,7 +65,9 @@ export class Laboratory extends EventTarget {
     #tail = Promise.resolve();
     #stops = false;
     #said = [];
-    #sourceIsOpen = false;
+    #room = new Room();
+    #isInScript = false;
+    #isRuleOfScript = [];
 
     constructor(link) {
         super();
@@ -64,8 +79,8 @@ export class Laboratory extends EventTarget {
         return this.#act(async () => {
             await this.#link.opened;
             this.#live = await learnLive((line) => this.#link.ask(line));
+            this.#commands = replies.commandsOf(await this.#link.ask("help"));
             await this.#link.anew();
-            this.#commands = replies.commandsOf(await this.#ask("help"));
             await this.#look();
         });
     }
@@ -87,7 +102,7 @@ export class Laboratory extends EventTarget {
             try {
                 return await deed();
             } catch (failure) {
-                await this.#failed(failure);
+                await this.#recover(failure);
                 return undefined;
             } finally {
                 this.progress = null;
@@ -98,115 +113,253 @@ export class Laboratory extends EventTarget {
         return done;
     }
 
+    /** An action whose lines an open source would take for its own: while one is open it is held. */
+    #question(deed) {
+        return this.#act(async () => {
+            if (this.openSource !== null) throw new Held({ kind: "sourceIsOpen" });
+            return deed();
+        });
+    }
+
+    #deed(deed) {
+        return this.#question(async () => {
+            this.notice = null;
+            return deed();
+        });
+    }
+
+    /** A deed that takes memory: where little is left it is held. */
+    #work(deed) {
+        return this.#deed(async () => {
+            if (this.#room.isUsedUp) throw new Held({ kind: "usedUp" });
+            return deed();
+        });
+    }
+
+    /** Goes on after a failure; another one may come up on the way. */
+    #recover(failure) {
+        return this.#failed(failure).catch((second) => this.#failed(second)).catch(({ message }) => { this.notice = { kind: "broken", detail: message, lines: "" }; });
+    }
+
     async #failed(failure) {
+        if (failure instanceof Held) {
+            this.notice = failure.notice;
+            return this.#look();
+        }
+        const lines = this.#said.join("\n");
         const isMemory = failure instanceof NoMemory;
-        this.notice = { kind: isMemory ? "noMemory" : "broken", detail: failure.message, lines: this.#said.join("\n") };
-        if (!isMemory) return;
-        this.progress = null;
+        this.notice = { kind: isMemory ? "noMemory" : "broken", detail: failure.message, lines };
+        if (!isMemory) return undefined;
+        this.lost = [...this.lost, lines];
+        return this.#anew();
+    }
+
+    /** Puts the lines of lost laboratories away. */
+    putAway() {
+        return this.#act(async () => { this.lost = []; });
+    }
+
+    /** Tells the reader something. */
+    tell(notice) {
+        return this.#act(async () => { this.notice = notice; });
+    }
+
+    /** Begins with a new module. */
+    async #anew() {
         await this.#link.anew();
+        this.#room.anew();
         this.#forget();
         await this.#look();
     }
 
+    /** Begins with a new laboratory, in the same memory where little of it is used. An open source is given up. */
+    async #fresh() {
+        if (!this.#room.isFresh) return this.#anew();
+        if (this.openSource !== null) await this.#ask(".");
+        await this.#ask("new");
+        this.#forget();
+        return this.#look();
+    }
+
     #forget() {
         this.deeds.clear();
-        Object.assign(this, { accounts: [], rows: [], profile: null, assembled: null, labels: new Map(), rules: [] });
-        this.#sourceIsOpen = false;
+        Object.assign(this, { openSource: null, accounts: [], rows: [], profile: null, assembled: null, labels: new Map(), rules: [] });
+        this.#isRuleOfScript = [];
         this.#said = [];
     }
 
     #ask(line) {
+        this.#room.sent(line);
         return this.#link.ask(line);
     }
 
     /** Asks a line that the reader sees, and notes what it did. */
     async #say(line, isAgain = false) {
+        if (this.openSource === null) await this.#hold(line);
         this.#said.push(line);
         const reply = await this.#ask(line);
         this.talk = [...this.talk, { line, reply }].slice(-TALK_KEPT);
-        const isInSource = this.#sourceIsOpen;
-        const isSource = line.trim() === "source" && reply === "";
-        const ends = isInSource && line === ".";
-        this.#sourceIsOpen = (isInSource && !ends) || (!isInSource && isSource);
-        if (replies.isRefusal(reply)) this.notice = { kind: "refusal", ...replies.refusalOf(reply), line };
-        else if (!isInSource) this.#note(line, reply, isAgain);
+        if (this.openSource !== null) await this.#sourceLine(line, reply);
+        else if (replies.isRefusal(reply)) this.#refused(line, reply);
+        else if (line.trim() === "source") this.openSource = [];
+        else await this.#note(line, reply, isAgain);
         return reply;
     }
 
-    #note(line, reply, isAgain) {
+    /** Holds a line for which memory may not be enough. */
+    async #hold(line) {
+        if (this.#room.isUsedUp || this.#room.mostIn(line) !== null) await this.#lookAtPaper();
+        if (this.#room.isUsedUp && !Room.isAlwaysTaken(line)) throw new Held({ kind: "usedUp" });
+        const most = this.#room.mostIn(line);
+        if (most !== null) throw new Held({ kind: "tooMany", line, most });
+    }
+
+    #refused(line, reply) {
+        this.notice = { kind: "refusal", ...replies.refusalOf(reply), line };
+    }
+
+    async #sourceLine(line, reply) {
+        if (line !== ".") {
+            this.openSource.push(line);
+            return;
+        }
+        this.source = this.openSource.join("\n");
+        this.openSource = null;
+        if (replies.isRefusal(reply)) this.#refused("source", reply);
+        await this.#noteSource(reply);
+    }
+
+    async #note(line, reply, isAgain) {
         const [verb, operand] = line.trim().split(/ +/);
-        if (STEPS.has(verb)) this.deeds.line(line, isAgain);
-        else if (verb === "orders") this.deeds.orders(replies.ordersOf(reply).orders, isAgain);
+        if (STEPS.has(verb)) await this.#noteStep(verb, line, isAgain);
+        else if (verb === "orders") this.#noteOrders(replies.ordersOf(reply).orders, isAgain);
         else if (["run", "trace", "profile", "drum"].includes(verb)) this.#noteRun(verb, reply, isAgain);
-        else if (verb === "go") this.#noteGo(line);
-        else if (verb === "back") this.deeds.back(Number(operand));
-        else if (verb === "last") this.deeds.back(replies.lastOf(reply).orders);
-        else if (verb === "load") this.deeds.clear();
-        else if (verb === "new") this.#forget();
-        else if (["break", "watch", "drop"].includes(verb)) this.#noteRule(verb, operand, reply);
+        else if (verb === "go") await this.#noteGo(reply);
+        else if (verb === "back") this.#noteBack(Number(operand));
+        else if (verb === "last") this.#noteBack(replies.lastOf(reply).orders);
+        else if (verb === "load") this.#noteLoad();
+        else if (verb === "new") await this.#anew();
+        else if (verb === "break" || verb === "watch") this.#isRuleOfScript.push(this.#isInScript);
+        else if (verb === "drop") this.#isRuleOfScript.splice(Number(operand), 1);
+    }
+
+    /** Notes a step. A put with names of a source is noted as the line that it stands for, since a later source may give them to other places. */
+    async #noteStep(verb, line, isAgain) {
+        const hasNames = verb === "put" && this.labels.size > 0 && !isAgain && !IN_DIGITS.test(line);
+        const [noted] = hasNames ? await this.#standFor(1) : [line];
+        this.deeds.line(noted, isAgain);
+    }
+
+    /** The last lines of the transcript: those that a line just answered stands for. */
+    async #standFor(count) {
+        return linesIn(await this.#ask("transcript")).slice(-count);
+    }
+
+    /** Orders were performed that were not told: what was told before them are not the last orders any more. */
+    #noteOrders(count, isAgain = false) {
+        this.deeds.orders(count, isAgain);
+        this.#room.ran(count);
+        if (count > 0) Object.assign(this, { accounts: [], rows: [] });
     }
 
     #noteRun(verb, reply, isAgain) {
         const { told, end } = replies.toldOf(reply);
-        if (verb === "trace") this.accounts = [...this.accounts, ...replies.accountsOf(told)].slice(-ACCOUNTS_KEPT);
-        if (verb === "drum") this.rows = replies.drumRowsOf(told);
+        const { orders } = replies.isRefusal(end) ? { orders: null } : replies.runOf(end);
+        if (orders === null) this.deeds.clear();
         if (verb === "profile") this.profile = replies.profileOf(told);
-        if (!replies.isRefusal(end)) this.deeds.orders(replies.runOf(end).orders, isAgain);
-        else this.deeds.clear();
+        const before = this.accounts;
+        if (orders === null) Object.assign(this, { accounts: [], rows: [] });
+        else this.#noteOrders(orders, isAgain);
+        if (verb === "trace") this.accounts = [...before, ...replies.accountsOf(told)].slice(-ACCOUNTS_KEPT);
+        if (verb === "drum") this.rows = replies.drumRowsOf(told);
     }
 
-    /** Going somewhere is keying the jump in, one order, and two presses. */
-    #noteGo(line) {
-        this.deeds.line(line);
-        this.deeds.orders(1);
-        this.deeds.line("press normal");
-        this.deeds.line("press start");
+    /** Going somewhere stands for lines that the operator could have done, each with a line of the reply. They are noted one by one, since there are steps among them that can be gone back over. */
+    async #noteGo(reply) {
+        const done = replies.linesOf(reply);
+        const lines = await this.#standFor(done.length);
+        for (const [place, line] of lines.entries()) await this.#note(line, `${done[place]}\n`, false);
     }
 
-    #noteRule(verb, operand, reply) {
-        if (verb === "drop") this.rules = this.rules.filter((rule, place) => place !== Number(operand));
-        else this.rules = [...this.rules, `${verb} ${operand}`];
+    #noteBack(orders) {
+        this.deeds.back(orders);
+        if (orders > 0) this.rows = [];
     }
 
-    /** Looks at the machine: panel, words around the counter, and what is printed. In an open source there is no looking. */
+    #noteLoad() {
+        this.deeds.clear();
+        Object.assign(this, { accounts: [], rows: [] });
+    }
+
+    /** Looks at the machine: panel, words around the counter, what is printed, and the rules. In an open source there is no looking. */
     async #look() {
-        if (this.#sourceIsOpen) return;
+        if (this.openSource !== null) return;
         this.panel = replies.panelOf(await this.#ask("panel"));
         this.accounts = this.accounts.filter(({ clock }) => clock < this.panel.clock);
         if (!isAmong(this.panel.counter, this.#first, SHOWN - 1)) this.#first = windowAt(this.panel.counter, SHOWN);
         await this.#lookAtWords();
-        if (this.printed.count < LONG_PRINT || this.progress === null) this.printed = replies.printedOf(await this.#ask("printed"));
+        await this.#lookAtPaper();
+        if (this.knows("rules")) this.rules = replies.rulesOf(await this.#ask("rules"));
+    }
+
+    async #lookAtPaper() {
+        this.printed = replies.printedOf(await this.#ask("printed"));
+        this.#room.printed(this.printed.count);
     }
 
     async #lookAtWords() {
         const digits = replies.placesOf(await this.#ask(`words ${this.#first} ${SHOWN}`));
         const orders = replies.placesOf(await this.#ask(`show ${this.#first} ${SHOWN}`));
-        this.words = digits.map(({ address, text }, place) => ({ address, digits: text, order: orders[place].text }));
+        const origins = await this.#originsOf(digits.map(({ address }) => address));
+        this.words = digits.map(({ address, text }, place) => ({ address, digits: text, order: orders[place].text, origin: origins[place] }));
+    }
+
+    /** Where each of these words came from, as far as a kept step tells. */
+    async #originsOf(addresses) {
+        if (!this.knows("why")) return addresses.map(() => null);
+        return replies.linesOf(await this.#link.askAll(addresses.map((address) => `why ${address}`))).map(replies.originIn);
     }
 
     /** Shows the words around an address. */
     showAt(address) {
-        return this.#act(async () => {
+        return this.#question(async () => {
             this.#first = windowAt(address, SHOWN);
             await this.#lookAtWords();
         });
     }
 
-    /** Does lines one after another, as if typed. */
+    /** Does lines one after another, as if typed: into the source, where one is open. */
     say(...lines) {
         return this.#act(async () => {
             this.notice = null;
-            let reply = "";
-            for (const line of lines) reply = await this.#say(line);
-            await this.#look();
-            return reply;
+            return this.#sayAll(lines);
+        });
+    }
+
+    /** Does lines one after another, as a button does: none of them is meant for a source. */
+    command(...lines) {
+        return this.#deed(() => this.#sayAll(lines));
+    }
+
+    async #sayAll(lines) {
+        let reply = "";
+        for (const line of lines) reply = await this.#say(line);
+        await this.#look();
+        return reply;
+    }
+
+    /** Begins with a new laboratory, whatever is open. */
+    new() {
+        return this.#act(async () => {
+            this.notice = null;
+            await this.#fresh();
+            this.talk = [...this.talk, { line: "new", reply: "new\n" }].slice(-TALK_KEPT);
         });
     }
 
     /** Performs orders and tells each; fewer where the machine comes to rest. */
     step(orders = 1) {
-        return this.#act(async () => {
-            this.notice = null;
+        return this.#work(async () => {
             await this.#tell(Math.min(orders, TOLD_AT_ONCE), false);
             await this.#look();
         });
@@ -229,11 +382,9 @@ export class Laboratory extends EventTarget {
 
     /** Goes back by orders, as far as steps are kept. */
     back(orders) {
-        return this.#act(async () => {
-            this.notice = null;
+        return this.#deed(async () => {
             const reply = await this.#say(`back ${orders}`);
             if (replies.isRefusal(reply)) await this.#backAsFar(replies.refusalOf(reply));
-            this.rows = [];
             await this.#look();
         });
     }
@@ -244,65 +395,83 @@ export class Laboratory extends EventTarget {
         if (number > 0) await this.#say(`back ${number}`);
     }
 
-    /** Performs again what was undone, so many orders of it. */
+    /** Performs again what was undone: so many orders of it, and what the operator did then before the next one. */
     forward(orders) {
-        return this.#act(async () => {
-            this.notice = null;
+        return this.#work(async () => {
+            const isTold = orders <= TOLD_AT_ONCE;
             let missing = orders;
-            while (missing > 0) {
-                const deed = this.deeds.next(Math.min(missing, TOLD_AT_ONCE));
-                if (deed === null) break;
-                if (deed.line !== undefined) await this.#say(deed.line, true);
-                else if (orders <= TOLD_AT_ONCE) await this.#tell(deed.orders, true);
-                else await this.#say(`orders ${deed.orders}`, true);
-                missing -= deed.orders;
+            for (let deed = this.deeds.next(missing); deed !== null; deed = this.deeds.next(missing)) {
+                const performed = await this.#again(deed, isTold);
+                missing -= performed;
+                if (performed === 0 && deed.line === undefined) break;
             }
             await this.#look();
         });
     }
 
-    /** Runs in portions until the machine rests, a rule stops it, or the reader does. Ends with what it did. */
+    /** Performs a deed again. A rule may end it early. */
+    async #again({ line, orders }, isTold) {
+        if (line !== undefined) await this.#say(line, true);
+        if (orders === 0) return 0;
+        return isTold ? this.#tell(orders, true) : replies.ordersOf(await this.#say(`orders ${orders}`, true)).orders;
+    }
+
+    /** Runs in portions until the machine rests, a rule stops it, much is printed, memory becomes scarce, or the reader stops it. Ends with what it did. */
     run(limit = Infinity) {
         this.#stops = false;
-        return this.#act(async () => {
-            this.notice = null;
-            this.rows = [];
+        return this.#work(async () => {
             const began = performance.now();
-            let size = PORTION.first;
-            let orders = 0;
-            let told = began;
-            let end = "limit";
-            while (end === "limit" && orders < limit && !this.#stops) {
-                const portion = Math.min(size, limit - orders);
+            const run = { orders: 0, end: "limit", began, told: began, printed: this.printed.count };
+            for (let size = PORTION.first; run.end === "limit" && run.orders < limit && !this.#stops;) {
                 const start = performance.now();
-                this.#said.push(`run ${portion}`);
-                const reply = await this.#ask(`run ${portion}`);
-                const took = performance.now() - start;
-                if (replies.isRefusal(reply)) {
-                    this.notice = { kind: "refusal", ...replies.refusalOf(reply), line: `run ${portion}` };
-                    this.deeds.clear();
-                    break;
-                }
-                const ran = replies.runOf(reply);
-                this.deeds.orders(ran.orders);
-                orders += ran.orders;
-                end = ran.end;
-                if (end === "rule") this.notice = { kind: "rule", number: ran.rule };
-                size = nextPortion(size, took);
-                if (performance.now() - told > TELL_EVERY) {
-                    told = performance.now();
-                    this.progress = { orders, milliseconds: told - began };
-                    await this.#look();
-                    this.dispatchEvent(new Event("change"));
-                }
+                await this.#portion(run, Math.min(size, limit - run.orders, this.#room.orders));
+                size = nextPortion(size, performance.now() - start);
+                await this.#tellProgress(run);
             }
-            const milliseconds = performance.now() - began;
-            this.talk = [...this.talk, { line: "run", reply: `ran ${orders} ${this.#stops ? "until stopped" : end}\n` }].slice(-TALK_KEPT);
-            if (orders === 0) this.notice ??= { kind: "atRest" };
-            await this.#look();
-            this.lastRun = { orders, end, milliseconds };
-            return this.lastRun;
+            return this.#ended(run);
         });
+    }
+
+    async #portion(run, orders) {
+        const line = `run ${orders}`;
+        this.#said.push(line);
+        const reply = await this.#ask(line);
+        if (replies.isRefusal(reply)) {
+            this.#refused(line, reply);
+            this.deeds.clear();
+            run.end = "refused";
+            return;
+        }
+        const ran = replies.runOf(reply);
+        this.#noteOrders(ran.orders);
+        run.orders += ran.orders;
+        run.end = ran.end;
+        run.rule = ran.rule;
+        if (this.#room.isUsedUp || this.#room.codesAtMost >= run.printed + ROOM.asksAfter) await this.#lookAtPaper();
+        if (run.end !== "limit") return;
+        if (this.#room.isUsedUp) run.end = "usedUp";
+        else if (this.printed.count >= run.printed + ROOM.asksAfter) run.end = "printed";
+    }
+
+    async #tellProgress(run) {
+        const now = performance.now();
+        if (now - run.told <= TELL_EVERY) return;
+        run.told = now;
+        this.progress = { orders: run.orders, milliseconds: now - run.began };
+        await this.#look();
+        this.dispatchEvent(new Event("change"));
+    }
+
+    async #ended({ orders, end, rule, began, printed }) {
+        const milliseconds = performance.now() - began;
+        this.talk = [...this.talk, { line: "run", reply: `ran ${orders} ${this.#stops ? "until stopped" : end}\n` }].slice(-TALK_KEPT);
+        await this.#look();
+        if (end === "rule") this.notice = { kind: "rule", number: rule, rule: this.rules[rule], isOfScript: this.#isRuleOfScript[rule] ?? false };
+        else if (end === "printed") this.notice = { kind: "printedMuch", count: this.printed.count - printed };
+        else if (end === "usedUp") this.notice = { kind: "usedUp" };
+        else if (orders === 0) this.notice ??= { kind: "atRest" };
+        this.lastRun = { orders, end, milliseconds };
+        return this.lastRun;
     }
 
     /** Ends when all that was asked for so far is done. */
@@ -313,53 +482,63 @@ export class Laboratory extends EventTarget {
     /** The replies of a new laboratory to a script, all of them. */
     repliesTo(script) {
         return this.#act(async () => {
-            await this.#ask("new");
-            this.#forget();
+            await this.#fresh();
             const text = await this.#link.askAll(linesIn(script));
-            await this.#ask("new");
-            await this.#look();
+            await this.#anew();
             return text;
         });
     }
 
-    /** Stops a run behind its portion. */
+    /** Stops a run after its portion. */
     stop() {
         this.#stops = true;
     }
 
     /** Assembles a source; its faults are told at their lines. */
     assemble(source) {
-        return this.#act(async () => {
-            this.notice = null;
-            this.source = source;
-            const lines = linesIn(source).map((line) => (line === "." ? " ." : line));
-            this.#said.push(["source", ...lines, "."].join("\n"));
-            const reply = await this.#link.askAll(["source", ...lines, "."]);
-            this.talk = [...this.talk, { line: "source ..", reply }].slice(-TALK_KEPT);
-            await this.#noteSource(reply);
+        return this.#work(async () => {
+            await this.#assemble(source);
             await this.#look();
             return this.assembled;
         });
     }
 
+    /** Loads a source, which is assembled before where it is not the one that was assembled last. With faults nothing is loaded. */
+    load(source) {
+        return this.#work(async () => {
+            if (source !== this.source || this.assembled === null) await this.#assemble(source);
+            if (this.assembled?.faults.length === 0) await this.#say("load");
+            else this.notice ??= { kind: "notLoaded" };
+            await this.#look();
+        });
+    }
+
+    async #assemble(source) {
+        if (source.length > ROOM.source) throw new Held({ kind: "sourceTooLong" });
+        this.source = source;
+        const lines = ["source", ...linesIn(source).map((line) => (line === "." ? " ." : line)), "."];
+        this.#said.push(...lines);
+        for (const line of lines) this.#room.sent(line);
+        const reply = await this.#link.askAll(lines);
+        this.talk = [...this.talk, { line: "source ..", reply }].slice(-TALK_KEPT);
+        await this.#noteSource(reply);
+    }
+
     async #noteSource(reply) {
+        this.assembled = null;
         if (replies.isRefusal(reply) && replies.refusalOf(reply).kind !== "Faults") {
-            this.notice = { kind: "refusal", ...replies.refusalOf(reply), line: "source" };
+            this.#refused("source", reply);
             return;
         }
         this.assembled = replies.sourceOf(reply);
-        if (this.assembled.faults.length === 0 && this.knows("labels")) {
-            const labels = await this.#ask("labels");
-            if (!replies.isRefusal(labels)) this.labels = replies.labelsOf(labels);
-        }
+        if (this.assembled.faults.length === 0 && this.knows("labels")) this.labels = replies.labelsOf(await this.#ask("labels"));
     }
 
     /** A new laboratory, with the lines of a script that set a machine up, or those before its start. The others are kept, to be done. */
     openScript(name, text, isBeforeStart = false) {
         return this.#act(async () => {
             this.notice = null;
-            await this.#ask("new");
-            this.#forget();
+            await this.#fresh();
             this.talk = [];
             this.script = { name, lines: linesIn(text), at: 0 };
             await this.#scriptTo(setUp(this.script.lines, isBeforeStart));
@@ -369,23 +548,25 @@ export class Laboratory extends EventTarget {
 
     async #scriptTo(end) {
         const { lines } = this.script;
-        for (; this.script.at < Math.min(end, lines.length); this.script.at += 1) {
-            const line = lines[this.script.at];
-            if (isIdle(line) && !this.#sourceIsOpen) continue;
-            const reply = await this.#say(line);
-            if (line === "." && !this.#sourceIsOpen) await this.#noteSource(reply);
+        this.#isInScript = true;
+        try {
+            for (; this.script.at < Math.min(end, lines.length); this.script.at += 1) {
+                const line = lines[this.script.at];
+                if (!isIdle(line) || this.openSource !== null) await this.#say(line);
+            }
+        } finally {
+            this.#isInScript = false;
         }
-        this.source = sourceIn(lines.slice(0, this.script.at)) ?? this.source;
     }
 
-    /** Does the next line of the script that asks for something, or all that are left. */
+    /** Does the next line of the script that asks for something, or all that are left. A source is done as one. */
     scriptLines(count) {
-        return this.#act(async () => {
-            this.notice = null;
-            for (let done = 0; done < count && this.script.at < this.script.lines.length; ) {
-                const before = this.script.at;
+        return this.#deed(async () => {
+            const { lines } = this.script;
+            for (let done = 0; done < count && this.script.at < lines.length;) {
+                const line = lines[this.script.at];
                 await this.#scriptTo(this.script.at + 1);
-                if (!isIdle(this.script.lines[before]) && !this.#sourceIsOpen) done += 1;
+                if (!isIdle(line) && this.openSource === null) done += 1;
             }
             await this.#look();
         });
@@ -393,19 +574,20 @@ export class Laboratory extends EventTarget {
 
     /** What the monitor says of the word at an address; null where it has no such command. */
     why(address) {
-        return this.#act(async () => {
+        return this.#question(async () => {
             return this.knows("why") ? replies.linesOf(await this.#ask(`why ${address}`)) : null;
         });
     }
 
-    /** The last order told that stored at an address, or null. */
+    /** The order that changed a shown word last, or null where no order that is kept has, or a hand did later. */
     writerOf(address) {
-        return this.accounts.findLast(({ stored }) => stored?.address === address) ?? null;
+        const origin = this.words.find((word) => word.address === address)?.origin ?? null;
+        return origin?.order == null ? null : origin;
     }
 
     /** The script that leads here. */
     transcript() {
-        return this.#act(() => this.#ask("transcript"));
+        return this.#question(() => this.#ask("transcript"));
     }
 
     /** The address in the order that comes next, or null where its word is not shown. */
@@ -419,12 +601,4 @@ export class Laboratory extends EventTarget {
 export function nextPortion(size, took) {
     const factor = Math.min(4, Math.max(0.25, PORTION.milliseconds / Math.max(took, 1)));
     return Math.min(PORTION.most, Math.max(100, Math.round(size * factor)));
-}
-
-/** The last source among lines of a script, or null. */
-export function sourceIn(lines) {
-    const begin = lines.findLastIndex((line) => line.trim() === "source");
-    if (begin < 0) return null;
-    const length = lines.slice(begin + 1).findIndex((line) => line === ".");
-    return lines.slice(begin + 1, length < 0 ? undefined : begin + 1 + length).join("\n");
 }

@@ -56,3 +56,12 @@ export async function learnLive(ask) {
 
 /** Whether an action is live at a panel; what was not learnt counts as live. */
 export const isLive = (table, panel, name) => table.get(placeOf(panel))?.has(name) ?? true;
+
+/** What lets a machine go on that stands as a panel says, by what was learnt: `go` where it is going, `keys` where it waits for its operator, `start`, or
+ * the mode in which Start is live. */
+export function wayOn(table, panel) {
+    if (panel.status === "waiting") return { kind: "keys" };
+    if (!panel.status.startsWith("halted")) return { kind: "go" };
+    if (isLive(table, panel, "start")) return { kind: "start" };
+    return { kind: "mode", mode: MODES.find((mode) => isLive(table, { ...panel, mode }, "start")) };
+}

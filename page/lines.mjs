@@ -19,11 +19,23 @@ export function headOf(script) {
 }
 
 const RUNS = /^ *(run|orders|trace|profile|drum)( |$)/;
+const SOURCE = /^ *source *$/;
 const STARTS = /^ *press +start *$/;
+
+/** For each line whether it stands in a source, as the point that ends one does. */
+function areInSource(lines) {
+    let isOpen = false;
+    return lines.map((line) => {
+        const isWithin = isOpen;
+        isOpen = isWithin ? line !== "." : SOURCE.test(line);
+        return isWithin;
+    });
+}
 
 /** How many lines of a script come before the first that starts a run, or, if asked, the machine: those set the machine up. */
 export function setUp(lines, isBeforeStart = false) {
-    const first = lines.findIndex((line) => RUNS.test(line) || (isBeforeStart && STARTS.test(line)));
+    const inSource = areInSource(lines);
+    const first = lines.findIndex((line, place) => !inSource[place] && (RUNS.test(line) || (isBeforeStart && STARTS.test(line))));
     return first < 0 ? lines.length : first;
 }
 
@@ -36,12 +48,8 @@ export const questionsIn = (formats) => [...formats.matchAll(/^\| `([a-z]+)[^|]*
 /** A script without the lines that only ask, by the names of their commands. What stands in a source is no command, and stays. */
 export function withoutQuestions(script, questions) {
     const asks = new RegExp(`^ *(${questions.join("|")})( |$)`);
-    let isInSource = false;
-    const stays = (written) => {
-        const line = written.replace(/\r?\n?$/, "");
-        const isWithin = isInSource;
-        isInSource = isWithin ? line !== "." : /^ *source *$/.test(line);
-        return isWithin || !asks.test(line);
-    };
-    return (script.match(/[^\n]*\n|[^\n]+$/g) ?? []).filter(stays).join("");
+    const written = script.match(/[^\n]*\n|[^\n]+$/g) ?? [];
+    const lines = written.map((line) => line.replace(/\r?\n?$/, ""));
+    const inSource = areInSource(lines);
+    return written.filter((unused, place) => inSource[place] || !asks.test(lines[place])).join("");
 }

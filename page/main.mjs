@@ -10,6 +10,7 @@ import { button, h, part } from "./views/dom.mjs";
 import { makeDrum } from "./views/drum.mjs";
 import { KIOSK, makeKioskBar, watchIdle } from "./views/kiosk.mjs";
 import { makeListing } from "./views/listing.mjs";
+import { makeNotices, wayText } from "./views/notice.mjs";
 import { makePanel } from "./views/panel.mjs";
 import { makePaper, makeTape } from "./views/paper.mjs";
 import { makeProfile } from "./views/profile.mjs";
@@ -19,7 +20,7 @@ import { LANGUAGES, counted, textsIn } from "./words.mjs";
 const WALK_MILLISECONDS = 700;
 
 const inlined = (id) => document.getElementById(id).textContent;
-const examples = JSON.parse(inlined("examples"));
+const examples = new Map(Object.entries(JSON.parse(inlined("examples"))));
 const questions = JSON.parse(inlined("questions"));
 const bytesOf = (base64) => Uint8Array.from(atob(base64), (sign) => sign.charCodeAt(0));
 const asked = askedIn(location);
@@ -31,16 +32,6 @@ let walking = null;
 let endIdle = () => {};
 let laboratory = null;
 let hasShortKeys = true;
-
-function noticeOf({ kind, number, detail, line, reason }) {
-    const { text, table } = texts;
-    if (kind === "atRest") return text("atRest");
-    if (kind === "rule") return text("stoppedByRule", { number });
-    if (kind === "noMemory") return text("noMemory");
-    if (kind === "broken") return text("broken", { detail });
-    if (kind === "noExample") return text("wrongAddress", { name: detail });
-    return `${line}\n${text("refused", { kind, text: `${table.refusals[kind] ?? ""} ${reason ?? ""}` })}`;
-}
 
 function progressOf({ orders, milliseconds }) {
     const speed = Math.round(orders / (milliseconds / 1000));
@@ -56,16 +47,12 @@ function showProgress(progress, isRunning) {
 }
 
 function show() {
-    const { notice, progress, panel } = laboratory;
-    const place = document.getElementById("notice");
-    place.textContent = notice === null ? "" : noticeOf(notice);
-    place.hidden = notice === null;
-    if (notice?.lines !== undefined) place.append(" ", linkTo(notice.lines));
+    const { progress, panel } = laboratory;
     showProgress(progress, progress !== null);
     if (panel !== null) for (const view of views) view.show();
 }
 
-const openExample = (name, isBeforeStart = false) => laboratory.openScript(name, examples[name], isBeforeStart);
+const openExample = (name, isBeforeStart = false) => laboratory.openScript(name, examples.get(name), isBeforeStart);
 
 function dialog(heading, ...children) {
     const node = h("dialog", { "aria-label": heading }, h("h2", {}, heading), ...children, button(texts.text("close"), () => node.close()));
@@ -81,6 +68,7 @@ const linkTo = (script) => h("a", { href: URL.createObjectURL(new Blob([script],
 async function save() {
     const { text, code } = texts;
     const whole = await laboratory.transcript();
+    if (whole === undefined) return;
     const place = h("pre", { class: "transcript", tabindex: "0", role: "group", "aria-label": text("script") });
     const below = h("p", { role: "status" });
     const show = () => {
@@ -125,12 +113,12 @@ async function run() {
 
 function makeBar() {
     const { text } = texts;
-    const choice = h("select", { id: "example", "aria-label": text("openExample"), onchange: () => examples[choice.value] !== undefined && openExample(choice.value) },
+    const choice = h("select", { id: "example", "aria-label": text("openExample"), onchange: () => examples.has(choice.value) && openExample(choice.value) },
         h("option", { value: "" }, `${text("examples")}: ${text("chooseExample")}`),
-        ...Object.keys(examples).map((name) => h("option", { value: name }, `${name}: ${headOf(examples[name]).title}`)));
+        ...[...examples].map(([name, script]) => h("option", { value: name }, `${name}: ${headOf(script).title}`)));
     const language = h("select", { id: "language", "aria-label": "Language, Sprache", onchange: () => { texts = textsIn(language.value); layFor("language"); } },
         ...Object.entries(LANGUAGES).map(([code, table]) => h("option", { value: code, selected: code === texts.code }, table.language)));
-    const view = { node: h("div", { class: "line choices", role: "toolbar", "aria-label": text("choices") }, choice, button(text("new"), () => laboratory.say("new"), { title: text("newHint") }), button(text("save"), save, { title: text("saveHint"), id: "save" }),
+    const view = { node: h("div", { class: "line choices", role: "toolbar", "aria-label": text("choices") }, choice, button(text("new"), () => laboratory.new(), { title: text("newHint") }), button(text("save"), save, { title: text("saveHint"), id: "save" }),
         button(text("kiosk"), () => setKiosk(true), { id: "kiosk" }), button(text("about"), about, { id: "about" }), language),
         show: () => { choice.value = laboratory.script?.name ?? ""; } };
     return view;
@@ -140,7 +128,8 @@ function makeDrive() {
     const { text } = texts;
     const deeds = [["step", () => laboratory.step(1)], ["walk", walk], ["run", run], ["halt", halt]];
     const controls = deeds.map(([name, deed]) => button(text(name), deed, { id: name, class: "drive", title: text(`${name}Hint`) }));
-    return { node: h("div", { class: "line drives", role: "toolbar", "aria-label": text("drives") }, ...controls), show: () => {} };
+    const way = h("p", { class: "way" });
+    return { node: h("div", { class: "line drives" }, h("div", { class: "line", role: "toolbar", "aria-label": text("drives") }, ...controls), way), show: () => { way.textContent = laboratory.openSource === null ? wayText(laboratory, texts, false) : ""; } };
 }
 
 function makeExplanation() {
@@ -165,7 +154,8 @@ function lay() {
     const heading = h("header", {}, h("h1", {}, text(isKiosk ? "kioskTitle" : "title")), h("p", {}, text("subtitle")), ...top.map(({ node }) => node));
     const columns = isKiosk ? kioskColumns() : allColumns();
     const leave = isKiosk ? [h("footer", {}, button(text("leaveKiosk"), () => setKiosk(false), { class: "plain" }), " ", button(texts.code === "de" ? "English" : "Deutsch", () => { texts = textsIn(texts.code === "de" ? "en" : "de"); layFor("other-language"); }, { class: "plain", id: "other-language" }))] : [];
-    views = [...top, ...columns.flatMap(({ made }) => made)];
+    const notices = makeNotices(laboratory, texts, isKiosk, { run, save, anew: () => (isKiosk ? openKiosk() : laboratory.new()), linkTo });
+    views = [notices, ...top, ...columns.flatMap(({ made }) => made)];
     document.getElementById("page").replaceChildren(heading, h("main", {}, ...columns.map(({ node }) => node)), ...leave);
     show();
 }
@@ -185,10 +175,16 @@ const allColumns = () => [
 
 const kioskColumns = () => [column(makeDrum(laboratory, texts)), column(makePaper(laboratory, texts), makePanel(laboratory, texts), makeListing(laboratory, texts))];
 
-/** The kiosk's program before its start, without rules: nothing but its own stop ends a run. */
+/** Whether a machine goes on from order to order, so that it can be halted and started again without a difference. */
+const isGoing = ({ status, mode }) => status === "going" && mode === "normal";
+
+/** The kiosk's program before its start, without rules: nothing but its own stop ends a run. An example that is not there is told. */
 async function openKiosk() {
-    await openExample(examples[asked.example] === undefined ? KIOSK.example : asked.example, true);
-    await laboratory.say(...laboratory.rules.map(() => "drop 0"));
+    const isThere = asked.example === null || examples.has(asked.example);
+    await openExample(isThere ? asked.example ?? KIOSK.example : KIOSK.example, true);
+    await laboratory.command(...laboratory.rules.map(() => "drop 0"));
+    if (isGoing(laboratory.panel)) await laboratory.command("press manual", "press normal");
+    if (!isThere) await laboratory.tell({ kind: "noKioskExample", detail: asked.example, shown: KIOSK.example });
 }
 
 async function setKiosk(wanted) {
@@ -213,9 +209,8 @@ async function openAsked() {
     if (isKiosk) return setKiosk(true);
     if (asked.script !== null) return laboratory.openScript("#script", asked.script);
     if (asked.example === null) return undefined;
-    if (examples[asked.example] !== undefined) return openExample(asked.example);
-    laboratory.notice = { kind: "noExample", detail: asked.example };
-    return show();
+    if (examples.has(asked.example)) return openExample(asked.example);
+    return laboratory.tell({ kind: "noExample", detail: asked.example });
 }
 
 async function begin() {

@@ -126,11 +126,19 @@ const ACCOUNT_HEADING = "  clock  at           order           find take seek  a
 
 const wordOf = (digits, order, number) => ({ digits, order: order ?? null, number: Number(number) });
 
-const PUT_THERE = /^ {8}this order was put there by (?:hand|(?<order>.*?)(?: at (?<at>\d{4})(?: \S+)?| in the instruction register)), clock (?<clock>\d+)(?:, \d+ orders? ago)?; before it was (?<lost>.*)$/;
+const PUT = "put there by (?:hand|(?<order>.*?)(?: at (?<at>\\d{4})(?: \\S+)?| in the instruction register)), clock (?<clock>\\d+)(?:, \\d+ orders? ago)?; before it was (?<lost>.*)$";
+const PUT_THERE = new RegExp(`^ {8}this order was ${PUT}`);
+const WHY = new RegExp(`^\\d{4}(?: \\S+)?: .*?, ${PUT}`);
 
-/** What put an order where it stood: an order, whose place is null where that was in the register, or a hand, whose order is null. */
+/** What put a word where it stands: an order, whose place is null where that was in the register, or a hand, whose order is null. */
 function originOf({ order, at, clock, lost }) {
     return { order: order ?? null, at: at ?? null, clock: BigInt(clock), lost };
+}
+
+/** What a reply of `why` says of the origin of its word; null where it says none. */
+export function originIn(line) {
+    const groups = WHY.exec(line)?.groups;
+    return groups === undefined ? null : originOf(groups);
 }
 
 /** Adds to an account what a line below it says. A line of another form is kept as it is: later monitors may say more. */
@@ -240,6 +248,9 @@ export function labelsOf(reply) {
     }
     return labels;
 }
+
+/** The rules in the order of their numbers, each by the command that made it. */
+export const rulesOf = (reply) => linesOf(reply).map((line) => matched(/^rule \d+ (.+)$/, line, "rule")[1]);
 
 /** The commands that `help` names: the first words of its lines. */
 export const commandsOf = (reply) => new Set(linesOf(reply).flatMap((line) => line.split(/ or | +/).slice(0, 1)));

@@ -2,7 +2,7 @@ import assert from "node:assert/strict";
 import { test } from "node:test";
 import { addressIn, addressOf, isAmong, numberOf, positionOf, windowAt } from "../addresses.mjs";
 import { Deeds } from "../deeds.mjs";
-import { nextPortion, sourceIn } from "../laboratory.mjs";
+import { nextPortion } from "../laboratory.mjs";
 import { headOf, linesIn, setUp } from "../lines.mjs";
 import { askedIn } from "../opening.mjs";
 
@@ -14,8 +14,22 @@ test("orders gone back over are ahead, with the presses between them", () => {
     deeds.orders(2);
     deeds.back(4);
     assert.deepEqual([deeds.behind, deeds.ahead], [1, 4]);
-    assert.deepEqual([deeds.next(9), deeds.next(9), deeds.next(1), deeds.next(9), deeds.next(9)],
-        [{ orders: 2 }, { line: "press bp4 down", orders: 0 }, { orders: 1 }, { orders: 1 }, null]);
+    const again = [];
+    for (let deed = deeds.next(1); deed !== null; deed = deeds.next(9)) {
+        again.push(deed);
+        if (deed.line === undefined) deeds.orders(deed.orders, true);
+        else deeds.line(deed.line, true);
+    }
+    assert.deepEqual(again, [{ orders: 1 }, { orders: 1 }, { line: "press bp4 down", orders: 0 }, { orders: 2 }]);
+    assert.deepEqual([deeds.behind, deeds.ahead], [5, 0]);
+});
+
+test("what is done again in part stays ahead in part", () => {
+    const deeds = new Deeds();
+    deeds.orders(5);
+    deeds.back(5);
+    deeds.orders(2, true);
+    assert.deepEqual([deeds.behind, deeds.ahead, deeds.next(0), deeds.next(9)], [2, 3, { orders: 0 }, { orders: 3 }]);
 });
 
 test("a deed that is new leaves nothing ahead", () => {
@@ -63,11 +77,7 @@ test("the head of a script, and how far it sets up", () => {
     assert.equal(headOf(script).title, "The first run: one");
     assert.equal(headOf(script).paragraphs.length, 2);
     assert.deepEqual([setUp(linesIn(script)), setUp(linesIn(script), true)], [6, 5]);
-});
-
-test("the last source among lines", () => {
-    assert.equal(sourceIn(["source", " z", " end", ".", "load"]), " z\n end");
-    assert.equal(sourceIn(["put 0000 00000000"]), null);
+    assert.equal(setUp(["source", "run z", ".", "run 1"]), 3);
 });
 
 test("what an address asks for", () => {

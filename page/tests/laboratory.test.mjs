@@ -1,29 +1,41 @@
-// The controller with the proved monitor's own program, where that is there: crates/lgp30m/out/lgp30m, made by ./prove lgp30m.
+// The controller with the proved monitor: with the module, where that is there and this node has memory64 (node 20: --experimental-wasm-memory64),
+// and with the native program, crates/lgp30m/out/lgp30m, where ./prove lgp30m has made it.
 import assert from "node:assert/strict";
-import { existsSync, readFileSync } from "node:fs";
+import { existsSync, readFileSync, readdirSync } from "node:fs";
 import { dirname, join } from "node:path";
 import { test } from "node:test";
 import { fileURLToPath } from "node:url";
 import { Laboratory } from "../laboratory.mjs";
-import { isLive } from "../learn.mjs";
+import { isLive, wayOn } from "../learn.mjs";
+import { withoutQuestions } from "../lines.mjs";
+import { ROOM } from "../room.mjs";
+import { NoMemory, hasMemory64 } from "../session.mjs";
+import { ModuleLink } from "./module.mjs";
 import { NativeLink } from "./native.mjs";
 
 const top = join(dirname(fileURLToPath(import.meta.url)), "../..");
 const program = process.env.MONITOR ?? join(top, "crates/lgp30m/out/lgp30m");
+const module = join(top, "page/lgp_c_region.wasm");
 const exampleNamed = (name) => readFileSync(join(top, `examples/${name}.txt`), "utf8");
+const LINKS = [
+    { name: "module", isThere: existsSync(module) && hasMemory64(), open: () => new ModuleLink(module) },
+    { name: "program", isThere: existsSync(program), open: () => new NativeLink(program) },
+];
 
-/** Opens a laboratory over the native monitor for a test, and ends it. */
-const live = (name, body) => test(name, { skip: !existsSync(program) }, async () => {
-    const link = new NativeLink(program);
-    try {
-        const laboratory = new Laboratory(link);
-        await laboratory.open();
-        assert.equal(laboratory.notice, null);
-        await body(laboratory);
-    } finally {
-        await link.end();
-    }
-});
+/** Opens a laboratory over a link for a test, and ends it. */
+const live = (name, body, links = LINKS) => {
+    for (const { name: by, isThere, open } of links) test(`${name}, by the ${by}`, { skip: !isThere }, async () => {
+        const link = open();
+        try {
+            const laboratory = new Laboratory(link);
+            await laboratory.open();
+            assert.equal(laboratory.notice, null);
+            await body(laboratory, link);
+        } finally {
+            await link.end();
+        }
+    });
+};
 
 live("what is live when is that of docs/MACHINE.md", (laboratory) => {
     const at = (status, mode, name) => isLive(laboratory.live, { status, mode }, name);
@@ -68,18 +80,232 @@ live("going somewhere is undone and done again deed by deed", async (laboratory)
     assert.deepEqual([laboratory.panel.clock, laboratory.panel.status], [clock, "going"]);
 });
 
+/** Goes back by so many orders and forward again: nothing is lost. */
+async function thereAndBack(laboratory, orders) {
+    const { panel, deeds: { behind } } = laboratory;
+    await laboratory.back(orders);
+    assert.equal(laboratory.deeds.ahead, orders);
+    await laboratory.forward(orders);
+    assert.deepEqual([laboratory.panel, laboratory.deeds.behind, laboratory.deeds.ahead], [panel, behind, 0]);
+}
+
+live("nothing is lost where someone went somewhere in between", async (laboratory) => {
+    await laboratory.say("put 0000 u 0000", "put 0100 b 0050", "put 0101 u 0100", "press start");
+    await laboratory.step(2);
+    await laboratory.say("go 0100");
+    await thereAndBack(laboratory, 1);
+    await thereAndBack(laboratory, 3);
+    await laboratory.step(4);
+    for (const orders of [1, 4, 5, 6, 7]) await thereAndBack(laboratory, orders);
+    await laboratory.back(7);
+    for (let ahead = 6; ahead >= 0; ahead -= 1) {
+        await laboratory.forward(1);
+        assert.equal(laboratory.deeds.ahead, ahead);
+    }
+});
+
+live("nothing is lost where a rule hits on the way", async (laboratory) => {
+    await laboratory.say("put 0000 b 0050", "put 0001 h 0051", "put 0002 u 0000", "press start");
+    await laboratory.step(9);
+    await laboratory.say("break 0001", "watch 0051");
+    await laboratory.back(9);
+    await laboratory.forward(9);
+    assert.deepEqual([laboratory.deeds.behind, laboratory.deeds.ahead, laboratory.panel.counter], [9, 0, "0000"]);
+    await laboratory.run(200);
+});
+
+live("a put by a name is performed again where it was", async (laboratory) => {
+    await laboratory.assemble("a z\nb word 00000002\n end");
+    await laboratory.say("put 0000 u 0000", "press start", "run 2", "press manual", "put b b b", "press normal", "press start", "run 2");
+    await laboratory.assemble(" z\n z\na z\nb word 00000002\n end");
+    await laboratory.back(4);
+    await laboratory.forward(4);
+    assert.deepEqual(laboratory.words.slice(0, 4).map(({ order }) => order), ["u 0000", "b 0001", "z 0000", "z 0000"]);
+});
+
+live("a run asks when much has been printed", async (laboratory) => {
+    await laboratory.say("put 0000 p =h", "put 0001 p =i", "put 0002 u 0000", "press start");
+    const { end } = await laboratory.run();
+    assert.deepEqual([end, laboratory.notice], ["printed", { kind: "printedMuch", count: laboratory.printed.count }]);
+    assert.ok(laboratory.printed.count >= ROOM.asksAfter && laboratory.printed.count < ROOM.codes);
+    const before = laboratory.printed.count;
+    await laboratory.run();
+    assert.equal(laboratory.notice.count, laboratory.printed.count - before);
+    await laboratory.back(10);
+    assert.equal(laboratory.notice, null);
+});
+
+live("before memory ends nothing more is begun, and all can be saved", async (laboratory, link) => {
+    await laboratory.say("put 0000 p =h", "put 0001 p =i", "put 0002 u 0000", "press start");
+    for (let runs = 0; runs < 100 && laboratory.notice?.kind !== "usedUp"; runs += 1) await laboratory.run();
+    assert.equal(laboratory.notice.kind, "usedUp");
+    assert.ok(laboratory.printed.count <= ROOM.codes && laboratory.printed.count > 0.9 * ROOM.codes);
+    const sent = link.sent.length;
+    for (const deed of [() => laboratory.step(), () => laboratory.run(), () => laboratory.say("run 1"), () => laboratory.command("press manual"), () => laboratory.assemble(" z")]) {
+        await deed();
+        assert.equal(laboratory.notice.kind, "usedUp");
+    }
+    assert.ok(link.sent.slice(sent).every((line) => /^(panel|words|show|why|printed|rules)/.test(line)));
+    assert.match(await laboratory.transcript(), /\nput 0000 00083100\n/);
+    assert.equal(await laboratory.say("words 0000 1"), "0000 00083100\n");
+    await laboratory.new();
+    assert.deepEqual([laboratory.notice, laboratory.printed.count, laboratory.lost], [null, 0, []]);
+    await laboratory.say("put 0000 = 1");
+    assert.equal(laboratory.notice, null);
+}, LINKS.slice(0, 1));
+
+live("so do lines, and the questions of a long session count", async (laboratory) => {
+    const comment = `; ${"x".repeat(4000)}`;
+    await laboratory.say("put 0050 = 3", ...Array(800).fill(comment));
+    assert.equal(laboratory.notice.kind, "usedUp");
+    assert.match(await laboratory.transcript(), /^(panel|words|show|printed)[^]*\nput 0050 00000006\n; xx/);
+    await laboratory.say("new");
+    await laboratory.say(comment);
+    assert.equal(laboratory.notice, null);
+});
+
+live("a line that could print or tell more than memory holds is not begun", async (laboratory) => {
+    await laboratory.say("put 0000 p =h", "put 0001 u 0000", "press start");
+    for (const [line, most] of [["run 5000000", ROOM.codes], ["orders 2000000", ROOM.codes], ["trace 20000", ROOM.told], [" drum  20000 ", ROOM.told]]) {
+        await laboratory.say(line);
+        assert.deepEqual(laboratory.notice, { kind: "tooMany", line, most });
+    }
+    assert.equal(laboratory.panel.clock, 0n);
+    await laboratory.say("new", "put 0000 u 0000", "press start", "run 900000", "run 900000");
+    assert.deepEqual([laboratory.notice, laboratory.deeds.behind], [null, 1_800_000]);
+});
+
+live("where memory ends in spite of it, the lines are kept until they are put away", async (laboratory, link) => {
+    const answer = link.ask.bind(link);
+    link.ask = async (line) => {
+        if (line === "; the end") throw new NoMemory("none");
+        return answer(line);
+    };
+    await laboratory.say("put 0050 = 3", "go 0000", "; the end");
+    assert.deepEqual([laboratory.notice.kind, laboratory.lost], ["noMemory", ["put 0050 = 3\ngo 0000\n; the end"]]);
+    await laboratory.say("words 0050 1", "; the end");
+    assert.deepEqual(laboratory.lost.slice(1), ["words 0050 1\n; the end"]);
+    await laboratory.step();
+    assert.equal(laboratory.lost.length, 2);
+    await laboratory.putAway();
+    assert.deepEqual(laboratory.lost, []);
+});
+
+live("what is loaded is what is written", async (laboratory) => {
+    await laboratory.assemble(" b 0002\n z\n end 0000\n");
+    await laboratory.load(" h 0002\n z\n end 0000\n");
+    assert.deepEqual([laboratory.words[0].order, laboratory.notice], ["h 0002", null]);
+    await laboratory.load(" b none\n end\n");
+    assert.deepEqual([laboratory.words[0].order, laboratory.notice.kind, laboratory.assembled.faults.length], ["h 0002", "notLoaded", 1]);
+    await laboratory.load(" b none\n end\n");
+    assert.equal(laboratory.notice.kind, "notLoaded");
+    await laboratory.new();
+    await laboratory.load(" a 0002\n end 0000\n");
+    assert.equal(laboratory.words[0].order, "a 0002");
+});
+
+live("a stop by a rule names the rule, and whose it is", async (laboratory) => {
+    await laboratory.openScript("square-root", exampleNamed("square-root"));
+    await laboratory.run();
+    assert.deepEqual(laboratory.notice, { kind: "rule", number: 0, rule: "watch 0011 guess", isOfScript: true });
+    await laboratory.command("drop 0", "break 0000+1");
+    assert.deepEqual(laboratory.rules, ["break 0001"]);
+    await laboratory.new();
+    await laboratory.say("put 0000 u 0001", "put 0001 u 0000", "break 0001", "press start");
+    await laboratory.run();
+    assert.deepEqual(laboratory.notice, { kind: "rule", number: 0, rule: "break 0001", isOfScript: false });
+});
+
+live("each example stands before something that goes on", async (laboratory) => {
+    const names = readdirSync(join(top, "examples"), { recursive: true }).map(String).filter((name) => name.endsWith(".txt")).map((name) => name.slice(0, -".txt".length));
+    for (const name of names) for (const isBeforeStart of [false, true]) {
+        await laboratory.openScript(name, exampleNamed(name), isBeforeStart);
+        const { panel, live: table, deeds: { behind } } = laboratory;
+        const { kind } = wayOn(table, panel);
+        assert.ok(["start", "go"].includes(kind), name);
+        assert.equal(isLive(table, panel, "start"), kind === "start", name);
+        if (kind === "start") await laboratory.command("press start");
+        await laboratory.step();
+        assert.equal(laboratory.deeds.behind, behind + 1, name);
+    }
+});
+
+live("the way on from where a machine stands", async (laboratory) => {
+    const way = async (...lines) => {
+        await laboratory.new();
+        await laboratory.say(...lines);
+        return wayOn(laboratory.live, laboratory.panel);
+    };
+    assert.deepEqual(await way(), { kind: "start" });
+    assert.deepEqual(await way("press start"), { kind: "go" });
+    assert.deepEqual(await way("press manual"), { kind: "mode", mode: "normal" });
+    assert.deepEqual(await way("put 0000 i", "press start", "run 9"), { kind: "keys" });
+});
+
 live("a source with faults, and one without", async (laboratory) => {
     assert.deepEqual((await laboratory.assemble(" b none\n z\n")).faults, [{ line: 1, kind: "UnknownName" }, { line: 3, kind: "NoEnd" }]);
     assert.equal((await laboratory.assemble(" b 0002\n z\n end 0000\n")).cells, 2);
-    await laboratory.say("load");
+    await laboratory.command("load");
     assert.equal(laboratory.words[0].order, "b 0002");
 });
 
-live("a line that opens a source is not looked behind", async (laboratory) => {
+live("in an open source there is no looking, and its lines are shown", async (laboratory) => {
     await laboratory.say("source");
     await laboratory.say(" z");
     await laboratory.say(" end");
+    assert.deepEqual(laboratory.openSource, [" z", " end"]);
     assert.equal(await laboratory.say("."), "cells 1 start none\n");
+    assert.deepEqual([laboratory.openSource, laboratory.source, laboratory.assembled.cells], [null, " z\n end", 1]);
+});
+
+live("while a source is open nothing but a typed line goes into it", async (laboratory) => {
+    await laboratory.say("put 0050 = 3", "source", "ten z");
+    const deeds = [["step"], ["run"], ["back", 1], ["forward", 1], ["command", "press start"], ["assemble", " z"], ["load", " z"], ["why", "0050"], ["showAt", "0050"],
+        ["transcript"], ["scriptLines", 1]];
+    for (const [name, ...values] of deeds) {
+        assert.equal(await laboratory[name](...values), undefined, name);
+        assert.equal(laboratory.notice?.kind, "sourceIsOpen", name);
+    }
+    assert.deepEqual(laboratory.openSource, ["ten z"]);
+    await laboratory.say(" end", ".");
+    assert.deepEqual([laboratory.notice, laboratory.assembled.cells, laboratory.labels.get("0000")], [null, 1, ["ten"]]);
+    assert.match(await laboratory.transcript(), /put 0050 00000006\nsource\nten z\n end\n\.\n/);
+    await laboratory.say("source");
+    await laboratory.new();
+    assert.deepEqual([laboratory.openSource, laboratory.panel.clock], [null, 0n]);
+});
+
+live("what a row says of its word is what why says", async (laboratory) => {
+    await laboratory.openScript("self-modifying", exampleNamed("self-modifying"));
+    await laboratory.step(4);
+    assert.deepEqual(laboratory.writerOf("0009"), { order: "y 0009", at: "0005", clock: 181n, lost: "a 0000" });
+    await laboratory.run(12);
+    assert.ok(laboratory.writerOf("0009").clock > 181n);
+    assert.match((await laboratory.why("0009"))[0], new RegExp(`put there by y 0009 at 0013, clock ${laboratory.writerOf("0009").clock},`));
+    await laboratory.say("press manual", "put 0009 a 0000");
+    assert.equal(laboratory.writerOf("0009"), null);
+    assert.match((await laboratory.why("0009"))[0], /put there by hand/);
+});
+
+live("an order that stores the word that is there has not changed it", async (laboratory) => {
+    await laboratory.say("put 0000 b 0004", "put 0001 h 0005", "put 0002 h 0005", "put 0004 = 3", "press start");
+    await laboratory.step(3);
+    assert.deepEqual([laboratory.accounts.at(-1).stored.address, laboratory.writerOf("0005").at], ["0005", "0001"]);
+});
+
+live("the last orders are the last ones, or none", async (laboratory) => {
+    const untold = [() => laboratory.run(5), () => laboratory.say("orders 2"), () => laboratory.say("run 2"), () => laboratory.say("profile 2"), () => laboratory.say("go 0000")];
+    for (const deed of untold) {
+        await laboratory.openScript("self-modifying", exampleNamed("self-modifying"));
+        await laboratory.step(3);
+        assert.deepEqual([laboratory.accounts.length, laboratory.rows.length > 0], [3, true]);
+        await deed();
+        assert.deepEqual([laboratory.accounts, laboratory.rows], [[], []], String(deed));
+        await laboratory.step(2);
+        assert.equal(laboratory.accounts.length, 2);
+    }
+    await laboratory.say("back 1");
+    assert.deepEqual([laboratory.accounts.length, laboratory.rows], [1, []]);
 });
 
 live("rules are kept by their numbers", async (laboratory) => {

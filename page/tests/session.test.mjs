@@ -4,6 +4,7 @@ import { existsSync, readFileSync } from "node:fs";
 import { dirname, join } from "node:path";
 import { test } from "node:test";
 import { fileURLToPath } from "node:url";
+import { ROOM } from "../room.mjs";
 import { NoMemory, Session, hasMemory64 } from "../session.mjs";
 
 const path = join(dirname(fileURLToPath(import.meta.url)), "../lgp_c_region.wasm");
@@ -32,4 +33,28 @@ test("memory that is used up", { skip }, () => {
     const session = new Session(compiled(), 1n << 20n);
     assert.throws(() => { for (;;) session.answer("panel"); }, NoMemory);
     assert.throws(() => session.answer("panel"), NoMemory);
+});
+
+/** Fills a session up to the bounds of lines and codes, with the questions of a long session. */
+function filled(session) {
+    let sent = 0;
+    const ask = (line) => {
+        sent += line.length + 1;
+        return session.answer(line);
+    };
+    for (const line of ["put 0000 p =h", "put 0001 u 0000", "press start"]) ask(line);
+    for (let codes = 0; codes < ROOM.codes; codes += 25_000) {
+        ask("run 50000");
+        ask("printed");
+    }
+    while (sent < ROOM.lines) for (const line of ["panel", "words 0000 16", "show 0000 16"]) ask(line);
+}
+
+test("within the bounds there is room for a last portion, the longest source, told runs and what is saved", { skip }, () => {
+    const session = new Session(compiled());
+    filled(session);
+    const source = Array(ROOM.source / 20).fill(" b 0050 ; 012345678");
+    for (const line of ["source", ...source, ".", `trace ${ROOM.told}`, `drum ${ROOM.told}`, "run 100000"]) session.answer(line);
+    assert.ok(session.answer("transcript").length > ROOM.lines + ROOM.source);
+    assert.ok(session.answer("printed").length > ROOM.codes);
 });

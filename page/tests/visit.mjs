@@ -43,7 +43,12 @@ async function kiosk(browser) {
     await browser.open(`${address}?kiosk=message&lang=en&idle=2`);
     const buttons = await browser.value("[...document.querySelectorAll('.kiosk-bar button')].map((it) => it.textContent)");
     assert.deepEqual(buttons, ["Start", "One order", "Let it run", "From the beginning"]);
+    assert.match(await textOf(browser, ".kiosk-told"), /Press Start/);
     await press(browser, ".kiosk-bar button:nth-of-type(1)");
+    assert.equal((await panelOf(browser)).status, "going");
+    assert.match(await textOf(browser, ".kiosk-told"), /The machine is going/);
+    await press(browser, ".kiosk-bar button:nth-of-type(1)");
+    assert.match(await textOf(browser, "#notice"), /Start does nothing now[^]*One order[^]*Let it run/);
     await press(browser, ".kiosk-bar button:nth-of-type(2)");
     await browser.press(".kiosk-bar button:nth-of-type(3)");
     await browser.waitFor("laboratoryOfPage().panel.status === 'halted stop'");
@@ -51,6 +56,112 @@ async function kiosk(browser) {
     assert.notEqual((await textOf(browser, ".paper")).trim(), "");
     await picture(browser, "kiosk");
     await browser.waitFor("laboratoryOfPage().deeds.behind === 0 && laboratoryOfPage().printed.count === 0", 8000);
+}
+
+/** What an address names and is not there is told, whatever its name; and so is that a program waits for keys, which the kiosk does not have. */
+async function addresses(browser) {
+    for (const name of ["nonesuch", "constructor", "__proto__", "toString"]) {
+        await browser.open(`${address}?lang=${name}#${name}`);
+        assert.match(await textOf(browser, "#notice"), new RegExp(`names no example: ${name}`));
+        await browser.open(`${address}?lang=en&kiosk=${name}`);
+        assert.match(await textOf(browser, "#notice"), new RegExp(`names no example: ${name}. The kiosk shows message.`));
+        assert.match(await textOf(browser, ".kiosk-told"), /Press Start/);
+    }
+    await browser.open(`${address}?lang=en&kiosk=games/matches`);
+    assert.equal(await textOf(browser, "#notice"), "");
+    await browser.press("#kiosk-run");
+    await browser.waitFor("/waits for its operator's keys\\. The kiosk has none/.test(document.querySelector('.kiosk-told').textContent)");
+}
+
+/** What the page shows of a word is what the monitor says now: behind a run, a put by hand, and an order that stores what is there. */
+async function changes(browser) {
+    await browser.open(`${address}?lang=en#self-modifying`);
+    for (let order = 0; order < 4; order += 1) await press(browser, "#step");
+    const row = () => textOf(browser, "tr[data-address='0009']");
+    assert.match(await row(), /changed by y 0009 at 0005, clock 181/);
+    assert.equal(await browser.value("document.querySelectorAll('.arc').length > 0 && document.querySelector('.arrow') !== null && document.querySelectorAll('.rows > *').length > 0"), true);
+    await browser.value("laboratoryOfPage().run(12)");
+    assert.match(await row(), /changed by y 0009 at 0013, clock (?!181)/);
+    assert.equal(await browser.value("document.querySelectorAll('.arc, .arrow, .accounts tbody tr, .rows > *').length"), 0);
+    await browser.value("laboratoryOfPage().say('press manual', 'put 0009 a 0000')");
+    assert.doesNotMatch(await row(), /changed/);
+    await press(browser, "tr[data-address='0009'] button");
+    assert.match(await textOf(browser, ".why"), /put there by hand/);
+    await started(browser, "put 0000 b 0004", "put 0001 h 0005", "put 0002 h 0005", "put 0004 = 3");
+    await browser.value("laboratoryOfPage().step(3)");
+    assert.match(await textOf(browser, "tr[data-address='0005']"), /changed by h 0005 at 0001/);
+}
+
+/** Start here, a few steps, all the way back and forward again: nothing is lost. */
+async function thereAndBack(browser) {
+    await browser.open(`${address}?lang=en`);
+    await started(browser, "put 0000 u 0000", "put 0100 b 0050", "put 0101 u 0100");
+    await press(browser, "#step");
+    await browser.value("document.querySelector('.listing form input').value = '0100'");
+    await press(browser, ".listing form button:nth-of-type(2)");
+    for (let order = 0; order < 3; order += 1) await press(browser, "#step");
+    const before = await panelOf(browser);
+    const slideTo = async (place) => {
+        await browser.value(`(() => { const it = document.querySelector('.time input'); it.value = '${place}'; it.dispatchEvent(new Event('change')); })()`);
+        await settled(browser);
+        return textOf(browser, ".time output");
+    };
+    assert.equal(await slideTo(0), "order 0 of 5");
+    assert.equal(await slideTo(2), "order 2 of 5");
+    assert.equal(await slideTo(5), "order 5 of 5");
+    assert.deepEqual(await panelOf(browser), before);
+}
+
+/** A source that is typed line by line is seen, takes no button's line, and ends by a button; then all can be saved. */
+async function openSource(browser) {
+    await browser.open(`${address}?lang=en`);
+    await type(browser, "put 0050 = 3");
+    const typed = async (line) => {
+        await browser.value(`(() => { const form = document.querySelector('.lines form'); form.querySelector('input').value = ${JSON.stringify(line)}; form.requestSubmit(); })()`);
+        await settled(browser);
+    };
+    for (const line of ["source", " b 0050"]) await typed(line);
+    assert.match(await textOf(browser, "#open-source"), /A source is open; lines in it: 1/);
+    for (const selector of ["#step", "#run", "#save", ".console button[data-name='start']", ".source .line button:nth-of-type(1)", ".profile button"]) {
+        await press(browser, selector);
+        assert.match(await textOf(browser, "#notice"), /a source is open/, selector);
+    }
+    assert.equal(await browser.value("document.querySelector('dialog')"), null);
+    await typed(" end 0000");
+    await press(browser, "#open-source button");
+    assert.deepEqual(await browser.value("[document.querySelector('#open-source').hidden, document.activeElement.closest('.lines') !== null]"), [true, true]);
+    assert.match(await textOf(browser, ".source .told"), /1 words, start 0000/);
+    assert.equal(await browser.value("document.querySelector('.source textarea').value"), " b 0050\n end 0000");
+    await browser.press("#save");
+    await browser.waitFor("document.querySelector('dialog')");
+    assert.equal(await textOf(browser, ".transcript"), "put 0050 00000006\nsource\n b 0050\n end 0000\n.\n");
+    await browser.press("dialog > button");
+}
+
+/** The page says what to press: before a start, while the machine goes, where a mode or a key is wanted, and where a rule of an example has stopped a run. */
+async function whatToPress(browser) {
+    await browser.open(`${address}?lang=en`);
+    const way = () => textOf(browser, ".way");
+    assert.match(await way(), /Start sets it going/);
+    await press(browser, "#step");
+    assert.match(await textOf(browser, "#notice"), /No order was performed\. The machine stands still: Start/);
+    await press(browser, ".console button[data-name='manual']");
+    assert.match(await way(), /press Normal, then Start/);
+    await started(browser, "put 0000 i", "put 0001 h 0050");
+    assert.match(await way(), /Step performs its next order, Run/);
+    await press(browser, ".console button[data-name='start']");
+    assert.match(await textOf(browser, "#notice"), /Start does nothing now\. The machine is going: Step/);
+    await press(browser, "#run");
+    assert.match(await way(), /waits for its operator/);
+    await browser.open(`${address}?lang=en#square-root`);
+    assert.match(await way(), /Step performs its next order, Run/);
+    await press(browser, "#run");
+    assert.match(await textOf(browser, "#notice"), /Rule 0 stopped the run: it stops when it changes: 0011 guess\. The script has set it\./);
+    await press(browser, "#notice button:nth-of-type(2)");
+    assert.deepEqual(await browser.value("[laboratoryOfPage().rules.length, document.activeElement.id]"), [0, "run"]);
+    await press(browser, "#run");
+    assert.equal(await textOf(browser, "#notice"), "");
+    assert.match((await panelOf(browser)).status, /halted/);
 }
 
 /** The rows of the first hour's table whose heading begins with these cells; an empty cell is not compared. */
@@ -221,7 +332,17 @@ async function source(browser) {
     assert.match(await textOf(browser, ".source .told"), /7 words, start 0000/);
     await press(browser, ".source .line button:nth-of-type(2)");
     await press(browser, "#run");
-    assert.equal(await browser.value("laboratoryOfPage().words.find(({ address }) => address === '0006').digits"), "00000006");
+    const digitsAt = (place) => browser.value(`laboratoryOfPage().words.find(({ address }) => address === '${place}').digits`);
+    assert.equal(await digitsAt("0006"), "00000006");
+    const mended = faulty.replace("tow", "two");
+    await write(mended.replace("word 00000004", "word 00000006"));
+    assert.match(await textOf(browser, ".source .told"), /has been changed/);
+    await press(browser, ".source .line button:nth-of-type(2)");
+    assert.equal(await digitsAt("0005"), "00000006");
+    await write(mended.replace("b one", "b two x"));
+    await press(browser, ".source .line button:nth-of-type(2)");
+    assert.match(await textOf(browser, "#notice"), /The source has faults: nothing was loaded/);
+    assert.equal(await digitsAt("0005"), "00000006");
 }
 
 /** The profile of the primes, as bars. */
@@ -272,18 +393,46 @@ async function badInput(browser) {
     assert.match(await browser.value("laboratoryOfPage().talk.at(-1).reply"), /^counter 0000/);
 }
 
-/** Where memory is used up, the page says so, keeps the lines, and goes on with a new laboratory. */
-async function usedUp(browser) {
+/** A run that prints without end asks, and goes on; before memory ends the page begins nothing more, and all can be saved. */
+async function endlessPrint(browser) {
     await browser.open(`${address}?lang=en`);
-    await browser.value("laboratoryOfPage().say('put 0050 = 3', ...Array(17000).fill('; ' + 'x'.repeat(4000)))");
+    await started(browser, "put 0000 p =h", "put 0001 p =i", "put 0002 u 0000");
+    await press(browser, "#run");
+    assert.match(await textOf(browser, "#notice"), /^The run has printed [\d,]+ codes\. Go on\?/);
+    const count = () => browser.value("laboratoryOfPage().printed.count");
+    const before = await count();
+    await press(browser, "#notice button");
+    assert.ok(await count() >= before + 20_000);
+    assert.equal(await browser.value("document.activeElement.id"), "run");
+    for (let runs = 0; runs < 60 && !/begin a new one/.test(await textOf(browser, "#notice")); runs += 1) await press(browser, "#run");
+    assert.match(await textOf(browser, "#notice"), /nothing more is begun\. Save it, and begin a new one/);
+    await press(browser, "#step");
+    assert.match(await textOf(browser, "#notice"), /nothing more is begun/);
+    await browser.press("#notice button:nth-of-type(1)");
+    await browser.waitFor("document.querySelector('dialog')");
+    assert.match(await textOf(browser, ".transcript"), /^put 0000 00083100\nput 0001 00081100\nput 0002 000f0000\npress start\nrun 2000\n/);
+    await browser.press("dialog > button");
+    await press(browser, "#notice button:nth-of-type(2)");
+    assert.deepEqual([await textOf(browser, "#notice"), await textOf(browser, ".paper"), (await panelOf(browser)).clock], ["", "", "0"]);
+}
+
+/** Where lines have used up what memory there is, nothing more is begun. Where memory ends in spite of it, the lines are offered until they are put away. */
+async function usedUp(browser) {
+    const long = "Array(17000).fill('; ' + 'x'.repeat(4000))";
+    await browser.open(`${address}?lang=en`);
+    await browser.value(`laboratoryOfPage().say('put 0050 = 3', ...${long})`);
+    assert.match(await textOf(browser, "#notice"), /nothing more is begun/);
+    await browser.value("laboratoryOfPage().say('words 0050 1')");
+    assert.equal(await browser.value("laboratoryOfPage().talk.at(-1).reply"), "0050 00000006\n");
+    await browser.value(`laboratoryOfPage().new().then(() => laboratoryOfPage().say('put 0050 = 3', 'source', ...${long}))`);
     assert.match(await textOf(browser, "#notice"), /There was not enough memory/);
-    assert.equal(await browser.value("laboratoryOfPage().notice.lines.slice(0, 13)"), "put 0050 = 3\n");
+    assert.equal(await browser.value("laboratoryOfPage().notice.lines.slice(0, 20)"), "put 0050 = 3\nsource\n");
     await browser.value("laboratoryOfPage().say('words 0050 1')");
     assert.equal(await browser.value("laboratoryOfPage().talk.at(-1).reply"), "0050 00000000\n");
-    await started(browser, "put 0000 p =h", "put 0001 u 0000");
-    await press(browser, "#run");
-    assert.match(await textOf(browser, "#notice"), /There was not enough memory/);
-    assert.equal(await textOf(browser, ".paper"), "");
+    assert.match(await textOf(browser, "#lost"), /The lines of a laboratory whose memory had ended can be saved: Save laboratory\.txt/);
+    assert.equal(await browser.value("laboratoryOfPage().lost[0].slice(0, 20)"), "put 0050 = 3\nsource\n");
+    await press(browser, "#lost button");
+    assert.deepEqual([await textOf(browser, "#lost"), await browser.value("document.activeElement.id")], ["", "save"]);
 }
 
 /** Dead buttons are shown dead, everything has a name, and German is there. */
@@ -297,6 +446,28 @@ async function forPeople(browser) {
     assert.equal(await browser.value("document.querySelectorAll('[id]').length === new Set([...document.querySelectorAll('[id]')].map((it) => it.id)).size"), true);
     await browser.ask("Emulation.setDeviceMetricsOverride", { width: 380, height: 800, deviceScaleFactor: 1, mobile: true });
     assert.equal(await browser.value("document.documentElement.scrollWidth <= 380"), true);
+    await browser.value("laboratoryOfPage().openScript('wide', '; ' + 'wide '.repeat(40) + '\\nput 0000 b 0050\\npress start\\nrun 1').then(() => laboratoryOfPage().step(1))");
+    await browser.value("laboratoryOfPage().say('; ' + 'x'.repeat(200))");
+    for (const width of [380, 768, 1500]) {
+        await browser.ask("Emulation.setDeviceMetricsOverride", { width, height: 1250, deviceScaleFactor: 1, mobile: width < 500 });
+        const sideways = await browser.value("['.script', '.log', '.rows'].filter((it) => { const { scrollWidth, clientWidth } = document.querySelector(it); return clientWidth === 0 || scrollWidth > clientWidth; })");
+        assert.deepEqual(sideways, [], `at ${width}`);
+        await lamps(browser, `at ${width}`);
+    }
+    await browser.ask("Emulation.setEmulatedMedia", { features: [{ name: "forced-colors", value: "active" }] });
+    await lamps(browser, "with forced colours");
+    await browser.ask("Emulation.setEmulatedMedia", { features: [] });
+}
+
+/** A lamp that is lit has another colour than one that is not, and there is enough of it within its edge to see it. */
+async function lamps(browser, where) {
+    const seen = await browser.value(`(() => {
+        const all = [...document.querySelectorAll(".lamp")];
+        const colours = (are) => [...new Set(all.filter((it) => it.classList.contains("lit") === are).map((it) => getComputedStyle(it).backgroundColor))];
+        return { lit: colours(true), unlit: colours(false), narrow: all.filter((it) => it.clientWidth < 5 || it.clientHeight < 5 || 2 * it.clientWidth < it.offsetWidth).length };
+    })()`);
+    assert.equal(seen.narrow, 0, where);
+    assert.equal(seen.lit.length > 0 && seen.unlit.length > 0 && seen.lit.every((colour) => !seen.unlit.includes(colour)), true, where);
 }
 
 /** The troubles of the page as it stands, in light and in dark, and by Tab. */
@@ -450,7 +621,7 @@ async function endsThere(browser) {
     return [whole, short].map((script) => script.split("\n").length - 1);
 }
 
-const visits = { kiosk, firstHour, lesson, saved, source, profile, examples, badInput, usedUp, longRun, forPeople, everyone, byKeys, readOut, stillness, withoutMemory64, withoutWebAssembly };
+const visits = { kiosk, addresses, changes, thereAndBack, openSource, whatToPress, endlessPrint, firstHour, lesson, saved, source, profile, examples, badInput, usedUp, longRun, forPeople, everyone, byKeys, readOut, stillness, withoutMemory64, withoutWebAssembly };
 const browser = await Browser.start();
 let failed = 0;
 for (const [name, visit] of Object.entries(visits)) {

@@ -52,8 +52,8 @@ export function makeTime(laboratory, { text, code }) {
     };
     const slider = h("input", { type: "range", min: 0, max: 0, step: 1, "aria-label": text("slider"), onchange: () => goTo(Number(slider.value)) });
     const told = h("output");
-    const back = guarded("◀", { "aria-label": text("backOne"), title: text("backOne") }, () => laboratory.back(1));
-    const forward = guarded("▶", { "aria-label": text("forwardOne"), title: text("forwardOne") }, () => laboratory.forward(1));
+    const back = guarded("◀", { "aria-label": text("backOne"), title: text("backOne") }, () => laboratory.back(1), () => laboratory.tell({ kind: "noneBehind" }));
+    const forward = guarded("▶", { "aria-label": text("forwardOne"), title: text("forwardOne") }, () => laboratory.forward(1), () => laboratory.tell({ kind: "noneAhead" }));
     const show = () => {
         const { behind, ahead, forgotten } = laboratory.deeds;
         const number = (value) => counted(value, code);

@@ -5,15 +5,18 @@ import { button, guarded, h, part, showLive } from "./dom.mjs";
 
 const KEY_ROWS = ["0123456789", "fgjkqw-+;/.,", "zbyrindmpe", "uthcasvox "];
 
+/** What a press of a dead control does: it says that, and what to press. */
+const tellDead = (laboratory, detail) => () => laboratory.tell({ kind: "dead", detail });
+
 /** The part of the page with buttons and switches. */
 export function makeConsole(laboratory, { text, table }) {
     const buttons = BUTTONS.map((name) => {
         const [label, hint] = table.button[name];
-        return guarded(label, { title: hint, "data-name": name }, () => laboratory.say(`press ${name}`));
+        return guarded(label, { title: hint, "data-name": name }, () => laboratory.command(`press ${name}`), tellDead(laboratory, label));
     });
     const switches = SWITCHES.map((name) => {
         const [label, hint] = table.switch[name];
-        return button(label, () => laboratory.say(`press ${name} ${laboratory.panel.down[name] ? "up" : "down"}`), { title: hint, role: "switch", "data-name": name });
+        return button(label, () => laboratory.command(`press ${name} ${laboratory.panel.down[name] ? "up" : "down"}`), { title: hint, role: "switch", "data-name": name });
     });
     const show = () => {
         for (const control of buttons) {
@@ -29,9 +32,9 @@ export function makeConsole(laboratory, { text, table }) {
 
 /** The part of the page with the Flexowriter's keys. */
 export function makeKeyboard(laboratory, { text }) {
-    const key = (sign) => guarded(sign === " " ? "␣" : sign, { class: "key", "data-name": KEYS.sign, "aria-label": sign === " " ? text("space") : sign }, () => laboratory.say(`type ${sign}`));
+    const key = (sign) => guarded(sign === " " ? "␣" : sign, { class: "key", "data-name": KEYS.sign, "aria-label": sign === " " ? text("space") : sign }, () => laboratory.command(`type ${sign}`), tellDead(laboratory, sign === " " ? text("space") : sign));
     const rows = KEY_ROWS.map((row) => h("div", { class: "keys" }, ...[...row].map(key)));
-    const stop = guarded(text("conditionalStop"), { class: "key wide", "data-name": KEYS.stop }, () => laboratory.say("type '"));
+    const stop = guarded(text("conditionalStop"), { class: "key wide", "data-name": KEYS.stop }, () => laboratory.command("type '"), tellDead(laboratory, text("conditionalStop")));
     const node = part("keyboard", text("keyboard"), ...rows, h("div", { class: "keys" }, stop));
     const show = () => {
         for (const control of node.querySelectorAll("button")) showLive(control, isLive(laboratory.live, laboratory.panel, control.dataset.name));

@@ -41,9 +41,9 @@ export function refill(place, ...children) {
     if (name !== undefined) place.querySelector(`[data-name="${CSS.escape(name)}"]`)?.focus();
 }
 
-/** A control that does something only while it is live. */
-export const guarded = (text, attributes, deed) => {
-    const control = button(text, () => { if (control.getAttribute("aria-disabled") !== "true") deed(); }, attributes);
+/** A control that does something only while it is live; while it is dead, a press says why. */
+export const guarded = (text, attributes, deed, whenDead) => {
+    const control = button(text, () => (control.getAttribute("aria-disabled") === "true" ? whenDead() : deed()), attributes);
     return control;
 };
 

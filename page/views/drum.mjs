@@ -62,10 +62,13 @@ function picture(laboratory, text) {
 
 const KINDS = { ".": "wait", F: "find", i: "take", R: "seek", W: "seek", x: "act", "-": "none", " ": "" };
 
-/** A row of the drum: each run of one kind of sign in its colour. */
+/** Signs of a row: each run of one kind in its colour. */
+const runsOf = (signs) => [...signs.matchAll(/(.)\1*/g)].map(([run, sign]) => h("span", { class: KINDS[sign] ?? "" }, run));
+
+/** A row of the drum, in two halves, which stand below one another where there is no room for both. */
 function rowOf({ clock, signs }) {
-    const runs = [...signs.matchAll(/(.)\1*/g)].map(([run, sign]) => h("span", { class: KINDS[sign] ?? "" }, run));
-    return h("div", { class: "drum-row" }, h("span", { class: "row-clock" }, `${String(clock).padStart(8)}  `), ...runs);
+    const halves = [signs.slice(0, SECTORS / 2), signs.slice(SECTORS / 2)];
+    return h("div", { class: "drum-row" }, h("span", { class: "row-clock" }, `${String(clock).padStart(8)}  `), ...halves.map((half) => h("span", { class: "half" }, ...runsOf(half))));
 }
 
 /** The part of the page that shows the drum. */

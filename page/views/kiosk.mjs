@@ -1,23 +1,28 @@
 // The kiosk: one program, large buttons, and a return to the beginning after a time without input.
-import { button, h } from "./dom.mjs";
+import { isLive, wayOn } from "../learn.mjs";
+import { button, guarded, h, showLive } from "./dom.mjs";
 
 /** The example that a kiosk shows where its address names none, and the seconds without input after which it begins anew. */
 export const KIOSK = { example: "message", idleSeconds: 90 };
 
 /** The bar of large buttons. `open` begins the program anew. */
 export function makeKioskBar(laboratory, { text }, open) {
-    const isOpen = () => laboratory.panel !== null;
-    const start = button(text("kioskStart"), () => isOpen() && laboratory.say("press start"), { id: "kiosk-start" });
+    const wayNow = () => wayOn(laboratory.live, laboratory.panel).kind;
+    const start = guarded(text("kioskStart"), { id: "kiosk-start" }, () => laboratory.command("press start"), () => laboratory.tell({ kind: "dead", detail: text("kioskStart") }));
     const step = button(text("kioskStep"), () => laboratory.step(1));
     const run = button(text("kioskRun"), async () => {
-        if (laboratory.panel.status.startsWith("halted")) await laboratory.say("press start");
+        if (wayNow() === "start") await laboratory.command("press start");
         await laboratory.run();
-    });
+    }, { id: "kiosk-run" });
     const again = button(text("kioskAgain"), open);
     const told = h("p", { class: "kiosk-told", role: "status" });
     const show = () => {
-        const { panel, printed } = laboratory;
-        told.textContent = panel.status === "halted stop" ? text("kioskDone") : laboratory.deeds.behind === 0 ? text("kioskIntro") : printed.count > 0 ? text("kioskPrinted") : "";
+        const { panel, printed, live, deeds } = laboratory;
+        showLive(start, isLive(live, panel, "start"));
+        if (wayNow() === "keys") told.textContent = text("kioskKeys");
+        else if (panel.status === "halted stop") told.textContent = text("kioskDone");
+        else if (wayNow() === "go") told.textContent = text(printed.count > 0 ? "kioskPrinted" : "kioskGoing");
+        else told.textContent = deeds.behind === 0 ? text("kioskIntro") : "";
     };
     return { node: h("div", { class: "kiosk-bar" }, told, start, step, run, again), show };
 }

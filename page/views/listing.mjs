@@ -18,7 +18,13 @@ function row(word, laboratory, { text, table }, ask) {
         h("td", { title: meaning }, h("code", {}, word.order), unseen(meaning === "" ? "" : ` ${meaning}`)), h("td", { class: "told" }, toldOf(writer, text)));
 }
 
-/** An arrow beside the rows, from the order that wrote last to what it wrote, where both are shown. */
+/** What a rule does, as `break 0100` or `watch 0009 loop` names it. */
+export function ruleText(rule, { table }) {
+    const [kind, ...place] = rule.split(" ");
+    return `${table.ruleKind[kind]} ${place.join(" ")}`;
+}
+
+/** An arrow beside the rows, from the last order to what it wrote, where it was told and both are shown. */
 function arrow(body, laboratory) {
     const writer = laboratory.accounts.at(-1);
     const rowAt = (address) => body.querySelector(`tr[data-address="${address}"]`);
@@ -39,25 +45,25 @@ export function makeListing(laboratory, texts) {
     const table = h("table", { class: "words-table" }, h("thead", {}, h("tr", {}, ...heads)), body);
     const arrows = h("div", { class: "arrows" });
     const answer = h("p", { class: "why", role: "status" });
-    let askedAt = null;
+    let askedOf = null;
     const ask = async (address) => {
         const lines = await laboratory.why(address);
-        askedAt = laboratory.panel.clock;
+        if (lines === undefined) return;
+        askedOf = laboratory.words;
         answer.textContent = lines === null ? `${address}: ${toldOf(laboratory.writerOf(address), text) || text("noWhy")}` : lines.join("\n");
     };
     const place = h("input", { size: 4, maxlength: 4, pattern: "[0-9]{4}", inputmode: "numeric", "aria-label": text("goTo"), value: "0000" });
     const form = h("form", { class: "line", onsubmit: (event) => event.preventDefault() }, h("label", {}, `${text("address")} `, place), " ",
-        button(text("show"), () => laboratory.showAt(place.value.padStart(4, "0"))), " ", button(text("startHere"), () => laboratory.say(`go ${place.value}`)), " ",
-        button(text("breakAt"), () => laboratory.say(`break ${place.value}`)), " ", button(text("watchAt"), () => laboratory.say(`watch ${place.value}`)));
+        button(text("show"), () => laboratory.showAt(place.value.padStart(4, "0"))), " ", button(text("startHere"), () => laboratory.command(`go ${place.value}`)), " ",
+        button(text("breakAt"), () => laboratory.command(`break ${place.value}`)), " ", button(text("watchAt"), () => laboratory.command(`watch ${place.value}`)));
     const rules = h("ul", { class: "rules", "aria-label": text("rules") });
     const show = () => {
         refill(body, ...laboratory.words.map((word) => row(word, laboratory, texts, ask)));
-        if (laboratory.panel.clock !== askedAt) answer.textContent = "";
+        if (laboratory.words !== askedOf) answer.textContent = "";
         const drawn = arrow(body, laboratory);
         arrows.replaceChildren(...(drawn === null ? [] : [drawn]));
         refill(rules, ...laboratory.rules.map((rule, number) => {
-            const [kind, address] = rule.split(" ");
-            return h("li", {}, `${number}: ${texts.table.ruleKind[kind]} ${address} `, button("×", () => laboratory.say(`drop ${number}`), { "aria-label": text("dropRule", { number }), "data-name": number }));
+            return h("li", {}, `${number}: ${ruleText(rule, texts)} `, button("×", () => laboratory.command(`drop ${number}`), { "aria-label": text("dropRule", { number }), "data-name": number }));
         }));
     };
     return { node: part("listing", text("words"), h("div", { class: "with-arrows" }, arrows, h("div", { class: "scroll" }, table)), answer, form, rules), show };

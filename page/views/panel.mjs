@@ -7,8 +7,9 @@ import { h, part } from "./dom.mjs";
 function lamps(digits, name) {
     const bits = bitsOf(digits);
     const field = (place) => (place >= 12 && place < 16 ? "of-order" : place >= 18 && place < 30 ? "of-address" : "");
-    const lamp = (bit, place) => h("span", { class: `lamp ${bit ? "lit" : ""} ${field(place)} ${place % 4 === 0 ? "apart" : ""}` });
-    return h("span", { class: "lamps", role: "img", "aria-label": `${name} ${bits.join("")}` }, ...bits.map(lamp));
+    const lampsOf = bits.map((bit, place) => h("span", { class: `lamp ${bit ? "lit" : ""} ${field(place)}` }));
+    const inGroups = (nodes, size, kind) => Array.from({ length: nodes.length / size }, (unused, group) => h("span", { class: kind }, ...nodes.slice(size * group, size * (group + 1))));
+    return h("span", { class: "lamps", role: "img", "aria-label": `${name} ${bits.join("")}` }, ...inGroups(inGroups(lampsOf, 4, "four"), 4, "sixteen"));
 }
 
 /** The order that was performed last, where the register holds it. */

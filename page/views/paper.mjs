@@ -44,7 +44,7 @@ export function makeTape(laboratory, { text, code }) {
     const place = h("div", { class: "scroll" });
     const told = h("p");
     const input = h("input", { class: "wide", "aria-label": text("tapeText"), value: "1'2'3'" });
-    const mount = button(text("mount"), () => laboratory.say(`mount ${input.value}`));
+    const mount = button(text("mount"), () => laboratory.command(`mount ${input.value}`));
     const show = () => {
         const { panel, deeds } = laboratory;
         const codes = readable(deeds.tape ?? "");

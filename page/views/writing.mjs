@@ -1,9 +1,11 @@
 // What is written: the source with its faults, lines for the monitor with their replies, and the lines of a script.
 import { linesIn } from "../lines.mjs";
+import { counted } from "../words.mjs";
 import { button, guarded, h, part, showLive } from "./dom.mjs";
 
 const NUMBERED = 5000;
 const LOGGED = 80;
+const REPLY_SHOWN = 20_000;
 
 /** The numbers beside a source's lines, those with a fault marked; of a very long source the first ones. */
 function gutterOf(count, faults, { table }) {
@@ -21,9 +23,10 @@ export function makeSource(laboratory, texts) {
     const gutter = h("div", { class: "gutter", "aria-hidden": "true" });
     const told = h("div", { class: "told", role: "status" });
     let typed = null;
-    const showGutter = () => gutter.replaceChildren(...gutterOf(linesIn(area.value).length, laboratory.assembled?.faults ?? [], texts));
+    const faultsShown = () => (area.value === laboratory.source ? laboratory.assembled?.faults ?? [] : []);
+    const showGutter = () => gutter.replaceChildren(...gutterOf(linesIn(area.value).length, faultsShown(), texts));
     area.addEventListener("scroll", () => { gutter.scrollTop = area.scrollTop; });
-    area.addEventListener("input", () => { typed = area.value; showGutter(); });
+    area.addEventListener("input", () => { typed = area.value; show(); });
     const goTo = (line) => {
         const start = linesIn(area.value).slice(0, line - 1).join("\n").length + (line > 1 ? 1 : 0);
         area.focus();
@@ -35,18 +38,19 @@ export function makeSource(laboratory, texts) {
         if (typed === null || typed === source) { typed = null; if (area.value !== source) area.value = source; }
         showGutter();
         if (assembled === null) return told.replaceChildren();
+        if (area.value !== source) return told.replaceChildren(text("sourceChanged"));
         const { cells, start, faults } = assembled;
         const sum = faults.length > 1 ? text("faults", { count: faults.length }) : text("oneFault");
         const well = start === null ? text("cellsNone", { cells }) : text("cells", { cells, start });
         return told.replaceChildren(faults.length === 0 ? well : sum, h("ul", {}, ...faults.slice(0, 50).map(faultLine)));
     };
     const node = part("source", text("source"), h("div", { class: "editor" }, gutter, area),
-        h("div", { class: "line" }, button(text("assemble"), () => laboratory.assemble(area.value)), button(text("load"), () => laboratory.say("load"))), told);
+        h("div", { class: "line" }, button(text("assemble"), () => laboratory.assemble(area.value)), button(text("load"), () => laboratory.load(area.value))), told);
     return { node, show };
 }
 
 /** The part of the page with lines and replies. Only what is new is added to the log, so that a screen reader reads that alone. */
-export function makeLines(laboratory, { text }) {
+export function makeLines(laboratory, { text, code }) {
     const log = h("pre", { class: "log", tabindex: "0", role: "log", "aria-label": text("lines") });
     const input = h("input", { class: "wide", "aria-label": text("typeLine"), placeholder: "words 0050 2", autocapitalize: "off", spellcheck: "false" });
     const shown = new Map();
@@ -63,10 +67,11 @@ export function makeLines(laboratory, { text }) {
             shown.delete(said);
         }
         for (const said of talk.filter((said) => !shown.has(said))) {
-            shown.set(said, h("span", {}, h("b", {}, `${said.line}\n`), said.reply));
+            shown.set(said, h("span", {}, h("b", {}, `${said.line}\n`), said.reply.slice(0, REPLY_SHOWN), said.reply.length > REPLY_SHOWN ? `…\n${text("replyLength", { count: counted(said.reply.length, code) })}\n` : ""));
             log.append(shown.get(said));
         }
         log.scrollTop = log.scrollHeight;
+        input.placeholder = laboratory.openSource === null ? "words 0050 2" : text("sourceLine");
     };
     return { node: part("lines", text("lines"), log, h("form", { class: "line", onsubmit: send }, input, h("button", {}, text("send")))), show };
 }
@@ -75,8 +80,8 @@ export function makeLines(laboratory, { text }) {
 export function makeScript(laboratory, { text }) {
     const list = h("pre", { class: "script", tabindex: "0", role: "group", "aria-label": text("script") });
     const told = h("p");
-    const next = guarded(text("nextLine"), {}, () => laboratory.scriptLines(1));
-    const all = guarded(text("allLines"), {}, () => laboratory.scriptLines(Infinity));
+    const next = guarded(text("nextLine"), {}, () => laboratory.scriptLines(1), () => laboratory.tell({ kind: "scriptDone" }));
+    const all = guarded(text("allLines"), {}, () => laboratory.scriptLines(Infinity), () => laboratory.tell({ kind: "scriptDone" }));
     const show = () => {
         const { script } = laboratory;
         node.hidden = script === null;

@@ -1,0 +1,76 @@
+// How much of the module's memory a session may take. The module is not asked for its free room: what is counted is what takes the memory,
+// the bytes of the lines that its transcript keeps, and the codes that it has printed. The bounds leave room to spare for what `transcript`,
+// `printed`, a source and a told run need for a moment; page/tests/session.test.mjs fills a session up to them, and asks all that.
+
+/** The bytes of lines and the codes printed at which no more is begun; the codes after which a run asks; the most orders that one line tells, and
+ * the most signs of a source that is sent at once. */
+export const ROOM = { lines: 3_000_000, codes: 1_000_000, asksAfter: 20_000, told: 10_000, source: 1_500_000 };
+
+const PERFORMS = /^ *(run|orders|profile|trace|drum) +(\d+) *$/;
+const STANDS_FOR_NO_LINE = /^ *(why|numbers|labels|rules|transcript|help)( |$)/;
+const ALWAYS = /^ *(new|back|last|transcript|why|printed|panel|words|show|numbers|labels|rules|help)( |$)/;
+const USED_LITTLE = 100_000;
+const LAST_ORDERS = 10_000;
+
+const lengthOf = (text) => new TextEncoder().encode(text).length;
+
+/** What a session has taken so far. */
+export class Room {
+    #lines = 0;
+    #codes = 0;
+    #unasked = 0;
+
+    /** A line was sent. */
+    sent(line) {
+        if (!STANDS_FOR_NO_LINE.test(line)) this.#lines += lengthOf(line) + 1;
+    }
+
+    /** So many codes are printed, as the monitor has said. */
+    printed(count) {
+        this.#codes = count;
+        this.#unasked = 0;
+    }
+
+    /** So many orders were performed since. Each may have printed one code. */
+    ran(orders) {
+        this.#unasked += orders;
+    }
+
+    /** How many codes may have been printed at most. */
+    get codesAtMost() {
+        return this.#codes + this.#unasked;
+    }
+
+    /** How many orders may be performed at once, whatever they print. */
+    get orders() {
+        return Math.max(0, ROOM.codes - this.codesAtMost);
+    }
+
+    /** Whether no more is to be begun. */
+    get isUsedUp() {
+        return this.#lines >= ROOM.lines || this.orders < LAST_ORDERS;
+    }
+
+    /** Whether a new laboratory may be opened in the same memory. */
+    get isFresh() {
+        return this.#lines + this.codesAtMost < USED_LITTLE;
+    }
+
+    /** Whether a line may be sent although no more is to be begun: it takes little, or gives room. */
+    static isAlwaysTaken(line) {
+        return ALWAYS.test(line);
+    }
+
+    /** The most orders that may stand in a line where it names more than that, else null. */
+    mostIn(line) {
+        const [, verb, number] = PERFORMS.exec(line) ?? [];
+        const most = ["trace", "drum"].includes(verb) ? Math.min(ROOM.told, this.orders) : this.orders;
+        return verb !== undefined && Number(number) > most ? most : null;
+    }
+
+    /** A new module has been taken. */
+    anew() {
+        this.#lines = 0;
+        this.printed(0);
+    }
+}

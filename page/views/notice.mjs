@@ -1,0 +1,97 @@
+// What the reader should know: a refusal or a word of the page's own, and what can be done about it; the source that is open; and the lines of
+// laboratories that were lost.
+import { wayOn } from "../learn.mjs";
+import { counted } from "../words.mjs";
+import { button, h } from "./dom.mjs";
+import { ruleText } from "./listing.mjs";
+
+/** What lets the machine go on, with the names that the controls have here. */
+export function wayText({ live, panel }, { text, table }, isKiosk) {
+    const { kind, mode } = wayOn(live, panel);
+    if (isKiosk && kind === "keys") return text("kioskKeys");
+    const named = (name) => text(isKiosk ? `kiosk${name}` : name.toLowerCase());
+    return text({ go: "wayGo", start: "wayStart", keys: "wayKeys", mode: "wayMode" }[kind], { step: named("Step"), run: named("Run"), mode: table.modes[mode] ?? "" });
+}
+
+/** The text of a notice. */
+function noticeText(notice, laboratory, texts, isKiosk) {
+    const { kind, number, detail, line, reason, count, most } = notice;
+    const { text, table, code } = texts;
+    const way = () => wayText(laboratory, texts, isKiosk);
+    const plain = ["noMemory", "sourceIsOpen", "sourceTooLong", "notLoaded", "scriptDone", "noneBehind", "noneAhead"];
+    if (plain.includes(kind)) return text(kind);
+    if (kind === "usedUp") return text(isKiosk ? "kioskUsedUp" : "usedUp");
+    if (kind === "atRest") return `${text("atRest")} ${way()}`;
+    if (kind === "dead") return `${text("dead", { name: detail })} ${way()}`;
+    if (kind === "rule") return [text("stoppedByRule", { number, rule: ruleText(notice.rule, texts) }), notice.isOfScript ? text("ruleOfScript") : ""].join(" ");
+    if (kind === "printedMuch") return text("printedMuch", { count: counted(count, code) });
+    if (kind === "tooMany") return text("tooMany", { line: line.trim(), most: counted(most, code) });
+    if (kind === "broken") return text("broken", { detail });
+    if (kind === "noExample") return text("wrongAddress", { name: detail });
+    if (kind === "noKioskExample") return text("wrongKiosk", { name: detail, shown: notice.shown });
+    return `${line}\n${text("refused", { kind, text: `${table.refusals[kind] ?? ""} ${reason ?? ""}` })}`;
+}
+
+/** A button of a notice, which goes away when it is pressed: the focus goes on to a control that stays. */
+const passing = (label, deed, goesTo) => button(label, () => {
+    goesTo()?.focus();
+    deed();
+});
+
+/** What can be done about a notice. `deeds` has `run`, `save` and `anew`. */
+function buttonsOf({ kind, number }, laboratory, { text }, isKiosk, deeds) {
+    const run = () => document.getElementById(isKiosk ? "kiosk-run" : "run");
+    const goOn = passing(text("goOn"), deeds.run, run);
+    if (kind === "printedMuch") return [goOn];
+    if (kind === "rule") return [goOn, passing(text("takeOut", { number }), () => laboratory.command(`drop ${number}`), run)];
+    if (kind !== "usedUp") return [];
+    if (isKiosk) return [passing(text("kioskAgain"), deeds.anew, run)];
+    return [button(text("save"), deeds.save), passing(text("new"), deeds.anew, run)];
+}
+
+/** Shows the notice; it is made anew only where it is another one, so that the focus stays. */
+function makeNotice(laboratory, texts, isKiosk, deeds) {
+    const place = document.getElementById("notice");
+    let shown;
+    return () => {
+        const { notice } = laboratory;
+        if (notice === shown) return;
+        shown = notice;
+        place.hidden = notice === null;
+        if (notice === null) return place.replaceChildren();
+        const buttons = buttonsOf(notice, laboratory, texts, isKiosk, deeds);
+        place.replaceChildren(noticeText(notice, laboratory, texts, isKiosk), ...buttons.flatMap((control) => [" ", control]));
+    };
+}
+
+function makeOpenSource(laboratory, { text }) {
+    const place = document.getElementById("open-source");
+    const told = h("span");
+    const end = passing(text("endSource"), () => laboratory.say("."), () => document.querySelector(".lines input") ?? document.getElementById("kiosk-run"));
+    place.replaceChildren(told, " ", end);
+    return () => {
+        const { openSource } = laboratory;
+        place.hidden = openSource === null;
+        told.textContent = openSource === null ? "" : text("openSource", { count: openSource.length });
+    };
+}
+
+function makeLost(laboratory, { text }, linkTo) {
+    const place = document.getElementById("lost");
+    let shown;
+    return () => {
+        const { lost } = laboratory;
+        if (lost === shown) return;
+        shown = lost;
+        place.hidden = lost.length === 0;
+        if (place.hidden) return place.replaceChildren();
+        const away = passing(text("putAway"), () => laboratory.putAway(), () => document.querySelector("#save, #kiosk-run"));
+        return place.replaceChildren(text("lost"), ...lost.flatMap((lines) => [" ", linkTo(lines)]), " ", away);
+    };
+}
+
+/** What is above the page. `deeds` has `run`, `save`, `anew` and `linkTo`, which makes a link under which lines are saved. */
+export function makeNotices(laboratory, texts, isKiosk, deeds) {
+    const parts = [makeNotice(laboratory, texts, isKiosk, deeds), makeOpenSource(laboratory, texts), makeLost(laboratory, texts, deeds.linkTo)];
+    return { show: () => parts.forEach((part) => part()) };
+}
