@@ -237,7 +237,7 @@ export class Laboratory extends EventTarget {
         else if (verb === "go") await this.#noteGo(reply);
         else if (verb === "back") this.#noteBack(Number(operand));
         else if (verb === "last") this.#noteBack(replies.lastOf(reply).orders);
-        else if (verb === "load") this.#noteLoad();
+        else if (verb === "load") this.#forgetDeeds();
         else if (verb === "new") await this.#anew();
         else if (verb === "break" || verb === "watch") this.#isRuleOfScript.push(this.#isInScript);
         else if (verb === "drop") this.#isRuleOfScript.splice(Number(operand), 1);
@@ -264,12 +264,10 @@ export class Laboratory extends EventTarget {
 
     #noteRun(verb, reply, isAgain) {
         const { told, end } = replies.toldOf(reply);
-        const { orders } = replies.isRefusal(end) ? { orders: null } : replies.runOf(end);
-        if (orders === null) this.deeds.clear();
-        if (verb === "profile") this.profile = replies.profileOf(told);
         const before = this.accounts;
-        if (orders === null) Object.assign(this, { accounts: [], rows: [] });
-        else this.#noteOrders(orders, isAgain);
+        if (replies.isRefusal(end)) this.#forgetDeeds();
+        else this.#noteOrders(replies.runOf(end).orders, isAgain);
+        if (verb === "profile") this.profile = replies.profileOf(told);
         if (verb === "trace") this.accounts = [...before, ...replies.accountsOf(told)].slice(-ACCOUNTS_KEPT);
         if (verb === "drum") this.rows = replies.drumRowsOf(told);
     }
@@ -286,7 +284,8 @@ export class Laboratory extends EventTarget {
         if (orders > 0) this.rows = [];
     }
 
-    #noteLoad() {
+    /** What was done so far cannot be gone back over, or it is not known how many orders it was; and it was not told. */
+    #forgetDeeds() {
         this.deeds.clear();
         Object.assign(this, { accounts: [], rows: [] });
     }
@@ -438,7 +437,7 @@ export class Laboratory extends EventTarget {
         const reply = await this.#ask(line);
         if (replies.isRefusal(reply)) {
             this.#refused(line, reply);
-            this.deeds.clear();
+            this.#forgetDeeds();
             run.end = "refused";
             return;
         }
@@ -534,16 +533,28 @@ export class Laboratory extends EventTarget {
         if (this.assembled.faults.length === 0 && this.knows("labels")) this.labels = replies.labelsOf(await this.#ask("labels"));
     }
 
-    /** A new laboratory, with the lines of a script that set a machine up, or those before its start. The others are kept, to be done. */
-    openScript(name, text, isBeforeStart = false) {
+    /** A new laboratory, with the lines of a script that set a machine up. The others are kept, to be done. */
+    openScript(name, text) {
+        return this.#act(() => this.#openScript(name, text, false));
+    }
+
+    /** The same before the machine's start and without the script's rules, so that Start sets it going and nothing but itself ends a run. */
+    openForShow(name, text) {
         return this.#act(async () => {
-            this.notice = null;
-            await this.#fresh();
-            this.talk = [];
-            this.script = { name, lines: linesIn(text), at: 0 };
-            await this.#scriptTo(setUp(this.script.lines, isBeforeStart));
-            await this.#look();
+            await this.#openScript(name, text, true);
+            const { panel: { status, mode }, rules } = this;
+            const halts = status === "going" && mode === "normal" ? ["press manual", "press normal"] : [];
+            await this.#sayAll([...rules.map(() => "drop 0"), ...halts]);
         });
+    }
+
+    async #openScript(name, text, isBeforeStart) {
+        this.notice = null;
+        await this.#fresh();
+        this.talk = [];
+        this.script = { name, lines: linesIn(text), at: 0 };
+        await this.#scriptTo(setUp(this.script.lines, isBeforeStart));
+        await this.#look();
     }
 
     async #scriptTo(end) {

@@ -28,6 +28,7 @@ const asked = askedIn(location);
 let texts = textsIn(asked.language ?? (navigator.language ?? "en").slice(0, 2));
 let isKiosk = asked.isKiosk;
 let views = [];
+let notices = null;
 let walking = null;
 let endIdle = () => {};
 let laboratory = null;
@@ -48,11 +49,12 @@ function showProgress(progress, isRunning) {
 
 function show() {
     const { progress, panel } = laboratory;
+    notices.show();
     showProgress(progress, progress !== null);
     if (panel !== null) for (const view of views) view.show();
 }
 
-const openExample = (name, isBeforeStart = false) => laboratory.openScript(name, examples.get(name), isBeforeStart);
+const openExample = (name) => laboratory.openScript(name, examples.get(name));
 
 function dialog(heading, ...children) {
     const node = h("dialog", { "aria-label": heading }, h("h2", {}, heading), ...children, button(texts.text("close"), () => node.close()));
@@ -154,8 +156,8 @@ function lay() {
     const heading = h("header", {}, h("h1", {}, text(isKiosk ? "kioskTitle" : "title")), h("p", {}, text("subtitle")), ...top.map(({ node }) => node));
     const columns = isKiosk ? kioskColumns() : allColumns();
     const leave = isKiosk ? [h("footer", {}, button(text("leaveKiosk"), () => setKiosk(false), { class: "plain" }), " ", button(texts.code === "de" ? "English" : "Deutsch", () => { texts = textsIn(texts.code === "de" ? "en" : "de"); layFor("other-language"); }, { class: "plain", id: "other-language" }))] : [];
-    const notices = makeNotices(laboratory, texts, isKiosk, { run, save, anew: () => (isKiosk ? openKiosk() : laboratory.new()), linkTo });
-    views = [notices, ...top, ...columns.flatMap(({ made }) => made)];
+    notices = makeNotices(laboratory, texts, isKiosk, { run, save, anew: () => (isKiosk ? openKiosk() : laboratory.new()), linkTo });
+    views = [...top, ...columns.flatMap(({ made }) => made)];
     document.getElementById("page").replaceChildren(heading, h("main", {}, ...columns.map(({ node }) => node)), ...leave);
     show();
 }
@@ -175,15 +177,11 @@ const allColumns = () => [
 
 const kioskColumns = () => [column(makeDrum(laboratory, texts)), column(makePaper(laboratory, texts), makePanel(laboratory, texts), makeListing(laboratory, texts))];
 
-/** Whether a machine goes on from order to order, so that it can be halted and started again without a difference. */
-const isGoing = ({ status, mode }) => status === "going" && mode === "normal";
-
-/** The kiosk's program before its start, without rules: nothing but its own stop ends a run. An example that is not there is told. */
+/** Opens the kiosk's program. An example that is not there is told. */
 async function openKiosk() {
     const isThere = asked.example === null || examples.has(asked.example);
-    await openExample(isThere ? asked.example ?? KIOSK.example : KIOSK.example, true);
-    await laboratory.command(...laboratory.rules.map(() => "drop 0"));
-    if (isGoing(laboratory.panel)) await laboratory.command("press manual", "press normal");
+    const name = isThere ? asked.example ?? KIOSK.example : KIOSK.example;
+    await laboratory.openForShow(name, examples.get(name));
     if (!isThere) await laboratory.tell({ kind: "noKioskExample", detail: asked.example, shown: KIOSK.example });
 }
 
@@ -219,8 +217,8 @@ async function begin() {
         return;
     }
     laboratory = new Laboratory(new Link(inlined("worker"), bytesOf(inlined("module"))));
-    laboratory.addEventListener("change", show);
     await laboratory.open();
+    laboratory.addEventListener("change", show);
     lay();
     addEventListener("keydown", onKey);
     await openAsked();

@@ -2,15 +2,14 @@
 // the bytes of the lines that its transcript keeps, and the codes that it has printed. The bounds leave room to spare for what `transcript`,
 // `printed`, a source and a told run need for a moment; page/tests/session.test.mjs fills a session up to them, and asks all that.
 
-/** The bytes of lines and the codes printed at which no more is begun; the codes after which a run asks; the most orders that one line tells, and
- * the most signs of a source that is sent at once. */
-export const ROOM = { lines: 3_000_000, codes: 1_000_000, asksAfter: 20_000, told: 10_000, source: 1_500_000 };
+/** The bytes of lines and the codes that a session may reach; how many codes short of that no more is begun; the codes after which a run asks; the
+ * most orders that one line tells, and the most signs of a source that is sent at once. */
+export const ROOM = { lines: 3_000_000, codes: 1_000_000, last: 10_000, asksAfter: 20_000, told: 10_000, source: 1_500_000 };
 
 const PERFORMS = /^ *(run|orders|profile|trace|drum) +(\d+) *$/;
 const STANDS_FOR_NO_LINE = /^ *(why|numbers|labels|rules|transcript|help)( |$)/;
 const ALWAYS = /^ *(new|back|last|transcript|why|printed|panel|words|show|numbers|labels|rules|help)( |$)/;
 const USED_LITTLE = 100_000;
-const LAST_ORDERS = 10_000;
 
 const lengthOf = (text) => new TextEncoder().encode(text).length;
 
@@ -48,7 +47,7 @@ export class Room {
 
     /** Whether no more is to be begun. */
     get isUsedUp() {
-        return this.#lines >= ROOM.lines || this.orders < LAST_ORDERS;
+        return this.#lines >= ROOM.lines || this.orders < ROOM.last;
     }
 
     /** Whether a new laboratory may be opened in the same memory. */

@@ -218,8 +218,8 @@ live("a stop by a rule names the rule, and whose it is", async (laboratory) => {
 
 live("each example stands before something that goes on", async (laboratory) => {
     const names = readdirSync(join(top, "examples"), { recursive: true }).map(String).filter((name) => name.endsWith(".txt")).map((name) => name.slice(0, -".txt".length));
-    for (const name of names) for (const isBeforeStart of [false, true]) {
-        await laboratory.openScript(name, exampleNamed(name), isBeforeStart);
+    for (const name of names) for (const open of ["openScript", "openForShow"]) {
+        await laboratory[open](name, exampleNamed(name));
         const { panel, live: table, deeds: { behind } } = laboratory;
         const { kind } = wayOn(table, panel);
         assert.ok(["start", "go"].includes(kind), name);
@@ -227,6 +227,7 @@ live("each example stands before something that goes on", async (laboratory) => 
         if (kind === "start") await laboratory.command("press start");
         await laboratory.step();
         assert.equal(laboratory.deeds.behind, behind + 1, name);
+        if (open === "openForShow") assert.deepEqual(laboratory.rules, [], name);
     }
 });
 

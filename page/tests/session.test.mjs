@@ -5,6 +5,7 @@ import { dirname, join } from "node:path";
 import { test } from "node:test";
 import { fileURLToPath } from "node:url";
 import { ROOM } from "../room.mjs";
+import { counted } from "../words.mjs";
 import { NoMemory, Session, hasMemory64 } from "../session.mjs";
 
 const path = join(dirname(fileURLToPath(import.meta.url)), "../lgp_c_region.wasm");
@@ -33,6 +34,13 @@ test("memory that is used up", { skip }, () => {
     const session = new Session(compiled(), 1n << 20n);
     assert.throws(() => { for (;;) session.answer("panel"); }, NoMemory);
     assert.throws(() => session.answer("panel"), NoMemory);
+});
+
+test("docs/PAGE.md names the bounds", () => {
+    const page = readFileSync(join(dirname(path), "../docs/PAGE.md"), "utf8");
+    const { lines, codes, last, asksAfter, told } = ROOM;
+    const bounds = [`${counted(lines, "en")} bytes of lines`, `more than ${counted(codes - last, "en")} codes`, `up to ${counted(codes, "en")}`, `after ${counted(asksAfter, "en")} codes`, `of more than ${counted(told, "en")}`];
+    assert.deepEqual(bounds.filter((bound) => !page.includes(bound)), []);
 });
 
 /** Fills a session up to the bounds of lines and codes, with the questions of a long session. */

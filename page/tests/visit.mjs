@@ -56,6 +56,8 @@ async function kiosk(browser) {
     assert.notEqual((await textOf(browser, ".paper")).trim(), "");
     await picture(browser, "kiosk");
     await browser.waitFor("laboratoryOfPage().deeds.behind === 0 && laboratoryOfPage().printed.count === 0", 8000);
+    await settled(browser);
+    assert.equal((await panelOf(browser)).status, "halted operator");
 }
 
 /** What an address names and is not there is told, whatever its name; and so is that a program waits for keys, which the kiosk does not have. */
@@ -67,13 +69,20 @@ async function addresses(browser) {
         assert.match(await textOf(browser, "#notice"), new RegExp(`names no example: ${name}. The kiosk shows message.`));
         assert.match(await textOf(browser, ".kiosk-told"), /Press Start/);
     }
+    await browser.open(`${address}?lang=en&kiosk=tables/primes`);
+    await press(browser, "#kiosk-start");
+    await browser.press("#kiosk-run");
+    await browser.waitFor("laboratoryOfPage().panel.status === 'halted stop'");
+    await settled(browser);
+    assert.match(await textOf(browser, ".paper"), /^2 3 5 7 [^]* 89 97/);
+    assert.match(await textOf(browser, ".kiosk-told"), /The machine has stopped/);
     await browser.open(`${address}?lang=en&kiosk=games/matches`);
     assert.equal(await textOf(browser, "#notice"), "");
     await browser.press("#kiosk-run");
     await browser.waitFor("/waits for its operator's keys\\. The kiosk has none/.test(document.querySelector('.kiosk-told').textContent)");
 }
 
-/** What the page shows of a word is what the monitor says now: behind a run, a put by hand, and an order that stores what is there. */
+/** What the page shows of a word is what the monitor says now: after a run, a put by hand, and an order that stores what is there. */
 async function changes(browser) {
     await browser.open(`${address}?lang=en#self-modifying`);
     for (let order = 0; order < 4; order += 1) await press(browser, "#step");
@@ -459,15 +468,16 @@ async function forPeople(browser) {
     await browser.ask("Emulation.setEmulatedMedia", { features: [] });
 }
 
-/** A lamp that is lit has another colour than one that is not, and there is enough of it within its edge to see it. */
+/** A lamp that is lit stands out from what lies behind it, one that is not is empty, and each is wide enough within its edge to see which it is. */
 async function lamps(browser, where) {
-    const seen = await browser.value(`(() => {
+    const [narrow, lit, filled] = await browser.value(`(() => {
         const all = [...document.querySelectorAll(".lamp")];
-        const colours = (are) => [...new Set(all.filter((it) => it.classList.contains("lit") === are).map((it) => getComputedStyle(it).backgroundColor))];
-        return { lit: colours(true), unlit: colours(false), narrow: all.filter((it) => it.clientWidth < 5 || it.clientHeight < 5 || 2 * it.clientWidth < it.offsetWidth).length };
+        const isNarrow = ({ clientWidth, clientHeight, offsetWidth }) => Math.min(clientWidth, clientHeight) < 5 || 2 * clientWidth < offsetWidth;
+        const isFilled = (it) => !it.classList.contains("lit") && !/, 0\\)$/.test(getComputedStyle(it).backgroundColor);
+        return [all.filter(isNarrow).length, all.filter((it) => it.classList.contains("lit")).length, all.filter(isFilled).length];
     })()`);
-    assert.equal(seen.narrow, 0, where);
-    assert.equal(seen.lit.length > 0 && seen.unlit.length > 0 && seen.lit.every((colour) => !seen.unlit.includes(colour)), true, where);
+    assert.deepEqual([narrow, lit > 0, filled], [0, true, 0], where);
+    assert.deepEqual((await faint(browser)).filter((trouble) => trouble.includes("lamp")), [], where);
 }
 
 /** The troubles of the page as it stands, in light and in dark, and by Tab. */
@@ -499,6 +509,13 @@ async function everyone(browser) {
         await browser.value("laboratoryOfPage().assemble(' b none\\n z\\n end')");
         await press(browser, "tr[data-address='0009'] button");
         assert.deepEqual(await troubles(browser), []);
+        await browser.value("laboratoryOfPage().say('watch 0024').then(() => laboratoryOfPage().run())");
+        assert.equal(await browser.value("document.querySelectorAll('#notice button').length"), 2);
+        assert.deepEqual(await troubles(browser), []);
+        await browser.value("laboratoryOfPage().say('source', ' z').then(() => laboratoryOfPage().step())");
+        assert.equal(await browser.value("document.querySelectorAll('#notice:not([hidden]), #open-source:not([hidden])').length"), 2);
+        assert.deepEqual(await troubles(browser), []);
+        await browser.value("laboratoryOfPage().say('.')");
         for (const opener of ["#save", "#about"]) {
             await browser.press(opener);
             await browser.waitFor("document.querySelector('dialog')");
@@ -560,7 +577,7 @@ async function readOut(browser) {
     assert.match(await textOf(browser, "#notice"), /no such command/);
 }
 
-/** Nothing moves by itself: no animation runs behind any step, whether motion is wanted or not. */
+/** Nothing moves by itself: no animation runs after any step, whether motion is wanted or not. */
 async function stillness(browser) {
     for (const value of ["no-preference", "reduce"]) {
         await browser.ask("Emulation.setEmulatedMedia", { features: [{ name: "prefers-reduced-motion", value }] });

@@ -20,9 +20,8 @@ export function makeKioskBar(laboratory, { text }, open) {
         const { panel, printed, live, deeds } = laboratory;
         showLive(start, isLive(live, panel, "start"));
         if (wayNow() === "keys") told.textContent = text("kioskKeys");
-        else if (panel.status === "halted stop") told.textContent = text("kioskDone");
         else if (wayNow() === "go") told.textContent = text(printed.count > 0 ? "kioskPrinted" : "kioskGoing");
-        else told.textContent = deeds.behind === 0 ? text("kioskIntro") : "";
+        else told.textContent = text(deeds.behind === 0 ? "kioskIntro" : "kioskDone");
     };
     return { node: h("div", { class: "kiosk-bar" }, told, start, step, run, again), show };
 }

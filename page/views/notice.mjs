@@ -39,11 +39,12 @@ const passing = (label, deed, goesTo) => button(label, () => {
 });
 
 /** What can be done about a notice. `deeds` has `run`, `save` and `anew`. */
-function buttonsOf({ kind, number }, laboratory, { text }, isKiosk, deeds) {
+function buttonsOf({ kind, number, lines }, laboratory, { text }, isKiosk, deeds) {
     const run = () => document.getElementById(isKiosk ? "kiosk-run" : "run");
     const goOn = passing(text("goOn"), deeds.run, run);
     if (kind === "printedMuch") return [goOn];
     if (kind === "rule") return [goOn, passing(text("takeOut", { number }), () => laboratory.command(`drop ${number}`), run)];
+    if (kind === "broken") return [deeds.linkTo(lines)];
     if (kind !== "usedUp") return [];
     if (isKiosk) return [passing(text("kioskAgain"), deeds.anew, run)];
     return [button(text("save"), deeds.save), passing(text("new"), deeds.anew, run)];
