@@ -68,6 +68,7 @@ export class Laboratory extends EventTarget {
     #room = new Room();
     #isInScript = false;
     #isRuleOfScript = [];
+    #hit = null;
 
     constructor(link) {
         super();
@@ -246,6 +247,8 @@ export class Laboratory extends EventTarget {
     /** Notes a step. A put with names of a source is noted as the line that it stands for, since a later source may give them to other places. */
     async #noteStep(verb, line, isAgain) {
         const hasNames = verb === "put" && this.labels.size > 0 && !isAgain && !IN_DIGITS.test(line);
+        const last = this.accounts.at(-1);
+        if (last !== undefined) last.register ??= null;
         const [noted] = hasNames ? await this.#standFor(1) : [line];
         this.deeds.line(noted, isAgain);
     }
@@ -266,10 +269,18 @@ export class Laboratory extends EventTarget {
         const { told, end } = replies.toldOf(reply);
         const before = this.accounts;
         if (replies.isRefusal(end)) this.#forgetDeeds();
-        else this.#noteOrders(replies.runOf(end).orders, isAgain);
+        else this.#noteEnd(replies.runOf(end), isAgain);
         if (verb === "profile") this.profile = replies.profileOf(told);
         if (verb === "trace") this.accounts = [...before, ...replies.accountsOf(told)].slice(-ACCOUNTS_KEPT);
         if (verb === "drum") this.rows = replies.drumRowsOf(told);
+    }
+
+    /** A run that a rule has stopped, or that found the machine at rest, is told, but for one that a script asks for or that is done again. */
+    #noteEnd({ orders, end, rule }, isAgain) {
+        this.#noteOrders(orders, isAgain);
+        if (this.#isInScript || isAgain) return;
+        if (end === "rule") this.#hit = rule;
+        else if (orders === 0 && end === "rest") this.notice = { kind: "atRest" };
     }
 
     /** Going somewhere stands for lines that the operator could have done, each with a line of the reply. They are noted one by one, since there are steps among them that can be gone back over. */
@@ -295,10 +306,14 @@ export class Laboratory extends EventTarget {
         if (this.openSource !== null) return;
         this.panel = replies.panelOf(await this.#ask("panel"));
         this.accounts = this.accounts.filter(({ clock }) => clock < this.panel.clock);
+        const last = this.accounts.at(-1);
+        if (last !== undefined && last.register === undefined) last.register = this.panel.register;
         if (!isAmong(this.panel.counter, this.#first, SHOWN - 1)) this.#first = windowAt(this.panel.counter, SHOWN);
         await this.#lookAtWords();
         await this.#lookAtPaper();
         if (this.knows("rules")) this.rules = replies.rulesOf(await this.#ask("rules"));
+        if (this.#hit !== null) this.notice = { kind: "rule", number: this.#hit, rule: this.rules[this.#hit], isOfScript: this.#isRuleOfScript[this.#hit] ?? false };
+        this.#hit = null;
     }
 
     async #lookAtPaper() {
@@ -369,7 +384,6 @@ export class Laboratory extends EventTarget {
         const reply = await this.#say(`trace ${limit}`, isAgain);
         if (replies.isRefusal(replies.toldOf(reply).end)) return 0;
         const { orders } = replies.runOf(reply);
-        if (orders === 0) this.notice = { kind: "atRest" };
         if (this.wantsRows && orders > 0) await this.#draw(orders);
         return orders;
     }
@@ -445,7 +459,7 @@ export class Laboratory extends EventTarget {
         this.#noteOrders(ran.orders);
         run.orders += ran.orders;
         run.end = ran.end;
-        run.rule = ran.rule;
+        this.#hit = ran.rule;
         if (this.#room.isUsedUp || this.#room.codesAtMost >= run.printed + ROOM.asksAfter) await this.#lookAtPaper();
         if (run.end !== "limit") return;
         if (this.#room.isUsedUp) run.end = "usedUp";
@@ -461,12 +475,11 @@ export class Laboratory extends EventTarget {
         this.dispatchEvent(new Event("change"));
     }
 
-    async #ended({ orders, end, rule, began, printed }) {
+    async #ended({ orders, end, began, printed }) {
         const milliseconds = performance.now() - began;
         this.talk = [...this.talk, { line: "run", reply: `ran ${orders} ${this.#stops ? "until stopped" : end}\n` }].slice(-TALK_KEPT);
         await this.#look();
-        if (end === "rule") this.notice = { kind: "rule", number: rule, rule: this.rules[rule], isOfScript: this.#isRuleOfScript[rule] ?? false };
-        else if (end === "printed") this.notice = { kind: "printedMuch", count: this.printed.count - printed };
+        if (end === "printed") this.notice = { kind: "printedMuch", count: this.printed.count - printed };
         else if (end === "usedUp") this.notice = { kind: "usedUp" };
         else if (orders === 0) this.notice ??= { kind: "atRest" };
         this.lastRun = { orders, end, milliseconds };
@@ -594,6 +607,13 @@ export class Laboratory extends EventTarget {
     writerOf(address) {
         const origin = this.words.find((word) => word.address === address)?.origin ?? null;
         return origin?.order == null ? null : origin;
+    }
+
+    /** The order that stands in the instruction register, or null where it is not known which: the last one, where that was told and left the word that is there. */
+    get orderInRegister() {
+        const last = this.accounts.at(-1);
+        const isThere = last !== undefined && last.register === this.panel.register && last.clock + BigInt(last.sum) === this.panel.clock;
+        return isThere ? last.order : null;
     }
 
     /** The script that leads here. */

@@ -7,7 +7,6 @@ import { test } from "node:test";
 import { fileURLToPath } from "node:url";
 import { Laboratory } from "../laboratory.mjs";
 import { isLive, wayOn } from "../learn.mjs";
-import { withoutQuestions } from "../lines.mjs";
 import { ROOM } from "../room.mjs";
 import { NoMemory, hasMemory64 } from "../session.mjs";
 import { ModuleLink } from "./module.mjs";
@@ -17,6 +16,7 @@ const top = join(dirname(fileURLToPath(import.meta.url)), "../..");
 const program = process.env.MONITOR ?? join(top, "crates/lgp30m/out/lgp30m");
 const module = join(top, "page/lgp_c_region.wasm");
 const exampleNamed = (name) => readFileSync(join(top, `examples/${name}.txt`), "utf8");
+const names = readdirSync(join(top, "examples"), { recursive: true }).map(String).filter((name) => name.endsWith(".txt")).map((name) => name.slice(0, -".txt".length));
 const LINKS = [
     { name: "module", isThere: existsSync(module) && hasMemory64(), open: () => new ModuleLink(module) },
     { name: "program", isThere: existsSync(program), open: () => new NativeLink(program) },
@@ -80,6 +80,22 @@ live("going somewhere is undone and done again deed by deed", async (laboratory)
     assert.deepEqual([laboratory.panel.clock, laboratory.panel.status], [clock, "going"]);
 });
 
+live("the order at the register is the one that is in it", async (laboratory) => {
+    await laboratory.say("put 0000 b 0004", "put 0001 u 0000", "put 0004 h 0100", "press start");
+    await laboratory.step();
+    assert.equal(laboratory.orderInRegister, "b 0004");
+    await laboratory.say("press manual", "press fill");
+    assert.deepEqual([laboratory.panel.register, laboratory.orderInRegister], ["000j0100", null]);
+    await laboratory.say("press normal", "press start");
+    await laboratory.step();
+    assert.equal(laboratory.orderInRegister, "u 0000");
+    await laboratory.back(1);
+    assert.deepEqual([laboratory.panel.register, laboratory.orderInRegister], ["000j0100", null]);
+    await laboratory.openScript("told and filled", "put 0000 b 0004\nput 0004 h 0100\npress start\ntrace 1\npress manual\npress fill\n");
+    await laboratory.scriptLines(Infinity);
+    assert.deepEqual([laboratory.panel.register, laboratory.orderInRegister], ["000j0100", null]);
+});
+
 /** Goes back by so many orders and forward again: nothing is lost. */
 async function thereAndBack(laboratory, orders) {
     const { panel, deeds: { behind } } = laboratory;
@@ -101,6 +117,17 @@ live("nothing is lost where someone went somewhere in between", async (laborator
     for (let ahead = 6; ahead >= 0; ahead -= 1) {
         await laboratory.forward(1);
         assert.equal(laboratory.deeds.ahead, ahead);
+    }
+});
+
+live("what the examples do is undone and done again", async (laboratory, link) => {
+    for (const name of names) {
+        await laboratory.openScript(name, exampleNamed(name));
+        await laboratory.scriptLines(Infinity);
+        const drum = await link.ask("dump");
+        await thereAndBack(laboratory, Math.min(9, laboratory.deeds.behind));
+        await thereAndBack(laboratory, Math.min(2000, laboratory.deeds.behind));
+        assert.equal(await link.ask("dump"), drum, name);
     }
 });
 
@@ -216,8 +243,26 @@ live("a stop by a rule names the rule, and whose it is", async (laboratory) => {
     assert.deepEqual(laboratory.notice, { kind: "rule", number: 0, rule: "break 0001", isOfScript: false });
 });
 
+live("a rule stops a walk and a profile in sight", async (laboratory) => {
+    await laboratory.say("put 0000 u 0001", "put 0001 u 0000", "break 0001", "press start");
+    const stop = { kind: "rule", number: 0, rule: "break 0001", isOfScript: false };
+    await laboratory.step();
+    assert.deepEqual(laboratory.notice, stop);
+    await laboratory.step();
+    assert.equal(laboratory.notice, null);
+    await laboratory.command("profile 9");
+    assert.deepEqual([laboratory.notice, laboratory.profile.orders], [stop, 1]);
+    await laboratory.back(1);
+    await laboratory.forward(1);
+    assert.equal(laboratory.notice, null);
+    await laboratory.command("press manual", "profile 9");
+    assert.deepEqual(laboratory.notice, { kind: "atRest" });
+    await laboratory.openScript("square-root", exampleNamed("square-root"));
+    await laboratory.scriptLines(1);
+    assert.deepEqual([laboratory.notice, laboratory.talk.at(-1).reply], [null, "ran 7 rule 0\n"]);
+});
+
 live("each example stands before something that goes on", async (laboratory) => {
-    const names = readdirSync(join(top, "examples"), { recursive: true }).map(String).filter((name) => name.endsWith(".txt")).map((name) => name.slice(0, -".txt".length));
     for (const name of names) for (const open of ["openScript", "openForShow"]) {
         await laboratory[open](name, exampleNamed(name));
         const { panel, live: table, deeds: { behind } } = laboratory;

@@ -12,20 +12,13 @@ function lamps(digits, name) {
     return h("span", { class: "lamps", role: "img", "aria-label": `${name} ${bits.join("")}` }, ...inGroups(inGroups(lampsOf, 4, "four"), 4, "sixteen"));
 }
 
-/** The order that was performed last, where the register holds it. */
-const orderIn = (laboratory) => {
-    const last = laboratory.accounts.at(-1);
-    return last !== undefined && last.clock + BigInt(last.sum) === laboratory.panel.clock ? last.order : null;
-};
-
 /** The part of the page with the registers. */
 export function makePanel(laboratory, { text, table, code }) {
     const body = h("dl", { class: "registers" });
     const item = (name, ...values) => [h("dt", {}, name), h("dd", {}, ...values)];
     const reading = (digits) => `${text("asWhole")} ${counted(wholeOf(digits), code)}, ${text("asFraction")} ${fractionOf(digits).toFixed(9)}`;
     const show = () => {
-        const { panel } = laboratory;
-        const order = orderIn(laboratory);
+        const { panel, orderInRegister: order } = laboratory;
         body.replaceChildren(
             ...item(text("counter"), h("code", { class: "large" }, panel.counter)),
             ...item(text("accumulator"), h("code", { class: "large" }, panel.accumulator), lamps(panel.accumulator, `${text("bitsOf")} ${text("accumulator")}`), h("small", {}, reading(panel.accumulator))),
