@@ -15,6 +15,7 @@ const TALK_KEPT = 300;
 const TOLD_AT_ONCE = 48;
 const PORTION = { first: 2000, most: 50_000_000, milliseconds: 50 };
 const TELL_EVERY = 250;
+const NEW = /^ *new *$/;
 const IN_DIGITS = /^ *put +\d{4} +[0-9fgjkqw]{8} *$/;
 const STEPS = new Set(["put", "mount", "press", "type", "turn"]);
 
@@ -69,6 +70,7 @@ export class Laboratory extends EventTarget {
     #isInScript = false;
     #isRuleOfScript = [];
     #hit = null;
+    #isTouched = false;
 
     constructor(link) {
         super();
@@ -173,17 +175,29 @@ export class Laboratory extends EventTarget {
         await this.#look();
     }
 
-    /** Begins with a new laboratory, in the same memory where little of it is used. An open source is given up. */
+    /** Begins with a new laboratory, in the same memory where little of it is used. An open source is given up. Gives the notice that offers the lines of the
+     * one before, or null where the reader has done nothing there that a script had not. */
     async #fresh() {
-        if (!this.#room.isFresh) return this.#anew();
         if (this.openSource !== null) await this.#ask(".");
-        await this.#ask("new");
-        this.#forget();
-        return this.#look();
+        const before = await this.#offer();
+        if (this.#room.isFresh) {
+            await this.#ask("new");
+            this.#forget();
+            await this.#look();
+        } else {
+            await this.#anew();
+        }
+        return before;
+    }
+
+    async #offer() {
+        return this.#isTouched ? { kind: "before", lines: await this.#ask("transcript") } : null;
     }
 
     #forget() {
         this.deeds.clear();
+        this.#isTouched = false;
+        this.#hit = null;
         Object.assign(this, { openSource: null, accounts: [], rows: [], profile: null, assembled: null, labels: new Map(), rules: [] });
         this.#isRuleOfScript = [];
         this.#said = [];
@@ -197,13 +211,16 @@ export class Laboratory extends EventTarget {
     /** Asks a line that the reader sees, and notes what it did. */
     async #say(line, isAgain = false) {
         if (this.openSource === null) await this.#hold(line);
+        const before = this.openSource === null && NEW.test(line) ? await this.#offer() : null;
         this.#said.push(line);
+        this.#isTouched ||= !this.#isInScript;
         const reply = await this.#ask(line);
         this.talk = [...this.talk, { line, reply }].slice(-TALK_KEPT);
         if (this.openSource !== null) await this.#sourceLine(line, reply);
         else if (replies.isRefusal(reply)) this.#refused(line, reply);
         else if (line.trim() === "source") this.openSource = [];
         else await this.#note(line, reply, isAgain);
+        this.notice = before ?? this.notice;
         return reply;
     }
 
@@ -325,13 +342,13 @@ export class Laboratory extends EventTarget {
         const digits = replies.placesOf(await this.#ask(`words ${this.#first} ${SHOWN}`));
         const orders = replies.placesOf(await this.#ask(`show ${this.#first} ${SHOWN}`));
         const origins = await this.#originsOf(digits.map(({ address }) => address));
-        this.words = digits.map(({ address, text }, place) => ({ address, digits: text, order: orders[place].text, origin: origins[place] }));
+        this.words = digits.map(({ address, text }, place) => ({ address, digits: text, order: orders[place].text, origin: origins.get(address) ?? null }));
     }
 
-    /** Where each of these words came from, as far as a kept step tells. */
+    /** Where these words came from, by their addresses, as far as a kept step tells. */
     async #originsOf(addresses) {
-        if (!this.knows("why")) return addresses.map(() => null);
-        return replies.linesOf(await this.#link.askAll(addresses.map((address) => `why ${address}`))).map(replies.originIn);
+        if (!this.knows("why")) return new Map();
+        return replies.originsOf(await this.#link.askAll(addresses.map((address) => `why ${address}`)));
     }
 
     /** Shows the words around an address. */
@@ -362,11 +379,10 @@ export class Laboratory extends EventTarget {
         return reply;
     }
 
-    /** Begins with a new laboratory, whatever is open. */
+    /** Begins with a new laboratory, whatever is open. The lines of the one before are offered. */
     new() {
         return this.#act(async () => {
-            this.notice = null;
-            await this.#fresh();
+            this.notice = await this.#fresh();
             this.talk = [...this.talk, { line: "new", reply: "new\n" }].slice(-TALK_KEPT);
         });
     }
@@ -448,6 +464,7 @@ export class Laboratory extends EventTarget {
     async #portion(run, orders) {
         const line = `run ${orders}`;
         this.#said.push(line);
+        this.#isTouched = true;
         const reply = await this.#ask(line);
         if (replies.isRefusal(reply)) {
             this.#refused(line, reply);
@@ -530,6 +547,7 @@ export class Laboratory extends EventTarget {
         this.source = source;
         const lines = ["source", ...linesIn(source).map((line) => (line === "." ? " ." : line)), "."];
         this.#said.push(...lines);
+        this.#isTouched = true;
         for (const line of lines) this.#room.sent(line);
         const reply = await this.#link.askAll(lines);
         this.talk = [...this.talk, { line: "source ..", reply }].slice(-TALK_KEPT);
@@ -546,7 +564,7 @@ export class Laboratory extends EventTarget {
         if (this.assembled.faults.length === 0 && this.knows("labels")) this.labels = replies.labelsOf(await this.#ask("labels"));
     }
 
-    /** A new laboratory, with the lines of a script that set a machine up. The others are kept, to be done. */
+    /** A new laboratory, with the lines of a script that set a machine up. The others are kept, to be done. The lines of the one before are offered, as by `new`. */
     openScript(name, text) {
         return this.#act(() => this.#openScript(name, text, false));
     }
@@ -555,15 +573,16 @@ export class Laboratory extends EventTarget {
     openForShow(name, text) {
         return this.#act(async () => {
             await this.#openScript(name, text, true);
+            this.notice = null;
             const { panel: { status, mode }, rules } = this;
             const halts = status === "going" && mode === "normal" ? ["press manual", "press normal"] : [];
             await this.#sayAll([...rules.map(() => "drop 0"), ...halts]);
+            this.#isTouched = false;
         });
     }
 
     async #openScript(name, text, isBeforeStart) {
-        this.notice = null;
-        await this.#fresh();
+        this.notice = await this.#fresh();
         this.talk = [];
         this.script = { name, lines: linesIn(text), at: 0 };
         await this.#scriptTo(setUp(this.script.lines, isBeforeStart));

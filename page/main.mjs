@@ -156,7 +156,7 @@ function lay() {
     const heading = h("header", {}, h("h1", {}, text(isKiosk ? "kioskTitle" : "title")), h("p", {}, text("subtitle")), ...top.map(({ node }) => node));
     const columns = isKiosk ? kioskColumns() : allColumns();
     const leave = isKiosk ? [h("footer", {}, button(text("leaveKiosk"), () => setKiosk(false), { class: "plain" }), " ", button(texts.code === "de" ? "English" : "Deutsch", () => { texts = textsIn(texts.code === "de" ? "en" : "de"); layFor("other-language"); }, { class: "plain", id: "other-language" }))] : [];
-    notices = makeNotices(laboratory, texts, isKiosk, { run, save, anew: () => (isKiosk ? openKiosk() : laboratory.new()), linkTo });
+    notices = makeNotices(laboratory, texts, isKiosk, { run, save, anew: () => (isKiosk ? openKiosk() : laboratory.new()), linkTo: (lines) => linkTo(withoutQuestions(lines, questions)) });
     views = [...top, ...columns.flatMap(({ made }) => made)];
     document.getElementById("page").replaceChildren(heading, h("main", {}, ...columns.map(({ node }) => node)), ...leave);
     show();

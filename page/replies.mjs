@@ -128,17 +128,17 @@ const wordOf = (digits, order, number) => ({ digits, order: order ?? null, numbe
 
 const PUT = "put there by (?:hand|(?<order>.*?)(?: at (?<at>\\d{4})(?: \\S+)?| in the instruction register)), clock (?<clock>\\d+)(?:, \\d+ orders? ago)?; before it was (?<lost>.*)$";
 const PUT_THERE = new RegExp(`^ {8}this order was ${PUT}`);
-const WHY = new RegExp(`^\\d{4}(?: \\S+)?: .*?, ${PUT}`);
+const WHY = new RegExp(`^(?<address>\\d{4})(?: \\S+)?: .*?, ${PUT}`);
 
 /** What put a word where it stands: an order, whose place is null where that was in the register, or a hand, whose order is null. */
 function originOf({ order, at, clock, lost }) {
     return { order: order ?? null, at: at ?? null, clock: BigInt(clock), lost };
 }
 
-/** What a reply of `why` says of the origin of its word; null where it says none. */
-export function originIn(line) {
-    const groups = WHY.exec(line)?.groups;
-    return groups === undefined ? null : originOf(groups);
+/** What replies of `why` say of the origins of their words, by the addresses; a word that no kept step has changed has none. */
+export function originsOf(reply) {
+    const told = linesOf(reply).map((line) => WHY.exec(line)?.groups).filter((groups) => groups !== undefined);
+    return new Map(told.map((groups) => [groups.address, originOf(groups)]));
 }
 
 /** Adds to an account what a line below it says. A line of another form is kept as it is: later monitors may say more. */

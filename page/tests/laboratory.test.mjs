@@ -176,10 +176,35 @@ live("before memory ends nothing more is begun, and all can be saved", async (la
     assert.match(await laboratory.transcript(), /\nput 0000 00083100\n/);
     assert.equal(await laboratory.say("words 0000 1"), "0000 00083100\n");
     await laboratory.new();
-    assert.deepEqual([laboratory.notice, laboratory.printed.count, laboratory.lost], [null, 0, []]);
+    assert.deepEqual([laboratory.notice.kind, laboratory.printed.count, laboratory.lost], ["before", 0, []]);
     await laboratory.say("put 0000 = 1");
     assert.equal(laboratory.notice, null);
 }, LINKS.slice(0, 1));
+
+live("a new laboratory and an example offer the lines of the one before, where someone has done something there", async (laboratory) => {
+    await laboratory.new();
+    assert.equal(laboratory.notice, null);
+    await laboratory.say("put 0050 = 3", "source", " z");
+    await laboratory.new();
+    assert.equal(laboratory.notice.kind, "before");
+    assert.match(laboratory.notice.lines, /put 0050 00000006\nsource\n z\n\.\n$/);
+    await laboratory.openScript("self-modifying", exampleNamed("self-modifying"));
+    assert.equal(laboratory.notice, null);
+    await laboratory.openScript("first-run", exampleNamed("first-run"));
+    assert.equal(laboratory.notice, null);
+    await laboratory.scriptLines(1);
+    await laboratory.step();
+    await laboratory.openScript("self-modifying", exampleNamed("self-modifying"));
+    assert.equal(laboratory.notice.kind, "before");
+    await laboratory.step();
+    assert.equal(laboratory.notice, null);
+    await laboratory.say("new");
+    assert.equal(laboratory.notice.kind, "before");
+    await laboratory.openForShow("message", exampleNamed("message"));
+    assert.equal(laboratory.notice, null);
+    await laboratory.new();
+    assert.equal(laboratory.notice, null);
+});
 
 live("so do lines, and the questions of a long session count", async (laboratory) => {
     const comment = `; ${"x".repeat(4000)}`;
@@ -198,7 +223,8 @@ live("a line that could print or tell more than memory holds is not begun", asyn
         assert.deepEqual(laboratory.notice, { kind: "tooMany", line, most });
     }
     assert.equal(laboratory.panel.clock, 0n);
-    await laboratory.say("new", "put 0000 u 0000", "press start", "run 900000", "run 900000");
+    await laboratory.new();
+    await laboratory.say("put 0000 u 0000", "press start", "run 900000", "run 900000");
     assert.deepEqual([laboratory.notice, laboratory.deeds.behind], [null, 1_800_000]);
 });
 

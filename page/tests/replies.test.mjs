@@ -92,6 +92,17 @@ test("codes of a tape text are those of FORMATS", () => {
     assert.throws(() => replies.codesOf("A"), replies.ReplyError);
 });
 
+test("where words came from, and the rules", () => {
+    const reply = "0001 lop: 000f0000 u 0000 loop = 327680, put there by y 0001 lop at 0000 loop, clock 0, 1 order ago; before it was u 0005\n"
+        + "0000: 00020004 y 0001 = 65538, put there by hand, clock 7; before it was z 0000\n0002: 00000000 z 0000 = 0, changed by no kept step\n"
+        + "0003: 80000000 = -1073741824, put there by h 0003 in the instruction register, clock 9, 12 orders ago; before it was 12345678 = 152709948\n";
+    assert.deepEqual([...replies.originsOf(reply)], [
+        ["0001", { order: "y 0001 lop", at: "0000", clock: 0n, lost: "u 0005" }], ["0000", { order: null, at: null, clock: 7n, lost: "z 0000" }],
+        ["0003", { order: "h 0003", at: null, clock: 9n, lost: "12345678 = 152709948" }]]);
+    assert.deepEqual(replies.rulesOf("rule 0 break 0100\nrule 1 watch 0009 loop\n"), ["break 0100", "watch 0009 loop"]);
+    assert.throws(() => replies.rulesOf("rule\n"), replies.ReplyError);
+});
+
 test("labels, of which one lies behind the drum", () => {
     assert.deepEqual([...replies.labelsOf("loop 0000\nsame 0000\nend past the drum\n")], [["0000", ["loop", "same"]], ["past the drum", ["end"]]]);
 });

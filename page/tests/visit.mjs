@@ -421,8 +421,10 @@ async function endlessPrint(browser) {
     await browser.waitFor("document.querySelector('dialog')");
     assert.match(await textOf(browser, ".transcript"), /^put 0000 00083100\nput 0001 00081100\nput 0002 000f0000\npress start\nrun 2000\n/);
     await browser.press("dialog > button");
+    await browser.value("(() => { const { Blob } = globalThis; globalThis.Blob = function (parts, options) { globalThis.linked = parts[0]; return new Blob(parts, options); }; })()");
     await press(browser, "#notice button:nth-of-type(2)");
-    assert.deepEqual([await textOf(browser, "#notice"), await textOf(browser, ".paper"), (await panelOf(browser)).clock], ["", "", "0"]);
+    assert.deepEqual([await textOf(browser, "#notice"), await textOf(browser, ".paper"), (await panelOf(browser)).clock], ["The laboratory before this one can still be saved: Save laboratory.txt", "", "0"]);
+    assert.match(await browser.value("globalThis.linked"), /^put 0000 00083100\nput 0001 00081100\n/);
 }
 
 /** Where lines have used up what memory there is, nothing more is begun. Where memory ends in spite of it, the lines are offered until they are put away. */

@@ -18,7 +18,7 @@ function noticeText(notice, laboratory, texts, isKiosk) {
     const { kind, number, detail, line, reason, count, most } = notice;
     const { text, table, code } = texts;
     const way = () => wayText(laboratory, texts, isKiosk);
-    const plain = ["noMemory", "sourceIsOpen", "sourceTooLong", "notLoaded", "scriptDone", "noneBehind", "noneAhead"];
+    const plain = ["before", "noMemory", "sourceIsOpen", "sourceTooLong", "notLoaded", "scriptDone", "noneBehind", "noneAhead"];
     if (plain.includes(kind)) return text(kind);
     if (kind === "usedUp") return text(isKiosk ? "kioskUsedUp" : "usedUp");
     if (kind === "atRest") return `${text("atRest")} ${way()}`;
@@ -44,7 +44,7 @@ function buttonsOf({ kind, number, lines }, laboratory, { text }, isKiosk, deeds
     const goOn = passing(text("goOn"), deeds.run, run);
     if (kind === "printedMuch") return [goOn];
     if (kind === "rule") return [goOn, passing(text("takeOut", { number }), () => laboratory.command(`drop ${number}`), run)];
-    if (kind === "broken") return [deeds.linkTo(lines)];
+    if (["broken", "before"].includes(kind)) return [deeds.linkTo(lines)];
     if (kind !== "usedUp") return [];
     if (isKiosk) return [passing(text("kioskAgain"), deeds.anew, run)];
     return [button(text("save"), deeds.save), passing(text("new"), deeds.anew, run)];
