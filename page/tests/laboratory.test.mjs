@@ -175,6 +175,9 @@ live("before memory ends nothing more is begun, and all can be saved", async (la
     assert.ok(link.sent.slice(sent).every((line) => /^(panel|words|show|why|printed|rules)/.test(line)));
     assert.match(await laboratory.transcript(), /\nput 0000 00083100\n/);
     assert.equal(await laboratory.say("words 0000 1"), "0000 00083100\n");
+    const { behind } = laboratory.deeds;
+    await laboratory.back(5);
+    assert.deepEqual([laboratory.notice, laboratory.deeds.behind, laboratory.deeds.ahead], [null, behind - 5, 5]);
     await laboratory.new();
     assert.deepEqual([laboratory.notice.kind, laboratory.printed.count, laboratory.lost], ["before", 0, []]);
     await laboratory.say("put 0000 = 1");

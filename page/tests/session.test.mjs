@@ -62,7 +62,7 @@ test("within the bounds there is room for a last portion, the longest source, to
     const session = new Session(compiled());
     filled(session);
     const source = Array(ROOM.source / 20).fill(" b 0050 ; 012345678");
-    for (const line of ["source", ...source, ".", `trace ${ROOM.told}`, `drum ${ROOM.told}`, "run 100000"]) session.answer(line);
+    for (const line of ["source", ...source, ".", `trace ${ROOM.told}`, `drum ${ROOM.told}`, "run 200000"]) session.answer(line);
     assert.ok(session.answer("transcript").length > ROOM.lines + ROOM.source);
-    assert.ok(session.answer("printed").length > ROOM.codes);
+    assert.ok(session.answer("printed").length > ROOM.codes + 100_000);
 });

@@ -461,14 +461,18 @@ async function forPeople(browser) {
     await browser.value("laboratoryOfPage().say('; ' + 'x'.repeat(200))");
     for (const width of [380, 768, 1500]) {
         await browser.ask("Emulation.setDeviceMetricsOverride", { width, height: 1250, deviceScaleFactor: 1, mobile: width < 500 });
-        const sideways = await browser.value("['.script', '.log', '.rows'].filter((it) => { const { scrollWidth, clientWidth } = document.querySelector(it); return clientWidth === 0 || scrollWidth > clientWidth; })");
-        assert.deepEqual(sideways, [], `at ${width}`);
+        assert.equal(await browser.value("['.script', '.log', '.rows'].every((it) => document.querySelector(it).clientWidth > 0)"), true, `at ${width}`);
+        assert.deepEqual(await sideways(browser), [], `at ${width}`);
         await lamps(browser, `at ${width}`);
     }
     await browser.ask("Emulation.setEmulatedMedia", { features: [{ name: "forced-colors", value: "active" }] });
     await lamps(browser, "with forced colours");
     await browser.ask("Emulation.setEmulatedMedia", { features: [] });
 }
+
+/** What has to be scrolled sideways, but for tables, tape and the source's text. */
+const sideways = (browser) => browser.value(`[...document.querySelectorAll("#page *:not(.scroll, textarea, select, input, .unseen)")]
+    .filter((it) => it.scrollWidth > it.clientWidth + 1 && /auto|scroll|hidden/.test(getComputedStyle(it).overflowX)).map((it) => it.tagName + "." + it.className)`);
 
 /** A lamp that is lit stands out from what lies behind it, one that is not is empty, and each is wide enough within its edge to see which it is. */
 async function lamps(browser, where) {
