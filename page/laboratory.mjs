@@ -210,7 +210,7 @@ export class Laboratory extends EventTarget {
 
     /** Asks a line that the reader sees, and notes what it did. */
     async #say(line, isAgain = false) {
-        if (this.openSource === null) await this.#hold(line);
+        if (this.openSource === null && await this.#isLongRun(line)) return this.#longRun(line);
         const before = this.openSource === null && NEW.test(line) ? await this.#offer() : null;
         this.#said.push(line);
         this.#isTouched ||= !this.#isInScript;
@@ -224,12 +224,27 @@ export class Laboratory extends EventTarget {
         return reply;
     }
 
-    /** Holds a line for which memory may not be enough. */
-    async #hold(line) {
+    /** Holds a line for which memory may not be enough. Whether it is a run that is to be done in portions. */
+    async #isLongRun(line) {
         if (this.#room.isUsedUp || this.#room.mostIn(line) !== null) await this.#lookAtPaper();
         if (this.#room.isUsedUp && !Room.isAlwaysTaken(line)) throw new Held({ kind: "usedUp" });
+        if (this.#room.longRunIn(line) !== null) return true;
         const most = this.#room.mostIn(line);
         if (most !== null) throw new Held({ kind: "tooMany", line, most });
+        return false;
+    }
+
+    /** Does a line `run` in portions. Where they stop before its end the line of a script is left with the orders that are still to be done. */
+    async #longRun(line) {
+        const limit = this.#room.longRunIn(line);
+        this.#stops = false;
+        const run = await this.#portions(limit);
+        const reply = run.reply ?? `ran ${run.orders} ${run.end === "rule" ? `rule ${run.rule}` : run.end}\n`;
+        this.talk = [...this.talk, { line, reply }].slice(-TALK_KEPT);
+        const isHeld = ["printed", "usedUp"].includes(run.end) || (run.end === "limit" && run.orders < limit);
+        if (!isHeld) return reply;
+        if (this.#isInScript) this.script.lines[this.script.at] = `run ${limit - run.orders}`;
+        throw new Held(questionOf(run, this.printed.count) ?? { kind: "stopped" });
     }
 
     #refused(line, reply) {
@@ -449,16 +464,21 @@ export class Laboratory extends EventTarget {
     run(limit = Infinity) {
         this.#stops = false;
         return this.#work(async () => {
-            const began = performance.now();
-            const run = { orders: 0, end: "limit", began, told: began, printed: this.printed.count };
-            for (let size = PORTION.first; run.end === "limit" && run.orders < limit && !this.#stops;) {
-                const start = performance.now();
-                await this.#portion(run, Math.min(size, limit - run.orders, this.#room.orders));
-                size = nextPortion(size, performance.now() - start);
-                await this.#tellProgress(run);
-            }
-            return this.#ended(run);
+            return this.#ended(await this.#portions(limit));
         });
+    }
+
+    /** Runs in portions: how many orders, and why it has ended; where the monitor has refused one, its reply. */
+    async #portions(limit) {
+        const began = performance.now();
+        const run = { orders: 0, end: "limit", began, told: began, printed: this.printed.count };
+        for (let size = PORTION.first; run.end === "limit" && run.orders < limit && !this.#stops;) {
+            const start = performance.now();
+            await this.#portion(run, Math.min(size, limit - run.orders, this.#room.orders));
+            size = nextPortion(size, performance.now() - start);
+            await this.#tellProgress(run);
+        }
+        return run;
     }
 
     async #portion(run, orders) {
@@ -469,14 +489,15 @@ export class Laboratory extends EventTarget {
         if (replies.isRefusal(reply)) {
             this.#refused(line, reply);
             this.#forgetDeeds();
-            run.end = "refused";
+            Object.assign(run, { end: "refused", reply });
             return;
         }
         const ran = replies.runOf(reply);
         this.#noteOrders(ran.orders);
         run.orders += ran.orders;
         run.end = ran.end;
-        this.#hit = ran.rule;
+        run.rule = ran.rule;
+        if (!this.#isInScript) this.#hit = ran.rule;
         if (this.#room.isUsedUp || this.#room.codesAtMost >= run.printed + ROOM.asksAfter) await this.#lookAtPaper();
         if (run.end !== "limit") return;
         if (this.#room.isUsedUp) run.end = "usedUp";
@@ -492,13 +513,13 @@ export class Laboratory extends EventTarget {
         this.dispatchEvent(new Event("change"));
     }
 
-    async #ended({ orders, end, began, printed }) {
+    async #ended(run) {
+        const { orders, end, began } = run;
         const milliseconds = performance.now() - began;
         this.talk = [...this.talk, { line: "run", reply: `ran ${orders} ${this.#stops ? "until stopped" : end}\n` }].slice(-TALK_KEPT);
         await this.#look();
-        if (end === "printed") this.notice = { kind: "printedMuch", count: this.printed.count - printed };
-        else if (end === "usedUp") this.notice = { kind: "usedUp" };
-        else if (orders === 0) this.notice ??= { kind: "atRest" };
+        this.notice ??= questionOf(run, this.printed.count);
+        if (orders === 0) this.notice ??= { kind: "atRest" };
         this.lastRun = { orders, end, milliseconds };
         return this.lastRun;
     }
@@ -645,6 +666,12 @@ export class Laboratory extends EventTarget {
         const next = this.words.find(({ address }) => address === this.panel?.counter);
         return next === undefined || next.order.startsWith("word") ? null : addressIn(next.order);
     }
+}
+
+/** What a run asks that has stopped before its end, or null. */
+function questionOf({ end, printed }, count) {
+    if (end === "printed") return { kind: "printedMuch", count: count - printed };
+    return end === "usedUp" ? { kind: "usedUp" } : null;
 }
 
 /** The size of the next portion, so that it takes its time, neither growing nor shrinking by more than four times. */

@@ -7,6 +7,7 @@
 export const ROOM = { lines: 3_000_000, codes: 1_000_000, last: 10_000, asksAfter: 20_000, told: 10_000, source: 1_500_000 };
 
 const PERFORMS = /^ *(run|orders|profile|trace|drum) +(\d+) *$/;
+const RUN = /^ *run +(\d{1,15}) *$/;
 const STANDS_FOR_NO_LINE = /^ *(why|numbers|labels|rules|transcript|help)( |$)/;
 const ALWAYS = /^ *(new|back|last|transcript|why|printed|panel|words|show|numbers|labels|rules|help)( |$)/;
 const USED_LITTLE = 100_000;
@@ -65,6 +66,12 @@ export class Room {
         const [, verb, number] = PERFORMS.exec(line) ?? [];
         const most = ["trace", "drum"].includes(verb) ? Math.min(ROOM.told, this.orders) : this.orders;
         return verb !== undefined && Number(number) > most ? most : null;
+    }
+
+    /** The orders of a line `run` that names more than may be performed at once, else null. It can be done in portions. */
+    longRunIn(line) {
+        const orders = Number(RUN.exec(line)?.[1] ?? 0);
+        return orders > this.orders ? orders : null;
     }
 
     /** A new module has been taken. */

@@ -221,7 +221,7 @@ live("so do lines, and the questions of a long session count", async (laboratory
 
 live("a line that could print or tell more than memory holds is not begun", async (laboratory) => {
     await laboratory.say("put 0000 p =h", "put 0001 u 0000", "press start");
-    for (const [line, most] of [["run 5000000", ROOM.codes], ["orders 2000000", ROOM.codes], ["trace 20000", ROOM.told], [" drum  20000 ", ROOM.told]]) {
+    for (const [line, most] of [["orders 2000000", ROOM.codes], ["profile 1000001", ROOM.codes], ["trace 20000", ROOM.told], [" drum  20000 ", ROOM.told]]) {
         await laboratory.say(line);
         assert.deepEqual(laboratory.notice, { kind: "tooMany", line, most });
     }
@@ -230,6 +230,23 @@ live("a line that could print or tell more than memory holds is not begun", asyn
     await laboratory.say("put 0000 u 0000", "press start", "run 900000", "run 900000");
     assert.deepEqual([laboratory.notice, laboratory.deeds.behind], [null, 1_800_000]);
 });
+
+live("a line that runs for long is done in portions, and what is left of a script's is kept", async (laboratory, link) => {
+    await laboratory.say("put 0000 u 0000", "press start");
+    assert.equal(await laboratory.say("run 3000000"), "ran 3000000 limit\n");
+    assert.deepEqual([laboratory.notice, laboratory.deeds.behind, laboratory.talk.at(-1)], [null, 3_000_000, { line: "run 3000000", reply: "ran 3000000 limit\n" }]);
+    await laboratory.openScript("prints", "put 0000 p =h\nput 0001 u 0000\npress start\nrun 3000000\nput 0000 z 0000\n");
+    await laboratory.scriptLines(Infinity);
+    const { notice, printed: { count }, script } = laboratory;
+    assert.deepEqual([notice, script.at, script.lines[3]], [{ kind: "printedMuch", count }, 3, `run ${3_000_000 - 2 * count}`]);
+    await laboratory.scriptLines(1);
+    assert.deepEqual([script.at, script.lines[3]], [3, `run ${3_000_000 - 2 * laboratory.printed.count}`]);
+    assert.ok(laboratory.printed.count >= count + ROOM.asksAfter);
+    await laboratory.new();
+    await laboratory.say("put 0000 b 0000", "put 0001 u 0000", "break 0001", "press start");
+    assert.equal(await laboratory.say("run 3000000"), "ran 1 rule 0\n");
+    assert.equal(laboratory.notice.kind, "rule");
+}, LINKS.slice(0, 1));
 
 live("where memory ends in spite of it, the lines are kept until they are put away", async (laboratory, link) => {
     const answer = link.ask.bind(link);

@@ -18,7 +18,7 @@ function noticeText(notice, laboratory, texts, isKiosk) {
     const { kind, number, detail, line, reason, count, most } = notice;
     const { text, table, code } = texts;
     const way = () => wayText(laboratory, texts, isKiosk);
-    const plain = ["before", "noMemory", "sourceIsOpen", "sourceTooLong", "notLoaded", "scriptDone", "noneBehind", "noneAhead"];
+    const plain = ["before", "stopped", "noMemory", "sourceIsOpen", "sourceTooLong", "notLoaded", "scriptDone", "noneBehind", "noneAhead"];
     if (plain.includes(kind)) return text(kind);
     if (kind === "usedUp") return text(isKiosk ? "kioskUsedUp" : "usedUp");
     if (kind === "atRest") return `${text("atRest")} ${way()}`;
