@@ -113,7 +113,7 @@ hand_over() {
 
 # Runs a program without its proofs, with standard input from a file. What it writes comes when it has ended.
 run_unproved() {
-    local crate=$1 input=$2 status
+    local crate=$1 input=$2 status kept
     shift 2
     need_toolchain
     hand_over "$@"
@@ -121,6 +121,10 @@ run_unproved() {
     rt try "${data[@]}" -- "$@" <"$input" >"$scratch/output" 2>"$scratch/notes"
     status=$?
     if grep -q "^run=ended status=$status " "$scratch/notes"; then
+        # What the monitor saves stays only where it was named by its whole path.
+        if kept=$(grep -am 1 '^saved [^/]' "$scratch/output"); then
+            give_up "a run without proofs keeps files in a folder that is gone when it ends, and this one replies '$kept': name the file by its whole path, or run ./prove $crate first"
+        fi
         # The last two lines are the toolchain's, the ones before them what the program wrote on standard error.
         head -n -2 "$scratch/notes" >&2
         cat "$scratch/output" || give_up "what the program wrote could not be passed on"
