@@ -108,7 +108,7 @@ class Account:
     """Whether the order stood in the instruction register."""
 
     put_there: Optional[PutThere] = None
-    """What put the order there; None where it is as it was when the steps that are kept begin."""
+    """What put the order there; None where no kept step has changed it."""
 
     stored: Optional[Stored] = None
     printed: Optional[int] = None

@@ -40,8 +40,9 @@ class Faults:
 def assemble(source: "str | bytes") -> "Listing | Faults":
     """Assembles a source.
 
-    Raises TooLong where it has more than 1,048,576 bytes or a line of more than 4,096, and ValueError where one of its lines is a
-    point alone, since that ends a source in a script.
+    Each of its lines has a line feed, the last one too: where that is missing, it is put there. Raises TooLong where the source then has
+    more than 1,048,576 bytes, or a line of more than 4,096, and ValueError where one of its lines is a point alone, since that ends a
+    source in a script.
     """
     text = scripts.encoded(source)
     if any(line.removesuffix(b"\r") == b"." for line in text.split(b"\n")):

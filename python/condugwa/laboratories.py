@@ -41,10 +41,14 @@ class Laboratory:
     that the orders in front of a ClockEnd were performed.
     Where there is not enough memory OutOfMemory is raised, and the laboratory is closed then. A laboratory is used by one thread at a
     time.
+
+    From the line `source` on each line is the source's, up to a point alone. `answer` and `answers` take these lines; every other call that
+    asks the laboratory raises ValueError until the source is closed, and changes nothing.
     """
 
     def __init__(self) -> None:
         self._session = library.Session()
+        self._in_source = False
 
     def __enter__(self) -> "Laboratory":
         return self
@@ -65,8 +69,15 @@ class Laboratory:
         text = scripts.encoded(line)
         if b"\n" in text:
             raise ValueError("a line has no line feed")
+        in_source, self._in_source = self._in_source, False
         reply, questions = self._session.answer(text)
-        return _checked(scripts.decoded(reply), questions)
+        command = text.strip(b" ")
+        # no line of a source has a reply, and its end has one
+        self._in_source = not reply and (in_source or command == b"source")
+        # a transcript has lines as they were typed, and those may begin with a question mark
+        if questions and command != b"transcript":
+            raise refusals.refusal_in(scripts.decoded(reply).split("\n", 1)[0])
+        return scripts.decoded(reply)
 
     def answers(self, lines: str) -> str:
         """The replies to several lines, one behind the other. The first refusal is raised, and the lines behind it are not asked."""
@@ -74,15 +85,15 @@ class Laboratory:
 
     def panel(self) -> panels.Panel:
         """What the panel shows."""
-        return panels.Panel.of(self.answer("panel"))
+        return panels.Panel.of(self._asked("panel"))
 
     def words(self, address: str, count: int = 1) -> "dict[str, str]":
         """So many words from an address on, 64 at most, each by its address."""
-        return panels.words_of(self.answer(f"words {address} {count}"))
+        return panels.words_of(self._asked(f"words {address} {count}"))
 
     def run(self, limit: int) -> Run:
         """Performs orders, at most so many, until the machine is at rest or a rule stops it."""
-        return Run.of(self.answer(f"run {limit}"))
+        return Run.of(self._asked(f"run {limit}"))
 
     def trace(self, limit: int) -> "list[accounts.Account]":
         """Performs orders as `run` does, and tells the account of each."""
@@ -96,9 +107,15 @@ class Laboratory:
         """Performs orders as `run` does, and draws them: a row a turn of the drum, a sign a word time."""
         return self._told("drum", limit)
 
+    def _asked(self, command: str) -> str:
+        """The reply to a command. An open source would take its line, so ValueError is raised then."""
+        if self._in_source:
+            raise ValueError("a source is open, and takes each line up to a point alone")
+        return self.answer(command)
+
     def _told(self, command: str, limit: int) -> "list[str]":
         """What stands in front of the reply of the run. Where the clock's end has broken the run off, that refusal is raised."""
-        lines = self.answer(f"{command} {limit}").removesuffix("\n").split("\n")
+        lines = self._asked(f"{command} {limit}").removesuffix("\n").split("\n")
         while len(lines) > 1 and lines[-1].startswith(" "):
             lines.pop()  # what the monitor says behind the reply
         *told, end = lines
@@ -108,19 +125,13 @@ class Laboratory:
 
     def back(self, orders: int) -> int:
         """Goes back to where the last of so many orders began, and tells the clock there. Raises TooFar where fewer are kept."""
-        return int(self.answer(f"back {orders}").split()[1])
+        return int(self._asked(f"back {orders}").split()[1])
 
     def transcript(self) -> str:
         """The script that leads where the laboratory stands."""
-        return self.answer("transcript")
+        return self._asked("transcript")
 
     def close(self) -> str:
         """Gives back the memory. The reply is that to a source which was open, otherwise empty. Once closed it does nothing."""
+        self._in_source = False
         return scripts.decoded(self._session.close())
-
-
-def _checked(reply: str, questions: int) -> str:
-    """A reply, if it is no refusal."""
-    if questions:
-        raise refusals.refusal_in(reply.split("\n", 1)[0])
-    return reply

@@ -30,9 +30,17 @@ class _Session(ctypes.Structure):
 
 @functools.lru_cache(maxsize=None)
 def _library() -> ctypes.CDLL:
-    """The library named by CONDUGWA_LIBRARY, or the one in the package's folder."""
+    """The library named by CONDUGWA_LIBRARY, or the one in the package's folder. Raises OSError where it cannot be loaded."""
     beside = pathlib.Path(__file__).with_name("liblgp30.so")
-    library = ctypes.CDLL(os.environ.get("CONDUGWA_LIBRARY", str(beside)))
+    path = os.environ.get("CONDUGWA_LIBRARY", str(beside))
+    try:
+        library = ctypes.CDLL(path)
+    except OSError as error:
+        reason = str(error).removeprefix(f"{path}: ")
+        raise OSError(
+            f"the shared library {path} was not loaded ({reason}): docs/EMBEDDING.md says how it is made, "
+            "and the variable CONDUGWA_LIBRARY names one that lies elsewhere"
+        ) from None
     library.lgp_run_script.restype = ctypes.c_uint32
     library.lgp_run_script.argtypes = [
         ctypes.c_char_p,
@@ -79,10 +87,11 @@ class Session:
     """A session that is open from its making until it is closed, or refused memory."""
 
     def __init__(self) -> None:
+        room = ctypes.create_string_buffer(_SESSION_ROOM)
         self._session = _Session()
-        self._room = ctypes.create_string_buffer(_SESSION_ROOM)
         if _library().lgp_open(ctypes.byref(self._session)) == _NO_MEMORY:
             raise OutOfMemory("the library was refused memory")
+        self._room = room
 
     def __del__(self) -> None:
         if hasattr(self, "_room"):

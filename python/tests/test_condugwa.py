@@ -1,7 +1,10 @@
 """The package's own tests. What a reply has to be is taken from docs/FORMATS.md and from the examples."""
 
+import os
 import pathlib
 import re
+import subprocess
+import sys
 
 import pytest
 
@@ -67,6 +70,29 @@ def test_a_source_that_no_script_can_hold_is_refused():
         condugwa.assemble(" z\n.\n end\n")
     with pytest.raises(condugwa.TooLong):
         condugwa.assemble(";" * 5000 + "\n end\n")
+
+
+def source_of_bytes(count):
+    """A source of so many bytes, with a line feed at its end: two lines, and comments of at most 4,096 bytes each."""
+    text = " z\n end\n"
+    while len(text) < count:
+        text += ";" + "x" * (min(count - len(text), 4096) - 2) + "\n"
+    return text
+
+
+def test_a_source_of_the_greatest_size_is_listed():
+    source = source_of_bytes(1_048_576)
+    assert len(source) == 1_048_576
+    listing = condugwa.assemble(source)
+    assert (listing.cells, listing.text.count("\n")) == (1, source.count("\n"))
+
+
+def test_the_line_feed_of_the_last_line_counts():
+    source = source_of_bytes(1_048_576)
+    assert condugwa.assemble(source[:-1]) == condugwa.assemble(source)
+    for longer in (source[:-1] + "x", source_of_bytes(1_048_578)):
+        with pytest.raises(condugwa.TooLong):
+            condugwa.assemble(longer)
 
 
 def test_bytes_that_are_no_text_come_back():
@@ -180,6 +206,68 @@ def test_a_reply_larger_than_the_room_is_whole(laboratory):
     transcript = laboratory.transcript()
     assert len(transcript) > 3 * 64 * 16
     assert condugwa.run_script(transcript).text == "ok\n" * 192
+
+
+@pytest.mark.parametrize("line", ["?", "? 99", "? 7 TooFar 3", "?x"])
+def test_a_transcript_is_a_text_whatever_its_lines_are(laboratory, line):
+    with pytest.raises(condugwa.Form):
+        laboratory.answer(line)
+    assert laboratory.transcript() == f"{line}\n"
+    assert laboratory.answer(" transcript ") == f"{line}\n"
+    with pytest.raises(condugwa.Form):
+        laboratory.answer("transcript 1")
+
+
+ASKED = {
+    "panel": lambda laboratory: laboratory.panel(),
+    "words": lambda laboratory: laboratory.words("0000"),
+    "run": lambda laboratory: laboratory.run(1),
+    "trace": lambda laboratory: laboratory.trace(1),
+    "profile": lambda laboratory: laboratory.profile(1),
+    "drum": lambda laboratory: laboratory.drum(1),
+    "back": lambda laboratory: laboratory.back(1),
+    "transcript": lambda laboratory: laboratory.transcript(),
+}
+
+
+@pytest.mark.parametrize("ask", ASKED.values(), ids=ASKED.keys())
+def test_an_open_source_takes_no_line_of_a_call(laboratory, ask):
+    laboratory.answers(" source \n z\n\n source\n; panel")
+    with pytest.raises(ValueError, match="a source is open"):
+        ask(laboratory)
+    # the source has the lines that were given and no other one
+    with pytest.raises(condugwa.Faulty):
+        laboratory.answer(".")
+    assert laboratory.transcript() == " source \n z\n\n source\n; panel\n.\n"
+
+
+def test_a_source_that_is_closed_is_no_longer_open(laboratory):
+    laboratory.answers("source\n z\n end\n.\n; source\n\n")
+    assert laboratory.words("0000") == {"0000": "00000000"}
+    with pytest.raises(condugwa.Form):
+        laboratory.answer("source 1")
+    assert laboratory.panel().clock == 0
+    laboratory.answer("source")
+    laboratory.close()
+    with pytest.raises(ValueError, match="closed"):
+        laboratory.panel()
+
+
+@pytest.mark.parametrize("asked", ["condugwa.Laboratory()", "condugwa.run_script('panel')"])
+def test_a_library_that_is_missing_is_told_in_one_sentence(tmp_path, asked):
+    path = tmp_path / "liblgp30.so"
+    ran = subprocess.run(
+        [sys.executable, "-c", f"import condugwa; {asked}"],
+        env={**os.environ, "CONDUGWA_LIBRARY": str(path)},
+        cwd=pathlib.Path(condugwa.__file__).parents[1],
+        capture_output=True,
+        text=True,
+    )
+    assert ran.stderr.count("Traceback") == 1
+    assert ran.stderr.splitlines()[-1] == (
+        f"OSError: the shared library {path} was not loaded (cannot open shared object file: No such file or directory): "
+        "docs/EMBEDDING.md says how it is made, and the variable CONDUGWA_LIBRARY names one that lies elsewhere"
+    )
 
 
 def test_a_line_has_no_line_feed(laboratory):
