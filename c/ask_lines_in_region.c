@@ -6,16 +6,14 @@
 #include "lgp30_region.h"
 #include "lines.h"
 
-#include <stdio.h>
-
 static _Alignas(16) uint8_t memory[16 << 20];
 static uint8_t reply[1 << 20];
 
 /* Writes the reply that stands in the room. The status is that of the reply, or why there is none. */
-static uint32_t write_reply(uint32_t status, const struct lgp_outcome *outcome)
+static uint32_t give_reply(uint32_t status, const struct lgp_outcome *outcome)
 {
     if (status < LGP_UNREAD
-        && (outcome->length > sizeof reply || fwrite(reply, 1, outcome->length, stdout) != outcome->length)) {
+        && (outcome->length > sizeof reply || !write_reply(reply, outcome->length))) {
         return LGP_UNREAD;
     }
     return status;
@@ -31,11 +29,11 @@ int main(void)
     uint32_t worst = lgp_open_in(given, &session);
     while (worst < LGP_UNREAD && read_line(line, &length)) {
         uint32_t status = lgp_answer_in(&session, line, length, reply, sizeof reply, &outcome);
-        status = write_reply(status, &outcome);
+        status = give_reply(status, &outcome);
         worst = status > worst ? status : worst;
     }
     if (worst < LGP_UNREAD) {
-        uint32_t status = write_reply(lgp_close_in(&session, reply, sizeof reply, &outcome), &outcome);
+        uint32_t status = give_reply(lgp_close_in(&session, reply, sizeof reply, &outcome), &outcome);
         worst = status > worst ? status : worst;
     }
     return (int)worst;

@@ -21,3 +21,8 @@ int read_line(uint8_t *line, size_t *length)
     }
     return 1;
 }
+
+int write_reply(const uint8_t *reply, size_t length)
+{
+    return fwrite(reply, 1, length, stdout) == length && fflush(stdout) == 0;
+}

@@ -1,4 +1,4 @@
-/* What the programs share that answer lines as they come: a line of standard input. */
+/* What the programs share that answer lines as they come: a line of standard input, and a reply to it. */
 #ifndef LINES_H
 #define LINES_H
 
@@ -11,5 +11,9 @@ enum { LINE_ROOM = 4097 };
 /* Reads a line into a room of LINE_ROOM bytes, without its line feed and a carriage return before that.
  * Whether there was one. */
 int read_line(uint8_t *line, size_t *length);
+
+/* Writes a reply at once, also to a pipe, so that whoever asks a line has its reply before asking the
+ * next one. Whether all of it was written. */
+int write_reply(const uint8_t *reply, size_t length);
 
 #endif

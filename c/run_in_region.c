@@ -14,7 +14,8 @@ int main(void)
     struct lgp_memory given = {memory, sizeof memory};
     struct lgp_outcome outcome;
     uint32_t status = lgp_run_script_in(given, script, length, replies, sizeof replies, &outcome);
-    if (outcome.length > sizeof replies || fwrite(replies, 1, outcome.length, stdout) != outcome.length) {
+    if (outcome.length > sizeof replies || fwrite(replies, 1, outcome.length, stdout) != outcome.length
+        || fflush(stdout) != 0) {
         return LGP_UNREAD;
     }
     return (int)status;

@@ -53,7 +53,7 @@ int main(void)
     } else if (status < LGP_UNREAD) {
         status = lgp_run_script(script.at, script.length, replies, length + 1, &outcome);
     }
-    if (status < LGP_UNREAD && fwrite(replies, 1, length, stdout) != length) {
+    if (status < LGP_UNREAD && (fwrite(replies, 1, length, stdout) != length || fflush(stdout) != 0)) {
         status = LGP_UNREAD;
     }
     free(replies);

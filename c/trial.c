@@ -138,6 +138,21 @@ void try_lines(const struct calls *calls)
     expect(is_reply(end(calls, &session, 32), LGP_WELL, ""), "and closed again");
 }
 
+static int begins(struct told told, uint32_t status, const char *front)
+{
+    return told.status == status && strncmp(told.room, front, strlen(front)) == 0;
+}
+
+static int is_too_long(struct told told)
+{
+    return begins(told, LGP_QUESTIONS, "? 11 TooLong: ");
+}
+
+static int is_panel(struct told told)
+{
+    return begins(told, LGP_WELL, "counter 0000 ");
+}
+
 void try_long_lines(const struct calls *calls)
 {
     static char line[5002];
@@ -145,12 +160,23 @@ void try_long_lines(const struct calls *calls)
     calls->open(&session);
     memset(line, ' ', 5000);
     memcpy(line, "panel", 5);
-    struct told told = ask(calls, &session, line, 32);
-    expect(told.status == LGP_QUESTIONS && memcmp(told.room, "? 11 TooLong: ", 14) == 0,
-           "a long line is refused");
+    expect(is_too_long(ask(calls, &session, line, 32)), "a long line is refused");
+    line[4097] = 0;
+    expect(is_too_long(ask(calls, &session, line, 32)), "so is one of 4097 bytes");
+    line[4096] = 0;
+    expect(is_panel(ask(calls, &session, line, 32)), "and one of 4096 bytes is answered");
+    memset(line, ' ', 5000);
+    expect(is_reply(ask(calls, &session, line, 32), LGP_WELL, ""), "a long line that is blank has no reply");
+    line[0] = ';';
+    expect(is_reply(ask(calls, &session, line, 32), LGP_WELL, ""), "nor has a long comment");
+    expect(is_reply(ask(calls, &session, "source", 32), LGP_WELL, ""), "a source is begun");
+    expect(is_reply(ask(calls, &session, line, 32), LGP_WELL, ""), "a long line of it has no reply");
+    expect(is_too_long(ask(calls, &session, ".", 32)), "at its end it is refused");
+    expect(is_panel(ask(calls, &session, "panel", 32)), "and lines after it are answered");
     for (int byte = 0; byte < 256; byte++) {
         line[byte] = (char)byte;
     }
+    struct told told = untold;
     told.status = calls->answer(&session, (const uint8_t *)line, 256, (uint8_t *)told.room, 32, &told.outcome);
     expect(told.status == LGP_QUESTIONS, "any bytes are a line");
     end(calls, &session, 32);
@@ -158,18 +184,33 @@ void try_long_lines(const struct calls *calls)
 
 size_t work(const struct calls *calls, struct lgp_session *session, uint32_t *status)
 {
-    static const char *const lines[WORK_LINES] = {
-        "source", " b 0002", " z", " data 5", " end", ".", "load", "run 9",
-        "put 0050 .5", "go 0100", "run 3", "panel", "transcript", "new", "dump",
+    /* lines, and the front of the reply to each */
+    static const char *const lines[WORK_LINES][2] = {
+        {"source", ""},
+        {" b 0002", ""},
+        {" z", ""},
+        {" word 00000006", ""},
+        {" end 0000", ""},
+        {".", "cells 3 start 0000\n"},
+        {"load", "loaded 43\n"},
+        {"run 9", "ran 2 rest\n"},
+        {"put 0050 .5", "ok\n"},
+        {"go 0100", "live\nlive 8 dead 0\n"},
+        {"run 3", "ran 1 rest\n"},
+        {"panel", "counter 0101 "},
+        {"transcript", "source\n b 0002\n z\n"},
+        {"new", "new\n"},
+        {"dump", "dump 0\n"},
     };
     *status = calls->open(session);
     for (size_t line = 0; line < WORK_LINES; line++) {
         if (*status >= LGP_UNREAD) {
             return line == 0 ? 0 : line - 1;
         }
-        struct told told = ask(calls, session, lines[line], 32);
+        struct told told = ask(calls, session, lines[line][0], 32);
         *status = told.status;
-        expect(told.status < LGP_UNREAD || is_untold(told, LGP_NO_MEMORY), "want of memory is all that is told");
+        expect(begins(told, LGP_WELL, lines[line][1]) || is_untold(told, LGP_NO_MEMORY),
+               "a line is answered, or want of memory is all that is told");
     }
     return *status < LGP_UNREAD ? WORK_LINES : WORK_LINES - 1;
 }

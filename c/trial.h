@@ -52,7 +52,7 @@ int is_untold(struct told told, uint32_t status);
  * closed already. */
 void try_lines(const struct calls *calls);
 
-/* Tries lines of too many bytes, and lines of any bytes. */
+/* Tries lines of more than 4096 bytes, in a source and outside, and a line of any bytes. */
 void try_long_lines(const struct calls *calls);
 
 /* Opens a session and asks it fifteen lines, up to one for which there is no memory. How many were
