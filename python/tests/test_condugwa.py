@@ -245,7 +245,7 @@ def test_a_source_that_is_closed_is_no_longer_open(laboratory):
     laboratory.answers("source\n z\n end\n.\n; source\n\n")
     assert laboratory.words("0000") == {"0000": "00000000"}
     with pytest.raises(condugwa.Form):
-        laboratory.answer("source 1")
+        laboratory.answer("sources")
     assert laboratory.panel().clock == 0
     laboratory.answer("source")
     laboratory.close()
