@@ -11,7 +11,7 @@
 /* What lies between two parts is handed over to nobody, and stays as it is. */
 enum { BETWEEN = 64 };
 
-static _Alignas(16) uint8_t memory[128 << 20];
+static _Alignas(16) uint8_t memory[256 << 20];
 static size_t handed_over = BETWEEN;
 static size_t size_of_next;
 
