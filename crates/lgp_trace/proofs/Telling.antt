@@ -1,5 +1,5 @@
 -- A run in the middle of which a text tells.
-use Rattle.std.proofs.Common.{◌≡◌, ◌∙◌, ℕ, suc, ◌+◌, ◌++◌, Bool, false, List, Option, Ok, Err, append_assoc, sym, ap, arith}
+use Rattle.std.proofs.Common.{◌≡◌, ◌∙◌, ℕ, suc, ◌+◌, ◌++◌, ◌≤◌, Bool, true, false, List, Option, Ok, Err, append_assoc, refl, sym, ap, arith}
 use Rattle.std.specs.Prelude.{IsTrue, OnErr, OnOk, Result}
 use Rattle.std.proofs.lemmas.List.{append-nil}
 use Rattle.lgp_table.specs.After.{after}
@@ -12,10 +12,11 @@ use Rattle.lgp_debugger.specs.Run.{IsOrderOfRun}
 use Rattle.lgp_debugger.specs.declared.fault.StepFault.{StepFault}
 use Rattle.lgp_debugger.specs.declared.fault.StepFault.TheVariants.{AtRest, ClockEnd, Memory}
 use Rattle.lgp_debugger.proofs.PerformedLemmas.{performed_state}
+use Rattle.lgp_debugger.proofs.RunLemmas.{HasRun, rests, run_limited}
 use Rattle.lgp_trace.specs.Account.{account_of}
 use Rattle.lgp_trace.specs.OriginLines.{told_account}
 use Rattle.lgp_trace.specs.DrumRows.{signs_in_rows, signs_of}
-use Rattle.lgp_trace.specs.Runs.{drawn, told}
+use Rattle.lgp_trace.specs.Runs.{IsBrokenOff, drawn, told}
 
 pub told_begun : (label : ℕ → List ℕ) (s : State) (origins : ℕ → Option Origin) (text : List ℕ) → text ≡ text ++ told label s origins 0
 unfolding told
@@ -63,3 +64,22 @@ untold_performed X rules old new (Ok stop) told order refused untold = order.2
 untold_performed X rules old new (Err AtRest) told order refused untold = cc
 untold_performed X rules old new (Err ClockEnd) told order refused untold = cc
 untold_performed X rules old new (Err Memory) told order refused untold = cc
+
+-- a run in the middle, of which as many orders were told as were done or one fewer, was broken off
+past_rules : (first now : Debugging) (done orders : ℕ) → HasRun true first now done → rests now.state ≡ false → done ≤ orders → orders ≤ done + 1
+    → IsBrokenOff first.rules first.state orders
+past_rules first now done orders run goes least most =
+    (done, least, most, (run_limited true first now now done done run refl goes refl).ran)
+
+-- where the next order was performed and not told, or could not be performed
+pub broken_off : (rules : List Rule) (first now new : Debugging) (done orders : ℕ) (answer : Result (Option ℕ) StepFault) → HasRun true first now done → IsOrderOfRun rules now new answer
+    → (answer ≡ Err AtRest → ⊥) → done ≤ orders → orders ≤ done + 1 → IsBrokenOff first.rules first.state orders
+broken_off rules first now new done orders (Ok stop) run order other least most = past_rules first now done orders run order.0.0 least most
+broken_off rules first now new done orders (Err AtRest) run order other least most = absurd (other refl)
+broken_off rules first now new done orders (Err ClockEnd) run order other least most = past_rules first now done orders run order.0 least most
+broken_off rules first now new done orders (Err Memory) run order other least most = past_rules first now done orders run order.0.0 least most
+
+-- an order that memory did not tell was not refused
+pub untold_not_at_rest : (X : Type 0) (answer : Result (Option ℕ) StepFault) (told : Bool) → OnErr answer (IsTrue told × X) → told ≡ false → answer ≡ Err AtRest → ⊥
+untold_not_at_rest X (Ok stop) told refused untold is = cc
+untold_not_at_rest X (Err fault) told refused untold is = cc

@@ -1,11 +1,11 @@
 //! Runs of a debugger drawn along the drum.
 
-ghost use Rattle.std.specs.Prelude.{◌≡◌, ◌++◌, ◌≤◌, IsTrue, OnErr, OnOk};
+ghost use Rattle.std.specs.Prelude.{◌≡◌, ◌++◌, ◌≤◌, IfErr, IsTrue, OnErr, OnOk};
 ghost use Rattle.lgp_debugger.specs.Debugging.{performed};
 ghost use Rattle.lgp_debugger.specs.Run.{IsOrderOfRun, UnlessMemory, orders_of, run_of};
 ghost use Rattle.lgp_trace.specs.Account.{account_of};
 ghost use Rattle.lgp_trace.specs.DrumRows.{signs_in_rows, signs_of};
-ghost use Rattle.lgp_trace.specs.Runs.{drawn};
+ghost use Rattle.lgp_trace.specs.Runs.{IsBrokenOff, drawn};
 
 use crate::account::Begun;
 use crate::drum_rows::push_drum;
@@ -51,6 +51,8 @@ pub fn draw_run<H: History<A>, A: Allocator, B: Allocator>(
     ensures told { UnlessMemory result (text.new.items ≡ text.old.items
         ++ drawn debugger.old.state (orders_of result)) }
     ensures within { orders_of result ≤ limit }
+    ensures stands { IfErr result (λ fault.
+        IsBrokenOff debugger.old.rules debugger.old.state fault.orders) }
 {
     for orders in 0..limit {
         let (outcome, told) = draw_order(debugger, text);

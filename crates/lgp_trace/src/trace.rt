@@ -1,11 +1,11 @@
 //! Runs of a debugger told order by order.
 
-ghost use Rattle.std.specs.Prelude.{◌≡◌, ◌++◌, ◌≤◌, IsTrue, OnErr, OnOk};
+ghost use Rattle.std.specs.Prelude.{◌≡◌, ◌++◌, ◌≤◌, IfErr, IsTrue, OnErr, OnOk};
 ghost use Rattle.lgp_debugger.specs.Debugging.{order_origin, order_origins, performed};
 ghost use Rattle.lgp_debugger.specs.Run.{IsOrderOfRun, UnlessMemory, orders_of, run_of};
 ghost use Rattle.lgp_trace.specs.Account.{account_of};
 ghost use Rattle.lgp_trace.specs.OriginLines.{told_account};
-ghost use Rattle.lgp_trace.specs.Runs.{told};
+ghost use Rattle.lgp_trace.specs.Runs.{IsBrokenOff, told};
 
 use crate::account::Begun;
 use crate::labels::Labels;
@@ -55,6 +55,8 @@ pub fn trace_run<H: Origins<A>, L: Labels, A: Allocator, B: Allocator>(
         ++ told (L.label labels.now) debugger.old.state (order_origins debugger.old)
         (orders_of result)) }
     ensures within { orders_of result ≤ limit }
+    ensures stands { IfErr result (λ fault.
+        IsBrokenOff debugger.old.rules debugger.old.state fault.orders) }
 {
     for orders in 0..limit {
         let (outcome, told) = tell_order(debugger, text, labels);

@@ -2,10 +2,10 @@
 use Rattle.std.proofs.Common.{◌≡◌, ◌+◌, ℕ, None, Some, arith, refl, rules, subst, true, Err, Ok}
 use Rattle.lgp_debugger.specs.Run.{IsRun}
 use Rattle.lgp_debugger.specs.declared.fault.Reason.TheVariants.{Rest, Rule}
-use Rattle.lgp_debugger.specs.declared.fault.StepFault.TheVariants.{AtRest, ClockEnd}
+use Rattle.lgp_debugger.specs.declared.fault.StepFault.TheVariants.{AtRest, ClockEnd, Memory}
 use Rattle.lgp_debugger.proofs.PerformedLemmas.{performed_more}
 use Rattle.lgp_debugger.proofs.RunLemmas.{run_begun, run_limited, run_refused_at_clock_end, run_refused_at_rest, run_rested, run_step, run_stopped}
-use Rattle.lgp_trace.proofs.Telling.{at_ok, told_begun, told_more, untold_performed}
+use Rattle.lgp_trace.proofs.Telling.{at_ok, broken_off, told_begun, told_more, untold_not_at_rest, untold_performed}
 use Rattle.lgp_trace.proofs.trace.trace_run.Goals as goal
 
 pub loop-orders-init : goal.loop-orders-init
@@ -70,3 +70,20 @@ returns-then-is_at_rest-clause-ran g c =
 pub returns-else-is_at_rest-clause-ran : goal.returns-else-is_at_rest-clause-ran
 returns-else-is_at_rest-clause-ran g c =
     (run_limited true c.args.debugger.now c.loop-orders.debugger c.loop-orders.debugger c.loop-orders.orders c.args.limit c.loop-orders.invariant.run (omega arith) (search rules) refl).ran
+
+pub returns-then-not-told-clause-stands : goal.returns-then-not-told-clause-stands
+returns-then-not-told-clause-stands g c =
+    broken_off _ c.args.debugger.now c.loop-orders.debugger _ c.loop-orders.orders _ c.tell_order-outcome.result.0 c.loop-orders.invariant.run c.tell_order-outcome.ensures.order
+    (untold_not_at_rest _ c.tell_order-outcome.result.0 _ c.tell_order-outcome.ensures.refused c.if-not-told.true) (omega arith) (omega arith)
+
+pub returns-in-Err-ClockEnd-clause-stands : goal.returns-in-Err-ClockEnd-clause-stands
+returns-in-Err-ClockEnd-clause-stands g c =
+    let is : c.tell_order-outcome.result.0 ≡ Err ClockEnd = search rules in
+    broken_off _ c.args.debugger.now c.loop-orders.debugger _ c.loop-orders.orders _ c.tell_order-outcome.result.0 c.loop-orders.invariant.run c.tell_order-outcome.ensures.order
+    (λ at. cc (is, at)) (omega arith) (omega arith)
+
+pub returns-in-Err-Memory-clause-stands : goal.returns-in-Err-Memory-clause-stands
+returns-in-Err-Memory-clause-stands g c =
+    let is : c.tell_order-outcome.result.0 ≡ Err Memory = search rules in
+    broken_off _ c.args.debugger.now c.loop-orders.debugger _ c.loop-orders.orders _ c.tell_order-outcome.result.0 c.loop-orders.invariant.run c.tell_order-outcome.ensures.order
+    (λ at. cc (is, at)) (omega arith) (omega arith)
