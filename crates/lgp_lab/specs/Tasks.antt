@@ -6,13 +6,13 @@ use Rattle.std.specs.List.{concat}
 use Rattle.std.specs.Io.KnownBytes.{Appends}
 use Rattle.std.specs.String.{string_bytes}
 use Rattle.lgp_task.specs.CommandLine.{command_line}
-use Rattle.lgp_task.specs.Task.{IsFaultOn, task_for}
+use Rattle.lgp_task.specs.Task.{AskForTask, IsFaultOn, task_for}
 use Rattle.lgp_task.specs.declared.task.Task.{Task}
 use Rattle.lgp_task.specs.declared.task.Task.TheVariants.{Stdin, Asm, Tape, Run, Script, Batch}
 use Rattle.lgp_task.specs.declared.task.TaskFault.{TaskFault}
 use Rattle.lgp_task.specs.declared.task.TaskFault.TheVariants as faults
 use Rattle.lgp_lab.specs.Files.{FileAnswer, asm_answer, heading, run_answer, tape_answer}
-use Rattle.lgp_stream.specs.Language.{StandsOf, StandsWritten}
+use Rattle.lgp_stream.specs.Language.{HasCause, StandsOf, StandsWritten}
 use Rattle.lgp_lab.specs.Script.{script_faults, script_language, script_replies}
 use Rattle.lgp_lab.specs.Standing.{opening_standing}
 use Rattle.lgp_stream.specs.declared.stream.StreamFault.{StreamFault}
@@ -91,14 +91,26 @@ work_for jobs.Answering = script_work []
 abbrev pub part_work : List ℕ → Work
 part_work name = script_work (heading name ∷ [])
 
+-- whether reads and writes have failed
+pub record Failures : Type 0 where
+  pub read : Bool
+  pub write : Bool
+
+-- of a file the reads are not seen from outside: any of them may have failed
+abbrev pub unseen_reads : Bool → Failures
+unseen_reads write = record { read = true; write = write }
+
 -- what became of the work on a file, of which nothing may be known: its text was written, or the
--- file was not opened and nothing was written, or a fault broke the work off
-abbrev pub HasDone : Work → Option (List ℕ) → Result ℕ FileFault → Option (List ℕ) → Option (List ℕ)
-    → Type 0
-HasDone work known (Ok count) w₀ w = IfSome known (λ text.
+-- file was not opened and nothing was written, or a fault broke the work off, and then a read or a
+-- write has failed, as the fault says, or memory was refused
+abbrev pub HasDone : Work → Option (List ℕ) → Failures → Result ℕ FileFault → Option (List ℕ)
+    → Option (List ℕ) → Type 0
+HasDone work known failures (Ok count) w₀ w = IfSome known (λ text.
     Appends w₀ w (work.answer text).text × (count ≡ (work.answer text).status))
-HasDone work known (Err NotOpened) w₀ w = w ≡ w₀
-HasDone work known (Err (Broken fault)) w₀ w = IfSome known (λ text. work.Stands text fault w₀ w)
+HasDone work known failures (Err NotOpened) w₀ w = w ≡ w₀
+HasDone work known failures (Err (Broken fault)) w₀ w =
+    HasCause fault failures.read failures.write
+    × IfSome known (λ text. work.Stands text fault w₀ w)
 
 -- a file is opened exactly as is known of it
 abbrev pub IsOpenedAs : Option Bool → Result ℕ FileFault → Type 0
@@ -106,53 +118,60 @@ IsOpenedAs known outcome = IfSome known (λ opens. was_opened outcome ≡ opens)
 
 -- work on a file with the status for it; of the file may be known whether it can be opened, and
 -- which bytes it has
-abbrev pub IsWorked : Work → Option Bool → Option (List ℕ) → ℕ → Option (List ℕ)
+abbrev pub IsWorked : Work → Option Bool → Option (List ℕ) → Failures → ℕ → Option (List ℕ)
     → Option (List ℕ) → Type 0
-IsWorked work opens known status w₀ w =
-    (outcome : Result ℕ FileFault) × IsOpenedAs opens outcome × HasDone work known outcome w₀ w
-    × (status ≡ status_for outcome)
+IsWorked work opens known failures status w₀ w =
+    (outcome : Result ℕ FileFault) × IsOpenedAs opens outcome
+    × HasDone work known failures outcome w₀ w × (status ≡ status_for outcome)
 
 -- the scripts of a batch, one after another: each is answered behind the line that names it; behind
 -- a status below 2 the next one follows, and 2 or 3 ends the batch. The status is the greatest, of
 -- `worst` before these scripts and of theirs
-unfoldable pub IsBatch : (List ℕ → Option Bool) → (List ℕ → Option (List ℕ)) → ℕ → List (List ℕ)
-    → ℕ → Option (List ℕ) → Option (List ℕ) → Type 0
-IsBatch opens contents worst [] status w₀ w = (status ≡ worst) × (w ≡ w₀)
-IsBatch opens contents worst (name ∷ names) status w₀ w =
+unfoldable pub IsBatch : (List ℕ → Option Bool) → (List ℕ → Option (List ℕ)) → Failures → ℕ
+    → List (List ℕ) → ℕ → Option (List ℕ) → Option (List ℕ) → Type 0
+IsBatch opens contents failures worst [] status w₀ w = (status ≡ worst) × (w ≡ w₀)
+IsBatch opens contents failures worst (name ∷ names) status w₀ w =
     (now : ℕ) × (w₁ : Option (List ℕ))
-    × IsWorked (part_work name) (opens name) (contents name) now w₀ w₁
-    × (((now < 2) × IsBatch opens contents (max worst now) names status w₁ w)
+    × IsWorked (part_work name) (opens name) (contents name) failures now w₀ w₁
+    × (((now < 2) × IsBatch opens contents failures (max worst now) names status w₁ w)
     ⊎ ((2 ≤ now) × (status ≡ max worst now) × (w ≡ w₁)))
 
 -- what is written for a task, and the status of the program
 abbrev pub IsPerformed : {A : Type 0} → (List ℕ → Option Bool) → (List ℕ → Option (List ℕ))
-    → Task A → Option (List ℕ) → ℕ → Option (List ℕ) → Option (List ℕ) → Type 0
-IsPerformed opens contents Stdin input = IsWorked (script_work []) (Some true) input
-IsPerformed opens contents (Asm name) input =
-    IsWorked (source_work asm_answer) (opens name) (contents name)
-IsPerformed opens contents (Tape name) input =
-    IsWorked (source_work tape_answer) (opens name) (contents name)
-IsPerformed opens contents (Run name limit) input =
+    → Task A → Option (List ℕ) → Failures → ℕ → Option (List ℕ) → Option (List ℕ) → Type 0
+IsPerformed opens contents Stdin input failures =
+    IsWorked (script_work []) (Some true) input failures
+IsPerformed opens contents (Asm name) input failures =
+    IsWorked (source_work asm_answer) (opens name) (contents name) (unseen_reads failures.write)
+IsPerformed opens contents (Tape name) input failures =
+    IsWorked (source_work tape_answer) (opens name) (contents name) (unseen_reads failures.write)
+IsPerformed opens contents (Run name limit) input failures =
     IsWorked (source_work (run_answer limit)) (opens name) (contents name)
-IsPerformed opens contents (Script name) input =
-    IsWorked (script_work []) (opens name) (contents name)
-IsPerformed opens contents (Batch names) input = IsBatch opens contents 0 names
+    (unseen_reads failures.write)
+IsPerformed opens contents (Script name) input failures =
+    IsWorked (script_work []) (opens name) (contents name) (unseen_reads failures.write)
+IsPerformed opens contents (Batch names) input failures =
+    IsBatch opens contents (unseen_reads failures.write) 0 names
 
--- a text told: whole, with the status that goes with it; or in part, with that of a write that
--- failed
-abbrev pub IsTold : ℕ → List ℕ → ℕ → Option (List ℕ) → Option (List ℕ) → Type 0
-IsTold wanted text status w₀ w =
+-- a text told: whole, with the status that goes with it; or in part, since a write has failed, with
+-- the status of that
+abbrev pub IsTold : ℕ → List ℕ → Bool → ℕ → Option (List ℕ) → Option (List ℕ) → Type 0
+IsTold wanted text failed status w₀ w =
     ((status ≡ wanted) × Appends w₀ w text)
-    ⊎ ((status ≡ failed_status) × ((fault : StreamFault) × StandsOf text fault w₀ w))
+    ⊎ ((status ≡ failed_status) × (failed ≡ true)
+    × ((fault : StreamFault) × StandsOf text fault w₀ w))
 
 -- where the words hold no task: help goes to the output, with status 0; how they are mistaken goes
--- to the messages, with status 64; and nothing goes to the other one
-abbrev pub IsRefused : {A : Type 0} → TaskFault A → ℕ → Option (List ℕ) → Option (List ℕ)
-    → Option (List ℕ) → Option (List ℕ) → Type 0
-IsRefused (faults.Usage text) status w₀ w m₀ m =
-    IsTold usage_status (string_bytes text) status m₀ m × (w ≡ w₀)
-IsRefused (faults.Help text) status w₀ w m₀ m = IsTold 0 (string_bytes text) status w₀ w × (m ≡ m₀)
-IsRefused faults.Memory status w₀ w m₀ m = (status ≡ memory_status) × ((w ≡ w₀) × (m ≡ m₀))
+-- to the messages, with status 64; and nothing goes to the other one. Of each is said whether a
+-- write to it has failed
+abbrev pub IsRefused : {A : Type 0} → TaskFault A → Bool → Bool → ℕ → Option (List ℕ)
+    → Option (List ℕ) → Option (List ℕ) → Option (List ℕ) → Type 0
+IsRefused (faults.Usage text) w_failed m_failed status w₀ w m₀ m =
+    IsTold usage_status (string_bytes text) m_failed status m₀ m × (w ≡ w₀)
+IsRefused (faults.Help text) w_failed m_failed status w₀ w m₀ m =
+    IsTold 0 (string_bytes text) w_failed status w₀ w × (m ≡ m₀)
+IsRefused faults.Memory w_failed m_failed status w₀ w m₀ m =
+    (status ≡ memory_status) × ((w ≡ w₀) × (m ≡ m₀))
 
 -- what is told of words on the command line that cannot be read as text
 abbrev pub unread_text : List ℕ
@@ -160,17 +179,19 @@ unread_text = codes "error: the words of the command line are not UTF-8 text\n"
 
 -- what is told of words on the command line that cannot be read at all, by why: nothing for want of
 -- memory
-abbrev pub IsUnread : WordFault → ℕ → Option (List ℕ) → Option (List ℕ) → Option (List ℕ)
+abbrev pub IsUnread : WordFault → Bool → ℕ → Option (List ℕ) → Option (List ℕ) → Option (List ℕ)
     → Option (List ℕ) → Type 0
-IsUnread words.NotText status w₀ w m₀ m = IsTold usage_status unread_text status m₀ m × (w ≡ w₀)
-IsUnread words.Memory status w₀ w m₀ m = (status ≡ memory_status) × ((w ≡ w₀) × (m ≡ m₀))
+IsUnread words.NotText m_failed status w₀ w m₀ m =
+    IsTold usage_status unread_text m_failed status m₀ m × (w ≡ w₀)
+IsUnread words.Memory m_failed status w₀ w m₀ m =
+    (status ≡ memory_status) × ((w ≡ w₀) × (m ≡ m₀))
 
--- what the program does for the words of the command line: the task that they hold, without a
--- message; or they are refused
+-- what the program does for the words of the command line: where the command line takes them, the
+-- task that they hold, without a message; or they are refused
 abbrev pub IsObeyed : (A : Type 0) → (List ℕ → Option Bool) → (List ℕ → Option (List ℕ))
-    → List (List ℕ) → Option (List ℕ) → ℕ → Option (List ℕ) → Option (List ℕ) → Option (List ℕ)
-    → Option (List ℕ) → Type 0
-IsObeyed A opens contents typed input status w₀ w m₀ m =
-    (IsPerformed {A = A} opens contents (task_for typed) input status w₀ w × (m ≡ m₀))
+    → List (List ℕ) → Option (List ℕ) → Failures → Bool → ℕ → Option (List ℕ) → Option (List ℕ)
+    → Option (List ℕ) → Option (List ℕ) → Type 0
+IsObeyed A opens contents typed input failures m_failed status w₀ w m₀ m =
+    (AskForTask typed × IsPerformed {A = A} opens contents (task_for typed) input failures status w₀ w × (m ≡ m₀))
     ⊎ ((fault : TaskFault A) × IsFaultOn command_line typed fault
-    × IsRefused fault status w₀ w m₀ m)
+    × IsRefused fault failures.write m_failed status w₀ w m₀ m)

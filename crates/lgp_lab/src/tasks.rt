@@ -4,7 +4,7 @@ ghost use Rattle.std.specs.Prelude.{◌≡◌, [], List, Option, Some, ℕ, Bool
 ghost use Rattle.std.specs.String.{string_bytes};
 ghost use Rattle.std.specs.Io.KnownBytes.{Appends};
 ghost use Rattle.lgp_stream.specs.Language.{HasCause};
-ghost use Rattle.lgp_lab.specs.Tasks.{HasDone, IsBatch, IsObeyed, IsOpenedAs, IsPerformed, IsRefused, IsTold, IsUnread, IsWorked, part_work, read_limit, script_work, status_for, unread_text, usage_status, work_for};
+ghost use Rattle.lgp_lab.specs.Tasks.{HasDone, IsBatch, IsObeyed, IsOpenedAs, IsPerformed, IsRefused, IsTold, IsUnread, IsWorked, part_work, read_limit, script_work, status_for, unread_text, unseen_reads, usage_status, work_for};
 
 use crate::files::{asm_file, run_file, tape_file};
 use crate::script::{answer_part, run_script};
@@ -127,7 +127,8 @@ pub fn work_on_file<A: Allocator + Copy, F: Folder, W: Sink>(
 ) -> Result<u64, FileFault>
     requires writer { W.failed writer.old ≡ false }
     ensures opened { IsOpenedAs (F.opens folder.now name.now) result }
-    ensures done { HasDone (work_for job) (F.contents folder.now name.now) result
+    ensures done { HasDone (work_for job) (F.contents folder.now name.now)
+        (unseen_reads (W.failed writer.new)) result
         (W.contents writer.old) (W.contents writer.new) }
 {
     let Ok(mut reader) = folder.open(name) else {
@@ -147,7 +148,8 @@ fn part<A: Allocator + Copy, F: Folder, W: Sink>(
     writer: &mut W,
 ) -> Result<u64, FileFault>
     ensures opened { IsOpenedAs (F.opens folder.now name.now) result }
-    ensures done { HasDone (part_work name.now) (F.contents folder.now name.now) result
+    ensures done { HasDone (part_work name.now) (F.contents folder.now name.now)
+        (unseen_reads (W.failed writer.new)) result
         (W.contents writer.old) (W.contents writer.new) }
 {
     let Ok(mut reader) = folder.open(name) else {
@@ -168,7 +170,8 @@ pub fn run_batch<A: Allocator + Copy, F: Folder, W: Sink>(
     writer: &mut W,
 ) -> u8
     requires writer { W.failed writer.old ≡ false }
-    ensures { IsBatch (F.opens folder.now) (F.contents folder.now) 0 names.now result
+    ensures { IsBatch (F.opens folder.now) (F.contents folder.now)
+        (unseen_reads (W.failed writer.new)) 0 names.now result
         (W.contents writer.old) (W.contents writer.new) }
 {
     let mut worst = 0;
@@ -192,7 +195,8 @@ fn status_on_file<A: Allocator + Copy, F: Folder, W: Sink>(
 ) -> u8
     requires writer { W.failed writer.old ≡ false }
     ensures { IsWorked (work_for job) (F.opens folder.now name.now)
-        (F.contents folder.now name.now) result (W.contents writer.old) (W.contents writer.new) }
+        (F.contents folder.now name.now) (unseen_reads (W.failed writer.new)) result
+        (W.contents writer.old) (W.contents writer.new) }
 {
     status_of(work_on_file(alloc, job, folder, name, writer))
 }
@@ -206,7 +210,8 @@ fn work_on_input<A: Allocator + Copy, R: Feed, W: Sink>(
     requires input { R.failed input.old ≡ false }
     requires writer { W.failed writer.old ≡ false }
     ensures opened { IsOpenedAs (Some true) result }
-    ensures done { HasDone (script_work []) (R.remaining input.old) result
+    ensures done { HasDone (script_work []) (R.remaining input.old)
+        (record { read = R.failed input.new; write = W.failed writer.new }) result
         (W.contents writer.old) (W.contents writer.new) }
 {
     match work(alloc, Job::Answering, input, writer) {
@@ -223,7 +228,8 @@ fn status_on_input<A: Allocator + Copy, R: Feed, W: Sink>(
 ) -> u8
     requires input { R.failed input.old ≡ false }
     requires writer { W.failed writer.old ≡ false }
-    ensures { IsWorked (script_work []) (Some true) (R.remaining input.old) result
+    ensures { IsWorked (script_work []) (Some true) (R.remaining input.old)
+        (record { read = R.failed input.new; write = W.failed writer.new }) result
         (W.contents writer.old) (W.contents writer.new) }
 {
     status_of(work_on_input(alloc, input, writer))
@@ -241,7 +247,9 @@ pub fn perform<A: Allocator + Copy, F: Folder, R: Feed, W: Sink>(
     requires input { R.failed input.old ≡ false }
     requires output { W.failed output.old ≡ false }
     ensures { IsPerformed (F.opens folder.now) (F.contents folder.now) task.now
-        (R.remaining input.old) result (W.contents output.old) (W.contents output.new) }
+        (R.remaining input.old)
+        (record { read = R.failed input.new; write = W.failed output.new }) result
+        (W.contents output.old) (W.contents output.new) }
 {
     match task {
         Task::Stdin => status_on_input(alloc, input, output),
@@ -257,7 +265,8 @@ pub fn perform<A: Allocator + Copy, F: Folder, R: Feed, W: Sink>(
 
 /// Writes a text; answers the status that goes with it, or that of a write that failed.
 fn tell<W: Sink>(writer: &mut W, text: &[u8], status: u8) -> u8
-    ensures { IsTold status text.now result (W.contents writer.old) (W.contents writer.new) }
+    ensures { IsTold status text.now (W.failed writer.new) result
+        (W.contents writer.old) (W.contents writer.new) }
 {
     match write_whole(writer, text) {
         Ok(()) => status,
@@ -274,7 +283,8 @@ pub fn refuse<A: Allocator, W: Sink, M: Sink>(
 ) -> u8
     requires output { W.failed output.old ≡ false }
     requires messages { M.failed messages.old ≡ false }
-    ensures { IsRefused fault.now result (W.contents output.old) (W.contents output.new)
+    ensures { IsRefused fault.now (W.failed output.new) (M.failed messages.new) result
+        (W.contents output.old) (W.contents output.new)
         (M.contents messages.old) (M.contents messages.new) }
 {
     match fault {
@@ -287,7 +297,7 @@ pub fn refuse<A: Allocator, W: Sink, M: Sink>(
 /// Tells on the messages that the words of the command line cannot be read as text; answers the program's status.
 pub fn refuse_unread<M: Sink>(messages: &mut M) -> u8
     requires messages { M.failed messages.old ≡ false }
-    ensures { IsTold usage_status unread_text result
+    ensures { IsTold usage_status unread_text (M.failed messages.new) result
         (M.contents messages.old) (M.contents messages.new) }
 {
     tell(
@@ -301,7 +311,7 @@ pub fn refuse_unread<M: Sink>(messages: &mut M) -> u8
 /// answers the program's status.
 pub fn refuse_words<M: Sink>(fault: WordFault, messages: &mut M) -> u8
     requires messages { M.failed messages.old ≡ false }
-    ensures { (kept : Option (List ℕ)) → IsUnread fault result kept kept
+    ensures { (kept : Option (List ℕ)) → IsUnread fault (M.failed messages.new) result kept kept
         (M.contents messages.old) (M.contents messages.new) }
 {
     match fault {
@@ -328,10 +338,13 @@ pub fn obey<A: Allocator + Copy, F: Folder, R: Feed, W: Sink, M: Sink>(
     requires messages { M.failed messages.old ≡ false }
     ensures obeyed { IfOk words.entry (λ words.
         IsObeyed A (F.opens folder.now) (F.contents folder.now) (map string_bytes words.now)
-        (R.remaining input.old) result (W.contents output.old) (W.contents output.new)
+        (R.remaining input.old)
+        (record { read = R.failed input.new; write = W.failed output.new })
+        (M.failed messages.new) result (W.contents output.old) (W.contents output.new)
         (M.contents messages.old) (M.contents messages.new)) }
     ensures unread { IfErr words.entry (λ fault.
-        IsUnread fault result (W.contents output.old) (W.contents output.new)
+        IsUnread fault (M.failed messages.new) result
+        (W.contents output.old) (W.contents output.new)
         (M.contents messages.old) (M.contents messages.new)) }
 {
     let words = match words {

@@ -102,6 +102,7 @@ pub fn write_whole<W: Sink>(writer: &mut W, text: &[u8]) -> Result<(), StreamFau
     ensures stopped { IfErr result (λ fault.
         HasStopped fault (W.contents writer.old) (W.contents writer.new) (text.now ∷ [])) }
     ensures cause { IfErr result (λ fault. HasCause fault false (W.failed writer.new)) }
+    ensures failed { IsErr result → W.failed writer.new ≡ true }
 {
     match send(writer, text) {
         Ok(()) => Ok(()),

@@ -65,6 +65,10 @@ IsRefusalOf kinds (Usage text) = (kind : ErrorKind) × IsAmong kind kinds × (is
 IsRefusalOf kinds (Help text) = (kind : ErrorKind) × IsAmong kind kinds × (is_request kind ≡ true)
 IsRefusalOf kinds Memory = Unit {0}
 
+-- words ask for a task where the command line finds no fault in them
+abbrev pub AskForTask : List Text → Type 0
+AskForTask typed = fault_of command_line typed ≡ []
+
 -- the task that the words of a command line hold, where it takes them
 abbrev pub task_for : {A : Type 0} → List Text → Task A
 task_for typed = task_in (subcommand_of command_line typed)

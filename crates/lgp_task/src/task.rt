@@ -1,11 +1,11 @@
 //! What the words of the command line ask for.
 
-ghost use Rattle.std.specs.Prelude.{◌≡◌, ◌∷◌, [], IfErr, IfOk, true, map};
+ghost use Rattle.std.specs.Prelude.{◌≡◌, ◌∷◌, [], IfErr, IfOk, OnOk, true, map};
 ghost use Rattle.std.specs.String.{string_bytes};
 ghost use Rattle.clap.specs.Words.{app_of, fault_of, found_of, kind_of, rows_of, subcommand_of, subcommand_rows_of, takes};
 ghost use Rattle.clap.specs.declared.error.kind.ErrorKind.TheVariants.{OutOfMemory};
 ghost use Rattle.lgp_task.specs.CommandLine.{command_line};
-ghost use Rattle.lgp_task.specs.Task.{IsRefusalOf, file_in, files_in, limit_in, task_in, task_named};
+ghost use Rattle.lgp_task.specs.Task.{AskForTask, IsRefusalOf, file_in, files_in, limit_in, task_in, task_named};
 
 use crate::command_line::{FILE, LIMIT, command_line};
 use crate::files::{FileName, FileNames};
@@ -149,6 +149,7 @@ pub fn task_of<A: Allocator + Copy>(
 ) -> Result<Task<A>, TaskFault<A>>
     ensures task { IfOk result (λ task.
         task ≡ task_in (subcommand_of command_line (map string_bytes words.now))) }
+    ensures asked { OnOk result (AskForTask (map string_bytes words.now)) }
     ensures memory { takes command_line (map string_bytes words.now) ≡ true
         → IfErr result (λ fault. fault ≡ TaskFault.Memory) }
     ensures cause { IfErr result (λ fault.

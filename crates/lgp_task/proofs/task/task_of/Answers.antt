@@ -1,5 +1,5 @@
 -- The task is that of the matches; a refusal is one for memory or has its fault among those of the words.
-use Rattle.std.proofs.Common.{◌≡◌, ◌∙◌, ap, subst, sym, inl, inr, true}
+use Rattle.std.proofs.Common.{◌≡◌, ◌∙◌, [], ap, subst, sym, inl, inr, true}
 use Rattle.std.proofs.lemmas.Result.{IfErr-weaker, IfOk-weaker}
 use Rattle.std.specs.Prelude.{List, map}
 use Rattle.std.specs.String.{string_bytes}
@@ -15,6 +15,12 @@ returns-in-Ok-clause-task g c =
     let words : List Text = map string_bytes c.args.words.now in
     let held = c.in-Ok.ensures.matches (ap is_simple c.in_ok-line.ensures ∙ line-simple) in
     IfOk-weaker c.matched_task.result _ _ (λ task e. e ∙ ap task_in (held.1 ∙ ap (λ (a : App). subcommand_of a words) c.in_ok-line.ensures)) c.matched_task.ensures.task
+
+pub returns-in-Ok-clause-asked : goal.returns-in-Ok-clause-asked
+returns-in-Ok-clause-asked g c =
+    let words : List Text = map string_bytes c.args.words.now in
+    let Faultless : App → Type 0 = λ line. fault_of line words ≡ [] in
+    IfOk-weaker c.matched_task.result _ _ (λ _ _. subst Faultless c.in_ok-line.ensures (c.in-Ok.ensures.kinds (ap is_simple_and_free c.in_ok-line.ensures ∙ line-free))) c.matched_task.ensures.task
 
 pub returns-in-Ok-clause-memory : goal.returns-in-Ok-clause-memory
 returns-in-Ok-clause-memory g c = λ _. c.matched_task.ensures.memory
