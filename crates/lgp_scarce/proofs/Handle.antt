@@ -20,9 +20,9 @@ self B = RefOf (0 ∷ []) tt (plain (λ _. scarce.the_row (param 0 B.row))) (λ 
 abbrev pub inner_at : Al → ℕ × ℕ → ℕ × ℕ
 inner_at B at = (at.0, at.1 + up (align (α B)) 0)
 
--- where the countdown lies, behind it
-abbrev pub countdown_at : Al → ℕ × ℕ → ℕ × ℕ
-countdown_at B at = (at.0, at.1 + up 8 (up (align (α B)) 0 + size (α B)))
+-- where the counts lie, after it
+abbrev pub counts_at : Al → ℕ × ℕ → ℕ × ℕ
+counts_at B at = (at.0, at.1 + up 8 (up (align (α B)) 0 + size (α B)))
 
 -- the size and the alignment that a call names are those of the type that its block is for
 abbrev pub IsAsked : Ty → ℕ → ℕ → Type 0

@@ -5,7 +5,7 @@
 //! memory is met, however much it takes there.
 #![tactic(auto)]
 
-mod countdown;
+mod counts;
 mod scarce;
 
 pub use scarce::Scarce;

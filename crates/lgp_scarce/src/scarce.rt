@@ -1,6 +1,6 @@
 //! The allocator.
 
-use crate::countdown::{Countdown, refuses};
+use crate::counts::{Counts, refuses, takes_back};
 use std::alloc::{AllocError, Allocator};
 use std::cell::Cell;
 
@@ -12,7 +12,7 @@ use std::cell::Cell;
 #[derive(Drop)]
 pub struct Scarce<B: Allocator> {
     inner: B,
-    countdown: Cell<Countdown>,
+    counts: Cell<Counts>,
 }
 
 impl<B: Allocator> Scarce<B> {
@@ -20,19 +20,25 @@ impl<B: Allocator> Scarce<B> {
     pub fn new(inner: B) -> Scarce<B> {
         Scarce {
             inner,
-            countdown: Cell::new(Countdown::of(0)),
+            counts: Cell::new(Counts::none()),
         }
     }
 
     /// Refuses the nth growth from now on, once, and no other; 0 refuses none. It stands in place
     /// of what was asked for earlier.
     pub fn refuse(&self, nth: u64) {
-        self.countdown.set(Countdown::of(nth));
+        self.counts.set(self.counts.get().refusing(nth));
     }
 
     /// Whether a growth was refused since `refuse` was called last.
     pub fn was_refused(&self) -> bool {
-        self.countdown.get().has_refused()
+        self.counts.get().has_refused()
+    }
+
+    /// How many blocks were handed out and have not come back. A call that is refused and has lost none leaves as many out as
+    /// there were, and so does one whose result is dropped. A growth that the other allocator refuses is counted as a block.
+    pub fn blocks_out(&self) -> u64 {
+        self.counts.get().out()
     }
 }
 
@@ -40,13 +46,14 @@ unsafe impl<B: Allocator> Allocator for Scarce<B> {
     ghost dealloc_token = { λ scarce ty ptr. B.dealloc_token scarce.inner ty ptr };
 
     fn allocate(&self, size: usize, align: usize) -> Result<*mut u8, AllocError> {
-        if refuses(&self.countdown) {
+        if refuses(&self.counts) {
             return Err(AllocError);
         }
         self.inner.allocate(size, align)
     }
 
     unsafe fn deallocate(&self, ptr: *mut u8, size: usize, align: usize) {
+        takes_back(&self.counts);
         self.inner.deallocate(ptr, size, align);
     }
 }

@@ -3,6 +3,7 @@
 use crate::Scarce;
 use linked_list_allocator::LocalHeap;
 use std::alloc::Allocator;
+use std::mem::forget;
 use std::test::Fail;
 
 /// Which of four growths are refused, and behind which of them the allocator says that one was.
@@ -128,5 +129,29 @@ fn a_smaller_block_is_a_growth_too(rt: HostRuntime) -> Result<(), Fail> {
     let heap = LocalHeap::new(rt.alloc(), 4096)?;
     let scarce = Scarce::new(&heap);
     assert_eq!(rt; (capacities(&scarce)?, heap.used()), ([64, 1], 0));
+    Ok(())
+}
+
+/// How many blocks are out: at first, beside a vector, when it has grown, when another one was refused, when both are dropped, and
+/// when a third one is forgotten.
+fn blocks<B: Allocator>(scarce: &Scarce<B>) -> Result<[u64; 6], Fail> {
+    let first = scarce.blocks_out();
+    let mut numbers = Vec::with_capacity(scarce, 8)?;
+    let made = scarce.blocks_out();
+    numbers.extend_from_slice(&[7; 100])?;
+    let grown = scarce.blocks_out();
+    scarce.refuse(1);
+    let _refused = Vec::<u8, _>::with_capacity(scarce, 8);
+    let refused = scarce.blocks_out();
+    drop(numbers);
+    let dropped = scarce.blocks_out();
+    forget(Vec::<u8, _>::with_capacity(scarce, 8)?);
+    Ok([first, made, grown, refused, dropped, scarce.blocks_out()])
+}
+
+#[test]
+fn a_block_is_out_until_it_comes_back(rt: HostRuntime) -> Result<(), Fail> {
+    let scarce = Scarce::new(rt.alloc());
+    assert_eq!(rt; blocks(&scarce)?, [0, 1, 1, 1, 0, 1]);
     Ok(())
 }

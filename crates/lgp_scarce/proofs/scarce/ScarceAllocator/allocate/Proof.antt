@@ -30,12 +30,12 @@ use types.Part.{agg}
 use types.Run.{enter, lit, addr, stop, fld, no_more, and_then, first, branches, skips, exec, returns, returns_within}
 use Rattle.std.proofs.VecSteps.Shapes.{after}
 use Rattle.std.specs.Allocator.{block_if_ok}
-use Rattle.lgp_scarce.specs.contracts.countdown.refuses as counts
-use Rattle.lgp_scarce.proofs.countdown.refuses.Met.{met as counts_met}
+use Rattle.lgp_scarce.specs.contracts.counts.refuses as counts
+use Rattle.lgp_scarce.proofs.counts.refuses.Met.{met as counts_met}
 use Rattle.lgp_scarce.specs.contracts.scarce.ScarceAllocator.allocate as f
 use Rattle.lgp_scarce.proofs.scarce.ScarceAllocator.allocate.Statement.{statement}
 use Rattle.lgp_scarce.proofs.scarce.ScarceAllocator.allocate.Code as code
-use Rattle.lgp_scarce.proofs.Handle.{over, self, inner_at, countdown_at, IsAsked}
+use Rattle.lgp_scarce.proofs.Handle.{over, self, inner_at, counts_at, IsAsked}
 
 module _ (B : Al) where
   -- the body, at B
@@ -57,11 +57,11 @@ allocate_spec 𝓤 𝓛 𝓜 𝓡 wired row laws g d drops met _ =
     (f.Key.name (over B)) (here B) (code.unfolded 𝓤 𝓛.H 𝓜 𝓡 wired (row, tt) d drops)
     (λ κs. (shr_vals, (uint_vals w64, (uint_vals w64, tt)))) (λ κs. ((λ r vs s. s.0), (uint_Tells w64, (uint_Tells w64, tt)))) (λ κs qs bounds a ty are.
     let κ = κs.0 in let q = qs.0 in let bytes = a.1.0 in let alignment = a.1.1.0 in let inner = a.0.now.inner in
-    let at = inner_at B a.0.ref_ptr in let count_at = countdown_at B a.0.ref_ptr in
+    let at = inner_at B a.0.ref_ptr in let count_at = counts_at B a.0.ref_ptr in
     let y : W.Ghost = ((κs, qs, bounds, a, (shr_vals a.0, (uint_vals w64 bytes, (uint_vals w64 alignment, tt)))), ty) in
     -- the call of `refuses`
     let Counts = triple_of 𝓛 counts.signature (counts.spec 𝓛 𝓜.mem 𝓡.returns) in
-    let x : Counts.Ghost = (((κ, tt), (q, tt), tt, (record { ref_ptr = count_at; now = a.0.now.countdown }, tt), (vptr count_at.0 count_at.1 ∷ [], tt)), tt) in
+    let x : Counts.Ghost = (((κ, tt), (q, tt), tt, (record { ref_ptr = count_at; now = a.0.now.counts }, tt), (vptr count_at.0 count_at.1 ∷ [], tt)), tt) in
     -- the call of the inner `allocate`
     let Asks = Takes B 𝓛 𝓜.mem 𝓡.returns in
     let z : Asks.Ghost = at_takes B 𝓛 𝓜.mem 𝓡.returns κ q at inner bytes alignment ty in
@@ -78,11 +78,11 @@ allocate_spec 𝓤 𝓛 𝓜 𝓡 wired row laws g d drops met _ =
     split ! $ split ! $ move ! (2 ∷ []) $ fsplit ! $ fsplit ! $ move ! (1 ∷ []) $ unhide ! $ fsplit ! $
     fsplit ! $ use1 𝓛 (‵ (seen B κ at inner)) (id⊢ 𝓤 _) $ move ! (1 ∷ []) $ fsplit ! $ keep ! (0 ∷ 6 ∷ 2 ∷ 7 ∷ []) $
     enter ! _ _ _ _ _ $ alloc_all ! (λ l. pass_all ! refl ((tt, tt), ((tt, record { fits = are.1.0.1 }), ((tt, record { fits = are.1.1.0.1 }), tt))) $
-    -- [the countdown; the token of κ; the inner allocator; the other tokens], and the countdown is handed to `refuses`
+    -- [the counts; the token of κ; the inner allocator; the other tokens], and the counts are handed to `refuses`
     sets ! (addr ! (through ! refl (fld ! refl (stop !)))) refl (tt, tt) $
     feq_i ! _ (vptr count_at.0 count_at.1 ∷ []) _ refl $ fjoin ! $ nothing ! $ move ! (1 ∷ 0 ∷ []) $ fjoin ! $
     nothing ! $ move ! (2 ∷ 0 ∷ []) $ join ! $ join ! $ nothing ! $ move ! (1 ∷ 0 ∷ []) $ use2 𝓛 (raw (Counts.pre x)) (id⊢ 𝓤 _) $
-    calls_at ! (framed 𝓤 𝓛.H 𝓜 𝓣) Counts (counts_met 𝓤 𝓛 𝓜 𝓡 (code.calls-lgp_scarce::countdown::refuses 𝓡.env wired)) x
+    calls_at ! (framed 𝓤 𝓛.H 𝓜 𝓣) Counts (counts_met 𝓤 𝓛 𝓜 𝓡 (code.calls-lgp_scarce::counts::refuses 𝓡.env wired)) x
     (and_then ! (get ! refl) (no_more !)) (λ v.
     use1 𝓛 (later (some (λ (refused : Bool). ((‵ (flft κ q) ⊛ ‵ ftrue) ⊛ ‵ (bool.own_val refused (v ∷ []))) ⊛
     some (λ (last : Unit {0} × Unit {0}). ‵ (fsep ftrue ftrue) ⊛ ‵ ftrue)))) (id⊢ 𝓤 _) $ await ! tt $ pick ! (λ refused.

@@ -1,5 +1,5 @@
--- `deallocate` gives the block back to the inner allocator. At null there is no block, so that case does not occur.
-use Rattle.std.proofs.Common.{◌≡◌, ℕ, List, [], ◌∷◌, refl, w64}
+-- `deallocate` counts the block, and gives it back to the inner allocator. At null there is no block, so that case does not occur.
+use Rattle.std.proofs.Common.{◌≡◌, ℕ, List, [], ◌∷◌, refl, ap, w64}
 use Rattle.std.proofs.raw_atomic.Walks.{proved}
 use Rattle.std.proofs.alloc.Calls.{Al, seen, token, Gives, at_gives, Gives-goes, Gives-Gives}
 use base.Logic.{id⊢, fst∗, never}
@@ -7,7 +7,7 @@ use base.Fml.{ftrue, flft, fsep}
 use contract.BorrowLft.{◌⊑◌, ⊑_trans}
 use contract.Monad.{fact}
 use contract.Running.{tables}
-use denote.Builtin.{usize}
+use denote.Builtin.{usize, unit}
 use denote.Exit.{yes}
 use denote.Opens.{unhide}
 use denote.Plain.{uint_vals, uint_Tells}
@@ -15,8 +15,9 @@ use denote.RattleType.{owns}
 use denote.RawPtr.{Ptr, RawPtr, block_ptr, null_ptr, room_for, ptr_val, rawptr_vals, rawptr_Tells, in_a_block}
 use denote.Ref.{shr_vals}
 use denote.Signature.{plain, types_at}
-use denote.Steps.{heard, nothing}
+use denote.Steps.{heard, nothing, only}
 use denote.Triple.Call.{calls_at}
+use denote.Triple.Spec.{triple_of}
 use denote.Triple.Table.{framed}
 use denote.Triple.Walked.{Stays, stay_dropped, walk_of, ends_at, Goes-dropped}
 use mir.MapTy.{inst_fn}
@@ -25,12 +26,14 @@ use mir.Val.{Val, vunit, vint, vptr}
 use prog.Wp.{WpFn}
 use types.Logic.{sem}
 use types.ByLocal.{alloc_all, pass_all, free_all, look_at, get, through, sets, lands_as}
-use types.Kit.{‵, raw, ◌⊛◌, later, given, prop, ◌$◌, ◌∵◌, !, qed, done, move, keep, use1, split, split3, join, fsplit, fjoin, feq_i, learn, await, regoal, group, suffices}
+use types.Kit.{‵, raw, ◌⊛◌, some, later, given, prop, ◌$◌, ◌∵◌, !, qed, done, move, keep, use1, use2, split, split3, join, fsplit, fjoin, feq_i, feq_l, pick, drop, learn, await, regoal, group, suffices}
 use types.Run.{enter, of_opd, unit_lit, addr, stop, fld, no_more, and_then, returns}
+use Rattle.lgp_scarce.specs.contracts.counts.takes_back as counts
+use Rattle.lgp_scarce.proofs.counts.takes_back.Met.{met as counts_met}
 use Rattle.lgp_scarce.specs.contracts.scarce.ScarceAllocator.deallocate as f
 use Rattle.lgp_scarce.proofs.scarce.ScarceAllocator.deallocate.Statement.{statement}
 use Rattle.lgp_scarce.proofs.scarce.ScarceAllocator.deallocate.Code as code
-use Rattle.lgp_scarce.proofs.Handle.{over, self, inner_at, IsAsked}
+use Rattle.lgp_scarce.proofs.Handle.{over, self, inner_at, counts_at, IsAsked}
 
 module _ (B : Al) where
   -- the body, at B
@@ -54,10 +57,13 @@ deallocate_spec 𝓤 𝓛 𝓜 𝓡 wired row laws g d drops met _ =
     (λ κs. (shr_vals, (rawptr_vals, (uint_vals w64, (uint_vals w64, tt)))))
     (λ κs. ((λ r vs s. s.0), (rawptr_Tells, (uint_Tells w64, (uint_Tells w64, tt))))) (λ κs qs bounds a ty are.
     let κ = κs.0 in let q = qs.0 in let bytes = a.1.1.0 in let alignment = a.1.1.1.0 in let inner = a.0.now.inner in
-    let at = inner_at B a.0.ref_ptr in
+    let at = inner_at B a.0.ref_ptr in let count_at = counts_at B a.0.ref_ptr in
     -- what is passed, and what the walk is about, for each pointer
     let passed : Ptr → List Val = λ ptr. vptr a.0.ref_ptr.0 a.0.ref_ptr.1 ∷ ptr_val ptr ∷ vint w64 bytes ∷ vint w64 alignment ∷ [] in
     let y : Ptr → W.Ghost = λ ptr. ((κs, qs, bounds, (a.0, (ptr, a.1.1)), (shr_vals a.0, (rawptr_vals ptr, (uint_vals w64 bytes, (uint_vals w64 alignment, tt))))), ty) in
+    -- the call of `takes_back`
+    let Counts = triple_of 𝓛 counts.signature (counts.spec 𝓛 𝓜.mem 𝓡.returns) in
+    let x : Counts.Ghost = (((κ, tt), (q, tt), tt, (record { ref_ptr = count_at; now = a.0.now.counts }, tt), (vptr count_at.0 count_at.1 ∷ [], tt)), tt) in
     -- the call of the inner `deallocate`
     let Frees = Gives B 𝓛 𝓜.mem 𝓡.returns in
     let z : ℕ → ℕ → Frees.Ghost = λ b o. at_gives B 𝓛 𝓜.mem 𝓡.returns κ q at inner b o bytes alignment ty in
@@ -68,8 +74,18 @@ deallocate_spec 𝓤 𝓛 𝓜 𝓡 wired row laws g d drops met _ =
     in_a_block ! a.1.0 (λ ptr. fsep (room_for ty ptr) (token B inner ty ptr)) (fst∗ 𝓤 (never 𝓤) (sem 𝓛 (token B inner ty null_ptr))) (λ b o is_at.
     regoal ! (λ ptr. prop (WpFn 𝓤 𝓛.H 𝓣.C 𝓣.Λ (here B) (passed ptr) (W.post (y ptr)))) is_at refl $
     fsplit ! $ move ! (2 ∷ []) $ split ! $ split ! $ move ! (2 ∷ []) $ fsplit ! $ fsplit ! $ move ! (1 ∷ []) $ unhide ! $ fsplit ! $
-    fsplit ! $ use1 𝓛 (‵ (seen B κ at inner)) (id⊢ 𝓤 _) $ keep ! (7 ∷ 8 ∷ 0 ∷ 5 ∷ 6 ∷ []) $
+    fsplit ! $ use1 𝓛 (‵ (seen B κ at inner)) (id⊢ 𝓤 _) $ move ! (1 ∷ []) $ fsplit ! $ keep ! (0 ∷ 6 ∷ 8 ∷ 9 ∷ 2 ∷ 7 ∷ []) $
     enter ! _ _ _ _ _ $ alloc_all ! (λ l. pass_all ! refl ((tt, tt), ((tt, tt), ((tt, record { fits = are.1.1.0.1 }), ((tt, record { fits = are.1.1.1.0.1 }), tt)))) $
+    -- [the counts; the token of κ; the block's room; the right to free it; the inner allocator; the other tokens], and the counts are handed to `takes_back`
+    sets ! (addr ! (through ! refl (fld ! refl (stop !)))) refl (tt, tt) $
+    feq_i ! _ (vptr count_at.0 count_at.1 ∷ []) _ refl $ fjoin ! $ nothing ! $ move ! (1 ∷ 0 ∷ []) $ fjoin ! $
+    nothing ! $ move ! (2 ∷ 0 ∷ []) $ join ! $ join ! $ nothing ! $ move ! (1 ∷ 0 ∷ []) $ use2 𝓛 (raw (Counts.pre x)) (id⊢ 𝓤 _) $
+    calls_at ! (framed 𝓤 𝓛.H 𝓜 𝓣) Counts (counts_met 𝓤 𝓛 𝓜 𝓡 (code.calls-lgp_scarce::counts::takes_back 𝓡.env wired)) x
+    (and_then ! (get ! refl) (no_more !)) (λ u.
+    use1 𝓛 (later (some (λ (t : Unit {0}). ((‵ (flft κ q) ⊛ ‵ ftrue) ⊛ ‵ (unit.own_val t (u ∷ []))) ⊛
+    some (λ (last : Unit {0} × Unit {0}). ‵ (fsep ftrue ftrue) ⊛ ‵ ftrue)))) (id⊢ 𝓤 _) $ await ! tt $ pick ! (λ t.
+    split ! $ split ! $ move ! (1 ∷ []) $ feq_l ! (λ is_counted. lands_as ! (ap only is_counted) refl (tt, tt) $
+    split ! $ move ! (1 ∷ 2 ∷ []) $ drop ! $ drop ! $ move ! (1 ∷ 2 ∷ 3 ∷ []) $
     -- [the block's room; the right to free it; the inner allocator; the token of κ; the other tokens], of which the call takes four
     sets ! (addr ! (through ! refl (fld ! refl (stop !)))) refl (tt, tt) $
     group ! 4 $ use1 𝓛 (raw (Frees.pre (z b o))) (Gives-goes B 𝓛 𝓜.mem 𝓡.returns κ q at inner
@@ -82,4 +98,4 @@ deallocate_spec 𝓤 𝓛 𝓜 𝓡 wired row laws g d drops met _ =
     sets ! (of_opd ! (unit_lit !)) refl (tt, tt) $ returns ! (look_at ! 0 refl) $ free_all ! refl $
     suffices ! _ (ends_at 𝓛 (f.ended row g d drops) (stayed B) c (y (block_ptr b o)) vunit tt (tt, (tt, (tt, (tt, tt)))) (tt, (tt, (tt, (tt, tt))))) $
     nothing ! $ feq_i ! _ (vunit ∷ []) _ refl $ nothing ! $ nothing ! $ fjoin ! $ nothing ! $ fjoin ! $ nothing ! $ fjoin ! $ nothing ! $ fjoin ! $ join ! $
-    move ! (2 ∷ 3 ∷ []) $ join ! $ join ! $ done !)))))))
+    move ! (2 ∷ 3 ∷ []) $ join ! $ join ! $ done !))))))))))
