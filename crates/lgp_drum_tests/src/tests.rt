@@ -230,8 +230,8 @@ fn made<B: Allocator>(scarce: &Scarce<B>, nth: u64) -> (Option<u32>, bool) {
 fn a_drum_without_room_is_refused(rt: HostRuntime) -> Result<(), Fail> {
     let scarce = Scarce::new(rt.alloc());
     assert_eq!(rt;
-        [made(&scarce, 1), made(&scarce, 2)],
-        [(None, true), (Some(0), false)]
+        ([made(&scarce, 1), made(&scarce, 2)], scarce.blocks_out()),
+        ([(None, true), (Some(0), false)], 0)
     );
     Ok(())
 }
@@ -269,9 +269,10 @@ fn copied_twice<B: Allocator>(
 fn a_copy_without_room_is_refused(rt: HostRuntime) -> Result<(), Fail> {
     let scarce = Scarce::new(rt.alloc());
     let mut drum = Drum::new(&scarce)?;
+    let before = scarce.blocks_out();
     assert_eq!(rt;
-        copied_twice(&scarce, &mut drum),
-        [(None, true, Some(6)), (Some(6), false, Some(6))]
+        (copied_twice(&scarce, &mut drum), scarce.blocks_out()),
+        ([(None, true, Some(6)), (Some(6), false, Some(6))], before)
     );
     Ok(())
 }
