@@ -212,13 +212,16 @@ fn a_refused_copy_changes_nothing(rt: HostRuntime) {
     let mut reader = Reader::new(&scarce);
     let within = (true, 1, 1);
     assert_eq!(rt;
-        copied_twice(&scarce, &mut reader),
+        (copied_twice(&scarce, &mut reader), scarce.blocks_out()),
         (
-            true,
-            [
-                (None, true, within),
-                (Some((within, Some(10))), false, within)
-            ]
+            (
+                true,
+                [
+                    (None, true, within),
+                    (Some((within, Some(10))), false, within)
+                ]
+            ),
+            1
         )
     );
 }
@@ -270,6 +273,25 @@ fn a_tape_takes_anothers_place(rt: HostRuntime) {
         (mount(&mut reader, rt.alloc(), b"ab"), shown(&reader)),
         (true, (false, 0, 2))
     );
+}
+
+/// Puts a tape in, another one in its place, and sets a third one: whether each was taken, and how many blocks are out then.
+fn taken_in_turn<'s, B: Allocator>(
+    scarce: &'s Scarce<B>,
+    reader: &mut Reader<&'s Scarce<B>>,
+) -> [(bool, u64); 3] {
+    [
+        (mount(reader, scarce, b"12'"), scarce.blocks_out()),
+        (mount(reader, scarce, b"ab"), scarce.blocks_out()),
+        (set(reader, scarce, b"12'3", 3), scarce.blocks_out()),
+    ]
+}
+
+#[test]
+fn a_reader_has_the_memory_of_one_tape(rt: HostRuntime) {
+    let scarce = Scarce::new(rt.alloc());
+    let mut reader = Reader::new(&scarce);
+    assert_eq!(rt; taken_in_turn(&scarce, &mut reader), [(true, 1); 3]);
 }
 
 /// A tape of four codes of which three have passed, in a reader that is on; the code that passes then; and whether it has so
