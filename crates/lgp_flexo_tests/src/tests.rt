@@ -211,6 +211,19 @@ fn bad_texts_are_refused(rt: HostRuntime) {
     }
 }
 
+/// Whether a tape of so many codes without a sign is written by groups, and its text is read as that tape.
+fn is_written_and_read(global: Global, count: usize) -> Option<bool> {
+    let codes = vec![in global; Code::new(16)?; count].ok()?;
+    let text = write_tape_text(global, codes.as_slice()).ok()?;
+    let read = read_tape_text(global, text.as_slice()).ok()?;
+    Some(text.len() == count.saturating_mul(4) && read.as_slice() == codes.as_slice())
+}
+
+#[test]
+fn the_longest_tape_is_written_and_read(rt: HostRuntime) {
+    assert_eq!(rt; is_written_and_read(rt.alloc(), TAPE_LIMIT), Some(true));
+}
+
 #[test]
 fn one_code_too_many_is_refused(rt: HostRuntime) -> Result<(), Fail> {
     let text = vec![in rt.alloc(); b'a'; TAPE_LIMIT + 1]?;
