@@ -4,6 +4,7 @@ mod calls;
 mod events;
 mod growths;
 mod marks;
+mod sizes;
 
 use lgp_flexo::{Code, read_tape_text};
 use lgp_machine::{

@@ -162,18 +162,22 @@ fn print_without_room<B: Allocator>(
 #[test]
 fn a_play_stops_where_there_is_no_room(rt: HostRuntime) -> Result<(), Fail> {
     let events = events_of(rt.alloc(), &[], 450)?;
-    let unprinted = print_without_room(&Scarce::new(rt.alloc()), events.as_slice())?;
+    let scarce = Scarce::new(rt.alloc());
+    let unprinted = print_without_room(&scarce, events.as_slice())?;
     let stopped = PlayFault {
         done: 451,
         fault: TurnFault::Memory,
     };
     assert_eq!(rt;
-        unprinted,
+        (unprinted, scarce.blocks_out()),
         (
-            (Err(stopped), true),
-            ((0, None), None),
-            Ok(()),
-            (1, Code::new(57))
+            (
+                (Err(stopped), true),
+                ((0, None), None),
+                Ok(()),
+                (1, Code::new(57))
+            ),
+            0
         )
     );
     Ok(())

@@ -118,7 +118,8 @@ fn made_with<'s, B: Allocator>(scarce: &'s Scarce<B>, drum: Drum<&'s Scarce<B>>)
 fn each_growth_beside_a_drum_is_refused(rt: HostRuntime) -> Result<(), Fail> {
     let scarce = Scarce::new(rt.alloc());
     let drum = drum_of_two(&scarce)?;
-    assert_eq!(rt; made_with(&scarce, drum), opening((2, [0, 4, 0])));
+    let made = made_with(&scarce, drum);
+    assert_eq!(rt; (made, scarce.blocks_out()), (opening((2, [0, 4, 0])), 0));
     Ok(())
 }
 
@@ -182,7 +183,12 @@ fn copied<B: Allocator>(scarce: &Scarce<B>, machine: &Machine<&Scarce<B>>) -> Op
 fn each_growth_of_a_copy_is_refused(rt: HostRuntime) -> Result<(), Fail> {
     let scarce = Scarce::new(rt.alloc());
     let machine = within_a_tape(&scarce)?;
-    assert_eq!(rt; copied(&scarce, &machine), shown_within_a_tape());
+    let before = scarce.blocks_out();
+    let copied = copied(&scarce, &machine);
+    assert_eq!(rt;
+        (copied, scarce.blocks_out()),
+        (shown_within_a_tape(), before)
+    );
     Ok(())
 }
 
@@ -225,15 +231,17 @@ fn a_code_without_room_is_not_printed(rt: HostRuntime) -> Result<(), Fail> {
     let refused = print_refused(&scarce, &mut machine);
     let still = (printed(&machine), look(&machine));
     let ended = print_ended(&scarce, &mut machine);
+    drop(machine);
     let before = shown_at_print(0, shown(0, 0, 0, Status::Going, 0));
     let after = shown_at_print(1, shown(1, 0, PRINT, Status::Going, 451));
     let by_turns = (451, Err(TurnFault::Memory));
     assert_eq!(rt;
-        (refused, still, ended),
+        (refused, still, ended, scarce.blocks_out()),
         (
             (Err(OrderFault::Memory), before, by_turns, true),
             ((0, None), None),
-            (Ok(true), false, after)
+            (Ok(true), false, after),
+            0
         )
     );
     Ok(())
