@@ -1,4 +1,4 @@
-//! The largest program, and the largest source.
+//! The largest program, the largest source, and one of a thousand names.
 
 use super::*;
 
@@ -101,5 +101,66 @@ fn a_source_of_1048576_bytes(rt: HostRuntime) -> Result<(), Fail> {
             (1_048_576, Some(Err((16_383, 16_383))))
         )
     );
+    Ok(())
+}
+
+/// Appends a word with a name of three digits, and the name of another one: that with each digit taken from 9.
+fn push_named(source: &mut Vec<u8>, [one, two, three]: [u8; 3]) -> Result<(), AllocError> {
+    let nines = b'0' + b'9';
+    source.extend_from_slice(&[b'n', one, two, three])?;
+    source.extend_from_slice(b" z ")?;
+    source.extend_from_slice(&[
+        b'n',
+        nines.saturating_sub(one),
+        nines.saturating_sub(two),
+        nines.saturating_sub(three),
+        b'\n',
+    ])
+}
+
+/// Appends a hundred such words, whose names have the same first digit.
+fn push_hundred(source: &mut Vec<u8>, one: u8) -> Result<(), AllocError> {
+    for two in b'0'..=b'9' {
+        for three in b'0'..=b'9' {
+            push_named(source, [one, two, three])?;
+        }
+    }
+    Ok(())
+}
+
+/// A source of a thousand words, of which the first names the last.
+fn named_source(alloc: Global) -> Result<Vec<u8>, AllocError> {
+    let mut source = Vec::new(alloc);
+    for one in b'0'..=b'9' {
+        push_hundred(&mut source, one)?;
+    }
+    source.extend_from_slice(b" end\n")?;
+    Ok(source)
+}
+
+/// How many words name the place that is as far from the end as theirs from the start, with a name for their own.
+fn well_named(cells: &[(Address, Word)], symbols: &[(Name, u16)]) -> usize {
+    let mut count = 0usize;
+    for (cell, symbol) in cells.iter().zip(symbols) {
+        let place = cell.0.number();
+        let named = 4 * u32::from(999u16.saturating_sub(place));
+        if cell.1.get() == named && symbol.1 == place {
+            count = count.saturating_add(1);
+        }
+    }
+    count
+}
+
+/// How many words and names a source has, and how many of them are right.
+fn named(alloc: Global, source: &[u8]) -> Option<[usize; 3]> {
+    let image = assemble(alloc, source).ok()?;
+    let (cells, symbols) = (image.cells(), image.symbols());
+    Some([cells.len(), symbols.len(), well_named(cells, symbols)])
+}
+
+#[test]
+fn a_source_of_a_thousand_names(rt: HostRuntime) -> Result<(), Fail> {
+    let source = named_source(rt.alloc())?;
+    assert_eq!(rt; named(rt.alloc(), &source), Some([1000; 3]));
     Ok(())
 }
