@@ -230,7 +230,7 @@ fn read_scarcely<B: Allocator>(scarce: &Scarce<B>, nth: u64) -> (bool, bool) {
 fn a_growth_may_be_refused(rt: HostRuntime) {
     let scarce = Scarce::new(rt.alloc());
     assert!(rt; read_scarcely(&scarce, 1) == (false, true));
-    assert!(rt; read_scarcely(&scarce, 2) == (true, false));
+    assert!(rt; read_scarcely(&scarce, 2) == (true, false) && scarce.blocks_out() == 0);
 }
 
 #[test]
@@ -238,6 +238,7 @@ fn a_refused_growth_is_told_as_such(rt: HostRuntime) -> Result<(), Fail> {
     let scarce = Scarce::new(rt.alloc());
     scarce.refuse(1);
     assert!(rt; matches!(read_archive_text(&scarce, b"1"), Err(TextFault::Memory(_))));
+    assert!(rt; scarce.blocks_out() == 0);
     Ok(())
 }
 
