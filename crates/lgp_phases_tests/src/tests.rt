@@ -633,10 +633,14 @@ fn is_copy_idle<A: Allocator + Clone>(processor: &Processor<A>) -> Result<bool, 
 #[test]
 fn a_full_heap_refuses_a_processor(rt: HostRuntime) -> Result<(), Fail> {
     let heap = LocalHeap::new(rt.alloc(), 262144)?;
-    let made = is_made(&heap)?;
+    let made = (is_made(&heap)?, heap.used());
     let processor = Processor::new(&heap)?;
+    let before = heap.used();
     let copied = is_copied(&heap, &processor)?;
     let idle = [processor.is_idle(), is_copy_idle(&processor)?];
-    assert_eq!(rt; (made, copied, idle), (false, false, [true, true]));
+    assert_eq!(rt;
+        (made, copied, idle, heap.used()),
+        ((false, 0), false, [true, true], before)
+    );
     Ok(())
 }
