@@ -545,12 +545,10 @@ fn each_growth_is_refused_in_turn(rt: HostRuntime) {
         refusals(&scarce, rt.alloc(), Manner::Prompting),
         refusals(&scarce, rt.alloc(), Manner::Echoing),
     ];
-    assert!(rt;
-        refused
-            .iter()
-            .all(|count| count.is_some_and(|count| count > 2)),
-        "{refused:?}"
-    );
+    let all = refused
+        .iter()
+        .all(|count| count.is_some_and(|count| count > 2));
+    assert!(rt; all && scarce.blocks_out() == 0, "{refused:?}");
 }
 
 #[test]
