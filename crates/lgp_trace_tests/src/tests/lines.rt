@@ -125,7 +125,7 @@ fn two_orders_along_the_drum(rt: HostRuntime) -> Result<(), Fail> {
 }
 
 /// The word times of the program's rows added up by phase and by place.
-const PROFILE: &[u8] = b"orders 42, word times 2910, turns of the drum 45.4
+pub const PROFILE: &[u8] = b"orders 42, word times 2910, turns of the drum 45.4
   waiting for orders      1562   53 %
   into the register         42    1 %
   waiting for words       1264   43 %

@@ -58,6 +58,6 @@ fn a_trace_without_memory(rt: HostRuntime) -> Result<(), Fail> {
         fault: RunRefusal::Memory,
     };
     let seen = told_without_memory(&scarce, &mut lab, &mut text);
-    assert_eq!(rt; seen, (Err(refused), 90));
+    assert_eq!(rt; (seen, scarce.blocks_out()), ((Err(refused), 90), 0));
     Ok(())
 }
