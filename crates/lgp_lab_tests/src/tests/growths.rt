@@ -118,7 +118,8 @@ fn refused(scarce: &Scarce<Global>, global: Global) -> Result<Option<[bool; 27]>
 #[test]
 fn each_growth_of_each_command_is_refused(rt: HostRuntime) -> Result<(), Fail> {
     let scarce = Scarce::new(rt.alloc());
-    assert_eq!(rt; refused(&scarce, rt.alloc())?, Some([true; 27]));
+    let refused = refused(&scarce, rt.alloc())?;
+    assert_eq!(rt; (refused, scarce.blocks_out()), (Some([true; 27]), 0));
     Ok(())
 }
 
@@ -164,6 +165,7 @@ fn nothing_is_written_for_a_file_whose_growth_is_refused(rt: HostRuntime) -> Res
     for row in FILES {
         expect_called(&rt, &scarce, rt.alloc(), row);
     }
+    assert_eq!(rt; scarce.blocks_out(), 0);
     Ok(())
 }
 
@@ -212,6 +214,7 @@ fn a_script_of_several_is_refused_behind_a_whole_reply(rt: HostRuntime) -> Resul
     )?;
     let scarce = Scarce::new(rt.alloc());
     let often = parts(&scarce, rt.alloc(), &whole);
-    assert!(rt; often.is_some_and(|nth| nth > 10), "{often:?}");
+    let are_back = scarce.blocks_out() == 0;
+    assert!(rt; are_back && often.is_some_and(|nth| nth > 10), "{often:?}");
     Ok(())
 }

@@ -1,11 +1,12 @@
 //! Readers and writers that fail, and how often they are read.
 
-use super::{Ended, FIRST_RUN, FIRST_RUN_REPLIES, run_between};
-use lgp_lab::{Failed, Feed, FeedOf, LabFault, Sink, SinkOf, run_script};
+use super::{Ended, FIRST_RUN, FIRST_RUN_REPLIES, built, run_between};
+use lgp_lab::{Failed, Feed, FeedOf, LabFault, READS, Sink, SinkOf, run_script};
 use std::alloc::{Allocator, Global};
 use std::io;
 use std::io::{Read, Write};
 use std::process::Abort;
+use std::test::Fail;
 
 /// Gives a text in pieces of at most so many bytes. Then it ends, or fails once and ends after that.
 #[derive(Drop)]
@@ -41,6 +42,24 @@ impl Read for Pieces {
         buffer[..count].copy_from_slice(&self.text[..count]);
         self.text = &self.text[count..];
         Ok(count)
+    }
+}
+
+/// Gives what another reader gives, and fails once where so many calls were answered.
+#[derive(Drop)]
+struct Torn {
+    pieces: Pieces,
+    calls: usize,
+}
+
+impl Read for Torn {
+    fn read(&mut self, buffer: &mut [u8]) -> io::Result<usize> {
+        if self.calls == 0 {
+            self.calls = usize::MAX;
+            return Err(io::ErrorKind::Other.into());
+        }
+        self.calls -= 1;
+        self.pieces.read(buffer)
     }
 }
 
@@ -92,6 +111,28 @@ impl Write for Failing {
         let count = buffer.len().min(self.most);
         self.taken.extend_from_slice(&buffer[..count])?;
         Ok(count)
+    }
+
+    fn flush(&mut self) -> io::Result<()> {
+        Ok(())
+    }
+}
+
+/// Takes nothing in its first call, and all bytes after that.
+#[derive(Drop)]
+struct Busy {
+    taken: Vec<u8>,
+    is_busy: bool,
+}
+
+impl Write for Busy {
+    fn write(&mut self, buffer: &[u8]) -> io::Result<usize> {
+        if self.is_busy {
+            self.is_busy = false;
+            return Ok(0);
+        }
+        self.taken.extend_from_slice(buffer)?;
+        Ok(buffer.len())
     }
 
     fn flush(&mut self) -> io::Result<()> {
@@ -158,6 +199,62 @@ fn a_feed_with_no_read_left_fails(rt: HostRuntime) {
     assert_eq!(rt; reads, [(Ok(2), false, 0), (Err(Failed), true, 0)]);
 }
 
+/// How many bytes a read into a buffer gives, which go to the end of `taken`; `None` where it fails.
+fn read_into<R: Read + Drop>(
+    feed: &mut FeedOf<R>,
+    buffer: &mut [u8],
+    taken: &mut Vec<u8>,
+) -> Option<usize> {
+    let count = feed.read(buffer).ok()?;
+    taken.extend_from_slice(buffer.get(..count)?).ok()?;
+    Some(count)
+}
+
+/// That of four reads one after another, into buffers of such lengths, 5,000 at most.
+fn four_reads<R: Read + Drop>(
+    reader: R,
+    lengths: [usize; 4],
+    taken: &mut Vec<u8>,
+) -> [Option<usize>; 4] {
+    let mut feed = FeedOf::new(reader, READS);
+    let mut buffer = [0; 5000];
+    let mut counts = [None; 4];
+    for (count, length) in counts.iter_mut().zip(lengths) {
+        *count = read_into(&mut feed, &mut buffer[..length.min(5000)], taken);
+    }
+    counts
+}
+
+/// It fails on a body that answers an empty buffer with an error, that reads a byte at a time, and that reads no more than 4,096
+/// bytes at once.
+#[test]
+fn a_feed_fills_a_buffer_of_any_length(rt: HostRuntime) -> Result<(), Fail> {
+    let text = built(rt.alloc(), &[(b"0123456789a", 500)])?;
+    let mut taken = Vec::new(rt.alloc());
+    let counts = four_reads(text.as_slice(), [0, 1, 5000, 5000], &mut taken);
+    let are_all = taken.as_slice() == text.as_slice();
+    assert_eq!(rt;
+        (counts, are_all),
+        ([Some(0), Some(1), Some(5000), Some(499)], true)
+    );
+    Ok(())
+}
+
+/// It fails on a body that reads again itself after an error, that takes an error for the end, and that has failed for good.
+#[test]
+fn a_feed_goes_on_after_an_error_in_its_midst(rt: HostRuntime) {
+    let mut taken = Vec::new(rt.alloc());
+    let torn = Torn {
+        pieces: Pieces::whole(b"abcdef", 3),
+        calls: 1,
+    };
+    let counts = four_reads(torn, [4; 4], &mut taken);
+    assert_eq!(rt;
+        (counts, taken.as_slice()),
+        ([Some(3), None, Some(3), Some(0)], b"abcdef".as_slice())
+    );
+}
+
 /// What three writes answer, each with whether a write has failed by then.
 fn three_writes<W: Write + Drop>(writer: W) -> [(Result<usize, Failed>, bool); 3] {
     let mut sink = SinkOf::new(writer);
@@ -177,6 +274,38 @@ fn a_sink_takes_an_empty_write(rt: HostRuntime) {
             b"1".as_slice()
         )
     );
+}
+
+/// What a write and a second one of the same bytes answer, each with whether a write has failed by then.
+fn two_writes<W: Write + Drop>(writer: W, bytes: &[u8]) -> [(Result<usize, Failed>, bool); 2] {
+    let mut sink = SinkOf::new(writer);
+    let first = (sink.write(bytes), sink.has_failed());
+    [first, (sink.write(bytes), sink.has_failed())]
+}
+
+/// It fails on a body that tries again itself where nothing was taken, and that has failed for good.
+#[test]
+fn a_write_that_took_nothing_is_tried_again_by_its_caller(rt: HostRuntime) {
+    let mut busy = Busy {
+        taken: Vec::new(rt.alloc()),
+        is_busy: true,
+    };
+    let writes = two_writes(&mut busy, b"12");
+    assert_eq!(rt;
+        (writes, busy.taken.as_slice()),
+        ([(Err(Failed), true), (Ok(2), true)], b"12".as_slice())
+    );
+}
+
+/// It fails on a body that hands on no more than 65,536 bytes at once, and that refuses more.
+#[test]
+fn a_sink_takes_more_than_65536_bytes_at_once(rt: HostRuntime) -> Result<(), Fail> {
+    let text = built(rt.alloc(), &[(b"0123456789a", 10_000)])?;
+    let mut written = Vec::new(rt.alloc());
+    let writes = two_writes(&mut written, text.as_slice());
+    let are_both = written.as_slice().strip_prefix(text.as_slice()) == Some(text.as_slice());
+    assert_eq!(rt; (writes, are_both), ([(Ok(110_000), false); 2], true));
+    Ok(())
 }
 
 /// How a script of semicolons without an end goes that is read so many times: how many reads are left before and after, the answer,
