@@ -7,6 +7,7 @@ pub mod Questions
 pub mod Typed
 pub mod Closing
 pub mod ClosingInside
+pub mod Forms
 pub mod Monitor
 pub mod Running
 pub mod Blocks

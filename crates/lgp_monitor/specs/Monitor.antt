@@ -1,20 +1,13 @@
 -- Part of the public promise: the monitor, a language in which a typed line stands for lines of a
 -- script.
-use Rattle.std.specs.Prelude.{ℕ, if◌then◌else◌, is_some, Option, Some, None, unwrap_or}
-use Rattle.std.specs.Prelude.{List, [], ◌∷◌, ◌++◌, codes, flat_map}
-use Rattle.std.specs.Option.{option_map_or}
-use Rattle.std.specs.Result.{result_err}
+use Rattle.std.specs.Prelude.{ℕ, is_some, unwrap_or}
+use Rattle.std.specs.Prelude.{List, [], ◌∷◌, ◌++◌, codes}
 use Rattle.lgp_word.specs.Digits.{address_digits, digits_of}
 use Rattle.lgp_word.specs.Order.{plain_order}
 use Rattle.lgp_word.specs.declared.order.Op.TheVariants.{U}
 use Rattle.lgp_stream.specs.KeptLine.{Kept, kept_of}
 use Rattle.lgp_stream.specs.Language.{Language}
-use Rattle.lgp_assembler.specs.AddressOperands.{address_operand}
-use Rattle.lgp_assembler.specs.declared.operands.OperandFault.{OperandFault}
-use Rattle.lgp_assembler.specs.declared.operands.OperandFault.TheVariants.{Misformed, Unknown}
-use Rattle.lgp_assembler.specs.declared.operands.OperandFault.TheVariants.{Outside}
-use Rattle.lgp_stream.specs.LineWords.{behind_word, first_word, has_no_word}
-use Rattle.lgp_text.specs.NamedValues.{named}
+use Rattle.lgp_stream.specs.LineWords.{behind_word, first_word}
 use Rattle.lgp_table.specs.declared.panel.Panel.{Panel}
 use Rattle.lgp_transcript.specs.Transcript.{Meaning, Lines, Anew, Recorded, after_lines}
 use Rattle.lgp_transcript.specs.Transcript.{after_meaning, replies_text, stand_in}
@@ -24,10 +17,10 @@ use Rattle.lgp_lab.specs.HistoryCommands.{orders_run}
 use Rattle.lgp_lab.specs.Standing.{Standing, labels_of, opening_standing}
 use Rattle.lgp_monitor.specs.Closing.{closing_reply}
 use Rattle.lgp_monitor.specs.Questions.{answer_to}
+use Rattle.lgp_monitor.specs.Forms.{form_line, help_text, misformed_text}
 use Rattle.lgp_monitor.specs.Reasons.{explained, reasoned}
 use Rattle.lgp_monitor.specs.Telling.{told_text}
 use Rattle.lgp_monitor.specs.Typed.{typed_of}
-use Rattle.lgp_monitor.specs.Verbs.{operands_form, takes_address, verb_names}
 use Rattle.lgp_monitor.specs.declared.telling.Telling.{Telling}
 use Rattle.lgp_monitor.specs.declared.verb.Verb.{Verb}
 use Rattle.lgp_monitor.specs.declared.typed.Typed.{Typed}
@@ -70,34 +63,6 @@ meaning_of typed.New kept = Anew
 meaning_of asked kept = Lines []
 
 -- ---- replies
-
-unfoldable pub form_line : List ℕ → Verb → List ℕ
-form_line name verb = name ++ (operands_form verb ++ codes "\n")
-
--- the forms of all commands, a line each
-unfoldable pub help_text : List ℕ
-help_text = flat_map (λ name. form_line name.0 name.1) verb_names
-
--- why a line is in no command's form: its first operand is no address, or it is not written so
-abbrev pub fault_reason : OperandFault → List ℕ
-fault_reason Misformed = codes " is no address: a track and a sector, each 00 to 63, or a label"
-fault_reason Unknown = codes " names no label of the last source"
-fault_reason Outside = codes " is not on the drum"
-
-module _ (names : List (List ℕ × ℕ)) (counter : ℕ) where
-  abbrev pub reason_by : List ℕ → Option Verb → List ℕ
-  reason_by line None = codes "there is no such command, help lists them"
-  reason_by line (Some verb) =
-      let form = first_word line ++ operands_form verb in
-      let operand = first_word (behind_word line) in
-      if takes_address verb then (if has_no_word (behind_word line) then form
-      else option_map_or (λ fault. operand ++ fault_reason fault)
-      (result_err (address_operand names counter operand)) form)
-      else form
-
-  unfoldable pub misformed_text : List ℕ → List ℕ
-  misformed_text line =
-      codes "? 1 Form: " ++ (reason_by line (named verb_names (first_word line)) ++ codes "\n")
 
 abbrev pub panel_at : Standing → Panel
 panel_at standing = standing.debugger.state.core.panel

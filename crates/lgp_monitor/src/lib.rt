@@ -15,6 +15,7 @@ pub use verb::{AddressCommand, LoneCommand, NumberCommand, Verb};
 mod attending;
 mod blocks;
 mod closing;
+mod form;
 mod labels;
 pub mod laws;
 mod monitor;

@@ -1,35 +1,31 @@
 //! The monitor: typed lines, each answered by the script lines that it stands for.
 
-ghost use Rattle.std.specs.Prelude.{◌≡◌, ◌++◌, ◌∷◌, [], List, ℕ, IfOk, OnOk, codes, flat_map, if◌then◌else◌, is_some, unwrap_or};
-ghost use Rattle.std.specs.Option.{option_map_or};
-ghost use Rattle.std.specs.Result.{result_err};
-ghost use Rattle.lgp_stream.specs.LineWords.{behind_word, first_word, has_no_word};
+ghost use Rattle.std.specs.Prelude.{◌≡◌, ◌++◌, ◌∷◌, [], List, ℕ, IfOk, OnOk, codes, is_some, unwrap_or};
+ghost use Rattle.lgp_stream.specs.LineWords.{behind_word, first_word};
 ghost use Rattle.lgp_stream.specs.KeptLine.{kept_of};
-ghost use Rattle.lgp_assembler.specs.AddressOperands.{address_operand};
-ghost use Rattle.lgp_text.specs.NamedValues.{pairs_of};
 ghost use Rattle.lgp_transcript.specs.Transcript.{after_lines, after_meaning, replies_text, stand_in, untouched};
 ghost use Rattle.lgp_lab.specs.Script.{script_language};
 ghost use Rattle.lgp_lab.specs.Standing.{labels_of, opening_standing};
 ghost use Rattle.lgp_monitor.specs.Blocks.{behind_block, block_reply};
 ghost use Rattle.lgp_monitor.specs.Closing.{closing_reply};
 ghost use Rattle.lgp_monitor.specs.Typed.{typed_of};
-ghost use Rattle.lgp_monitor.specs.Monitor.{counter_at, explained_reply, explained_run, fault_reason, form_line, go_lines, help_text, jump_line, meaning_of, misformed_text, monitor_language, names_at, panel_at, placed_line, put_line, reason_by, reply_of, run_line, told_reply, typed_at};
+ghost use Rattle.lgp_monitor.specs.Forms.{form_line, help_text, misformed_text};
+ghost use Rattle.lgp_monitor.specs.Monitor.{counter_at, explained_reply, explained_run, go_lines, jump_line, meaning_of, monitor_language, names_at, panel_at, placed_line, put_line, reply_of, run_line, told_reply, typed_at};
 ghost use Rattle.lgp_monitor.specs.Reasons.{explained};
-ghost use Rattle.lgp_monitor.specs.Verbs.{operands_form};
 
 use crate::blocks::answer_block;
 use crate::closing::closing_reply;
+use crate::form::{push_form_line, push_help, push_misformed};
 use crate::progress::{Progress, Silence};
 use crate::question::push_answer;
 use crate::reason::{push_explained, push_reasoned};
 use crate::script_line::answer_kept;
 use crate::telling::{Telling, run_told};
 use crate::typed::{Typed, typed_of};
-use crate::verb::{VERBS, Verb, operands_form, takes_address, verb_named};
-use lgp_assembler::{Name, OperandFault, Symbols, address_operand};
+use crate::verb::Verb;
 use lgp_lab::Laboratory;
-use lgp_stream::{Answers, LineBytes, Split, has_no_word, split_word};
-use lgp_text::{Named, Piece, push_pieces};
+use lgp_stream::{Answers, LineBytes, split_word};
+use lgp_text::{Piece, push_pieces};
 use lgp_transcript::Recorder;
 use lgp_word::{Address, Op, Word, plain_order};
 use std::alloc::{AllocError, Allocator};
@@ -281,30 +277,6 @@ fn explain_told<A: Allocator + Copy>(
     push_told(reply, &said, recorder.answers())
 }
 
-/// Appends the form of a command.
-fn push_form<A: Allocator>(text: &mut Vec<u8, A>, name: &[u8], verb: Verb) -> Result<(), AllocError>
-    ensures { OnOk result (text.new.items ≡ text.old.items ++ (name.now ++ operands_form verb)) }
-{
-    text.extend_from_slice(name)?;
-    text.extend_from_slice(operands_form(verb))
-}
-
-/// Appends the line of a command's form.
-#[tactic(auto, unfolding(crate::specs::Monitor::form_line))]
-fn push_form_line<A: Allocator>(
-    text: &mut Vec<u8, A>,
-    name: &[u8],
-    verb: Verb,
-) -> Result<(), AllocError>
-    ensures { OnOk result (text.new.items ≡ text.old.items ++ form_line name.now verb) }
-{
-    text.extend_from_slice(name)?;
-    push_pieces(
-        text,
-        &[Piece::Text(operands_form(verb)), Piece::Text(b"\n")],
-    )
-}
-
 /// Appends the form of the command that stands behind another.
 fn push_form_behind<A: Allocator>(
     text: &mut Vec<u8, A>,
@@ -316,25 +288,6 @@ fn push_form_behind<A: Allocator>(
 {
     let command = split_word(line);
     push_form_line(text, split_word(command.behind).word, verb)
-}
-
-/// Appends the forms of commands.
-fn push_forms<A: Allocator>(text: &mut Vec<u8, A>, names: &[Named<Verb>]) -> Result<(), AllocError>
-    ensures { OnOk result (text.new.items ≡ text.old.items
-        ++ flat_map (λ name. form_line name.0 name.1) (pairs_of names.now)) }
-{
-    for name in names {
-        push_form_line(text, name.name, name.value)?;
-    }
-    Ok(())
-}
-
-/// Appends the forms of all commands.
-#[tactic(auto, unfolding(crate::specs::Monitor::help_text))]
-fn push_help<A: Allocator>(text: &mut Vec<u8, A>) -> Result<(), AllocError>
-    ensures { OnOk result (text.new.items ≡ text.old.items ++ help_text) }
-{
-    push_forms(text, &VERBS)
 }
 
 /// The script line that names an address in the place of a line's first operand.
@@ -375,102 +328,6 @@ fn place<A: Allocator + Copy>(
 {
     let line = placed_line(alloc, address, line)?;
     explain(alloc, recorder, &line, reply)
-}
-
-/// What is wrong with an operand that is no address.
-fn fault_reason(fault: OperandFault) -> &'static [u8]
-    ensures { result.now ≡ fault_reason fault }
-{
-    match fault {
-        OperandFault::Misformed => {
-            b" is no address: a track and a sector, each 00 to 63, or a label"
-        }
-        OperandFault::Unknown => b" names no label of the last source",
-        OperandFault::Outside => b" is not on the drum",
-    }
-}
-
-/// Appends why a line with this operand is in no command's form.
-fn push_address_reason<A: Allocator>(
-    text: &mut Vec<u8, A>,
-    address: Result<Address, OperandFault>,
-    operand: &[u8],
-    name: &[u8],
-    verb: Verb,
-) -> Result<(), AllocError>
-    ensures { OnOk result (text.new.items
-        ≡ text.old.items ++ option_map_or (λ fault. operand.now ++ fault_reason fault)
-        (result_err address) (name.now ++ operands_form verb)) }
-{
-    match address {
-        Ok(_) => push_form(text, name, verb),
-        Err(fault) => push_pieces(
-            text,
-            &[Piece::Text(operand), Piece::Text(fault_reason(fault))],
-        ),
-    }
-}
-
-/// Appends why a line is in no command's form whose command takes an address first.
-fn push_operand_reason<A: Allocator>(
-    text: &mut Vec<u8, A>,
-    names: &[(Name, u16)],
-    counter: Address,
-    name: &[u8],
-    verb: Verb,
-    operands: &[u8],
-) -> Result<(), AllocError>
-    ensures { OnOk result (text.new.items ≡ text.old.items
-        ++ (if has_no_word operands.now then name.now ++ operands_form verb
-        else option_map_or (λ fault. first_word operands.now ++ fault_reason fault)
-        (result_err (address_operand names.now counter (first_word operands.now)))
-        (name.now ++ operands_form verb))) }
-{
-    if has_no_word(operands) {
-        return push_form(text, name, verb);
-    }
-    let operand = split_word(operands).word;
-    let address = address_operand(&Symbols { names }, u64::from(counter.number()), operand);
-    push_address_reason(text, address, operand, name, verb)
-}
-
-/// Appends why a line is in no command's form.
-fn push_reason<A: Allocator>(
-    text: &mut Vec<u8, A>,
-    names: &[(Name, u16)],
-    counter: Address,
-    verb: Option<Verb>,
-    line: &[u8],
-) -> Result<(), AllocError>
-    ensures { OnOk result (text.new.items
-        ≡ text.old.items ++ reason_by names.now counter line.now verb) }
-{
-    let Split { word, behind } = split_word(line);
-    match verb {
-        None => text.extend_from_slice(b"there is no such command, help lists them"),
-        Some(verb) if takes_address(verb) => {
-            push_operand_reason(text, names, counter, word, verb, behind)
-        }
-        Some(verb) => push_form(text, word, verb),
-    }
-}
-
-/// Appends a refusal that says why a line is in no command's form.
-#[tactic(auto, unfolding(crate::specs::Monitor::misformed_text))]
-fn push_misformed<A: Allocator>(
-    text: &mut Vec<u8, A>,
-    names: &[(Name, u16)],
-    counter: Address,
-    line: &[u8],
-) -> Result<(), AllocError>
-    ensures { OnOk result (text.new.items
-        ≡ text.old.items ++ misformed_text names.now counter line.now) }
-{
-    let command = split_word(line).word;
-    text.extend_from_slice(b"? 1 Form: ")?;
-    push_reason(text, names, counter, verb_named(command), line)?;
-    text.push(b'\n')?;
-    Ok(())
 }
 
 /// Hands a line that is in no command's form to the laboratory, whose refusal is replaced by one with a reason.

@@ -33,7 +33,8 @@ fn answer<A: Allocator + Copy, B: Bell, P: Progress, R: Feed, W: Sink>(
     input: &mut R,
     output: &mut W,
 ) -> Result<u64, StreamFault>
-    ensures { HasAnswered manner (R.remaining input.old) result
+    ensures { HasAnswered manner (R.remaining input.old)
+        (record { read = R.failed input.new; write = W.failed output.new }) result
         (W.contents output.old) (W.contents output.new) }
 {
     match attend(alloc, manner, bell, progress, input, output) {
@@ -55,7 +56,8 @@ pub fn hold_session<A: Allocator + Copy, B: Bell, P: Progress, R: Feed, W: Sink>
     requires reads { R.reads input.old ≡ read_limit }
     requires input { R.failed input.old ≡ false }
     requires output { W.failed output.old ≡ false }
-    ensures { IsHeld manner (R.remaining input.old) result
+    ensures { IsHeld manner (R.remaining input.old)
+        (record { read = R.failed input.new; write = W.failed output.new }) result
         (W.contents output.old) (W.contents output.new) }
 {
     session_status(answer(alloc, manner, bell, progress, input, output))
@@ -135,7 +137,8 @@ fn hold_task<A: Allocator + Copy, B: Bell, P: Progress, R: FilesFirst, W: Sink>(
     requires input { R.failed input.old ≡ false }
     requires output { W.failed output.old ≡ false }
     ensures { IsHeld (session_manner manner task.now)
-        (typed_with (R.typed_behind input.old) (R.remaining input.old) task.now.files) result
+        (typed_with (R.typed_behind input.old) (R.remaining input.old) task.now.files)
+        (record { read = R.failed input.new; write = W.failed output.new }) result
         (W.contents output.old) (W.contents output.new) }
 {
     if begin_with(task.files(), input).is_err() {
@@ -172,11 +175,12 @@ pub fn obey_session<A: Allocator + Copy, B: Bell, P: Progress, R: FilesFirst, W:
     requires messages { M.failed messages.old ≡ false }
     ensures asked { IfOk words.entry (λ words.
         IsAsked A manner (map string_bytes words.now) (R.typed_behind input.old)
-        (R.remaining input.old) result
-        (W.contents output.old) (W.contents output.new)
+        (R.remaining input.old) (record { read = R.failed input.new; write = W.failed output.new })
+        (M.failed messages.new) result (W.contents output.old) (W.contents output.new)
         (M.contents messages.old) (M.contents messages.new)) }
     ensures unread { IfErr words.entry (λ fault.
-        IsUnread fault result (W.contents output.old) (W.contents output.new)
+        IsUnread fault (M.failed messages.new) result
+        (W.contents output.old) (W.contents output.new)
         (M.contents messages.old) (M.contents messages.new)) }
 {
     let words = match words {

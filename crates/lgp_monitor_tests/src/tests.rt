@@ -19,7 +19,7 @@ use std::process::Abort;
 /// Typed lines, what is written for them, and how many replies begin with a question mark.
 type Row = (&'static [u8], &'static [u8], u64);
 
-const ROWS: [Row; 27] = [
+const ROWS: [Row; 29] = [
     // Words by order, number and fraction: the machine's word of n at 30 is 2n, and -.5 is -2^30 of 2^31 steps.
     (
         b"put 0050 = 385\nput 0051 = -1\nput 0052 -.5\nput 0053 h 6363\nwords 0050 4\n",
@@ -40,7 +40,7 @@ const ROWS: [Row; 27] = [
     // Refused with a reason, and in the transcript.
     (
         b"go 0164\nput 0000 = 1073741824\n\njump\ntranscript\n",
-        b"? 1 Form: 0164 is no address: a track and a sector, each 00 to 63, or a label\n? 1 Form: put ttss WORD, FRACTION or OPERATION as in a source, or put ttss = NUMBER or = NUMBER POINT\n? 1 Form: there is no such command, help lists them\ngo 0164\nput 0000 = 1073741824\n\njump\n",
+        b"? 1 Form: 0164 is no address: sectors are 00 to 63\n? 1 Form: put ttss WORD, FRACTION or OPERATION as in a source, or put ttss = NUMBER or = NUMBER POINT\n? 1 Form: there is no such command, help lists them\ngo 0164\nput 0000 = 1073741824\n\njump\n",
         3,
     ),
     // The refusals of the script language, with their reasons: at work a word, an order and a tape, then word times; in manual the rest.
@@ -96,7 +96,7 @@ const ROWS: [Row; 27] = [
     // no line but where it is in no command's form.
     (
         b"source\nfirst z\n end\n.\nput 0000 y 0001\nput 0001 u 0005\npress start\nrun 1\nwhy 0001\nwhy 0000\nwhy 0002\nwhy\nwhy 0164\nwhy 0000 1\ntranscript\n",
-        b"cells 1 start none\nok\nok\nlive\nran 1 limit\n0001: 000f0000 u 0000 first = 327680, put there by y 0001 at 0000 first, clock 0, 1 order ago; before it was u 0005\n0000 first: 00020004 y 0001 = 65538, put there by hand, clock 0; before it was z 0000\n0002: 00000000 z 0000 = 0, changed by no kept step\n? 1 Form: why ttss\n? 1 Form: 0164 is no address: a track and a sector, each 00 to 63, or a label\n? 1 Form: why ttss\nsource\nfirst z\n end\n.\nput 0000 00020004\nput 0001 000f0014\npress start\nrun 1\nwhy\nwhy 0164\nwhy 0000 1\n",
+        b"cells 1 start none\nok\nok\nlive\nran 1 limit\n0001: 000f0000 u 0000 first = 327680, put there by y 0001 at 0000 first, clock 0, 1 order ago; before it was u 0005\n0000 first: 00020004 y 0001 = 65538, put there by hand, clock 0; before it was z 0000\n0002: 00000000 z 0000 = 0, changed by no kept step\n? 1 Form: why ttss\n? 1 Form: 0164 is no address: sectors are 00 to 63\n? 1 Form: why ttss\nsource\nfirst z\n end\n.\nput 0000 00020004\nput 0001 000f0014\npress start\nrun 1\nwhy\nwhy 0164\nwhy 0000 1\n",
         3,
     ),
     // Refused as every line in no command's form.
@@ -174,8 +174,32 @@ const ROWS: [Row; 27] = [
     // Why an operand is no address.
     (
         b"go 2064\nbreak none+1\nwords 6363+1 1\nnumbers 0000-1 2\nwords 0000 65\nwatch\npress run\n",
-        b"? 1 Form: 2064 is no address: a track and a sector, each 00 to 63, or a label\n? 1 Form: none+1 names no label of the last source\n? 1 Form: 6363+1 is not on the drum\n? 1 Form: 0000-1 is not on the drum\n? 1 Form: words ttss NUMBER, at most 64\n? 1 Form: watch ttss\n? 1 Form: press normal, oneop, manual, start, clear, fill, execute, compute or read, or bp32, bp16, bp8, bp4, transfer or sixbit with up or down\n",
+        b"? 1 Form: 2064 is no address: sectors are 00 to 63\n? 1 Form: none+1 names no label of the last source\n? 1 Form: 6363+1 is not on the drum\n? 1 Form: 0000-1 is not on the drum\n? 1 Form: words ttss NUMBER, at most 64\n? 1 Form: watch ttss\n? 1 Form: press normal, oneop, manual, start, clear, fill, execute, compute or read, or bp32, bp16, bp8, bp4, transfer or sixbit with up or down\n",
         7,
+    ),
+    (
+        b"go 6400\nwhy 43\nwatch l0+1\nbreak 00O5\nPUT 0000 z\nput z\n",
+        b"? 1 Form: 6400 is no address: tracks are 00 to 63\n\
+        ? 1 Form: 43 is no address: two digits are the track, and two the sector\n\
+        ? 1 Form: l0+1 names no label of the last source\n\
+        ? 1 Form: 00O5 has a capital letter, and all letters are small\n\
+        ? 1 Form: PUT has a capital letter, and all letters are small\n\
+        ? 1 Form: z names no label of the last source\n",
+        6,
+    ),
+    // Why a word behind `put ttss` is no value.
+    (
+        b"put 0000 b 0064\nput 0000 b 43\nput 0000 B 0043\nput 0000 b0043\nput 0000 0043 6\nput 0200 000l03oo\nput 0000 -t *-1\nput 0000 b\nput 0000 word 43\n",
+        b"? 1 Form: 0064 is no address: sectors are 00 to 63\n\
+        ? 1 Form: 43 is no address: two digits are the track, and two the sector\n\
+        ? 1 Form: B has a capital letter, and all letters are small\n\
+        ? 1 Form: b0043 has no blank between the order and its address\n\
+        ? 1 Form: 0043 is neither eight digits nor a fraction nor an operation\n\
+        ? 1 Form: 000l03oo has l or o, which stand for 1 and 0 on a tape and not here\n\
+        ? 1 Form: *-1 is not on the drum\n\
+        ? 1 Form: put ttss WORD, FRACTION or OPERATION as in a source, or put ttss = NUMBER or = NUMBER POINT\n\
+        ? 1 Form: put ttss WORD, FRACTION or OPERATION as in a source, or put ttss = NUMBER or = NUMBER POINT\n",
+        9,
     ),
 ];
 

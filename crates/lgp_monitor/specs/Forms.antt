@@ -1,0 +1,145 @@
+-- Part of the public promise: the forms of commands, and why a line is in no command's form: which
+-- word of it is wrong, and what would be right.
+use Rattle.std.specs.Prelude.{ℕ, ◌==◌, ◌&&◌, ◌||◌, nat_lt, not, Bool, true, false, if◌then◌else◌}
+use Rattle.std.specs.Prelude.{Option, Some, None, is_some, Result, Ok, Err}
+use Rattle.std.specs.Prelude.{List, ◌++◌, codes, drop, flat_map, length, slice_index, take}
+use Rattle.std.specs.Char.{is_ascii_digit, is_ascii_uppercase}
+use Rattle.std.specs.List.{list_all, list_any}
+use Rattle.std.specs.Option.{option_map_or}
+use Rattle.std.specs.Str.{byte, bytes_eq}
+use Rattle.lgp_word.specs.Decimal.{decimal_number}
+use Rattle.lgp_word.specs.Order.{op_of_letter}
+use Rattle.lgp_assembler.specs.AddressOperands.{address_operand}
+use Rattle.lgp_assembler.specs.declared.operands.OperandFault.{OperandFault}
+use Rattle.lgp_assembler.specs.declared.operands.OperandFault.TheVariants.{Misformed, Unknown}
+use Rattle.lgp_assembler.specs.declared.operands.OperandFault.TheVariants.{Outside}
+use Rattle.lgp_stream.specs.LineWords.{behind_word, first_word, has_no_word}
+use Rattle.lgp_text.specs.NamedValues.{named}
+use Rattle.lgp_monitor.specs.Verbs.{operands_form, takes_address, verb_names}
+use Rattle.lgp_monitor.specs.declared.verb.Verb.{Verb}
+use Rattle.lgp_monitor.specs.declared.verb.Verb.TheVariants as verbs
+use Rattle.lgp_monitor.specs.declared.form.Mistake.{Mistake}
+use Rattle.lgp_monitor.specs.declared.form.Mistake.TheVariants as mistakes
+
+-- ---- forms
+
+unfoldable pub form_line : List ℕ → Verb → List ℕ
+form_line name verb = name ++ (operands_form verb ++ codes "\n")
+
+-- the forms of all commands, a line each
+unfoldable pub help_text : List ℕ
+help_text = flat_map (λ name. form_line name.0 name.1) verb_names
+
+-- ---- what is wrong with a word
+
+-- what is said of a word behind it
+abbrev pub mistake_text : Mistake → List ℕ
+mistake_text mistakes.Capital = codes " has a capital letter, and all letters are small"
+mistake_text mistakes.Digits = codes " is no address: two digits are the track, and two the sector"
+mistake_text mistakes.Track = codes " is no address: tracks are 00 to 63"
+mistake_text mistakes.Sector = codes " is no address: sectors are 00 to 63"
+mistake_text mistakes.Address =
+    codes " is no address: a track and a sector, each 00 to 63, or a label"
+mistake_text mistakes.Label = codes " names no label of the last source"
+mistake_text mistakes.Drum = codes " is not on the drum"
+mistake_text mistakes.Blank = codes " has no blank between the order and its address"
+mistake_text mistakes.LetterDigit =
+    codes " has l or o, which stand for 1 and 0 on a tape and not here"
+mistake_text mistakes.Value = codes " is neither eight digits nor a fraction nor an operation"
+
+abbrev pub has_capital : List ℕ → Bool
+has_capital word = list_any is_ascii_uppercase word
+
+abbrev pub are_digits : List ℕ → Bool
+are_digits word = not (length word == 0) && list_all is_ascii_digit word
+
+-- two decimal digits above 63
+abbrev pub is_beyond_63 : List ℕ → Bool
+is_beyond_63 digits = option_map_or (nat_lt 63) (decimal_number 2 digits) false
+
+-- of a word that is in no address's form
+abbrev pub misformed_address : List ℕ → Mistake
+misformed_address word =
+    if has_capital word then mistakes.Capital
+    else (if not (are_digits word) then mistakes.Address
+    else (if not (length word == 4) then mistakes.Digits
+    else (if is_beyond_63 (take 2 word) then mistakes.Track else mistakes.Sector)))
+
+abbrev pub address_mistake : OperandFault → List ℕ → Mistake
+address_mistake Misformed word = misformed_address word
+address_mistake Unknown word = mistakes.Label
+address_mistake Outside word = mistakes.Drum
+
+-- an order's letter with digits behind it
+abbrev pub is_order_with_digits : List ℕ → Bool
+is_order_with_digits word =
+    is_some (op_of_letter (slice_index word 0)) && are_digits (drop 1 word)
+
+abbrev pub is_l_or_o : ℕ → Bool
+is_l_or_o b = b == byte "l" || b == byte "o"
+
+-- of a word that is no value of `put`
+abbrev pub value_mistake : List ℕ → Mistake
+value_mistake word =
+    if has_capital word then mistakes.Capital
+    else (if is_order_with_digits word then mistakes.Blank
+    else (if length word == 8 && list_any is_l_or_o word then mistakes.LetterDigit
+    else mistakes.Value))
+
+-- ---- why a line is in no command's form
+
+-- whether a word of a value is an operation with an address
+abbrev pub takes_place : List ℕ → Bool
+takes_place word =
+    bytes_eq word (codes "-t")
+    || (length word == 1 && is_some (op_of_letter (slice_index word 0)))
+
+-- whether it is one with other operands, or `=`
+abbrev pub takes_numbers : List ℕ → Bool
+takes_numbers word =
+    bytes_eq word (codes "=") || bytes_eq word (codes "word") || bytes_eq word (codes "frac")
+    || bytes_eq word (codes "int") || bytes_eq word (codes "org") || bytes_eq word (codes "end")
+
+module _ (names : List (List ℕ × ℕ)) (form : List ℕ) where
+  -- of a first operand that should be an address, which `*` may name, and where it is one, of what
+  -- stands behind it
+  abbrev pub by_address : List ℕ → Result ℕ OperandFault → (ℕ → List ℕ) → List ℕ
+  by_address operand (Ok address) more = more address
+  by_address operand (Err fault) more = operand ++ mistake_text (address_mistake fault operand)
+
+  abbrev pub operand_reason : ℕ → List ℕ → (ℕ → List ℕ) → List ℕ
+  operand_reason place operands more =
+      if has_no_word operands then form
+      else by_address (first_word operands) (address_operand names place (first_word operands)) more
+
+  -- of the value of `put`
+  abbrev pub value_reason : List ℕ → ℕ → List ℕ
+  value_reason value place =
+      if has_no_word value then form
+      else (if takes_place (first_word value)
+      then operand_reason place (behind_word value) (λ address. form)
+      else (if takes_numbers (first_word value) then form
+      else first_word value ++ mistake_text (value_mistake (first_word value))))
+
+-- what is said of a line whose command is known: the first word that is wrong, or else the form
+abbrev pub verb_reason : List (List ℕ × ℕ) → ℕ → List ℕ → Verb → List ℕ
+verb_reason names counter line verbs.Word =
+    let form = first_word line ++ operands_form verbs.Word in
+    operand_reason names form counter (behind_word line)
+    (value_reason names form (behind_word (behind_word line)))
+verb_reason names counter line verb =
+    let form = first_word line ++ operands_form verb in
+    if takes_address verb then operand_reason names form counter (behind_word line) (λ address. form)
+    else form
+
+-- and of one whose command is not known
+abbrev pub no_command_reason : List ℕ → List ℕ
+no_command_reason word =
+    if has_capital word then word ++ mistake_text mistakes.Capital
+    else codes "there is no such command, help lists them"
+
+unfoldable pub misformed_text : List (List ℕ × ℕ) → ℕ → List ℕ → List ℕ
+misformed_text names counter line =
+    codes "? 1 Form: "
+    ++ (option_map_or (verb_reason names counter line) (named verb_names (first_word line))
+    (no_command_reason (first_word line)) ++ codes "\n")
