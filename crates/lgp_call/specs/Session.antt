@@ -1,6 +1,7 @@
 -- Part of the public promise: a session, in which the monitor answers one line after another.
-use Rattle.std.specs.Prelude.{ℕ, if◌then◌else◌, List, [], length}
-use Rattle.lgp_stream.specs.Language.{is_question}
+use Rattle.std.specs.Prelude.{ℕ, Bool, fold, if◌then◌else◌, List, [], codes, length}
+use Rattle.std.specs.List.{list_any}
+use Rattle.lgp_stream.specs.Language.{is_line_feed, is_question}
 use Rattle.lgp_transcript.specs.Transcript.{Recorded, untouched}
 use Rattle.lgp_lab.specs.Standing.{Standing, opening_standing}
 use Rattle.lgp_monitor.specs.Monitor.{monitor_language}
@@ -15,12 +16,25 @@ pub record Sitting : Type 0 where
 abbrev pub opening_sitting : Sitting
 opening_sitting = record { recorded = untouched opening_standing; reply = [] }
 
+-- bytes with a line feed among them are more than a line: they are refused, and nothing is done
+abbrev pub has_line_feed : List ℕ → Bool
+has_line_feed line = list_any is_line_feed line
+
+unfoldable pub more_than_a_line : List ℕ
+more_than_a_line = codes "? 1 Form: these are several lines, give them one by one\n"
+
 -- after a line
 abbrev pub after_line : Sitting → List ℕ → Sitting
-after_line sitting line = record {
-  recorded = monitor_language.after sitting.recorded line;
-  reply = monitor_language.reply sitting.recorded line;
-}
+after_line sitting line =
+    if has_line_feed line then record sitting { reply = more_than_a_line }
+    else record {
+      recorded = monitor_language.after sitting.recorded line;
+      reply = monitor_language.reply sitting.recorded line;
+    }
+
+-- after lines, one after another
+abbrev pub after_all : Sitting → List (List ℕ) → Sitting
+after_all sitting lines = fold after_line sitting lines
 
 -- the reply to the session's end
 abbrev pub closing_reply : Sitting → List ℕ

@@ -3,7 +3,7 @@
 ghost use Rattle.std.specs.Prelude.{◌≡◌, ◌<◌, ◌≤◌, IfOk, OnOk};
 ghost use Rattle.lgp_stream.specs.Language.{is_question};
 ghost use Rattle.lgp_call.specs.Room.{filled};
-ghost use Rattle.lgp_call.specs.Session.{after_line, closing_reply, no_outcome, opening_sitting, outcome_of, questions_in};
+ghost use Rattle.lgp_call.specs.Session.{after_line, closing_reply, has_line_feed, no_outcome, opening_sitting, outcome_of, questions_in};
 ghost use Rattle.lgp_call.specs.Status.{answered_status, memory_status, unread_status};
 
 use crate::room::fill;
@@ -13,6 +13,17 @@ use lgp_monitor::Monitor;
 use lgp_stream::{Answers, LineBytes};
 use std::alloc::{AllocError, Allocator};
 use std::marker::Model;
+
+/// The refusal of bytes with a line feed among them.
+const MORE_THAN_A_LINE: &[u8] =
+    b"? 1 Form: these are several lines, give them one by one\n";
+
+/// Whether a line feed stands among the bytes of a line.
+fn has_line_feed(line: &[u8]) -> bool
+    ensures { result ≡ has_line_feed line.now }
+{
+    line.iter().any(|byte| *byte == b'\n')
+}
 
 /// Whether a reply begins with a question mark.
 fn is_question(reply: &[u8]) -> bool
@@ -61,11 +72,16 @@ impl<A: Allocator + Copy> Session<A> {
         Ok(Box::new(room, session)?)
     }
 
-    /// Answers a line. A refused growth leaves open where the session stands.
+    /// Answers a line. Bytes with a line feed among them are refused, and nothing is done. A refused growth leaves open where the
+    /// session stands.
+    #[tactic(auto, unfolding(crate::specs::Session::more_than_a_line))]
     pub fn answer_line(&mut self, line: &[u8]) -> Result<(), AllocError>
         ensures { OnOk result (self.new ≡ after_line self.old line.now) }
     {
         self.reply.clear();
+        if has_line_feed(line) {
+            return self.reply.extend_from_slice(MORE_THAN_A_LINE);
+        }
         self.monitor.answer(&LineBytes::of(line), &mut self.reply)
     }
 

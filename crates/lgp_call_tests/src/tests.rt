@@ -11,8 +11,13 @@ use std::test::Fail;
 type Row = (&'static [u8], u32, &'static [u8]);
 
 /// Lines of one session. A word at 30 is twice its number.
-const ROWS: [Row; 11] = [
+const ROWS: [Row; 12] = [
     (b"put 0050 = 3", 0, b"ok\n"),
+    (
+        b"; a\nput 0050 00000004",
+        1,
+        b"? 1 Form: these are several lines, give them one by one\n",
+    ),
     (b"words 0050 1", 0, b"0050 00000006\n"),
     (b"", 0, b""),
     (
@@ -91,17 +96,17 @@ fn a_session_answers_one_line_after_another(rt: HostRuntime) -> Result<(), Fail>
     Ok(())
 }
 
-/// What a line of 5,000 bytes and one of any bytes are told.
-fn odd_lines<A: Allocator + Copy>(session: &mut Session<A>) -> [Told; 2] {
+/// What a line of 5,000 bytes, one of any bytes but a line feed, and any bytes are told.
+fn odd_lines<A: Allocator + Copy>(session: &mut Session<A>) -> [Told; 3] {
     let mut room = [b'.'; 8];
     let mut bytes = [0; 256];
     for (byte, value) in bytes.iter_mut().zip(0..=255) {
         *byte = value;
     }
-    [
-        ask(session, &[b'x'; 5000], &mut room),
-        ask(session, &bytes, &mut room),
-    ]
+    let long = ask(session, &[b'x'; 5000], &mut room);
+    let all = ask(session, &bytes, &mut room);
+    bytes[10] = b' ';
+    [long, ask(session, &bytes, &mut room), all]
 }
 
 #[test]
@@ -109,7 +114,11 @@ fn a_line_may_be_long_and_have_any_bytes(rt: HostRuntime) -> Result<(), Fail> {
     let mut session = Session::new(rt.alloc())?;
     let long = b"? 11 TooLong: a line has at most 4096 bytes, a source 1048576\n".len() as u64;
     let form = b"? 1 Form: there is no such command, help lists them\n".len() as u64;
-    assert_eq!(rt; odd_lines(&mut session), [(1, 1, long), (1, 1, form)]);
+    let lines = b"? 1 Form: these are several lines, give them one by one\n".len() as u64;
+    assert_eq!(rt;
+        odd_lines(&mut session),
+        [(1, 1, long), (1, 1, form), (1, 1, lines)]
+    );
     Ok(())
 }
 
