@@ -172,6 +172,7 @@ fn refused_in_turn(scarce: &Scarce<Global>) -> Option<u64> {
 #[test]
 fn each_growth_refused_is_told(rt: HostRuntime) -> Result<(), Fail> {
     let scarce = Scarce::new(rt.alloc());
-    assert!(rt; refused_in_turn(&scarce).is_some_and(|growths| growths > 20));
+    let many = refused_in_turn(&scarce).is_some_and(|growths| growths > 20);
+    assert_eq!(rt; (many, scarce.blocks_out()), (true, 0));
     Ok(())
 }

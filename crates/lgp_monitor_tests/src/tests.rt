@@ -355,14 +355,22 @@ fn refusals(scarce: &Scarce<Global>, global: Global, lines: &[u8], faults: u64) 
 fn each_growth_of_a_told_run_is_refused(rt: HostRuntime) {
     let scarce = Scarce::new(rt.alloc());
     let refused = refusals(&scarce, rt.alloc(), EACH, 0);
-    assert!(rt; refused.is_some_and(|count| count > 20), "{refused:?}");
+    let are_back = scarce.blocks_out() == 0;
+    assert!(rt;
+        are_back && refused.is_some_and(|count| count > 20),
+        "{refused:?}"
+    );
 }
 
 #[test]
 fn each_growth_of_marked_faults_is_refused(rt: HostRuntime) {
     let scarce = Scarce::new(rt.alloc());
     let refused = refusals(&scarce, rt.alloc(), FAULTY, 2);
-    assert!(rt; refused.is_some_and(|count| count > 20), "{refused:?}");
+    let are_back = scarce.blocks_out() == 0;
+    assert!(rt;
+        are_back && refused.is_some_and(|count| count > 20),
+        "{refused:?}"
+    );
 }
 
 #[test]

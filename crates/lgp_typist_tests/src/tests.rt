@@ -441,8 +441,7 @@ fn may_be_refused(
 }
 
 /// Whether each growth may be refused: of lines, of a dump, and of a long tape.
-fn each_may_be_refused(global: Global) -> [bool; 3] {
-    let scarce = Scarce::new(global);
+fn each_may_be_refused(scarce: &Scarce<Global>, global: Global) -> [bool; 3] {
     let two_lines = b"# line 1 of two lines\nput 0000 b 0003\n# line 2 of two lines\nrun 1\n#\n";
     let drum = b"# drum\n#< restore drum\n0100 00000004\r\n0101 00000008\n#.\n#\n";
     let front = b"# returns\n#< tape returns\n";
@@ -450,15 +449,17 @@ fn each_may_be_refused(global: Global) -> [bool; 3] {
         return [false, false, false];
     };
     [
-        may_be_refused(&scarce, global, b"do two lines\n", two_lines),
-        may_be_refused(&scarce, global, b"restore drum\n", drum),
-        may_be_refused(&scarce, global, b"archive returns\n", &returns),
+        may_be_refused(scarce, global, b"do two lines\n", two_lines),
+        may_be_refused(scarce, global, b"restore drum\n", drum),
+        may_be_refused(scarce, global, b"archive returns\n", &returns),
     ]
 }
 
 #[test]
 fn each_growth_may_be_refused(rt: HostRuntime) {
-    assert_eq!(rt; each_may_be_refused(rt.alloc()), [true, true, true]);
+    let scarce = Scarce::new(rt.alloc());
+    let each = each_may_be_refused(&scarce, rt.alloc());
+    assert_eq!(rt; (each, scarce.blocks_out()), ([true, true, true], 0));
 }
 
 /// Whether this is typed where three files are named before anything is typed.

@@ -361,7 +361,8 @@ fn records_with_each_growth_refused(rt: HostRuntime) -> Result<(), Fail> {
     let scarce = Scarce::new(rt.alloc());
     let seen = over_records(&scarce, rt.alloc())?;
     let gone = (Some(0), Some(false), Some(0));
-    assert_eq!(rt; seen, expected([true; 6], [true; 6], gone));
+    let wanted = expected([true; 6], [true; 6], gone);
+    assert_eq!(rt; (seen, scarce.blocks_out()), (wanted, 0));
     Ok(())
 }
 
@@ -373,7 +374,8 @@ fn checkpoints_with_each_growth_refused(rt: HostRuntime) -> Result<(), Fail> {
     let opened = [true, false, false, false, true, false];
     let paused = [false, true, false, false, false, false];
     let gone = (Some(3), Some(true), Some(114));
-    assert_eq!(rt; seen, expected(opened, paused, gone));
+    let wanted = expected(opened, paused, gone);
+    assert_eq!(rt; (seen, scarce.blocks_out()), (wanted, 0));
     Ok(())
 }
 
@@ -576,10 +578,8 @@ fn a_run_over_records_says_behind_how_many_orders_it_is_refused(
     rt: HostRuntime,
 ) -> Result<(), Fail> {
     let scarce = Scarce::new(rt.alloc());
-    assert_eq!(rt;
-        all_runs(&scarce, rt.alloc(), (Kind::Records, Way::ByRules))?,
-        runs_expected(false)
-    );
+    let runs = all_runs(&scarce, rt.alloc(), (Kind::Records, Way::ByRules))?;
+    assert_eq!(rt; (runs, scarce.blocks_out()), (runs_expected(false), 0));
     Ok(())
 }
 
@@ -588,10 +588,8 @@ fn a_free_run_over_records_says_behind_how_many_orders_it_is_refused(
     rt: HostRuntime,
 ) -> Result<(), Fail> {
     let scarce = Scarce::new(rt.alloc());
-    assert_eq!(rt;
-        all_runs(&scarce, rt.alloc(), (Kind::Records, Way::Freely))?,
-        runs_expected(false)
-    );
+    let runs = all_runs(&scarce, rt.alloc(), (Kind::Records, Way::Freely))?;
+    assert_eq!(rt; (runs, scarce.blocks_out()), (runs_expected(false), 0));
     Ok(())
 }
 
@@ -600,10 +598,8 @@ fn a_run_over_checkpoints_says_behind_how_many_orders_it_is_refused(
     rt: HostRuntime,
 ) -> Result<(), Fail> {
     let scarce = Scarce::new(rt.alloc());
-    assert_eq!(rt;
-        all_runs(&scarce, rt.alloc(), (Kind::Checkpoints, Way::ByRules))?,
-        runs_expected(true)
-    );
+    let runs = all_runs(&scarce, rt.alloc(), (Kind::Checkpoints, Way::ByRules))?;
+    assert_eq!(rt; (runs, scarce.blocks_out()), (runs_expected(true), 0));
     Ok(())
 }
 
@@ -612,10 +608,8 @@ fn a_free_run_over_checkpoints_says_behind_how_many_orders_it_is_refused(
     rt: HostRuntime,
 ) -> Result<(), Fail> {
     let scarce = Scarce::new(rt.alloc());
-    assert_eq!(rt;
-        all_runs(&scarce, rt.alloc(), (Kind::Checkpoints, Way::Freely))?,
-        runs_expected(true)
-    );
+    let runs = all_runs(&scarce, rt.alloc(), (Kind::Checkpoints, Way::Freely))?;
+    assert_eq!(rt; (runs, scarce.blocks_out()), (runs_expected(true), 0));
     Ok(())
 }
 
@@ -684,6 +678,10 @@ fn loads(scarce: &Scarce<Global>, image: &Image) -> Result<[Loaded; 2], AllocErr
 fn a_load_with_each_growth_refused_keeps_what_there_is(rt: HostRuntime) -> Result<(), Fail> {
     let scarce = Scarce::new(rt.alloc());
     let image = image(rt.alloc())?;
-    assert_eq!(rt; loads(&scarce, &image)?, [Some((true, 15342, (0, 0))); 2]);
+    let loads = loads(&scarce, &image)?;
+    assert_eq!(rt;
+        (loads, scarce.blocks_out()),
+        ([Some((true, 15342, (0, 0))); 2], 0)
+    );
     Ok(())
 }

@@ -57,7 +57,8 @@ fn each_growth_of_a_copied_step_is_refused(rt: HostRuntime) -> Result<(), Fail> 
     let scarce = Scarce::new(rt.alloc());
     let step = mounting(&scarce, b"12'").ok_or("no tape")?;
     let seen = (copied(&scarce, &step), step.is_order());
-    assert_eq!(rt; seen, (Some([(3, [6, 10, 32]); 2]), false));
+    let expected = (Some([(3, [6, 10, 32]); 2]), false);
+    assert_eq!(rt; (seen, scarce.blocks_out()), (expected, 1));
     Ok(())
 }
 
@@ -93,7 +94,7 @@ fn made(scarce: &Scarce<Global>) -> [Option<u64>; 2] {
 #[test]
 fn each_growth_of_a_new_history_is_refused(rt: HostRuntime) -> Result<(), Fail> {
     let scarce = Scarce::new(rt.alloc());
-    assert_eq!(rt; made(&scarce), [Some(0); 2]);
+    assert_eq!(rt; (made(&scarce), scarce.blocks_out()), ([Some(0); 2], 0));
     Ok(())
 }
 
@@ -346,11 +347,14 @@ const RECORDED: Grown = ([true; 4], 0, [true; 6], 0);
 fn records_with_each_growth_refused(rt: HostRuntime) -> Result<(), Fail> {
     let scarce = Scarce::new(rt.alloc());
     assert_eq!(rt;
-        with_records(&scarce, &scarce)?,
+        (with_records(&scarce, &scarce)?, scarce.blocks_out()),
         (
-            Some(RECORDED),
-            (found(false), behind(false)),
-            at_the_first(false)
+            (
+                Some(RECORDED),
+                (found(false), behind(false)),
+                at_the_first(false)
+            ),
+            0
         )
     );
     Ok(())
@@ -368,11 +372,14 @@ const COPIED: Grown = (
 fn checkpoints_with_each_growth_refused(rt: HostRuntime) -> Result<(), Fail> {
     let scarce = Scarce::new(rt.alloc());
     assert_eq!(rt;
-        with_checkpoints(&scarce, &scarce)?,
+        (with_checkpoints(&scarce, &scarce)?, scarce.blocks_out()),
         (
-            Some(COPIED),
-            (found(true), behind(true)),
-            at_the_first(true)
+            (
+                Some(COPIED),
+                (found(true), behind(true)),
+                at_the_first(true)
+            ),
+            0
         )
     );
     Ok(())

@@ -279,7 +279,8 @@ fn a_load_asks_for_memory_before_it_presses(rt: HostRuntime) -> Result<(), Fail>
     let scarce = Scarce::new(rt.alloc());
     for (stand, way, fault, refused) in ANSWERS {
         let found = answer_of(&scarce, rt.alloc(), &image, (stand, way))?;
-        assert_eq!(rt; found, (Err(fault), refused, true), "{stand:?}");
+        let answer = (Err(fault), refused, true);
+        assert_eq!(rt; (found, scarce.blocks_out()), (answer, 0), "{stand:?}");
     }
     Ok(())
 }
