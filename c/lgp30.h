@@ -70,7 +70,8 @@ struct lgp_session {
  * LGP_WELL; LGP_NO_MEMORY, and then none is open; LGP_IS_OPEN, and then nothing has changed. */
 uint32_t lgp_open(struct lgp_session *session);
 
-/* Answers a line of any bytes. One of more than 4096 bytes is refused as too long, unless it has no
+/* Answers a line of any bytes but a line feed. With one among them these are several lines: they are
+ * refused, and nothing is done. A line of more than 4096 bytes is refused as too long, unless it has no
  * reply in any case, as a blank line or a comment. In an open source such a line has no reply, whatever
  * it is: it makes the source too long, and that is refused at its end.
  *

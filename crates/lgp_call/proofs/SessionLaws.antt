@@ -12,11 +12,12 @@ use Rattle.lgp_call.specs.Session.{Sitting, after_all, after_line, has_line_feed
 -- bytes without a line feed are a line
 line_without : (line : List ℕ) → has_line_feed line ≡ false → IsLine line
 line_without [] none = tt
-line_without (b ∷ line) none = by_first (is_line_feed b) (has_line_feed line) refl refl none where
-  by_first : (first more : Bool) → is_line_feed b ≡ first → has_line_feed line ≡ more → (first || more) ≡ false → IsLine (b ∷ line)
-  by_first true more e f none = cc none
-  by_first false true e f none = cc none
-  by_first false false e f none = (e, line_without line f)
+line_without (b ∷ line) none = by_first (is_line_feed b) (has_line_feed line) refl refl none (λ more. line_without line more) where
+  by_first : (first more : Bool) → is_line_feed b ≡ first → has_line_feed line ≡ more → (first || more) ≡ false
+      → (has_line_feed line ≡ false → IsLine line) → IsLine (b ∷ line)
+  by_first true more e f none rest = cc none
+  by_first false true e f none rest = cc none
+  by_first false false e f none rest = (e, rest f)
 
 abbrev IsTold-at : Recorded Standing → Type 0
 IsTold-at recorded = IsTold script_language opening_standing recorded.standing recorded.transcript

@@ -192,6 +192,8 @@ abbrev pub IsObeyed : (A : Type 0) → (List ℕ → Option Bool) → (List ℕ 
     → List (List ℕ) → Option (List ℕ) → Failures → Bool → ℕ → Option (List ℕ) → Option (List ℕ)
     → Option (List ℕ) → Option (List ℕ) → Type 0
 IsObeyed A opens contents typed input failures m_failed status w₀ w m₀ m =
-    (AskForTask typed × IsPerformed {A = A} opens contents (task_for typed) input failures status w₀ w × (m ≡ m₀))
+    (AskForTask typed
+    × IsPerformed {A = A} opens contents (task_for typed) input failures status w₀ w
+    × (m ≡ m₀))
     ⊎ ((fault : TaskFault A) × IsFaultOn command_line typed fault
     × IsRefused fault failures.write m_failed status w₀ w m₀ m)

@@ -2,9 +2,10 @@
 -- word of it is wrong, and what would be right.
 use Rattle.std.specs.Prelude.{ℕ, ◌==◌, ◌&&◌, ◌||◌, nat_lt, not, Bool, true, false, if◌then◌else◌}
 use Rattle.std.specs.Prelude.{Option, Some, None, is_some, Result, Ok, Err}
-use Rattle.std.specs.Prelude.{List, ◌++◌, codes, drop, flat_map, length, slice_index, take}
-use Rattle.std.specs.Char.{is_ascii_digit, is_ascii_uppercase}
-use Rattle.std.specs.List.{list_all, list_any}
+use Rattle.std.specs.Prelude.{List, ◌++◌, codes, drop, flat_map, length, slice_get, take}
+use Rattle.std.specs.Prelude.{slice_index}
+use Rattle.std.specs.Char.{is_ascii_uppercase}
+use Rattle.std.specs.List.{list_any}
 use Rattle.std.specs.Option.{option_map_or}
 use Rattle.std.specs.Str.{byte, bytes_eq}
 use Rattle.lgp_word.specs.Decimal.{decimal_number}
@@ -32,7 +33,7 @@ help_text = flat_map (λ name. form_line name.0 name.1) verb_names
 
 -- ---- what is wrong with a word
 
--- what is said of a word behind it
+-- what is said of a word, after it
 abbrev pub mistake_text : Mistake → List ℕ
 mistake_text mistakes.Capital = codes " has a capital letter, and all letters are small"
 mistake_text mistakes.Digits = codes " is no address: two digits are the track, and two the sector"
@@ -50,8 +51,9 @@ mistake_text mistakes.Value = codes " is neither eight digits nor a fraction nor
 abbrev pub has_capital : List ℕ → Bool
 has_capital word = list_any is_ascii_uppercase word
 
+-- at most 18 digits, and one at least
 abbrev pub are_digits : List ℕ → Bool
-are_digits word = not (length word == 0) && list_all is_ascii_digit word
+are_digits word = is_some (decimal_number 18 word)
 
 -- two decimal digits above 63
 abbrev pub is_beyond_63 : List ℕ → Bool
@@ -70,20 +72,24 @@ address_mistake Misformed word = misformed_address word
 address_mistake Unknown word = mistakes.Label
 address_mistake Outside word = mistakes.Drum
 
--- an order's letter with digits behind it
+-- an order's letter with digits after it
 abbrev pub is_order_with_digits : List ℕ → Bool
 is_order_with_digits word =
-    is_some (op_of_letter (slice_index word 0)) && are_digits (drop 1 word)
+    option_map_or (λ letter. is_some (op_of_letter letter)) (slice_get word 0) false
+    && are_digits (drop 1 word)
 
 abbrev pub is_l_or_o : ℕ → Bool
 is_l_or_o b = b == byte "l" || b == byte "o"
+
+abbrev pub has_l_or_o : List ℕ → Bool
+has_l_or_o word = list_any is_l_or_o word
 
 -- of a word that is no value of `put`
 abbrev pub value_mistake : List ℕ → Mistake
 value_mistake word =
     if has_capital word then mistakes.Capital
     else (if is_order_with_digits word then mistakes.Blank
-    else (if length word == 8 && list_any is_l_or_o word then mistakes.LetterDigit
+    else (if length word == 8 && has_l_or_o word then mistakes.LetterDigit
     else mistakes.Value))
 
 -- ---- why a line is in no command's form
@@ -102,7 +108,7 @@ takes_numbers word =
 
 module _ (names : List (List ℕ × ℕ)) (form : List ℕ) where
   -- of a first operand that should be an address, which `*` may name, and where it is one, of what
-  -- stands behind it
+  -- comes after it
   abbrev pub by_address : List ℕ → Result ℕ OperandFault → (ℕ → List ℕ) → List ℕ
   by_address operand (Ok address) more = more address
   by_address operand (Err fault) more = operand ++ mistake_text (address_mistake fault operand)
@@ -129,8 +135,8 @@ verb_reason names counter line verbs.Word =
     (value_reason names form (behind_word (behind_word line)))
 verb_reason names counter line verb =
     let form = first_word line ++ operands_form verb in
-    if takes_address verb then operand_reason names form counter (behind_word line) (λ address. form)
-    else form
+    if takes_address verb
+    then operand_reason names form counter (behind_word line) (λ address. form) else form
 
 -- and of one whose command is not known
 abbrev pub no_command_reason : List ℕ → List ℕ

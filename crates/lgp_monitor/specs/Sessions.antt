@@ -1,7 +1,7 @@
 -- Part of the public promise: what the monitor's program does for the words of its command line:
 -- what it writes where, and its status.
-use Rattle.std.specs.Prelude.{◌≡◌, ◌⊎◌, ℕ, Bool, if◌then◌else◌, Option, List, [], ◌∷◌, IfSome, Result, Ok}
-use Rattle.std.specs.Prelude.{Err}
+use Rattle.std.specs.Prelude.{◌≡◌, ◌⊎◌, ℕ, Bool, if◌then◌else◌, Option, List, [], ◌∷◌, IfSome}
+use Rattle.std.specs.Prelude.{Result, Ok, Err}
 use Rattle.std.specs.Io.KnownBytes.{Appends}
 use Rattle.clap.specs.Words.{fault_of}
 use Rattle.lgp_task.specs.CommandLine.{monitor_line}
@@ -34,7 +34,8 @@ module _ (manner : Manner) (known : Option (List ℕ)) where
       IfSome known (λ typed. Appends w₀ w (attended_text manner typed)
       × (count ≡ attended_faults manner typed))
   HasAnswered failures (Err fault) w₀ w = HasCause fault failures.read failures.write
-      × IfSome known (λ typed. (left : Option (List ℕ)) × StandsWritten (opening_text manner (prompt_at (untouched opening_standing)) ∷ [])
+      × IfSome known (λ typed. (left : Option (List ℕ))
+      × StandsWritten (opening_text manner (prompt_at (untouched opening_standing)) ∷ [])
       attended_language
       (taken_seat manner (untouched opening_standing)) fault typed left w₀ w)
 

@@ -6,7 +6,7 @@ ghost use Rattle.std.specs.Option.{option_map_or};
 ghost use Rattle.lgp_stream.specs.LineWords.{behind_word, first_word, has_no_word};
 ghost use Rattle.lgp_assembler.specs.AddressOperands.{address_operand};
 ghost use Rattle.lgp_text.specs.NamedValues.{named, pairs_of};
-ghost use Rattle.lgp_monitor.specs.Forms.{address_mistake, are_digits, by_address, form_line, has_capital, help_text, is_beyond_63, is_l_or_o, is_order_with_digits, misformed_address, misformed_text, mistake_text, no_command_reason, operand_reason, takes_numbers, takes_place, value_mistake, value_reason, verb_reason};
+ghost use Rattle.lgp_monitor.specs.Forms.{address_mistake, are_digits, by_address, form_line, has_capital, has_l_or_o, help_text, is_beyond_63, is_l_or_o, is_order_with_digits, misformed_address, misformed_text, mistake_text, no_command_reason, operand_reason, takes_numbers, takes_place, value_mistake, value_reason, verb_reason};
 ghost use Rattle.lgp_monitor.specs.Verbs.{operands_form, verb_names};
 
 use crate::verb::{VERBS, Verb, operands_form, takes_address, verb_named};
@@ -41,7 +41,7 @@ pub enum Mistake {
     Value,
 }
 
-/// What is said of a word behind it.
+/// What is said of a word, after it.
 fn mistake_text(mistake: Mistake) -> &'static [u8]
     ensures { result.now ≡ mistake_text mistake }
 {
@@ -66,11 +66,11 @@ fn has_capital(word: &[u8]) -> bool
     word.iter().any(|byte| byte.is_ascii_uppercase())
 }
 
-/// Whether a word is digits.
+/// Whether a word is digits, 18 at most.
 fn are_digits(word: &[u8]) -> bool
     ensures { result ≡ are_digits word.now }
 {
-    !word.is_empty() && word.iter().all(|byte| byte.is_ascii_digit())
+    read_decimal(word, 18).is_some()
 }
 
 /// Whether two digits are a number above 63.
@@ -114,7 +114,7 @@ fn address_mistake(fault: OperandFault, word: &[u8]) -> Mistake
     }
 }
 
-/// Whether a word is an order's letter with digits behind it.
+/// Whether a word is an order's letter with digits after it.
 fn is_order_with_digits(word: &[u8]) -> bool
     ensures { result ≡ is_order_with_digits word.now }
 {
@@ -122,6 +122,13 @@ fn is_order_with_digits(word: &[u8]) -> bool
         [letter, digits @ ..] => Op::of_letter(*letter).is_some() && are_digits(digits),
         [] => false,
     }
+}
+
+/// Whether a word has `l` or `o`.
+fn has_l_or_o(word: &[u8]) -> bool
+    ensures { result ≡ has_l_or_o word.now }
+{
+    word.iter().any(|byte| *byte == b'l' || *byte == b'o')
 }
 
 /// What is wrong with a word that is no value of `put`.
@@ -134,7 +141,7 @@ fn value_mistake(word: &[u8]) -> Mistake
     if is_order_with_digits(word) {
         return Mistake::Blank;
     }
-    if word.len() == 8 && word.iter().any(|byte| *byte == b'l' || *byte == b'o') {
+    if word.len() == 8 && has_l_or_o(word) {
         Mistake::LetterDigit
     } else {
         Mistake::Value

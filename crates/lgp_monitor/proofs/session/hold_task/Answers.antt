@@ -1,4 +1,4 @@
-use Rattle.std.specs.Prelude.{Err}
+use Rattle.std.specs.Prelude.{Err, false}
 use Rattle.lgp_stream.specs.declared.stream.StreamFault.TheVariants.{Memory}
 use Rattle.lgp_monitor.proofs.Unbegun.{nothing_answered}
 use Rattle.lgp_monitor.proofs.session.hold_task.Goals as goal
@@ -6,8 +6,6 @@ use Rattle.lgp_monitor.proofs.session.hold_task.Goals as goal
 pub returns-then-is_err : goal.returns-then-is_err
 returns-then-is_err g c = (
   Err Memory,
-  nothing_answered _
-      _
-      _,
+  nothing_answered _ _ _ (record { read = false; write = false }),
   c.session_status.ensures,
 )
