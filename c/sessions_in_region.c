@@ -1,15 +1,17 @@
 /* Tries what the header promises of sessions over memory that is handed over: all that is tried of those
  * over malloc, want of memory by memory of many sizes, and a hundred thousand lines in 3 megabytes. All
  * of the memory is one array, of which each session has a part of its own, since what was handed over
- * does not come back. Ends with 0 where all is as promised. */
+ * does not come back. With a word on the command line it does a hundredth of the rounds, for whoever
+ * watches it by a slow tool. Ends with 0 where all is as promised. */
 #include "lgp30_region.h"
 #include "trial.h"
 
 #include <stdio.h>
 #include <string.h>
 
-/* What lies between two parts is handed over to nobody, and stays as it is. */
-enum { BETWEEN = 64 };
+/* What lies between two parts is handed over to nobody, and stays as it is. With so many bytes the header
+ * promises a source and a new laboratory. */
+enum { BETWEEN = 64, ROUND_ROOM = 1310720 };
 
 static _Alignas(16) uint8_t memory[256 << 20];
 static size_t handed_over = BETWEEN;
@@ -136,8 +138,44 @@ static void many_lines(void)
     expect(closing_line(1 << 20, 100000) == 131072 / 6 + 1, "1 megabyte is enough for 131,072 bytes of them");
 }
 
-int main(void)
+/* How many rounds are answered in so many bytes: a source of three lines, and a new laboratory. */
+static size_t rounds_in(size_t size, size_t rounds)
 {
+    static const char *const lines[] = {"source", "loop b loop", " u loop", " end", ".", "new"};
+    struct lgp_session session = {0};
+    struct lgp_outcome outcome;
+    uint8_t reply[64];
+    size_of_next = size;
+    if (in_region.open(&session) != LGP_WELL) {
+        return 0;
+    }
+    for (size_t round = 0; round < rounds; round++) {
+        for (size_t line = 0; line < sizeof lines / sizeof *lines; line++) {
+            if (lgp_answer_in(&session, (const uint8_t *)lines[line], strlen(lines[line]), reply, sizeof reply, &outcome) != LGP_WELL) {
+                return round;
+            }
+        }
+    }
+    expect(is_reply(end(&in_region, &session, 32), LGP_WELL, ""), "the session is open to its end");
+    return rounds;
+}
+
+/* A block that was freed serves again, so what is done and given up again and again takes no more memory.
+ * A new laboratory is made before the old one is given up. */
+static void many_rounds(size_t rounds)
+{
+    size_t least = 0;
+    for (size_t more = 1 << 20; more >= 16; more /= 2) {
+        least += rounds_in(least + more, 1) == 0 ? more : 0;
+    }
+    printf("sessions in regions: a source and a new laboratory take %zu bytes\n", least + 16);
+    expect(least + 16 <= ROUND_ROOM, "a source and a new laboratory take no more than the header says");
+    expect(rounds_in(3 << 20, rounds) == rounds, "3 megabytes are enough for any number of them");
+}
+
+int main(int words, char **word)
+{
+    (void)word;
     refuse_growth(1);
     size_of_next = 1 << 20;
     try_lines(&in_region);
@@ -145,6 +183,7 @@ int main(void)
     closed_by_memory();
     sizes();
     many_lines();
+    many_rounds(words > 1 ? 1000 : 100000);
     expect(grown_freely(), "malloc is not called");
     return failures() == 0 ? 0 : 1;
 }
