@@ -1,6 +1,6 @@
 // Answers each line of standard input in a session of the module that is named, and writes its reply.
 //
-//     node --experimental-wasm-memory64 ask_lines.mjs lgp_c_region.wasm < ../examples/first-run.txt
+//     node ask_lines.mjs lgp_c_region.wasm < ../examples/first-run.txt
 //
 // The memory is laid out behind what the module itself uses: the session, the outcome, the line, the room for a reply, and what is
 // handed over for good.
@@ -34,12 +34,7 @@ const roomAt = aligned(lineAt + BigInt(LINE));
 const regionAt = aligned(roomAt + BigInt(ROOM));
 const needed = Number(regionAt) + HANDED_OVER - memory.buffer.byteLength;
 const pages = Math.max(0, Math.ceil(needed / PAGE));
-try {
-    memory.grow(BigInt(pages));
-} catch (refusal) {
-    if (!(refusal instanceof TypeError)) throw refusal;
-    memory.grow(pages); // as node 20 asks
-}
+memory.grow(pages);
 
 /** The lines of a text, without their line feeds and a carriage return before that. */
 function* linesOf(text) {

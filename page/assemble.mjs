@@ -1,9 +1,9 @@
-// Puts the one file together: node assemble.mjs TEMPLATE STYLE MAIN WORKER MODULE EXAMPLES FORMATS, written to standard output.
+// Puts the one file together: node assemble.mjs TEMPLATE STYLE LACKING MAIN WORKER MODULE EXAMPLES FORMATS, written to standard output.
 import { readFileSync, readdirSync } from "node:fs";
 import { join } from "node:path";
 import { questionsIn } from "./lines.mjs";
 
-const [template, style, main, worker, module, shelf, formats] = process.argv.slice(2);
+const [template, style, lacking, main, worker, module, shelf, formats] = process.argv.slice(2);
 const text = (path) => readFileSync(path, "utf8");
 
 /** All scripts below a folder, by their names without the ending. */
@@ -20,7 +20,7 @@ function scriptsBelow(folder, name = "") {
 const inert = (script) => script.replaceAll("</", "<\\/").replaceAll("<!--", "<\\!--");
 
 const parts = {
-    STYLE: text(style), MAIN: inert(text(main)), WORKER: inert(text(worker)), MODULE: readFileSync(module).toString("base64"),
+    STYLE: text(style), LACKING: inert(text(lacking)), MAIN: inert(text(main)), WORKER: inert(text(worker)), MODULE: readFileSync(module).toString("base64"),
     EXAMPLES: inert(JSON.stringify(Object.fromEntries(scriptsBelow(shelf)))).replaceAll("<\\!--", "\\u003c!--"),
     QUESTIONS: JSON.stringify(questionsIn(text(formats))),
 };

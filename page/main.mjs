@@ -3,7 +3,6 @@ import { Laboratory } from "./laboratory.mjs";
 import { headOf, linesIn, withoutQuestions } from "./lines.mjs";
 import { Link } from "./link.mjs";
 import { askedIn } from "./opening.mjs";
-import { hasMemory64 } from "./session.mjs";
 import { makeAccounts, makeTime } from "./views/accounts.mjs";
 import { makeConsole, makeKeyboard } from "./views/console.mjs";
 import { button, h, part } from "./views/dom.mjs";
@@ -212,18 +211,16 @@ async function openAsked() {
 }
 
 async function begin() {
-    if (!hasMemory64()) {
-        document.getElementById("page").replaceChildren(h("p", { class: "sentence", role: "alert" }, texts.text("noMemory64")));
-        return;
-    }
     laboratory = new Laboratory(new Link(inlined("worker"), bytesOf(inlined("module"))));
     await laboratory.open();
+    if (laboratory.panel === null) return globalThis.tellLacking(laboratory.notice.detail);
     laboratory.addEventListener("change", show);
     lay();
     addEventListener("keydown", onKey);
     await openAsked();
     document.documentElement.dataset.ready = "true";
+    return undefined;
 }
 
 globalThis.laboratoryOfPage = () => laboratory;
-begin();
+if (document.getElementById("lacking").hidden) begin();

@@ -1,8 +1,8 @@
 // Runs the script on standard input in the module that is named, writes the replies and ends with the status.
 //
-//     node --experimental-wasm-memory64 run_script.mjs lgp_c_region.wasm < ../examples/first-run.txt
+//     node run_script.mjs lgp_c_region.wasm < ../examples/first-run.txt
 //
-// The module is crates/lgp_c_region, linked for wasm64. It imports nothing. Here its memory is laid out behind what the module
+// The module is crates/lgp_c_region, linked for wasm64 and lowered to a memory of 32 bits. It imports nothing. Here its memory is laid out behind what the module
 // itself uses: the script, the outcome, the room for the replies, and what is handed over for good.
 import { readFileSync, writeSync } from "node:fs";
 
@@ -24,12 +24,7 @@ const roomAt = handedAt + 16n;
 const regionAt = aligned(roomAt + BigInt(ROOM));
 const needed = Number(regionAt) + HANDED_OVER - memory.buffer.byteLength;
 const pages = Math.max(0, Math.ceil(needed / PAGE));
-try {
-    memory.grow(BigInt(pages));
-} catch (refusal) {
-    if (!(refusal instanceof TypeError)) throw refusal;
-    memory.grow(pages); // as node 20 asks
-}
+memory.grow(pages);
 
 new Uint8Array(memory.buffer, Number(scriptAt), script.length).set(script);
 const handed = new BigUint64Array(memory.buffer, Number(handedAt), 2);

@@ -1,6 +1,7 @@
 // A session of the proved module: a laboratory that answers one line of the monitor after another.
 //
-// The module is crates/lgp_c_region, linked for wasm64; c/lgp30_region.h says what its functions ask for. Its addresses are BigInts.
+// The module is crates/lgp_c_region, linked for wasm64 and lowered to a memory of 32 bits; c/lgp30_region.h says what its functions ask for.
+// They take addresses as BigInts.
 // Its memory is laid out here behind what the module itself uses:
 //
 //     session | outcome | memory to hand over | line | region, handed over for good | room for replies, which grows
@@ -18,23 +19,15 @@ export class NoMemory extends Error {}
 
 const aligned = (address) => (address + 15n) & ~15n;
 
-/** Whether this browser has memory with addresses of 64 bits: an empty module with such a memory is taken. Some have no WebAssembly at all. */
-export function hasMemory64() {
-    const smallest = [0, 0x61, 0x73, 0x6d, 1, 0, 0, 0, 5, 3, 1, 4, 0];
-    return typeof WebAssembly === "object" && WebAssembly.validate(new Uint8Array(smallest));
-}
-
 /** Makes a memory at least so many bytes long. Throws NoMemory where the browser refuses. */
 function grow(memory, needed) {
     const missing = needed - BigInt(memory.buffer.byteLength);
     if (missing <= 0n) return;
-    const pages = (missing + PAGE - 1n) / PAGE;
     try {
-        memory.grow(pages);
+        memory.grow(Number((missing + PAGE - 1n) / PAGE));
     } catch (refusal) {
         if (refusal instanceof RangeError) throw new NoMemory("the browser gives no more memory");
-        if (!(refusal instanceof TypeError)) throw refusal;
-        memory.grow(Number(pages)); // as node 20 asks
+        throw refusal;
     }
 }
 

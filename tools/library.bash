@@ -36,6 +36,17 @@ make_module() {
         give_up "the module of $1 was not linked"
 }
 
+need_lowering() {
+    command -v wasm-opt >/dev/null 2>&1 || give_up "wasm-opt is not there (Debian package binaryen)"
+}
+
+# lower_module FROM TO: a module whose memory has addresses of 64 bits, made into one whose memory has addresses of 32, which every browser
+# takes, and then made faster. The exports take the same numbers.
+lower_module() {
+    wasm-opt --enable-memory64 --enable-bulk-memory --enable-sign-ext --enable-mutable-globals --enable-nontrapping-float-to-int \
+        --memory64-lowering -O3 "$1" -o "$2" || give_up "wasm-opt did not lower $1"
+}
+
 # Replies as a script has them: what a refusal has in a session alone is its reason, behind a colon.
 without_reasons() {
     sed 's/^\(? [0-9]* [A-Za-z]*\( [0-9]*\)\{0,1\}\): .*/\1/'

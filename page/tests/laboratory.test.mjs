@@ -1,4 +1,4 @@
-// The controller with the proved monitor: with the module, where that is there and this node has memory64 (node 20: --experimental-wasm-memory64),
+// The controller with the proved monitor: with the module, where that is there,
 // and with the native program, crates/lgp30m/out/lgp30m, where ./prove lgp30m has made it.
 import assert from "node:assert/strict";
 import { existsSync, readFileSync, readdirSync } from "node:fs";
@@ -8,7 +8,7 @@ import { fileURLToPath } from "node:url";
 import { Laboratory } from "../laboratory.mjs";
 import { isLive, wayOn } from "../learn.mjs";
 import { ROOM } from "../room.mjs";
-import { NoMemory, hasMemory64 } from "../session.mjs";
+import { NoMemory } from "../session.mjs";
 import { ModuleLink } from "./module.mjs";
 import { NativeLink } from "./native.mjs";
 
@@ -18,7 +18,7 @@ const module = join(top, "page/lgp_c_region.wasm");
 const exampleNamed = (name) => readFileSync(join(top, `examples/${name}.txt`), "utf8");
 const names = readdirSync(join(top, "examples"), { recursive: true }).map(String).filter((name) => name.endsWith(".txt")).map((name) => name.slice(0, -".txt".length));
 const LINKS = [
-    { name: "module", isThere: existsSync(module) && hasMemory64(), open: () => new ModuleLink(module) },
+    { name: "module", isThere: existsSync(module), open: () => new ModuleLink(module) },
     { name: "program", isThere: existsSync(program), open: () => new NativeLink(program) },
 ];
 

@@ -1,4 +1,4 @@
-// The session of the module itself, where it is there and this node has memory64 (node 20: --experimental-wasm-memory64).
+// The session of the module itself, where it is there.
 import assert from "node:assert/strict";
 import { existsSync, readFileSync } from "node:fs";
 import { dirname, join } from "node:path";
@@ -6,10 +6,10 @@ import { test } from "node:test";
 import { fileURLToPath } from "node:url";
 import { ROOM } from "../room.mjs";
 import { counted } from "../words.mjs";
-import { NoMemory, Session, hasMemory64 } from "../session.mjs";
+import { NoMemory, Session } from "../session.mjs";
 
 const path = join(dirname(fileURLToPath(import.meta.url)), "../lgp_c_region.wasm");
-const skip = !existsSync(path) || !hasMemory64();
+const skip = !existsSync(path);
 const compiled = () => new WebAssembly.Module(readFileSync(path));
 
 test("a session answers one line after another", { skip }, () => {

@@ -2,12 +2,13 @@
 //
 // The page is opened from disk. A visitor of a museum sees the kiosk print; a class does what the first lesson says, and compares the
 // numbers of its tables with what the page shows; another one walks through the first steps of a later lesson; a source with a fault is
-// mended; each example gives its stored replies; a long run is measured; a browser without memory64 is told; people who cannot see all, or
+// mended; each example gives its stored replies; a long run is measured; a browser that lacks something is told; people who cannot see all, or
 // have no mouse, reach all. Behind each visit the script that Save gives is run, and has to end where the visit did: by the module, and by
 // the program that LAB names where it names one.
 import assert from "node:assert/strict";
 import { spawnSync } from "node:child_process";
-import { readFileSync, readdirSync, statSync } from "node:fs";
+import { mkdtempSync, readFileSync, readdirSync, rmSync, statSync, writeFileSync } from "node:fs";
+import { tmpdir } from "node:os";
 import { dirname, join, resolve } from "node:path";
 import { fileURLToPath, pathToFileURL } from "node:url";
 import { questionsIn, withoutQuestions } from "../lines.mjs";
@@ -596,25 +597,49 @@ async function stillness(browser) {
     await browser.ask("Emulation.setEmulatedMedia", { features: [] });
 }
 
-/** A browser without WebAssembly, as a Chromium is that may make no machine code, is told the same sentence. */
+/** Opens a page that cannot open its laboratory, and gives the sentence that it shows and what stands below. */
+async function sentence(browser, behind = address) {
+    await browser.open(behind, "!document.querySelector('#lacking').hidden");
+    const [english, german, detail] = (await textOf(browser, "#lacking")).split(/\n+/);
+    assert.match(english, /^This browser cannot open the laboratory: it needs WebAssembly, BigInt and 80 megabytes of memory/);
+    assert.match(german, /^Dieser Browser kann das Labor nicht öffnen/);
+    assert.deepEqual(await browser.value("['#page', '#notice', '#lost'].filter((it) => document.querySelector(it).checkVisibility())"), []);
+    return detail ?? "";
+}
+
+/** A browser without WebAssembly, as a Chromium is that may make no machine code, is told a sentence. */
 async function withoutWebAssembly() {
     const other = await Browser.start(800, 600, ["--js-flags=--jitless"]);
     try {
-        await other.open(`${address}?lang=en`, "document.querySelector('.sentence')");
+        assert.equal(await sentence(other), "");
         assert.equal(await other.value("typeof WebAssembly"), "undefined");
-        assert.match(await textOf(other, "#page"), /^This browser cannot open the laboratory/);
         assert.deepEqual(other.told, []);
     } finally {
         await other.end();
     }
 }
 
-/** A browser that says that it takes no memory64, is told one sentence. No flag of Chromium puts memory64 off any more. */
-async function withoutMemory64(browser) {
-    const { identifier } = await browser.ask("Page.addScriptToEvaluateOnNewDocument", { source: "WebAssembly.validate = () => false" });
-    await browser.open(`${address}?lang=en`, "document.querySelector('.sentence')");
-    assert.match(await textOf(browser, "#page"), /^This browser cannot open the laboratory/);
-    await browser.ask("Page.removeScriptToEvaluateOnNewDocument", { identifier });
+/** The same sentence is told by a browser without BigInt; by one that cannot read the page's script, as one without BigInt cannot; where the module is
+ * none; and where the memory is refused. Today's browsers have all that, so here it is taken from them, or from the page. */
+async function cannotOpen() {
+    const other = await Browser.start(800, 600);
+    const folder = mkdtempSync(join(tmpdir(), "page-"));
+    const page = readFileSync(file, "utf8");
+    const without = async (old, young) => {
+        assert.ok(page.includes(old), old);
+        writeFileSync(join(folder, "page.html"), page.replace(old, () => young));
+        return sentence(other, pathToFileURL(join(folder, "page.html")).href);
+    };
+    try {
+        assert.equal(await without("<script>", "<script>delete globalThis.BigInt;</script><script>"), "");
+        assert.deepEqual(other.told, []);
+        assert.match(await without("<script>\n(() => {", "<script>\n65536nn;(() => {"), /SyntaxError/);
+        assert.match(await without('id="module">AGFzbQ', 'id="module">AAAAAA'), /magic/);
+        assert.match(await without("64n << 20n", "1n << 40n"), /memory/);
+    } finally {
+        await other.end();
+        rmSync(folder, { recursive: true });
+    }
 }
 
 /** The replies of a script by each program that runs scripts. */
@@ -644,7 +669,9 @@ async function endsThere(browser) {
     return [whole, short].map((script) => script.split("\n").length - 1);
 }
 
-const visits = { kiosk, addresses, changes, thereAndBack, openSource, whatToPress, endlessPrint, firstHour, lesson, saved, source, profile, examples, badInput, usedUp, longRun, forPeople, everyone, byKeys, readOut, stillness, withoutMemory64, withoutWebAssembly };
+const all = { kiosk, addresses, changes, thereAndBack, openSource, whatToPress, endlessPrint, firstHour, lesson, saved, source, profile, examples, badInput, usedUp, longRun, forPeople, everyone, byKeys, readOut, stillness, withoutWebAssembly, cannotOpen };
+const wanted = process.env.VISITS?.split(" ") ?? Object.keys(all);
+const visits = Object.fromEntries(wanted.map((name) => [name, all[name]]));
 const browser = await Browser.start();
 let failed = 0;
 for (const [name, visit] of Object.entries(visits)) {
@@ -652,7 +679,7 @@ for (const [name, visit] of Object.entries(visits)) {
     try {
         const found = await visit(browser);
         if (name === "longRun") assert.ok(found >= LEAST_SPEED, `${Math.round(found)} orders a second`);
-        const lines = name === "withoutWebAssembly" ? null : await endsThere(browser);
+        const lines = ["withoutWebAssembly", "cannotOpen"].includes(name) ? null : await endsThere(browser);
         const saves = lines === null ? "" : `, ${lines[1]} lines saved of ${lines[0]}`;
         console.log(`${name}: well${found === undefined ? "" : `, ${Math.round(found)}`}${saves}, ${((Date.now() - began) / 1000).toFixed(1)} s`);
     } catch (failure) {
