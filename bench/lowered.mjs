@@ -2,7 +2,7 @@
 // room for them byte for byte, up to its end and some bytes beyond. Each line of standard input is a case of bench/lowered.py, in JSON: the script, the
 // bytes of the room for replies and those of the memory handed over, and perhaps the replies that another program gives.
 //
-//     node --experimental-wasm-memory64 bench/lowered.mjs page/lgp_c_region64.wasm page/lgp_c_region.wasm < cases
+//     node --experimental-wasm-memory64 bench/lowered.mjs page/lgp_c_region64.wasm page/module/lgp_c_region.wasm < cases
 import { readFileSync } from "node:fs";
 import { createInterface } from "node:readline";
 import "./wide_memory.mjs";

@@ -3,9 +3,9 @@ import { addressIn, isAmong, windowAt } from "./addresses.mjs";
 import { Deeds } from "./deeds.mjs";
 import { learnLive } from "./learn.mjs";
 import { isIdle, linesIn, setUp } from "./lines.mjs";
-import * as replies from "./replies.mjs";
+import * as replies from "./module/replies.mjs";
 import { ROOM, Room } from "./room.mjs";
-import { NoMemory } from "./session.mjs";
+import { NoMemory } from "./module/session.mjs";
 
 /** How many words are shown around the counter. */
 export const SHOWN = 16;

@@ -1,6 +1,6 @@
 // What is live when: learnt from the laboratory itself. A machine is brought into each status and mode that an operator can bring it
 // into, and every button is pressed there once. So the page shows a dead button dead without a rule of its own.
-import { keysOf, panelOf } from "./replies.mjs";
+import { keysOf, panelOf } from "./module/replies.mjs";
 
 /** Lines that bring a new machine to some status; behind each the machine is tried in this mode and in the others. */
 const WAYS = [

@@ -1,5 +1,5 @@
 // The page's end of the Worker: lines go out one after another, and each reply belongs to the oldest line that has none yet.
-import { NoMemory } from "./session.mjs";
+import { NoMemory } from "./module/session.mjs";
 
 /** A link to a Worker whose source is this text, with a session of the module of these bytes. */
 export class Link {

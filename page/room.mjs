@@ -1,6 +1,6 @@
 // How much of the module's memory a session may take. The module is not asked for its free room: what is counted is what takes the memory,
 // the bytes of the lines that its transcript keeps, and the codes that it has printed. The bounds leave room to spare for what `transcript`,
-// `printed`, a source and a told run need for a moment; page/tests/session.test.mjs fills a session up to them, and asks all that.
+// `printed`, a source and a told run need for a moment; page/tests/room.test.mjs fills a session up to them, and asks all that.
 
 /** The bytes of lines and the codes that a session may reach; how many codes short of that no more is begun; the codes after which a run asks; the
  * most orders that one line tells, and the most signs of a source that is sent at once. */

@@ -8,13 +8,13 @@ import { fileURLToPath } from "node:url";
 import { Laboratory } from "../laboratory.mjs";
 import { isLive, wayOn } from "../learn.mjs";
 import { ROOM } from "../room.mjs";
-import { NoMemory } from "../session.mjs";
+import { NoMemory } from "../module/session.mjs";
 import { ModuleLink } from "./module.mjs";
 import { NativeLink } from "./native.mjs";
 
 const top = join(dirname(fileURLToPath(import.meta.url)), "../..");
 const program = process.env.MONITOR ?? join(top, "crates/lgp30m/out/lgp30m");
-const module = join(top, "page/lgp_c_region.wasm");
+const module = join(top, "page/module/lgp_c_region.wasm");
 const exampleNamed = (name) => readFileSync(join(top, `examples/${name}.txt`), "utf8");
 const names = readdirSync(join(top, "examples"), { recursive: true }).map(String).filter((name) => name.endsWith(".txt")).map((name) => name.slice(0, -".txt".length));
 const LINKS = [

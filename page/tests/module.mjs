@@ -1,6 +1,6 @@
 // A link to a session of the module in this process, with the functions that the page's link to its Worker has.
 import { readFileSync } from "node:fs";
-import { Session } from "../session.mjs";
+import { Session, compiled } from "../module/session.mjs";
 
 /** A link to the compiled module in a file. */
 export class ModuleLink {
@@ -11,7 +11,7 @@ export class ModuleLink {
     opened = Promise.resolve();
 
     constructor(path) {
-        this.#module = new WebAssembly.Module(readFileSync(path));
+        this.#module = compiled(readFileSync(path));
         this.#start();
     }
 

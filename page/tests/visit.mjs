@@ -635,7 +635,7 @@ async function cannotOpen() {
         assert.deepEqual(other.told, []);
         assert.match(await without("<script>\n(() => {", "<script>\n65536nn;(() => {"), /SyntaxError/);
         assert.match(await without('id="module">AGFzbQ', 'id="module">AAAAAA'), /magic/);
-        assert.match(await without("64n << 20n", "1n << 40n"), /memory/);
+        assert.match(await without("REGION = 2 ** 26", "REGION = 2 ** 40"), /memory/);
     } finally {
         await other.end();
         rmSync(folder, { recursive: true });
@@ -644,7 +644,7 @@ async function cannotOpen() {
 
 /** The replies of a script by each program that runs scripts. */
 function repliesTo(script) {
-    const module = [process.execPath, ...process.execArgv, join(top, "page/run_script.mjs"), join(top, "page/lgp_c_region.wasm")];
+    const module = [process.execPath, ...process.execArgv, join(top, "page/run_script.mjs"), join(top, "page/module/lgp_c_region.wasm")];
     const programs = process.env.LAB === undefined ? [module] : [module, [process.env.LAB]];
     return programs.map(([program, ...words]) => {
         const { status, stdout, stderr } = spawnSync(program, words, { input: script, encoding: "utf8", maxBuffer: 1 << 26 });

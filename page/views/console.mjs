@@ -1,6 +1,6 @@
 // The console: buttons and switches, those that are dead shown dead, and the keys of the Flexowriter.
 import { BUTTONS, KEYS, isLive } from "../learn.mjs";
-import { SWITCHES } from "../replies.mjs";
+import { SWITCHES } from "../module/replies.mjs";
 import { button, guarded, h, part, showLive } from "./dom.mjs";
 
 const KEY_ROWS = ["0123456789", "fgjkqw-+;/.,", "zbyrindmpe", "uthcasvox "];

@@ -1,5 +1,5 @@
 // The panel: registers as bits with their readings, status, mode and clock.
-import { bitsOf, fractionOf, wholeOf } from "../replies.mjs";
+import { bitsOf, fractionOf, wholeOf } from "../module/replies.mjs";
 import { counted } from "../words.mjs";
 import { h, part } from "./dom.mjs";
 

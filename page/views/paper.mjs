@@ -1,5 +1,5 @@
 // Paper: the tape in the reader as punched holes, and what the typewriter has printed.
-import { ReplyError, codesOf, paperOf } from "../replies.mjs";
+import { ReplyError, codesOf, paperOf } from "../module/replies.mjs";
 import { counted } from "../words.mjs";
 import { button, h, part, s, tellMore } from "./dom.mjs";
 

@@ -1,0 +1,173 @@
+// Calls of the proved module: a session, which answers one line of the monitor after another, and whole scripts.
+//
+// The module is crates/lgp_c_region, linked for wasm64 and lowered to a memory of 32 bits; c/lgp30_region.h says what its functions ask for.
+// They take addresses and lengths as BigInts. Its memory is laid out here after what the module itself uses:
+//
+//     session | outcome | memory to hand over | text | region, handed over for good | room for replies, which grows
+
+const PAGE = 65_536;
+const LINE = 4097;
+const FIRST_ROOM = 2 ** 20;
+// a source of as many faulty lines as it may have has a shorter reply
+const LAST_ROOM = 2 ** 25;
+const WELL = 0;
+const QUESTIONS = 1;
+const MEMORY = "there is not enough memory";
+const FUNCTIONS = ["lgp_open_in", "lgp_answer_in", "lgp_reply_in", "lgp_close_in", "lgp_run_script_in"];
+
+/** How many bytes a session has, where nothing else is said. */
+export const REGION = 2 ** 26;
+
+/** There was not enough memory. A session is closed then. */
+export class NoMemory extends Error {}
+
+/** The module cannot be had: the bytes are none, or this browser takes none. */
+export class NoModule extends Error {}
+
+/** The bytes of a text; bytes are themselves. */
+export const bytesOf = (text) => (typeof text === "string" ? new TextEncoder().encode(text) : text);
+
+/** The text of bytes. */
+export const textOf = (bytes) => new TextDecoder("utf-8", { ignoreBOM: true }).decode(bytes);
+
+const aligned = (address) => Math.ceil(address / 16) * 16;
+
+/** The compiled module of these bytes; a compiled one is itself. */
+export function compiled(bytes) {
+    if (typeof WebAssembly !== "object" || typeof BigInt !== "function") throw new NoModule("there is no WebAssembly here, or no BigInt");
+    if (bytes instanceof WebAssembly.Module) return checked(bytes);
+    try {
+        return checked(new WebAssembly.Module(bytes));
+    } catch (failure) {
+        if (failure instanceof NoModule) throw failure;
+        throw new NoModule(`these bytes are no module that is taken here: ${failure.message}`);
+    }
+}
+
+function checked(module) {
+    const names = WebAssembly.Module.exports(module).map(({ name }) => name);
+    const missing = FUNCTIONS.find((name) => !names.includes(name));
+    if (missing !== undefined) throw new NoModule(`this module is not the laboratory's: it has no ${missing}`);
+    return module;
+}
+
+/** An instance of the module, its memory laid out for a text of so many bytes and a region. */
+class Instance {
+    #exports;
+    #room;
+
+    constructor(module, textLength, region, room = FIRST_ROOM) {
+        const code = compiled(module);
+        this.#exports = new WebAssembly.Instance(code, {}).exports;
+        this.session = aligned(Number(this.#exports.__heap_base.value));
+        this.outcome = this.session + 64;
+        this.handed = this.outcome + 16;
+        this.text = this.handed + 16;
+        const start = aligned(this.text + textLength);
+        this.room = start + region;
+        this.#grow(room);
+        this.#pair(this.handed).set([BigInt(start), BigInt(region)]);
+    }
+
+    #pair(address) {
+        return new BigUint64Array(this.#exports.memory.buffer, address, 2);
+    }
+
+    /** Calls a function of the module; numbers are addresses and lengths. */
+    call(name, ...numbers) {
+        return this.#exports[name](...numbers.map((number) => BigInt(number)));
+    }
+
+    /** Calls one that writes a reply, and gives its status. */
+    asks(name, ...numbers) {
+        return this.call(name, ...numbers, this.room, this.#room, this.outcome);
+    }
+
+    /** Writes a text where the module reads it, and gives its place and length. */
+    write(text) {
+        new Uint8Array(this.#exports.memory.buffer, this.text, text.length).set(text);
+        return [this.text, text.length];
+    }
+
+    /** How many replies of the last call begin with a question mark, and how many bytes all have. */
+    get told() {
+        return [...this.#pair(this.outcome)].map(Number);
+    }
+
+    /** Whether the last reply has more bytes than there was room for. Then there is room now. */
+    isCut() {
+        const [, length] = this.told;
+        const wasCut = length > this.#room;
+        if (wasCut) this.#grow(length);
+        return wasCut;
+    }
+
+    /** The bytes of the last reply. */
+    get reply() {
+        return new Uint8Array(this.#exports.memory.buffer, this.room, this.told[1]).slice();
+    }
+
+    /** Makes a room of so many bytes. */
+    #grow(room) {
+        const { memory } = this.#exports;
+        const missing = this.room + room - memory.buffer.byteLength;
+        try {
+            if (missing > 0) memory.grow(Math.ceil(missing / PAGE));
+        } catch (refusal) {
+            if (refusal instanceof RangeError) throw new NoMemory(`${MEMORY}: ${refusal.message}`);
+            throw refusal;
+        }
+        this.#room = room;
+    }
+
+    /** Makes room for the longest reply to an end. */
+    widen() {
+        if (this.#room < LAST_ROOM) this.#grow(LAST_ROOM);
+    }
+}
+
+/** A laboratory that stays between lines. One that ran out of memory is closed for good. */
+export class Session {
+    #instance;
+
+    /** Opens a session in a new instance of a module. */
+    constructor(module, region = REGION) {
+        this.#instance = new Instance(module, LINE, region);
+        if (this.#instance.call("lgp_open_in", this.#instance.handed, this.#instance.session) !== WELL) throw new NoMemory(`${MEMORY} to open a laboratory`);
+    }
+
+    /** Answers a line, in bytes without a line feed: the bytes of its reply, and whether a refusal is among them. Throws NoMemory. */
+    bytesFor(line) {
+        const place = this.#instance.write(line.subarray(0, LINE));
+        const status = this.#instance.asks("lgp_answer_in", this.#instance.session, ...place);
+        if (status > QUESTIONS) throw new NoMemory(`${MEMORY} for this line`);
+        if (this.#instance.isCut()) this.#instance.asks("lgp_reply_in", this.#instance.session);
+        return { reply: this.#instance.reply, isRefused: status === QUESTIONS };
+    }
+
+    /** Answers a line: its reply, with a line feed after each of its lines. */
+    answer(line) {
+        return textOf(this.bytesFor(bytesOf(line)).reply);
+    }
+
+    /** Ends the session: the same of the reply to a source that was open; otherwise that is empty. */
+    close() {
+        this.#instance.widen();
+        const status = this.#instance.asks("lgp_close_in", this.#instance.session);
+        if (status > QUESTIONS || this.#instance.isCut()) throw new NoMemory(`${MEMORY} for the end`);
+        return { reply: this.#instance.reply, isRefused: status === QUESTIONS };
+    }
+}
+
+/** Answers a whole script, in bytes, from a machine in its opening state: the bytes of the replies, and how many begin with a question mark. */
+export function answerScript(module, script, region = REGION) {
+    const run = (room) => {
+        const instance = new Instance(module, script.length, region, room);
+        const status = instance.asks("lgp_run_script_in", instance.handed, ...instance.write(script));
+        if (status > QUESTIONS) throw new NoMemory(`${MEMORY} for this script`);
+        return instance;
+    };
+    const first = run(FIRST_ROOM);
+    const [questions, length] = first.told;
+    return { replies: (length > FIRST_ROOM ? run(length) : first).reply, questions };
+}
