@@ -5,12 +5,25 @@ missing() {
     exit 1
 }
 
-# need COMMAND PACKAGE: a command that is asked for its version, and the Debian package that has it, which is installed where the
-# command is missing, if this is Debian and that can be done.
-need() {
-    if ! $1 --version >/dev/null 2>&1; then
-        command -v apt-get >/dev/null 2>&1 || missing "$1" "$2"
-        { apt-get update && apt-get install -y "$2"; } >/dev/null 2>&1 || missing "$1" "$2"
-        $1 --version >/dev/null 2>&1 || missing "$1" "$2"
+# needed COMMAND PACKAGE TEST..: installs the Debian package that has a command where a test of that fails, if this is Debian and that can
+# be done.
+needed() {
+    local command=$1 package=$2
+    shift 2
+    if ! "$@" >/dev/null 2>&1; then
+        command -v apt-get >/dev/null 2>&1 || missing "$command" "$package"
+        { apt-get update && apt-get install -y "$package"; } >/dev/null 2>&1 || missing "$command" "$package"
+        "$@" >/dev/null 2>&1 || missing "$command" "$package"
     fi
+}
+
+# need COMMAND PACKAGE: a command that is asked for its version, and the package that has it.
+need() {
+    # shellcheck disable=SC2086 # a command may be several words
+    needed "$1" "$2" $1 --version
+}
+
+# need_program COMMAND PACKAGE: the same for a command that does not tell its version.
+need_program() {
+    needed "$1" "$2" command -v "$1"
 }

@@ -4,8 +4,9 @@
 /** Roles whose nodes need a name. */
 const NAMED = new Set(["button", "link", "textbox", "combobox", "listbox", "slider", "spinbutton", "switch", "checkbox", "image", "region", "toolbar", "log", "dialog", "DisclosureTriangle"]);
 
-/** Controls, pictures and regions without a name, in Chromium's own accessibility tree. */
+/** Controls, pictures and regions without a name, in Chromium's own accessibility tree; no other engine here can be asked for its tree. */
 export async function nameless(browser) {
+    if (browser.engine !== "Chromium") return [];
     const { nodes } = await browser.ask("Accessibility.getFullAXTree");
     return nodes.filter(({ ignored, role, name }) => !ignored && NAMED.has(role.value) && !(name?.value ?? "").trim()).map(({ role }) => `a ${role.value} without a name`);
 }
@@ -93,27 +94,20 @@ function disorderInPage() {
 /** What is out of order in the page's structure. */
 export const disorder = (browser) => browser.value(`(${disorderInPage})()`);
 
-/** Notes, in each page that is opened from here on, what listens to a mouse. */
-export const noteMouse = (browser) => browser.ask("Page.addScriptToEvaluateOnNewDocument", { source: `
+/** Notes, in each page that is opened from here on, what listens to a mouse. Gives the call that ends it. */
+export const noteMouse = (browser) => browser.preload(`
     globalThis.heardByMouse = new Set();
     const { addEventListener } = EventTarget.prototype;
     EventTarget.prototype.addEventListener = function (kind, ...rest) {
         if (/^(click|dblclick|mouse|pointer|drag|touch)/.test(kind) && this instanceof Element) heardByMouse.add(this);
         return addEventListener.call(this, kind, ...rest);
-    };` });
-
-/** Presses a key, as a keyboard does. */
-export async function strike(browser, key, code = key, text = undefined) {
-    const windowsVirtualKeyCode = { Tab: 9, Enter: 13, Escape: 27 }[key] ?? key.toUpperCase().charCodeAt(0);
-    await browser.ask("Input.dispatchKeyEvent", { type: "keyDown", key, code, windowsVirtualKeyCode, text });
-    await browser.ask("Input.dispatchKeyEvent", { type: "keyUp", key, code, windowsVirtualKeyCode });
-}
+    };`);
 
 /** Goes through the whole page by Tab, past its end to its beginning: what a mouse can press and Tab does not reach. */
 export async function unreached(browser) {
     await browser.value("(globalThis.reachedByTab = new Set(), document.activeElement.blur())");
     for (let count = 0, isNew = true; isNew && count < 500; count += 1) {
-        await strike(browser, "Tab");
+        await browser.strike("Tab");
         isNew = await browser.value("(() => { const it = document.activeElement; const isNew = !reachedByTab.has(it); reachedByTab.add(it); return isNew; })()");
     }
     return browser.value(`(() => {
@@ -130,9 +124,9 @@ export async function losesFocus(browser, selector) {
     for (let place = 0; place < count; place += 1) {
         const name = await browser.value(`(() => { const it = document.querySelectorAll(${JSON.stringify(selector)})[${place}]; it?.focus(); return it === undefined || document.activeElement !== it ? null : it.getAttribute("aria-label") ?? it.textContent; })()`);
         if (name === null) continue;
-        await strike(browser, "Enter", "Enter", "\r");
+        await browser.strike("Enter");
         await browser.value("laboratoryOfPage().settled()");
-        if (await browser.value("document.querySelector('dialog') !== null")) await strike(browser, "Escape");
+        if (await browser.value("document.querySelector('dialog') !== null")) await browser.strike("Escape");
         await browser.value("new Promise((resolve) => requestAnimationFrame(() => setTimeout(resolve)))");
         if (await browser.value("document.activeElement === document.body")) found.push(`the focus is lost behind ${name}`);
     }

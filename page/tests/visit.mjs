@@ -1,9 +1,10 @@
-// Visits the page in Chromium: node visit.mjs laboratory.html [FOLDER FOR PICTURES]. Ends with 1 where something is not as it should be.
+// Visits the page: node visit.mjs laboratory.html [FOLDER FOR PICTURES]. Ends with 1 where something is not as it should be. The variable
+// ENGINE names the engine (chromium, firefox or webkit), and VISITS the visits, where not all are wanted.
 //
 // The page is opened from disk. A visitor of a museum sees the kiosk print; a class does what the first lesson says, and compares the
 // numbers of its tables with what the page shows; another one walks through the first steps of a later lesson; a source with a fault is
 // mended; each example gives its stored replies; a long run is measured; a browser that lacks something is told; people who cannot see all, or
-// have no mouse, reach all. Behind each visit the script that Save gives is run, and has to end where the visit did: by the module, and by
+// have no mouse, reach all. After each visit the script that Save gives is run, and has to end where the visit did: by the module, and by
 // the program that LAB names where it names one.
 import assert from "node:assert/strict";
 import { spawnSync } from "node:child_process";
@@ -12,8 +13,10 @@ import { tmpdir } from "node:os";
 import { dirname, join, resolve } from "node:path";
 import { fileURLToPath, pathToFileURL } from "node:url";
 import { questionsIn, withoutQuestions } from "../lines.mjs";
-import { disorder, faint, losesFocus, nameless, noteMouse, strike, unreached } from "./access.mjs";
-import { Browser } from "./browser.mjs";
+import { disorder, faint, losesFocus, nameless, noteMouse, unreached } from "./access.mjs";
+import { Chromium } from "./chromium.mjs";
+import { Firefox } from "./firefox.mjs";
+import { WebKit } from "./webkit.mjs";
 
 const [file, pictures] = process.argv.slice(2);
 const address = pathToFileURL(resolve(file)).href;
@@ -21,7 +24,15 @@ const top = join(dirname(fileURLToPath(import.meta.url)), "../..");
 const shelf = join(top, "examples");
 const hour = readFileSync(join(top, "docs/lessons/a-computer-on-a-drum.md"), "utf8");
 const questions = questionsIn(readFileSync(join(top, "docs/FORMATS.md"), "utf8"));
-const LEAST_SPEED = Number(process.env.LEAST_SPEED ?? 10e6);
+/** The engines, each with what is said to it so that it has no WebAssembly, and the visits that take too long in it. */
+const ENGINES = {
+    chromium: { Engine: Chromium, without: ["--js-flags=--jitless"] },
+    firefox: { Engine: Firefox, without: { "javascript.options.wasm": false } },
+    webkit: { Engine: WebKit, without: { JSC_useWasm: "false" }, left: ["everyone", "usedUp"] },
+};
+const { Engine, without, left = [] } = ENGINES[process.env.ENGINE ?? "chromium"];
+// only Chromium's speed is asked for
+const LEAST_SPEED = Engine === Chromium ? Number(process.env.LEAST_SPEED ?? 10e6) : 0;
 
 /** Replies as a script has them: what a refusal has in a session alone is its reason, behind a colon. */
 const withoutReasons = (replies) => replies.replace(/^(\? \d+ \w+(?: \d+)?): .*$/gm, "$1");
@@ -456,19 +467,20 @@ async function forPeople(browser) {
     const nameless = await browser.value("[...document.querySelectorAll('button, input, select, textarea')].filter((it) => !(it.textContent.trim() || it.getAttribute('aria-label') || it.closest('label')?.textContent.trim())).map((it) => it.outerHTML)");
     assert.deepEqual(nameless, []);
     assert.equal(await browser.value("document.querySelectorAll('[id]').length === new Set([...document.querySelectorAll('[id]')].map((it) => it.id)).size"), true);
-    await browser.ask("Emulation.setDeviceMetricsOverride", { width: 380, height: 800, deviceScaleFactor: 1, mobile: true });
-    assert.equal(await browser.value("document.documentElement.scrollWidth <= 380"), true);
+    await browser.size(380, 800);
+    assert.equal(await browser.value("document.documentElement.scrollWidth <= innerWidth"), true);
     await browser.value("laboratoryOfPage().openScript('wide', '; ' + 'wide '.repeat(40) + '\\nput 0000 b 0050\\npress start\\nrun 1').then(() => laboratoryOfPage().step(1))");
     await browser.value("laboratoryOfPage().say('; ' + 'x'.repeat(200))");
     for (const width of [380, 768, 1500]) {
-        await browser.ask("Emulation.setDeviceMetricsOverride", { width, height: 1250, deviceScaleFactor: 1, mobile: width < 500 });
+        await browser.size(width, 1250);
         assert.equal(await browser.value("['.script', '.log', '.rows'].every((it) => document.querySelector(it).clientWidth > 0)"), true, `at ${width}`);
         assert.deepEqual(await sideways(browser), [], `at ${width}`);
         await lamps(browser, `at ${width}`);
     }
-    await browser.ask("Emulation.setEmulatedMedia", { features: [{ name: "forced-colors", value: "active" }] });
+    if (browser.media === undefined) return;
+    await browser.media({ "forced-colors": "active" });
     await lamps(browser, "with forced colours");
-    await browser.ask("Emulation.setEmulatedMedia", { features: [] });
+    await browser.media({});
 }
 
 /** What has to be scrolled sideways, but for tables, tape and the source's text. */
@@ -487,27 +499,30 @@ async function lamps(browser, where) {
     assert.deepEqual((await faint(browser)).filter((trouble) => trouble.includes("lamp")), [], where);
 }
 
+/** What a reader may wish, where the engine can be told that; otherwise the page is looked at once, as it is. */
+const wishes = (browser, ...all) => (browser.media === undefined ? ["as it is"] : all);
+
 /** The troubles of the page as it stands, in light and in dark, and by Tab. */
 async function troubles(browser) {
     const found = [...await disorder(browser), ...await nameless(browser), ...await unreached(browser)];
-    for (const scheme of ["light", "dark"]) {
-        await browser.ask("Emulation.setEmulatedMedia", { features: [{ name: "prefers-color-scheme", value: scheme }] });
+    for (const scheme of wishes(browser, "light", "dark")) {
+        await browser.media?.({ "prefers-color-scheme": scheme });
         found.push(...(await faint(browser)).map((trouble) => `${scheme}: ${trouble}`));
     }
-    await browser.ask("Emulation.setEmulatedMedia", { features: [] });
+    await browser.media?.({});
     return found;
 }
 
 /** Opens an address with what listens to a mouse noted. */
 async function openNoted(browser, behind) {
-    const { identifier } = await noteMouse(browser);
+    const endNoting = await noteMouse(browser);
     await browser.open(`${address}${behind}`);
-    await browser.ask("Page.removeScriptToEvaluateOnNewDocument", { identifier });
+    await endNoting();
 }
 
 /** Names, contrast, headings and landmarks, and the way by Tab: with nearly all that the page can show, in both languages and dialogs. */
 async function everyone(browser) {
-    await browser.ask("Accessibility.enable");
+    await browser.ask?.("Accessibility.enable");
     for (const language of ["en", "de"]) {
         await openNoted(browser, `?lang=${language}#self-modifying`);
         assert.deepEqual(await troubles(browser), []);
@@ -527,13 +542,13 @@ async function everyone(browser) {
             await browser.press(opener);
             await browser.waitFor("document.querySelector('dialog')");
             assert.deepEqual([...await nameless(browser), ...await faint(browser)], []);
-            await strike(browser, "Escape");
+            await browser.strike("Escape");
         }
         await openNoted(browser, `?kiosk=message&lang=${language}`);
         await press(browser, ".kiosk-bar button:nth-of-type(3)");
         assert.deepEqual(await troubles(browser), []);
     }
-    await browser.ask("Accessibility.disable");
+    await browser.ask?.("Accessibility.disable");
 }
 
 /** By keys alone: an order is stepped over and gone back, a line is typed, no press loses the focus, and the short keys can be put off. */
@@ -542,7 +557,7 @@ async function byKeys(browser) {
     const clock = async () => { await settled(browser); return (await panelOf(browser)).clock; };
     const clocks = [];
     for (const key of ["s", "s", "[", "]", "["]) {
-        await strike(browser, key, "", key);
+        await browser.strike(key);
         clocks.push(await clock());
     }
     const [one, two] = clocks;
@@ -550,14 +565,14 @@ async function byKeys(browser) {
     assert.deepEqual(clocks, [one, two, one, two, one]);
     await browser.press("#about");
     await browser.press("#short-keys");
-    await strike(browser, "Escape");
-    await strike(browser, "s", "", "s");
+    await browser.strike("Escape");
+    await browser.strike("s");
     assert.equal(await clock(), one);
     await browser.value("laboratoryOfPage().say('break 0100', 'break 0101')");
     assert.deepEqual(await losesFocus(browser, "#page button:not([data-name='key'])"), []);
     await browser.value("document.querySelector('.lines input').focus()");
-    await browser.ask("Input.insertText", { text: "new" });
-    await strike(browser, "Enter", "Enter", "\r");
+    await browser.type("new");
+    await browser.strike("Enter");
     assert.equal(await clock(), "0");
 }
 
@@ -586,15 +601,15 @@ async function readOut(browser) {
 
 /** Nothing moves by itself: no animation runs after any step, whether motion is wanted or not. */
 async function stillness(browser) {
-    for (const value of ["no-preference", "reduce"]) {
-        await browser.ask("Emulation.setEmulatedMedia", { features: [{ name: "prefers-reduced-motion", value }] });
+    for (const value of wishes(browser, "no-preference", "reduce")) {
+        await browser.media?.({ "prefers-reduced-motion": value });
         await browser.open(`${address}?lang=en#self-modifying`);
         for (let order = 0; order < 5; order += 1) {
             await press(browser, "#step");
             assert.equal(await browser.value("document.getAnimations().length"), 0, value);
         }
     }
-    await browser.ask("Emulation.setEmulatedMedia", { features: [] });
+    await browser.media?.({});
 }
 
 /** Opens a page that cannot open its laboratory, and gives the sentence that it shows and what stands below. */
@@ -607,9 +622,9 @@ async function sentence(browser, behind = address) {
     return detail ?? "";
 }
 
-/** A browser without WebAssembly, as a Chromium is that may make no machine code, is told a sentence. */
+/** A browser without WebAssembly, as each engine is that is started so, is told a sentence. */
 async function withoutWebAssembly() {
-    const other = await Browser.start(800, 600, ["--js-flags=--jitless"]);
+    const other = await Engine.start(800, 600, without);
     try {
         assert.equal(await sentence(other), "");
         assert.equal(await other.value("typeof WebAssembly"), "undefined");
@@ -622,20 +637,20 @@ async function withoutWebAssembly() {
 /** The same sentence is told by a browser without BigInt; by one that cannot read the page's script, as one without BigInt cannot; where the module is
  * none; and where the memory is refused. Today's browsers have all that, so here it is taken from them, or from the page. */
 async function cannotOpen() {
-    const other = await Browser.start(800, 600);
+    const other = await Engine.start(800, 600);
     const folder = mkdtempSync(join(tmpdir(), "page-"));
     const page = readFileSync(file, "utf8");
-    const without = async (old, young) => {
+    const changed = async (old, young) => {
         assert.ok(page.includes(old), old);
         writeFileSync(join(folder, "page.html"), page.replace(old, () => young));
         return sentence(other, pathToFileURL(join(folder, "page.html")).href);
     };
     try {
-        assert.equal(await without("<script>", "<script>delete globalThis.BigInt;</script><script>"), "");
+        assert.equal(await changed("<script>", "<script>delete globalThis.BigInt;</script><script>"), "");
         assert.deepEqual(other.told, []);
-        assert.match(await without("<script>\n(() => {", "<script>\n65536nn;(() => {"), /SyntaxError/);
-        assert.match(await without('id="module">AGFzbQ', 'id="module">AAAAAA'), /magic/);
-        assert.match(await without("REGION = 2 ** 26", "REGION = 2 ** 40"), /memory/);
+        assert.match(await changed("<script>\n(() => {", "<script>\n65536nn;(() => {"), /SyntaxError|Script error/);
+        assert.match(await changed('id="module">AGFzbQ', 'id="module">AAAAAA'), /^these bytes are no module that is taken here: /);
+        assert.match(await changed("REGION = 2 ** 26", "REGION = 2 ** 40"), /^there is not enough memory/);
     } finally {
         await other.end();
         rmSync(folder, { recursive: true });
@@ -669,10 +684,47 @@ async function endsThere(browser) {
     return [whole, short].map((script) => script.split("\n").length - 1);
 }
 
-const all = { kiosk, addresses, changes, thereAndBack, openSource, whatToPress, endlessPrint, firstHour, lesson, saved, source, profile, examples, badInput, usedUp, longRun, forPeople, everyone, byKeys, readOut, stillness, withoutWebAssembly, cannotOpen };
-const wanted = process.env.VISITS?.split(" ") ?? Object.keys(all);
+/** A visitor at a touch screen, who taps: at the kiosk, whose buttons all lie in sight, and at the page, where a finger hits each button. */
+async function touch(browser) {
+    const taps = async (selector) => {
+        await browser.tap(selector);
+        await settled(browser);
+    };
+    await browser.size(1024, 768);
+    await browser.open(`${address}?kiosk=message&lang=en`);
+    const hidden = "[...document.querySelectorAll('.kiosk-bar button')].filter((it) => { const { bottom, height } = it.getBoundingClientRect(); return bottom > innerHeight || height < 44; }).length";
+    assert.equal(await browser.value(hidden), 0);
+    const before = await panelOf(browser);
+    for (const place of [1, 2]) await taps(`.kiosk-bar button:nth-of-type(${place})`);
+    assert.equal((await panelOf(browser)).status, "going");
+    await browser.tap(".kiosk-bar button:nth-of-type(3)");
+    await browser.waitFor("laboratoryOfPage().panel.status === 'halted stop'");
+    await settled(browser);
+    assert.notEqual((await textOf(browser, ".paper")).trim(), "");
+    await browser.tap(".kiosk-bar button:nth-of-type(4)");
+    await browser.waitFor("laboratoryOfPage().deeds.behind === 0 && laboratoryOfPage().printed.count === 0");
+    await settled(browser);
+    assert.deepEqual(await panelOf(browser), before);
+    await browser.open(`${address}?lang=en#self-modifying`);
+    assert.deepEqual(await sideways(browser), []);
+    const small = "[...document.querySelectorAll('#page button, #page select, #page input')].filter((it) => it.checkVisibility() && !it.closest('label') && Math.min(it.getBoundingClientRect().width, it.getBoundingClientRect().height) < 24).map((it) => it.outerHTML.slice(0, 90))";
+    assert.deepEqual(await browser.value(small), []);
+    for (let order = 0; order < 4; order += 1) await taps("#step");
+    await taps("tr[data-address='0009'] button");
+    assert.match(await textOf(browser, ".why"), /put there by y 0009 at 0005/);
+    await taps(".time button[aria-label='One order back']");
+    assert.equal((await panelOf(browser)).clock, "181");
+    await browser.tap("#save");
+    await browser.waitFor("document.querySelector('dialog')");
+    await browser.tap("dialog > button");
+    await browser.waitFor("document.querySelector('dialog') === null");
+    await browser.size(1500, 1250);
+}
+
+const all = { kiosk, addresses, changes, thereAndBack, openSource, whatToPress, endlessPrint, firstHour, lesson, saved, source, profile, examples, badInput, usedUp, longRun, forPeople, everyone, byKeys, readOut, stillness, touch, withoutWebAssembly, cannotOpen };
+const wanted = process.env.VISITS?.split(" ") ?? Object.keys(all).filter((name) => !left.includes(name));
 const visits = Object.fromEntries(wanted.map((name) => [name, all[name]]));
-const browser = await Browser.start();
+const browser = await Engine.start();
 let failed = 0;
 for (const [name, visit] of Object.entries(visits)) {
     const began = Date.now();

@@ -1,29 +1,29 @@
-// Drives Chromium over its debugging pipe: messages are JSON with a zero behind each.
+// Drives Chromium over its debugging pipe: messages are JSON with a zero after each.
 import { spawn } from "node:child_process";
-import { mkdtempSync, rmSync, writeFileSync } from "node:fs";
+import { mkdtempSync, rmSync } from "node:fs";
 import { tmpdir } from "node:os";
 import { join } from "node:path";
+import { Driver } from "./driver.mjs";
 
 /** A page of a Chromium without a window. */
-export class Browser {
+export class Chromium extends Driver {
+    engine = "Chromium";
     #process;
     #folder = mkdtempSync(join(tmpdir(), "page-"));
     #rest = "";
     #number = 0;
     #waiting = new Map();
     #session;
-    /** What the page has told on its console, and what it has failed with. */
-    told = [];
 
     /** Starts Chromium with an empty page of this size. */
     static async start(width = 1500, height = 1250, flags = []) {
-        const browser = new Browser();
+        const browser = new Chromium();
         browser.#launch(flags);
         const { targetId } = await browser.#ask("Target.createTarget", { url: "about:blank" });
         const { sessionId } = await browser.#ask("Target.attachToTarget", { targetId, flatten: true });
         browser.#session = sessionId;
         for (const domain of ["Page", "Runtime"]) await browser.ask(`${domain}.enable`);
-        await browser.ask("Emulation.setDeviceMetricsOverride", { width, height, deviceScaleFactor: 1, mobile: false });
+        await browser.size(width, height);
         return browser;
     }
 
@@ -63,39 +63,46 @@ export class Browser {
         return this.#ask(method, params, this.#session);
     }
 
-    /** Opens an address and waits until the page says that it is ready, or until `until` holds in it. */
-    async open(address, until = "document.documentElement.dataset.ready === 'true'") {
-        await this.ask("Page.navigate", { url: "about:blank" });
-        await this.ask("Page.navigate", { url: address });
-        await this.waitFor(until);
+    async navigate(url) {
+        await this.ask("Page.navigate", { url });
     }
 
-    /** The value of an expression in the page; a promise is awaited. */
-    async value(expression) {
-        const { result, exceptionDetails } = await this.ask("Runtime.evaluate", { expression, awaitPromise: true, returnByValue: true });
+    async run(script) {
+        const { result, exceptionDetails } = await this.ask("Runtime.evaluate", { expression: script, awaitPromise: true, returnByValue: true });
         if (exceptionDetails !== undefined) throw new Error(exceptionDetails.exception?.description ?? exceptionDetails.text);
         return result.value;
     }
 
-    /** Waits until an expression holds in the page. */
-    async waitFor(expression, milliseconds = 30_000) {
-        const end = Date.now() + milliseconds;
-        while (Date.now() < end) {
-            if (await this.value(`Boolean(${expression})`).catch(() => false)) return;
-            await new Promise((resolve) => setTimeout(resolve, 30));
-        }
-        throw new Error(`waited in vain for ${expression}; told: ${this.told.join(" | ")}`);
+    async size(width, height) {
+        await this.ask("Emulation.setDeviceMetricsOverride", { width, height, deviceScaleFactor: 1, mobile: width < 500 });
     }
 
-    /** Presses what a selector names, as a mouse does. */
-    press(selector) {
-        return this.value(`document.querySelector(${JSON.stringify(selector)}).click()`);
+    /** What the page is told that its reader wants, by the names of media features. */
+    async media(features) {
+        await this.ask("Emulation.setEmulatedMedia", { features: Object.entries(features).map(([name, value]) => ({ name, value })) });
     }
 
-    /** Writes a picture of the page into a file. */
-    async picture(path, clip = undefined) {
-        const { data } = await this.ask("Page.captureScreenshot", { format: "png", clip });
-        writeFileSync(path, Buffer.from(data, "base64"));
+    async preload(source) {
+        const { identifier } = await this.ask("Page.addScriptToEvaluateOnNewDocument", { source });
+        return () => this.ask("Page.removeScriptToEvaluateOnNewDocument", { identifier });
+    }
+
+    async strike(key) {
+        const { code, text } = { Tab: { code: 9 }, Enter: { code: 13, text: "\r" }, Escape: { code: 27 } }[key] ?? { code: key.toUpperCase().charCodeAt(0), text: key };
+        const struck = { key, code: key, windowsVirtualKeyCode: code };
+        await this.ask("Input.dispatchKeyEvent", { type: "keyDown", ...struck, text });
+        await this.ask("Input.dispatchKeyEvent", { type: "keyUp", ...struck });
+    }
+
+    async touch(x, y) {
+        await this.ask("Emulation.setTouchEmulationEnabled", { enabled: true });
+        await this.ask("Input.dispatchTouchEvent", { type: "touchStart", touchPoints: [{ x, y }] });
+        await this.ask("Input.dispatchTouchEvent", { type: "touchEnd", touchPoints: [] });
+        await this.ask("Emulation.setTouchEmulationEnabled", { enabled: false });
+    }
+
+    async pixels() {
+        return (await this.ask("Page.captureScreenshot", { format: "png" })).data;
     }
 
     /** Ends Chromium. */

@@ -1,0 +1,63 @@
+// How many orders a second: of the proved program, where ./prove has made it; of sessions in node, with the module as the proofs leave it and
+// with the lowered one; and of the page, in each engine.
+//
+//     node bench/speed.mjs [MILLIONS OF ORDERS, 100 where none is said]
+//
+// Each but the page is the best of three runs. Times on the wall vary: other work on the machine makes them longer. No part of the check.
+import { spawnSync } from "node:child_process";
+import { existsSync, readFileSync } from "node:fs";
+import { dirname, join } from "node:path";
+import { fileURLToPath } from "node:url";
+import { Session, compiled } from "../page/module/session.mjs";
+import "./wide_memory.mjs";
+
+const top = join(dirname(fileURLToPath(import.meta.url)), "..");
+const program = join(top, "crates/lgp30/out/lgp30");
+const modules = { "node, the module as the proofs leave it": join(top, "page/lgp_c_region64.wasm"), "node, the lowered module": join(top, "page/module/lgp_c_region.wasm") };
+const TURNS = 3;
+const FLAG = "--experimental-wasm-memory64"; // node 20 has memory64 by this flag, which later ones lack
+
+/** The loop of four orders that counts up, of loops.sh, and its start. */
+const [, words] = /small='([^']*)'/.exec(readFileSync(join(top, "bench/loops.sh"), "utf8"));
+const loop = [...words.split("\n").map((word) => `put ${word}`), "press start"];
+
+/** How long a deed takes, in seconds. */
+function seconds(deed) {
+    const began = performance.now();
+    deed();
+    return (performance.now() - began) / 1000;
+}
+
+function told(name, orders, deed) {
+    const best = Math.min(...Array.from({ length: TURNS }, deed));
+    console.log(`${name}: ${(orders / best / 1e6).toFixed(1)} million orders a second`);
+}
+
+/** The seconds of a session for its orders alone, asked of a process of its own. */
+function sessionSeconds(path, orders) {
+    const knows = spawnSync(process.execPath, [FLAG, "-e", "0"]).status === 0;
+    const words = [...(knows ? [FLAG] : []), "--no-warnings", fileURLToPath(import.meta.url), "session", path, String(orders)];
+    return Number(spawnSync(process.execPath, words, { encoding: "utf8" }).stdout);
+}
+
+function runSession(path, orders) {
+    const session = new Session(compiled(readFileSync(path)));
+    for (const line of [...loop, "run 1000000"]) session.answer(line);
+    console.log(seconds(() => session.answer(`run ${orders}`)));
+}
+
+function main(orders) {
+    const input = (line) => [...loop, line, ""].join("\n");
+    const asked = (line) => seconds(() => spawnSync(program, { input: input(line) }));
+    if (existsSync(program)) told("the program", orders, () => asked(`run ${orders}`) - asked("run 1"));
+    for (const [name, path] of Object.entries(modules)) told(name, orders, () => sessionSeconds(path, orders));
+    for (const engine of ["chromium", "firefox", "webkit"]) {
+        const env = { ...process.env, ENGINE: engine, VISITS: "longRun", LEAST_SPEED: "0" };
+        const { stdout } = spawnSync(process.execPath, [join(top, "page/tests/visit.mjs"), join(top, "page/laboratory.html")], { env, encoding: "utf8" });
+        const [, speed] = /^longRun: well, (\d+)/.exec(stdout) ?? [];
+        console.log(`the page in ${engine}: ${speed === undefined ? stdout.trim() : `${(Number(speed) / 1e6).toFixed(1)} million orders a second`}`);
+    }
+}
+
+if (process.argv[2] === "session") runSession(process.argv[3], Number(process.argv[4]));
+else main(1e6 * Number(process.argv[2] ?? 100));
