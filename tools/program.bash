@@ -1,9 +1,13 @@
-# What ./lgp_lab, ./prove, ./try_tests and .ci/run share: which crates a program stands on, whether what is built is the proved
-# program of today's sources, and how a program is run without its proofs. It is read by them and not run by itself.
+# What ./lgp_lab, ./lgp_monitor, ./prove, ./try_tests and .ci/run share: which crates a program stands on, whether what is built is the
+# proved program of today's sources, and how a program is run by the proved module or without its proofs. It is read by them and not
+# run by itself.
 # They set `top`, the repository's folder, and `caller`, the name in front of each line on standard error.
 
 # The status of a launcher that could not run the program, or whose run was cut off.
 UNABLE=70
+
+# The status of the module's program for a command line that it hands back.
+HANDED_BACK=75
 
 say() {
     echo "$caller: $*" >&2
@@ -72,6 +76,50 @@ is_proved() {
         newer=$(find "$top/crates/$crate/src" "$top/crates/$crate/specs" "$top/crates/$crate/proofs" -newer "$program" -print -quit 2>/dev/null)
         [ -z "$newer" ] || return 1
     done
+}
+
+# The folder of the proved module for WebAssembly and of the programs over it, and beside the module the sum of the sources that it was made of.
+module_path() {
+    echo "$top/page/module/lgp_c_region.wasm"
+}
+
+# A sum over the sources of which the module is made.
+module_sources() {
+    (cd "$top/crates" && find $(crates_of lgp_c_region | sed 's|$|/src|') -type f | LC_ALL=C sort | xargs cat | cksum)
+}
+
+# Whether node is there, of a version that runs the module.
+has_node() {
+    case $(node --version 2>/dev/null) in
+        v1[89].* | v[2-9][0-9].* | v[1-9][0-9][0-9].*) ;;
+        *) return 1 ;;
+    esac
+}
+
+# Whether the proved module of today's sources is there, and node, which runs it.
+has_module() {
+    has_node && [ -f "$(module_path)" ] && module_sources | cmp -s - "$(module_path).sources"
+}
+
+# Notes that the module that lies there is made of today's sources.
+mark_module() {
+    module_sources >"$(module_path).sources"
+}
+
+# Runs a program over the module, and ends with its status; returns where that hands the command line back.
+run_module() {
+    local status=0
+    node "$top/page/module/terminal.mjs" "$caller" "$@" || status=$?
+    [ "$status" -eq "$HANDED_BACK" ] || exit "$status"
+}
+
+# How a program is run: as the proved program, else by the module, else without its proofs. For tests CONDUGWA_RUN names one of these.
+way_of() {
+    case ${CONDUGWA_RUN-} in
+        program | module | unproved) echo "$CONDUGWA_RUN" ;;
+        '') if is_proved "$1"; then echo program; elif has_module; then echo module; else echo unproved; fi ;;
+        *) give_up "CONDUGWA_RUN is program, module or unproved, and not '$CONDUGWA_RUN'" ;;
+    esac
 }
 
 # Notes that the program that lies there was proved by this toolchain.

@@ -280,6 +280,12 @@ export function codesOf(text) {
     return codes;
 }
 
+/** The tape text of codes, as the monitor writes it. */
+export function tapeTextOf(codes) {
+    const signs = new Map([...SIGNS].filter(([sign]) => sign !== "l").map(([sign, code]) => [code, sign]));
+    return codes.map(({ code }) => signs.get(code) ?? `[${String(code).padStart(2, "0")}]`).join("");
+}
+
 /** What a typewriter writes for a tape text: carriage returns are ends of lines, tabs are blanks, other codes without a sign nothing. */
 export function paperOf(text) {
     return codesOf(text).map(({ code, sign }) => {

@@ -1,0 +1,229 @@
+// The programs lgp_lab and lgp_monitor over the proved module, for ./lgp_lab and ./lgp_monitor where the native programs are not made.
+//
+//     node terminal.mjs lgp_lab|lgp_monitor WORDS..
+//
+// A command line that is not done here is handed back: nothing is read or written, and the status is HANDED_BACK.
+import { openSync, readFileSync } from "node:fs";
+import { createInterface } from "node:readline";
+import { isatty } from "node:tty";
+import { Desk } from "./desk.mjs";
+import { readAll, readSome, writeAll } from "./files.mjs";
+import { bytesFrom, endedText, hasLine, isLonger, linesIn, textFrom, wordsOf } from "./lines.mjs";
+import { Recorded } from "./recorded.mjs";
+import { commandsOf, isRefusal } from "./replies.mjs";
+import { NoMemory, Session, answerScript, compiled } from "./session.mjs";
+import { Typist } from "./typist.mjs";
+
+const HANDED_BACK = 75;
+const WELL = 0;
+const QUESTIONS = 1;
+const FAILED = 2;
+const MEMORY = 3;
+const REGIONS = [2 ** 26, 2 ** 28, 2 ** 30];
+const SCRATCH = 2 ** 22;
+// of a longer source the last bytes would have to be counted as the program counts them
+const SOURCE = 1_000_000;
+const MOST_ORDERS = 4_294_967_295;
+
+const module = compiled(readFileSync(new URL("lgp_c_region.wasm", import.meta.url)));
+
+/** A command line that is not done here. */
+class HandedBack extends Error {}
+
+const write = (bytes) => writeAll(1, bytes);
+
+function tell(program, maker) {
+    try {
+        writeAll(2, bytesFrom(`${program}: this is the proved module, by way of WebAssembly; ${maker} makes the native program\n`));
+    } catch {
+        // what is told here may go unheard
+    }
+}
+
+/** What the module replies to a script, with more memory where that is too little. */
+function repliesTo(script) {
+    for (const region of REGIONS) {
+        try {
+            return answerScript(module, script, region);
+        } catch (failure) {
+            if (!(failure instanceof NoMemory)) throw failure;
+        }
+    }
+    throw new NoMemory("there is not enough memory for this script");
+}
+
+/** Writes the replies to a script; the status. */
+function answerWhole(script) {
+    const { replies, questions } = repliesTo(script);
+    write(replies);
+    return questions > 0 ? QUESTIONS : WELL;
+}
+
+function batch(names) {
+    let worst = WELL;
+    for (const name of names) {
+        const descriptor = openSync(name, "r");
+        write(bytesFrom(`file ${textFrom(Buffer.from(name))}\n`));
+        worst = Math.max(worst, answerWhole(readAll(descriptor)));
+    }
+    return worst;
+}
+
+/** The source in a file, where a script can hold it. */
+function sourceIn(name) {
+    const source = textFrom(readAll(openSync(name, "r")));
+    if (source.length > SOURCE || hasLine(source, ".") || source.split("\n").some(isLonger)) throw new HandedBack();
+    return source;
+}
+
+/** Writes the faults of a source, or what a function takes of the replies to lines after it; the status. */
+function workOn(source, after, taken) {
+    const { replies } = repliesTo(bytesFrom(`source\n${endedText(source)}.\n${after.join("\n")}\n`));
+    const [first, ...rest] = linesIn(textFrom(replies));
+    const lines = isRefusal(first) ? [first, ...rest].filter((line) => /^line |^\? 11 /.test(line)) : taken(rest);
+    write(bytesFrom(lines.map((line) => `${line}\n`).join("")));
+    return isRefusal(first) || isRefusal(lines[0] ?? "") ? QUESTIONS : WELL;
+}
+
+const listing = (source) => workOn(source, ["list"], (lines) => lines);
+
+/** Loads a source and runs it: the replies of `printed` and `panel`, or where the clock's end is met that refusal alone. */
+function loadedAndRun(source, limit) {
+    return workOn(source, ["load", `orders ${limit}`, "printed", "panel"], (lines) => {
+        const refusal = lines.slice(0, 2).find(isRefusal);
+        return refusal === undefined ? lines.slice(-2) : [refusal];
+    });
+}
+
+const isName = (word) => word !== "" && !word.startsWith("-") && !word.includes("\ufffd");
+const isLimit = (word) => /^\d{1,10}$/.test(word) && Number(word) <= MOST_ORDERS;
+
+/** What the words of lgp_lab ask for. */
+function taskOf([command, ...operands]) {
+    if (command === undefined) return () => answerWhole(readAll(0));
+    const [file, limit] = operands;
+    if (operands.length === 0 || !operands.every(isName)) throw new HandedBack();
+    switch (`${command} ${operands.length}`) {
+        case "script 1":
+            return () => answerWhole(readAll(openSync(file, "r")));
+        case "asm 1": {
+            const source = sourceIn(file);
+            return () => listing(source);
+        }
+        case "run 2": {
+            if (!isLimit(limit)) throw new HandedBack();
+            const source = sourceIn(file);
+            return () => loadedAndRun(source, limit);
+        }
+        default:
+            if (command !== "batch") throw new HandedBack();
+            return () => batch(operands);
+    }
+}
+
+/** What the words of lgp_monitor ask for. */
+function sittingOf(words) {
+    const names = words.filter((word) => word !== "--echo");
+    if (words.length - names.length > 1 || !names.every(isName)) throw new HandedBack();
+    return { names: names.map((name) => textFrom(Buffer.from(name))), isEchoing: names.length < words.length };
+}
+
+/** Types the lines of standard input as they come. */
+function typeInput(typist, desk) {
+    const portion = Buffer.alloc(65_536);
+    let begun = "";
+    while (!desk.hasLeft) {
+        const count = readSome(0, portion);
+        if (count === 0) break;
+        const lines = (begun + textFrom(portion.subarray(0, count))).split("\n");
+        begun = lines.pop();
+        for (const line of lines) if (!desk.hasLeft) typist.typeLine(line);
+    }
+    if (begun !== "" && !desk.hasLeft) typist.typeLine(begun, false);
+}
+
+/** What may stand at the end of a line: commands first, and then labels and addresses. */
+function completions(recorded, line) {
+    if (recorded.isSourceOpen) return [[], line];
+    const begun = /[^ ]*$/.exec(line)[0];
+    const before = wordsOf(line.slice(0, line.length - begun.length));
+    const isCommand = before.length === 0 || (before.length === 1 && before[0] === "help");
+    const words = isCommand ? commandWords(recorded) : addressWords(recorded);
+    return [[...new Set(words)].filter((word) => word.startsWith(begun)).sort(), begun];
+}
+
+/** The commands that `help` names, each with a space after it. */
+const commandWords = (recorded) => [...commandsOf(recorded.answer("help"))].map((word) => `${word.replace(/,$/, "")} `);
+
+/** The labels of the last source with their addresses, and the addresses of the rules. */
+const addressWords = (recorded) => [
+    ...linesIn(recorded.answer("labels")).flatMap(wordsOf),
+    ...linesIn(recorded.answer("rules")).map((rule) => wordsOf(rule).at(-1)),
+];
+
+/** Holds a sitting at a terminal; gives the status when it has ended. */
+function sitAtTerminal(typist, desk, recorded) {
+    const { stdin, stdout } = process;
+    const reader = createInterface({ input: stdin, output: stdout, completer: (line) => completions(recorded, line), removeHistoryDuplicates: true });
+    const offer = () => {
+        reader.setPrompt(desk.prompt);
+        reader.prompt();
+    };
+    return new Promise((resolve, reject) => {
+        // while a line is answered the terminal itself ends the program by Ctrl-C
+        reader.on("line", (line) => {
+            if (desk.hasLeft) return;
+            stdin.setRawMode(false);
+            try {
+                typist.typeLine(textFrom(Buffer.from(line)));
+                if (desk.hasLeft) return reader.close();
+                stdin.setRawMode(true);
+                offer();
+            } catch (failure) {
+                reject(failure);
+                reader.close();
+            }
+        });
+        reader.on("SIGINT", () => {
+            stdin.setRawMode(false);
+            process.kill(process.pid, "SIGINT");
+        });
+        reader.on("close", resolve);
+        offer();
+    });
+}
+
+async function monitor({ names, isEchoing }) {
+    const recorded = new Recorded(new Session(module, REGIONS[1]));
+    const scratch = new Recorded(new Session(module, SCRATCH));
+    const desk = new Desk(recorded, scratch, isEchoing);
+    const typist = new Typist(desk, scratch, (text) => write(bytesFrom(text)));
+    const isPrompting = isatty(0) && isatty(1) && !isEchoing;
+    typist.typeFirst(names);
+    if (isPrompting && !desk.hasLeft) await sitAtTerminal(typist, desk, recorded);
+    else typeInput(typist, desk);
+    write(bytesFrom(desk.close() + (isPrompting && desk.endsPrompt ? "\n" : "")));
+    return desk.isRefused ? QUESTIONS : WELL;
+}
+
+const [program, ...words] = process.argv.slice(2);
+
+async function status() {
+    try {
+        if (program === "lgp_monitor") {
+            const sitting = sittingOf(words);
+            tell(program, "./prove lgp30m");
+            return await monitor(sitting);
+        }
+        const task = taskOf(words);
+        tell(program, "./prove");
+        return task();
+    } catch (failure) {
+        if (failure instanceof HandedBack) return HANDED_BACK;
+        if (failure instanceof NoMemory) return MEMORY;
+        if (failure.syscall !== undefined) return FAILED;
+        throw failure;
+    }
+}
+
+process.exitCode = await status();

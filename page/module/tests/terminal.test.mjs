@@ -1,0 +1,178 @@
+// The programs lgp_lab and lgp_monitor over the module: what they write and with which status.
+import assert from "node:assert/strict";
+import { spawn, spawnSync } from "node:child_process";
+import { cpSync, existsSync, mkdirSync, mkdtempSync, openSync, readFileSync, readdirSync, rmSync, writeFileSync } from "node:fs";
+import { tmpdir } from "node:os";
+import { dirname, join } from "node:path";
+import { test } from "node:test";
+import { fileURLToPath } from "node:url";
+
+const top = fileURLToPath(new URL("../../..", import.meta.url));
+const program = join(top, "page/module/terminal.mjs");
+const examples = join(top, "examples");
+const HANDED_BACK = 75;
+
+const named = (ending) => readdirSync(examples, { recursive: true }).filter((name) => name.endsWith(ending)).sort();
+const stored = (name) => readFileSync(join(examples, name), "utf8");
+
+/** What a program writes and its status. */
+function ran(name, words, input = "", options = {}) {
+    const { stdout, stderr, status } = spawnSync("node", [program, name, ...words], { input, ...options });
+    return { text: stdout?.toString(), told: stderr.toString(), status };
+}
+
+const lab = (words, input, options) => ran("lgp_lab", words, input, options);
+const monitor = (words, input, options) => ran("lgp_monitor", words, input, options);
+
+/** A test in a folder of its own, in which files stand. */
+function inFolder(name, files, body) {
+    test(name, () => {
+        const cwd = mkdtempSync(join(tmpdir(), "terminal-"));
+        try {
+            for (const [file, text] of Object.entries(files)) writeFileSync(join(cwd, file), text);
+            body({ cwd });
+        } finally {
+            rmSync(cwd, { recursive: true });
+        }
+    });
+}
+
+test("one line says which program it is", () => {
+    assert.match(lab([], "panel\n").told, /^lgp_lab: [^\n]*the proved module, by way of WebAssembly; \.\/prove makes [^\n]*\n$/);
+    assert.match(monitor([], "panel\n").told, /^lgp_monitor: [^\n]*the proved module, by way of WebAssembly; \.\/prove lgp30m makes [^\n]*\n$/);
+});
+
+test("scripts have the stored replies", () => {
+    const scripts = named(".txt");
+    assert.ok(scripts.length > 15);
+    for (const script of scripts) {
+        const wanted = stored(script.replace(/\.txt$/, ".expected"));
+        const { text, status } = lab(["script", script], "", { cwd: examples });
+        assert.deepEqual([script, text, status], [script, wanted, /^\?/m.test(wanted) ? 1 : 0]);
+    }
+    const { text } = lab(["batch", ...scripts], "", { cwd: examples });
+    assert.equal(text, scripts.map((script) => `file ${script}\n${stored(script.replace(/\.txt$/, ".expected"))}`).join(""));
+    assert.equal(lab([], stored("first-run.txt")).text, stored("first-run.expected"));
+});
+
+test("sessions are told as stored", () => {
+    const sessions = named(".typed");
+    assert.ok(sessions.length > 3);
+    for (const session of sessions) assert.equal(monitor([], stored(session)).text, stored(session.replace(/\.typed$/, ".told")));
+});
+
+test("the session that the native program is tried by", () => {
+    const crate = join(top, "crates/lgp30m");
+    const cwd = mkdtempSync(join(tmpdir(), "terminal-"));
+    cpSync(join(crate, "data"), cwd, { recursive: true });
+    const words = readFileSync(join(crate, "args"), "utf8").trim().split("\n");
+    const { text, status } = monitor(words, readFileSync(join(crate, "stdin")), { cwd });
+    rmSync(cwd, { recursive: true });
+    assert.equal(text, readFileSync(join(crate, "stdout"), "utf8"));
+    assert.equal(status, Number(readFileSync(join(crate, "status"), "utf8")));
+});
+
+test("sources are listed and run", () => {
+    for (const source of named(".source")) {
+        const path = join(examples, source);
+        assert.equal(lab(["asm", path]).text, stored(source.replace(/source$/, "listing")));
+        assert.equal(lab(["run", path, "100"]).text, stored(source.replace(/source$/, "run")));
+    }
+});
+
+inFolder("faults of a source", { faulty: " b none", long: `${" z\n".repeat(300_000)} z\n` }, (here) => {
+    assert.deepEqual([lab(["asm", "faulty"], "", here).text, lab(["run", "faulty", "5"], "", here).text], Array(2).fill("line 1 UnknownName\nline 2 NoEnd\n"));
+    assert.equal(lab(["asm", "faulty"], "", here).status, 1);
+    assert.match(lab(["asm", "long"], "", here).text, /^line 4097 PastEnd\n/m);
+});
+
+inFolder("a batch goes on after a refusal and ends at a file that is not there", { one: "foo\n", two: "turn 5\n" }, (here) => {
+    assert.deepEqual([lab(["batch", "one", "two"], "", here)].map(({ text, status }) => [text, status]), [["file one\n? 1 Form\nfile two\nclock 5\n", 1]]);
+    assert.deepEqual([lab(["batch", "two", "none", "one"], "", here)].map(({ text, status }) => [text, status]), [["file two\nclock 5\n", 2]]);
+});
+
+inFolder("statuses", { two: "turn 5\n" }, (here) => {
+    mkdirSync(join(here.cwd, "folder"));
+    const statuses = [["script", "two"], ["script", "none"], ["script", "folder"], ["asm", "none"], ["run", "none", "5"]].map((words) => lab(words, "", here).status);
+    assert.deepEqual(statuses, [0, 2, 2, 2, 2]);
+    if (existsSync("/dev/full")) {
+        const stdio = ["pipe", openSync("/dev/full", "w"), "pipe"];
+        assert.equal(lab([], "panel\n", { stdio }).status, 2);
+        assert.equal(monitor([], "panel\n", { stdio }).status, 2);
+    }
+});
+
+inFolder("what is not done here is handed back, and nothing is said or read", { point: " z\n.\n end\n", wide: `; ${"x".repeat(5000)}\n end\n` }, (here) => {
+    const lines = [["tape", "point"], ["--help"], ["--version"], ["asm"], ["asm", "point"], ["asm", "wide"], ["run", "point", "4294967296"], ["script", "a", "b"], ["jump"], ["batch"], ["script", ""]];
+    for (const words of lines) assert.deepEqual([words, lab(words, "panel\n", here)], [words, { text: "", told: "", status: HANDED_BACK }]);
+    for (const words of [["--help"], ["-V"], ["--echo", "--echo"], ["--none"]]) assert.equal(monitor(words, "panel\n", here).status, HANDED_BACK);
+});
+
+test("a reply comes before the next line is read", async () => {
+    const child = spawn("node", [program, "lgp_monitor"], { stdio: ["pipe", "pipe", "ignore"] });
+    const replies = child.stdout[Symbol.asyncIterator]();
+    for (const [line, reply] of [["put 0000 = 5", "ok\n"], ["words 0000 1", "0000 0000000f\n"]]) {
+        child.stdin.write(`${line}\n`);
+        assert.equal((await replies.next()).value.toString(), reply);
+    }
+    child.stdin.write("quit\nwords 0000 1\n");
+    assert.equal((await replies.next()).done, true);
+});
+
+test("bytes that are no text, long lines and a last line without an end", () => {
+    assert.equal(monitor([], Buffer.from("; \xe4\xff\ntranscript", "latin1")).text, "; \ufffd\ufffd\n");
+    assert.equal(monitor([], `${" ".repeat(5000)}x\n`).text, monitor([], `${"y".repeat(5000)}\n`).text);
+    assert.equal(monitor([], `${" ".repeat(5000)}\n`).text, "");
+    assert.equal(monitor([], "panel\r").status, 1);
+    assert.match(monitor(["--echo"], `quit${" ".repeat(4100)}\n`).text, /^\? quit *\.\.\n\? 11 TooLong/);
+});
+
+const LESSON = "put 0000 b 0003\nput 0003 = 4\nsave drum\nput 0003 = 5\nput 0009 = 1\nrestore drum\n";
+
+inFolder("a dump is kept and given back, without a trace of what was asked", { lesson: LESSON, again: "press start\nrestore drum\n" }, (here) => {
+    assert.equal(monitor(["lesson"], "transcript\n", here).text, [
+        "ok", "ok", "saved drum", "ok", "ok", "restored 2",
+        "put 0000 0001000j", "put 0003 00000008", "dump", "put 0003 0000000f", "put 0009 00000002", "put 0003 00000008", "put 0009 00000000", "",
+    ].join("\n"));
+    assert.equal(readFileSync(join(here.cwd, "drum"), "utf8"), "0000 0001000j\n0003 00000008\n");
+    assert.deepEqual(readdirSync(here.cwd).sort(), ["again", "drum", "lesson"]);
+    assert.match(monitor(["again"], "transcript\n", here).text, /^live\n\? 2 Moving: the machine is at work.*\n +drum, line 2 of again\npress start\n$/);
+});
+
+inFolder("dumps that are none", { odd: "0000 00000001\n", zero: "0000 00000000\n", order: "0001 00000002\n0000 00000002\n", end: "0000 00000002\n#.\n", wide: "0000  00000002\n" }, (here) => {
+    assert.equal(monitor([], "restore odd\nrestore zero\nrestore order\nrestore end\nrestore wide\n", here).text, [
+        "? 1 Form: line 1 is no line of a dump", "        odd", "? 1 Form: line 1 is no line of a dump", "        zero",
+        "? 1 Form: the address of line 2 is not above that of the line before it", "        order",
+        "? 13 File end: a line that is #. would end the block", "? 1 Form: line 1 is no line of a dump", "        wide", "",
+    ].join("\n"));
+});
+
+inFolder("tapes", { tape: "l2\n[16][02]'\n", cut: "[1\n6]", bad: "12\n3Q", long: "1".repeat(5000), archive: "12!16'\n" }, (here) => {
+    const { text, status } = monitor([], "tape tape\ntape cut\ntape bad\ntape long\narchive archive\ntranscript\n", here);
+    assert.equal(status, 1);
+    assert.equal(text, [
+        "ok 5", "? 13 File cut: the byte at place 0, counted from 0, in line 1, begins no sign of a tape",
+        "? 13 File bad: the byte at place 4, counted from 0, in line 2, begins no sign of a tape",
+        "? 13 File long: more than 4090 bytes of tape text; the native program mounts it, which ./prove lgp30m makes",
+        "? 13 File archive: no archive is read here; the native program reads it, which ./prove lgp30m makes", "mount 12[16]0'", "",
+    ].join("\n"));
+});
+
+inFolder("files that are refused", { point: " z\n.\n", self: "do self\n" }, (here) => {
+    mkdirSync(join(here.cwd, "folder"));
+    assert.equal(monitor([], "source point\ndo none\ndo folder\nsave folder/none/drum\nsave folder\n", here).text, [
+        "? 13 File point: a line that is a point alone would end the source", "? 13 File none: it cannot be opened", "? 13 File folder: it cannot be read",
+        "? 13 File folder/none/drum: it cannot be written, and is as it was", "        folder/none/drum",
+        "? 13 File folder: it cannot be written, and is as it was", "        folder", "",
+    ].join("\n"));
+    assert.deepEqual(readdirSync(here.cwd).sort(), ["folder", "point", "self"]);
+    assert.match(monitor(["self"], "", here).text, /^\? 13 File self: 16 files are open within one another\n +line 1 of self\n$/);
+    assert.equal(monitor(["none"], "", here).text, "? 13 File none: it cannot be opened\n        named on the command line\n");
+});
+
+inFolder("a source that a file leaves open takes the lines that are typed", { open: "source\n z\n" }, (here) => {
+    assert.equal(monitor(["open"], "do open\n end\n.\nfoo\n", here).text, [
+        "? 9 Faults", "line 2 UnknownOrder", "        do open", "           ^^^^", "        line 1 of open",
+        "? 1 Form: there is no such command, help lists them", "",
+    ].join("\n"));
+});
