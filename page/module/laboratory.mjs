@@ -3,6 +3,7 @@ import * as replies from "./replies.mjs";
 import { NoMemory, Session, answerScript, bytesOf, textOf } from "./session.mjs";
 
 const LINE_FEED = 10;
+const TRANSCRIPT = /^ *transcript *$/;
 
 /** A reply that begins with a question mark. */
 export class Refusal extends Error {
@@ -41,7 +42,8 @@ export class Laboratory {
         if (bytes.includes(LINE_FEED)) throw new RangeError("a line has no line feed");
         const { reply, isRefused } = this.#given((session) => session.bytesFor(bytes));
         const text = textOf(reply);
-        if (isRefused) throw new Refusal(replies.linesOf(text).find(replies.isRefusal));
+        // a transcript has lines as they were typed, and those may begin with a question mark
+        if (isRefused && !TRANSCRIPT.test(textOf(bytes))) throw new Refusal(replies.linesOf(text).find(replies.isRefusal));
         return text;
     }
 

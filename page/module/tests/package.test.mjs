@@ -26,6 +26,12 @@ inLaboratory("a laboratory keeps what was done", (laboratory) => {
     assert.equal(laboratory.transcript(), "put 0050 00000006\nwords 0050 2\n");
 });
 
+inLaboratory("a transcript is a text, whatever its lines are", (laboratory) => {
+    assert.throws(() => laboratory.answer("? 7"), refused("Form"));
+    assert.equal(laboratory.transcript(), "? 7\n");
+    assert.throws(() => laboratory.answer("transcript 1"), refused("Form"));
+});
+
 inLaboratory("words come in the order of their addresses", (laboratory) => {
     assert.deepEqual([...laboratory.words("0963", 2).keys()], ["0963", "1000"]);
     assert.equal(laboratory.words("0963").size, 1);
