@@ -22,7 +22,7 @@ function dumpedIn(text, isPut) {
 
 export class Desk {
     #recorded;
-    #scratch;
+    #openBeside;
     #isEchoing;
     #note = null;
     #block = null;
@@ -30,10 +30,10 @@ export class Desk {
     #isRefused = false;
     #awaits = true;
 
-    /** A desk over a session, with another one for what is tried beside it. */
-    constructor(recorded, scratch, isEchoing = false) {
+    /** A desk over a session, with what opens another one, for what is tried beside it. */
+    constructor(recorded, openBeside, isEchoing = false) {
         this.#recorded = recorded;
-        this.#scratch = scratch;
+        this.#openBeside = openBeside;
         this.#isEchoing = isEchoing;
     }
 
@@ -130,7 +130,8 @@ export class Desk {
     }
 
     #restore(text) {
-        const { words, refusal } = dumpedIn(text, (line) => !isRefusal(this.#scratch.answer(`put ${line}`)));
+        const beside = this.#openBeside();
+        const { words, refusal } = dumpedIn(text, (line) => !isRefusal(beside.answer(`put ${line}`)));
         if (refusal !== undefined) return refusal;
         // a machine at work lets no word time pass by turn, and then no word is put
         if (isRefusal(this.#recorded.ask("turn 0"))) return this.#recorded.ask("put 0000 00000000");

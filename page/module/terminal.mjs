@@ -20,7 +20,8 @@ const QUESTIONS = 1;
 const FAILED = 2;
 const MEMORY = 3;
 const REGIONS = [2 ** 26, 2 ** 28, 2 ** 30];
-const SCRATCH = 2 ** 22;
+// for a session beside another one, which is asked whether a tape or a dump is one
+const BESIDE = 2 ** 22;
 // of a longer source the last bytes would have to be counted as the program counts them
 const SOURCE = 1_000_000;
 const MOST_ORDERS = 4_294_967_295;
@@ -32,13 +33,16 @@ class HandedBack extends Error {}
 
 const write = (bytes) => writeAll(1, bytes);
 
-function tell(program, maker) {
+/** Writes a line on standard error. That it cannot be written changes nothing. */
+function tell(line) {
     try {
-        writeAll(2, bytesFrom(`${program}: this is the proved module, by way of WebAssembly; ${maker} makes the native program\n`));
-    } catch {
-        // what is told here may go unheard
+        writeAll(2, bytesFrom(`${line}\n`));
+    } catch (failure) {
+        if (failure.syscall === undefined) throw failure;
     }
 }
+
+const tellWay = (maker) => tell(`${program}: this is the proved module, by way of WebAssembly; ${maker} makes the native program`);
 
 /** What the module replies to a script, with more memory where that is too little. */
 function repliesTo(script) {
@@ -57,6 +61,12 @@ function answerWhole(script) {
     const { replies, questions } = repliesTo(script);
     write(replies);
     return questions > 0 ? QUESTIONS : WELL;
+}
+
+/** Answers the script on standard input when all of it is there. */
+function answerInput() {
+    if (isatty(0)) tell("lgp_lab: the script is answered after Ctrl-D; ./lgp_monitor answers each line");
+    return answerWhole(readAll(0));
 }
 
 function batch(names) {
@@ -100,7 +110,7 @@ const isLimit = (word) => /^\d{1,10}$/.test(word) && Number(word) <= MOST_ORDERS
 
 /** What the words of lgp_lab ask for. */
 function taskOf([command, ...operands]) {
-    if (command === undefined) return () => answerWhole(readAll(0));
+    if (command === undefined) return answerInput;
     const [file, limit] = operands;
     if (operands.length === 0 || !operands.every(isName)) throw new HandedBack();
     switch (`${command} ${operands.length}`) {
@@ -195,9 +205,9 @@ function sitAtTerminal(typist, desk, recorded) {
 
 async function monitor({ names, isEchoing }) {
     const recorded = new Recorded(new Session(module, REGIONS[1]));
-    const scratch = new Recorded(new Session(module, SCRATCH));
-    const desk = new Desk(recorded, scratch, isEchoing);
-    const typist = new Typist(desk, scratch, (text) => write(bytesFrom(text)));
+    const openBeside = () => new Recorded(new Session(module, BESIDE));
+    const desk = new Desk(recorded, openBeside, isEchoing);
+    const typist = new Typist(desk, openBeside, (text) => write(bytesFrom(text)));
     const isPrompting = isatty(0) && isatty(1) && !isEchoing;
     typist.typeFirst(names);
     if (isPrompting && !desk.hasLeft) await sitAtTerminal(typist, desk, recorded);
@@ -212,11 +222,11 @@ async function status() {
     try {
         if (program === "lgp_monitor") {
             const sitting = sittingOf(words);
-            tell(program, "./prove lgp30m");
+            tellWay("./prove lgp30m");
             return await monitor(sitting);
         }
         const task = taskOf(words);
-        tell(program, "./prove");
+        tellWay("./prove");
         return task();
     } catch (failure) {
         if (failure instanceof HandedBack) return HANDED_BACK;

@@ -17,15 +17,15 @@ function requestIn(line) {
 
 export class Typist {
     #desk;
-    #scratch;
+    #openBeside;
     #write;
     #depth = 0;
     #hasNote = false;
 
-    /** A typist at a desk, with a session in which tapes are tried, and with what writes. */
-    constructor(desk, scratch, write) {
+    /** A typist at a desk, with what opens another session, in which a tape is tried, and with what writes. */
+    constructor(desk, openBeside, write) {
         this.#desk = desk;
-        this.#scratch = scratch;
+        this.#openBeside = openBeside;
         this.#write = write;
     }
 
@@ -89,7 +89,7 @@ export class Typist {
     /** The tape text of a file, if it is one: the module says whether. */
     #tapeIn(text) {
         if (text.length > MOUNT_LIMIT) throw new FileTrouble(LONG_TAPE);
-        const reply = this.#scratch.answer(`mount ${text.replaceAll("\n", "\r")}`);
+        const reply = this.#openBeside().answer(`mount ${text.replaceAll("\n", "\r")}`);
         if (!isRefusal(reply)) return tapeTextOf(codesOf(text));
         const { number: place } = refusalOf(reply);
         const line = text.slice(0, place).split("\n").length;

@@ -1,6 +1,7 @@
 #!/usr/bin/env python3
-"""Types to the monitor over the module at a terminal: prompt, completion, history, what the transcript has, and how it ends."""
+"""Types to the programs over the module at a terminal: prompt, completion, history, what the transcript has, and how the monitor ends; a script."""
 
+import fcntl
 import os
 import pathlib
 import pty
@@ -9,24 +10,29 @@ import select
 import signal
 import subprocess
 import sys
+import termios
 import time
 
 PROGRAM = pathlib.Path(__file__).resolve().parent.parent / "terminal.mjs"
-SECONDS = 20
+SECONDS = 120
 ESCAPES = re.compile(r"\x1b\[[0-9;?]*[A-Za-z]")
 UP = "\x1b[A"
 CTRL_C = "\x03"
 CTRL_D = "\x04"
 
 
-class Terminal:
-    """The monitor at a terminal."""
+def take_terminal():
+    """Makes standard input the terminal whose keys reach this process, Ctrl-C among them."""
+    fcntl.ioctl(0, termios.TIOCSCTTY, 0)
 
-    def __init__(self, *words):
+
+class Terminal:
+    """A program at a terminal."""
+
+    def __init__(self, name="lgp_monitor"):
         self.end, inner = pty.openpty()
-        command = ["node", PROGRAM, "lgp_monitor", *words]
-        self.program = subprocess.Popen(command, stdin=inner, stdout=inner, stderr=subprocess.DEVNULL, env={**os.environ, "TERM": "xterm"}, start_new_session=True,
-                                        preexec_fn=lambda: __import__("fcntl").ioctl(0, __import__("termios").TIOCSCTTY, 0))
+        self.program = subprocess.Popen(["node", PROGRAM, name], stdin=inner, stdout=inner, stderr=subprocess.DEVNULL, env={**os.environ, "TERM": "xterm"},
+                                        start_new_session=True, preexec_fn=take_terminal)
         os.close(inner)
 
     def shown(self, end):
@@ -108,8 +114,14 @@ def a_long_run_is_broken_off():
     assert terminal.status() == -signal.SIGINT
 
 
+def a_script_that_is_typed():
+    terminal = Terminal("lgp_lab")
+    terminal.type(f"turn 5\nturn 6\n{CTRL_D}", "clock 5\nclock 11\n")
+    assert terminal.status() == 0
+
+
 def main():
-    checks = [lines_that_are_typed, an_end, a_long_run_is_broken_off]
+    checks = [lines_that_are_typed, an_end, a_long_run_is_broken_off, a_script_that_is_typed]
     for check in checks:
         check()
     print(f"terminal: {len(checks)} well")

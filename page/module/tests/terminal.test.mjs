@@ -139,6 +139,18 @@ inFolder("a dump is kept and given back, without a trace of what was asked", { l
     assert.match(monitor(["again"], "transcript\n", here).text, /^live\n\? 2 Moving: the machine is at work.*\n +drum, line 2 of again\npress start\n$/);
 });
 
+inFolder("nothing is left out of the transcript of a new laboratory", { drum: "0000 00000002\n" }, (here) => {
+    const lines = "put 0000 00000004\n".repeat(9);
+    assert.equal(monitor([], `restore drum\nnew\n${lines}transcript\n`, here).text, `restored 1\nnew\n${"ok\n".repeat(9)}${lines}`);
+});
+
+const two = (number) => String(number).padStart(2, "0");
+const FULL = Array.from({ length: 4000 }, (_, place) => `${two(place >> 6)}${two(place & 63)} 00000002\n`).join("");
+
+inFolder("a dump is given back as often as one likes", { drum: FULL }, (here) => {
+    assert.equal(monitor([], "restore drum\nnew\n".repeat(60), here).text, "restored 4000\nnew\n".repeat(60));
+});
+
 inFolder("dumps that are none", { odd: "0000 00000001\n", zero: "0000 00000000\n", order: "0001 00000002\n0000 00000002\n", end: "0000 00000002\n#.\n", wide: "0000  00000002\n" }, (here) => {
     assert.equal(monitor([], "restore odd\nrestore zero\nrestore order\nrestore end\nrestore wide\n", here).text, [
         "? 1 Form: line 1 is no line of a dump", "        odd", "? 1 Form: line 1 is no line of a dump", "        zero",
