@@ -6,13 +6,13 @@ import { button, guarded, h, showLive } from "./dom.mjs";
 export const KIOSK = { example: "message", idleSeconds: 90 };
 
 /** The bar of large buttons. `open` begins the program anew. */
-export function makeKioskBar(laboratory, { text }, open, drive) {
+export function makeKioskBar(laboratory, { text }, open) {
     const wayNow = () => wayOn(laboratory.live, laboratory.panel).kind;
     const start = guarded(text("kioskStart"), { id: "kiosk-start" }, () => laboratory.command("press start"), () => laboratory.tell({ kind: "dead", detail: text("kioskStart") }));
-    const step = button(text("kioskStep"), () => drive.step());
+    const step = button(text("kioskStep"), () => laboratory.step(1));
     const run = button(text("kioskRun"), async () => {
         if (wayNow() === "start") await laboratory.command("press start");
-        await drive.go("fast");
+        await laboratory.run();
     }, { id: "kiosk-run" });
     const again = button(text("kioskAgain"), open);
     const told = h("p", { class: "kiosk-told", role: "status" });

@@ -66,12 +66,11 @@ export function makeLines(laboratory, { text, code }) {
             shown.get(said).remove();
             shown.delete(said);
         }
-        const young = talk.filter((said) => !shown.has(said));
-        for (const said of young) {
+        for (const said of talk.filter((said) => !shown.has(said))) {
             shown.set(said, h("span", {}, h("b", {}, `${said.line}\n`), said.reply.slice(0, REPLY_SHOWN), said.reply.length > REPLY_SHOWN ? `…\n${text("replyLength", { count: counted(said.reply.length, code) })}\n` : ""));
             log.append(shown.get(said));
         }
-        if (young.length > 0) log.scrollTop = log.scrollHeight;
+        log.scrollTop = log.scrollHeight;
         input.placeholder = laboratory.openSource === null ? "words 0050 2" : text("sourceLine");
     };
     return { node: part("lines", text("lines"), log, h("form", { class: "line", onsubmit: send }, input, h("button", {}, text("send")))), show };
