@@ -34,9 +34,11 @@ uint32_t lgp_run_script_in(struct lgp_memory memory,
 /* Opens a session. The memory is handed over for good whatever the status is, also with LGP_IS_OPEN.
  * LGP_WELL; LGP_NO_MEMORY, and then none is open; LGP_IS_OPEN, and then nothing has changed.
  *
- * Of these bytes 4,096 are the region's own, and an opened session takes some 600 kilobytes. A block that it has no more use for serves a later request of
- * its size, so that lines that leave nothing behind need no more memory as they go on. What a session
- * keeps does: the transcript, the steps that lead back, a source and the words that a program reads. */
+ * Of these bytes 4,096 are the region's own, and an opened session takes some 600 kilobytes. No block
+ * that was given back is lost: it serves a later request of its size, so that lines that leave nothing
+ * behind need no more memory as they go on. What a session keeps does: the transcript, the steps that
+ * lead back, a source and the words that a program reads. The line `new` makes a new laboratory before
+ * it gives up the old one: with a small source before it it takes no more than 1,310,720 bytes in all. */
 uint32_t lgp_open_in(struct lgp_memory memory, struct lgp_session *session);
 
 /* Answers a line, as lgp_answer does. With LGP_NO_MEMORY the session is closed. */
