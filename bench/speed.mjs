@@ -1,11 +1,12 @@
 // How many orders a second: of the proved program, where ./prove has made it; of sessions in node, with the module as the proofs leave it and
 // with the lowered one; and of the page, in each engine.
 //
-//     node bench/speed.mjs [MILLIONS OF ORDERS, 100 where none is said]
+//     node bench/speed.mjs [--write] [MILLIONS OF ORDERS, 100 where none is said]
 //
+// With --write the numbers become the table of docs/DEVELOPMENT.md, with what they are of the program's.
 // Each but the page is the best of three runs. Times on the wall vary: other work on the machine makes them longer. No part of the check.
 import { spawnSync } from "node:child_process";
-import { existsSync, readFileSync } from "node:fs";
+import { existsSync, readFileSync, writeFileSync } from "node:fs";
 import { dirname, join } from "node:path";
 import { fileURLToPath } from "node:url";
 import { Session, compiled } from "../page/module/session.mjs";
@@ -28,10 +29,14 @@ function seconds(deed) {
     return (performance.now() - began) / 1000;
 }
 
+/** Tells of the best of some turns, and answers the orders a second. */
 function told(name, orders, deed) {
     const best = Math.min(...Array.from({ length: TURNS }, deed));
-    console.log(`${name}: ${(orders / best / 1e6).toFixed(1)} million orders a second`);
+    console.log(`${name}: ${millions(orders / best)} million orders a second`);
+    return orders / best;
 }
+
+const millions = (speed) => (speed / 1e6).toFixed(1);
 
 /** The seconds of a session for its orders alone, asked of a process of its own. */
 function sessionSeconds(path, orders) {
@@ -46,18 +51,39 @@ function runSession(path, orders) {
     console.log(seconds(() => session.answer(`run ${orders}`)));
 }
 
-function main(orders) {
+/** The page's orders a second in an engine, as its visit tells them; NaN where it does not. */
+function pageSpeed(engine) {
+    const env = { ...process.env, ENGINE: engine, VISITS: "longRun", LEAST_SPEED: "0" };
+    const { stdout } = spawnSync(process.execPath, [join(top, "page/tests/visit.mjs"), join(top, "page/laboratory.html")], { env, encoding: "utf8" });
+    const [, speed] = /^longRun: well, (\d+)/m.exec(stdout) ?? [];
+    console.log(`the page in ${engine}: ${speed === undefined ? stdout.trim() : `${millions(Number(speed))} million orders a second`}`);
+    return Number(speed);
+}
+
+/** The speeds by name, the program's first. */
+function speeds(orders) {
     const input = (line) => [...loop, line, ""].join("\n");
     const asked = (line) => seconds(() => spawnSync(program, { input: input(line) }));
-    if (existsSync(program)) told("the program", orders, () => asked(`run ${orders}`) - asked("run 1"));
-    for (const [name, path] of Object.entries(modules)) told(name, orders, () => sessionSeconds(path, orders));
-    for (const engine of ["chromium", "firefox", "webkit"]) {
-        const env = { ...process.env, ENGINE: engine, VISITS: "longRun", LEAST_SPEED: "0" };
-        const { stdout } = spawnSync(process.execPath, [join(top, "page/tests/visit.mjs"), join(top, "page/laboratory.html")], { env, encoding: "utf8" });
-        const [, speed] = /^longRun: well, (\d+)/.exec(stdout) ?? [];
-        console.log(`the page in ${engine}: ${speed === undefined ? stdout.trim() : `${(Number(speed) / 1e6).toFixed(1)} million orders a second`}`);
-    }
+    const found = [];
+    if (existsSync(program)) found.push(["the program", told("the program", orders, () => asked(`run ${orders}`) - asked("run 1"))]);
+    for (const [name, path] of Object.entries(modules)) if (existsSync(path)) found.push([name, told(name, orders, () => sessionSeconds(path, orders))]);
+    for (const engine of ["chromium", "firefox", "webkit"]) found.push([`the page in ${engine}`, pageSpeed(engine)]);
+    return found;
+}
+
+/** The table of the document, between its marks. */
+function write(found) {
+    const path = join(top, "docs/DEVELOPMENT.md");
+    const [, whole] = found[0];
+    const rows = found.map(([name, speed]) => `| ${name} | ${millions(speed)} | ${(speed / whole).toFixed(2)} |`);
+    const table = ["<!-- speed -->", "", "| | million orders a second | of the program's |", "|---|---|---|", ...rows, "", "<!-- /speed -->"].join("\n");
+    writeFileSync(path, readFileSync(path, "utf8").replace(/<!-- speed -->[^]*<!-- \/speed -->/, () => table));
+}
+
+function main(words) {
+    const found = speeds(1e6 * Number(words.find((word) => word !== "--write") ?? 100));
+    if (words.includes("--write")) write(found);
 }
 
 if (process.argv[2] === "session") runSession(process.argv[3], Number(process.argv[4]));
-else main(1e6 * Number(process.argv[2] ?? 100));
+else main(process.argv.slice(2));

@@ -10,7 +10,6 @@ use Rattle.lgp_history.specs.Steps.{CanStep}
 use Rattle.lgp_history.specs.declared.rule.Rule.{Rule}
 use Rattle.lgp_debugger.specs.Debugging.{Debugging, performed}
 use Rattle.lgp_debugger.specs.Run.{IsOrderOfRun, IsRun, ended_for, first_stop, one_order_more, run_of, unless_stopped}
-use Rattle.lgp_debugger.specs.RunInside.{rules_in_force}
 use Rattle.lgp_debugger.specs.declared.fault.Ran.{Ran}
 use Rattle.lgp_debugger.specs.declared.fault.Reason.TheVariants as reasons
 use Rattle.lgp_debugger.specs.declared.fault.RunFault.{RunFault}
@@ -56,29 +55,29 @@ module _ (rules : List Rule) where
   an_order n s can = rw (can.0, le-ltb clock_end (s.clock + cost s) can.1) refl
 
 -- so many orders were done without an end, and from here the run goes on
-pub record HasRun (by_rules : Bool) (first now : Debugging) (done : ℕ) : Type 0 where
-  pub goes_on : (n : ℕ) → run_of (rules_in_force by_rules first.rules) (done + n) first.state ≡ more done (run_of (rules_in_force by_rules first.rules) n now.state)
+pub record HasRun (in_force : List Rule → List Rule) (first now : Debugging) (done : ℕ) : Type 0 where
+  pub goes_on : (n : ℕ) → run_of (in_force first.rules) (done + n) first.state ≡ more done (run_of (in_force first.rules) n now.state)
   pub reached : now ≡ performed first done
   pub same_rules : now.rules ≡ first.rules
 
-pub run_begun : (by_rules : Bool) (d : Debugging) → HasRun by_rules d d 0
-run_begun by_rules d = record {
-  goes_on = λ n. ap (λ (k : ℕ). run_of (rules_in_force by_rules d.rules) k d.state) (zero-add n) ∙ sym (no_more _);
+pub run_begun : (in_force : List Rule → List Rule) (d : Debugging) → HasRun in_force d d 0
+run_begun in_force d = record {
+  goes_on = λ n. ap (λ (k : ℕ). run_of (in_force d.rules) k d.state) (zero-add n) ∙ sym (no_more _);
   reached = performed_none d;
   same_rules = refl;
 }
 
 -- the next order, and how the run ends with it or goes on
-module _ (by_rules : Bool) (first now new : Debugging) (done limit : ℕ) (h : HasRun by_rules first now done) where
+module _ (in_force : List Rule → List Rule) (first now new : Debugging) (done limit : ℕ) (h : HasRun in_force first now done) where
   abbrev rules : List Rule
-  rules = rules_in_force by_rules first.rules
+  rules = in_force first.rules
 
   abbrev IsOrder : Result (Option ℕ) StepFault → Type 0
-  IsOrder answer = IsOrderOfRun (rules_in_force by_rules now.rules) now new answer
+  IsOrder answer = IsOrderOfRun (in_force now.rules) now new answer
 
   by_these : (answer told : Result (Option ℕ) StepFault) → answer ≡ told → IsOrder answer → IsOrderOfRun rules now new told
   by_these answer told is order =
-      subst (λ (rs : List Rule). IsOrderOfRun (rules_in_force by_rules rs) now new told) h.same_rules (subst IsOrder is order)
+      subst (λ (rs : List Rule). IsOrderOfRun (in_force rs) now new told) h.same_rules (subst IsOrder is order)
 
   -- this run, told by what is left of it
   from_here : (n : ℕ) → limit ≡ done + n → run_of rules limit first.state ≡ more done (run_of rules n now.state)
@@ -94,7 +93,7 @@ module _ (by_rules : Bool) (first now new : Debugging) (done limit : ℕ) (h : H
       ∙ ap (λ (o : Option ℕ). more done (one_order_more (unless_stopped o (run_of rules n (next now.state))))) (sym order.1)
       ∙ ap (λ (d : Debugging). more done (one_order_more (unless_stopped stop (run_of rules n d.state)))) (sym order.2)
 
-  pub run_step : (answer : Result (Option ℕ) StepFault) → answer ≡ Ok None → IsOrder answer → HasRun by_rules first new (done + 1)
+  pub run_step : (answer : Result (Option ℕ) StepFault) → answer ≡ Ok None → IsOrder answer → HasRun in_force first new (done + 1)
   run_step answer is order =
       let here = by_these _ _ is order in
       record {
@@ -126,7 +125,7 @@ module _ (by_rules : Bool) (first now new : Debugging) (done limit : ℕ) (h : H
       → IsRun rules limit first new (Ok (record { orders = done; reason = reasons.Rest }))
   run_refused_at_rest answer is order below = let here = by_these _ _ is order in run_rested (omega arith) here.0 here.1
 
-  done_all : rests now.state ≡ false → run_of rules done first.state ≡ Ok (record { orders = done; reason = reasons.Limit })
+  pub done_all : rests now.state ≡ false → run_of rules done first.state ≡ Ok (record { orders = done; reason = reasons.Limit })
   done_all busy =
       ap (λ (k : ℕ). run_of rules k first.state) (sym (add-zero done)) ∙ h.goes_on 0 ∙ ap (more done) (no_order rules now.state busy)
       ∙ ap (λ (k : ℕ). Ok (record { orders = k; reason = reasons.Limit })) (zero-add done)

@@ -1,6 +1,7 @@
 pub mod Debugging
 pub mod Run
 pub mod RunInside
+pub mod Watching
 pub mod WatchInside
 pub use Rattle.lgp_history.specs.Step
 pub use Rattle.lgp_history.specs.Steps

@@ -13,7 +13,8 @@ ghost use Rattle.lgp_history.specs.Steps.{Leads, orders_in};
 ghost use Rattle.lgp_flexo.specs.TapeText.{tape_limit};
 ghost use Rattle.lgp_debugger.specs.WatchInside.{watch_of};
 ghost use Rattle.lgp_debugger.specs.Debugging.{after_back, after_step, rule_limit};
-ghost use Rattle.lgp_debugger.specs.Run.{IsOrderOfRun, IsRun};
+ghost use Rattle.lgp_debugger.specs.Run.{IsOrderOfRun, IsRun, orders_of};
+ghost use Rattle.lgp_debugger.specs.Watching.{AreSeen, IsWatchedRun};
 ghost use Rattle.lgp_debugger.specs.RunInside.{rules_in_force};
 ghost use Rattle.lgp_loader.specs.BlockLoading.{longest_load};
 ghost use Rattle.lgp_loader.specs.LoadedOver.{IsLoadedOver};
@@ -25,6 +26,7 @@ use crate::fault::{
     StepFault,
 };
 use crate::watch::{Watch, first_stop_now, watch_of};
+use crate::watcher::{Quiet, WatchFault, Watcher};
 use arrayvec::ArrayVec;
 use lgp_assembler::Image;
 use lgp_flexo::{Code, TAPE_LIMIT};
@@ -261,7 +263,7 @@ impl<H: History<A>, A: Allocator> Debugger<H, A> {
 
     /// One order in the loop of a run, by the rules or without them.
     #[inline(always)]
-    fn run_on(&mut self, by_rules: bool) -> Result<Option<u8>, StepFault>
+    pub(crate) fn run_on(&mut self, by_rules: bool) -> Result<Option<u8>, StepFault>
         ensures { IsOrderOfRun (rules_in_force by_rules self.old.rules) self.old self.new result }
     {
         if by_rules {
@@ -296,7 +298,7 @@ impl<H: History<A>, A: Allocator> Debugger<H, A> {
             result }
         ensures within_clock { self.new.state.clock ≤ clock_end }
     {
-        let outcome = self.run_orders(limit, by_rules);
+        let outcome = self.run_watched(limit, &mut Quiet { by_rules }, &mut ());
         // That the clock is within its end is what the mark's clause says.
         let Some(_) = self.machine.mark() else {
             unreachable!()
@@ -304,13 +306,22 @@ impl<H: History<A>, A: Allocator> Debugger<H, A> {
         outcome
     }
 
-    /// The orders of a run by the rules or without them.
+    /// Runs as `run` does, by the rules that the watcher lets stop it; the watcher has each order performed. Where it is refused
+    /// memory for what it sees, that order stands as the last one, and what it keeps is not said.
     #[inline(always)]
-    fn run_orders(&mut self, limit: u64, by_rules: bool) -> Result<Ran, RunFault>
-        ensures { IsRun (rules_in_force by_rules self.old.rules) limit self.old self.new result }
+    pub fn run_watched<K, W: Watcher<H, A, K>>(
+        &mut self,
+        limit: u64,
+        watcher: &mut W,
+        kept: &mut K,
+    ) -> Result<Ran, RunFault>
+        requires ready { W.ready watcher.old self.old kept.old }
+        ensures { IsWatchedRun W.never_refused (W.in_force watcher.old self.old.rules) limit
+            self.old self.new result
+            (AreSeen (W.Sees watcher.old) self.old kept.old (orders_of result) kept.new) }
     {
         for orders in 0..limit {
-            match self.run_on(by_rules) {
+            match watcher.order(self, kept) {
                 Ok(None) => {}
                 Ok(Some(rule)) => {
                     return Ok(Ran {
@@ -318,21 +329,27 @@ impl<H: History<A>, A: Allocator> Debugger<H, A> {
                         reason: Reason::Rule(rule),
                     });
                 }
-                Err(StepFault::AtRest) => {
+                Err(WatchFault::Refused(StepFault::AtRest)) => {
                     return Ok(Ran {
                         orders,
                         reason: Reason::Rest,
                     });
                 }
-                Err(StepFault::ClockEnd) => {
+                Err(WatchFault::Refused(StepFault::ClockEnd)) => {
                     return Err(RunFault {
                         orders,
                         fault: RunRefusal::ClockEnd,
                     });
                 }
-                Err(StepFault::Memory) => {
+                Err(WatchFault::Refused(StepFault::Memory)) => {
                     return Err(RunFault {
                         orders,
+                        fault: RunRefusal::Memory,
+                    });
+                }
+                Err(WatchFault::Unseen) => {
+                    return Err(RunFault {
+                        orders: orders + 1,
                         fault: RunRefusal::Memory,
                     });
                 }
@@ -365,7 +382,7 @@ impl<H: History<A>, A: Allocator> Debugger<H, A> {
     }
 
     /// Whether an action would be live.
-    fn is_live(&self, action: &Action) -> bool
+    pub fn is_live(&self, action: &Action) -> bool
         ensures { result ≡ is_live self.now.state.core.panel action.now }
     {
         let Some(live) = self.machine.live(*action) else {

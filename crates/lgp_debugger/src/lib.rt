@@ -4,9 +4,11 @@
 mod debugger;
 mod fault;
 mod watch;
+mod watcher;
 
 pub use debugger::Debugger;
 pub use fault::{
     HitFault, IdleFault, MountFault, PutFault, Ran, Reason, RuleFault, RunFault, RunRefusal,
     StepFault,
 };
+pub use watcher::{Quiet, WatchFault, Watcher};

@@ -4,3 +4,4 @@ mod calls;
 mod growths;
 mod large;
 mod rows;
+mod watched;

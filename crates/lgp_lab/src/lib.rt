@@ -7,6 +7,7 @@ pub use laboratory::Laboratory;
 pub use lgp_stream::{Failed, Feed, FeedOf, Sink, SinkOf, StreamFault as LabFault};
 pub use lgp_task::{FileName, FileNames, Task, TaskFault, task_of};
 pub use limits::READS;
+pub use names::BUTTONS;
 pub use script::{batch_part, run_script};
 pub use span::Span;
 pub use tasks::{

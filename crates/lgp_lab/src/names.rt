@@ -126,7 +126,7 @@ const VERBS: [Named<Verb>; 20] = [
 ];
 
 /// The buttons of the console.
-const BUTTONS: [Named<Action>; 9] = [
+pub const BUTTONS: [Named<Action>; 9] = [
     Named {
         name: b"normal",
         value: Action::Mode(Mode::Normal),

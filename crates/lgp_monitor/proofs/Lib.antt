@@ -1,7 +1,6 @@
 pub mod GoLemmas
 pub mod LineLemmas
 pub mod RunLine
-pub mod RunPortions
 pub mod ScriptRun
 pub mod Pictures
 pub mod LastLine

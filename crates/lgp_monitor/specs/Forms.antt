@@ -16,7 +16,8 @@ use Rattle.lgp_assembler.specs.declared.operands.OperandFault.TheVariants.{Misfo
 use Rattle.lgp_assembler.specs.declared.operands.OperandFault.TheVariants.{Outside}
 use Rattle.lgp_stream.specs.LineWords.{behind_word, first_word, has_no_word}
 use Rattle.lgp_text.specs.NamedValues.{named}
-use Rattle.lgp_monitor.specs.Verbs.{operands_form, takes_address, verb_names}
+use Rattle.lgp_monitor.specs.Verbs.{only_asks, operands_form, operands_kind, takes_address}
+use Rattle.lgp_monitor.specs.Verbs.{verb_names}
 use Rattle.lgp_monitor.specs.declared.verb.Verb.{Verb}
 use Rattle.lgp_monitor.specs.declared.verb.Verb.TheVariants as verbs
 use Rattle.lgp_monitor.specs.declared.form.Mistake.{Mistake}
@@ -30,6 +31,14 @@ form_line name verb = name ++ (operands_form verb ++ codes "\n")
 -- the forms of all commands, a line each
 unfoldable pub help_text : List ℕ
 help_text = flat_map (λ name. form_line name.0 name.1) verb_names
+
+-- a command, whether it only asks or does something, and what its operands are
+unfoldable pub command_line : List ℕ → Verb → List ℕ
+command_line name verb =
+    name ++ ((if only_asks verb then codes " asks" else codes " does") ++ operands_kind verb)
+
+unfoldable pub commands_text : List ℕ
+commands_text = flat_map (λ name. command_line name.0 name.1) verb_names
 
 -- ---- what is wrong with a word
 

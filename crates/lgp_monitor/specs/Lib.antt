@@ -3,11 +3,11 @@ pub mod RunEnds
 pub mod Reasons
 pub mod Telling
 pub mod Scaled
+pub mod Forms
 pub mod Questions
 pub mod Typed
 pub mod Closing
 pub mod ClosingInside
-pub mod Forms
 pub mod Monitor
 pub mod Running
 pub mod Blocks

@@ -1,5 +1,5 @@
 -- Part of the public promise: what is shown and changes nothing: words as numbers, where a word
--- came from, the names of the last source, the rules.
+-- came from, the names of the last source, the rules, what is live, the commands.
 use Rattle.std.specs.Prelude.{ℕ, ◌+◌, ◌++◌, if◌then◌else◌, nat_lt, List, [], ◌∷◌, codes, decimal}
 use Rattle.std.specs.Prelude.{flat_map}
 use Rattle.lgp_word.specs.Digits.{address_digits, digits_of}
@@ -8,8 +8,15 @@ use Rattle.lgp_fraction.specs.Decimal.{decimal_text}
 use Rattle.lgp_history.specs.declared.rule.Rule.{Rule}
 use Rattle.lgp_history.specs.declared.rule.Rule.TheVariants.{At, Changed}
 use Rattle.lgp_lab.specs.DrumCommands.{lines_text}
+use Rattle.lgp_lab.specs.Names.{button_names}
 use Rattle.lgp_lab.specs.Standing.{Standing, labels_of}
+use Rattle.lgp_table.specs.Console.{is_live, is_waiting, takes_codes}
+use Rattle.lgp_table.specs.declared.action.Action.{Action}
+use Rattle.lgp_table.specs.declared.panel.Mode.{Mode}
+use Rattle.lgp_table.specs.declared.panel.Panel.{Panel}
+use Rattle.lgp_table.specs.declared.panel.Status.{Status}
 use Rattle.lgp_trace.specs.OriginLines.{why_text}
+use Rattle.lgp_monitor.specs.Forms.{commands_text}
 use Rattle.lgp_monitor.specs.Scaled.{scaled_text}
 use Rattle.lgp_monitor.specs.Telling.{label_of}
 use Rattle.lgp_monitor.specs.declared.question.Question.{Question}
@@ -50,6 +57,23 @@ module _ (names : List (List ℕ × ℕ)) where
   rule_lines number [] = []
   rule_lines number (rule ∷ more) = rule_line number rule ++ rule_lines (number + 1) more
 
+-- ---- live: which buttons and keys would do something now
+
+-- a blank and an action's name, where it is live
+abbrev pub live_name : Panel → List ℕ × Action → List ℕ
+live_name panel named = if is_live panel named.1 then codes " " ++ named.0 else []
+
+-- the keys whose signs enter, and the conditional stop
+abbrev pub live_keys : Status → Mode → List ℕ
+live_keys status mode =
+    (if takes_codes status mode then codes " keys" else [])
+    ++ (if is_waiting status then codes " stop" else [])
+
+unfoldable pub live_line : Panel → List ℕ
+live_line panel =
+    codes "live" ++ (flat_map (live_name panel) button_names
+    ++ (live_keys panel.status panel.mode ++ codes "\n"))
+
 unfoldable pub answer_to : Question → Standing → List ℕ
 answer_to (questions.Numbers range point) standing =
     lines_text (number_line point) standing.debugger.state range.first range.count
@@ -58,3 +82,5 @@ answer_to (questions.Why address) standing =
 answer_to questions.Labels standing = flat_map label_line (labels_of standing.source)
 answer_to questions.Rules standing =
     rule_lines (labels_of standing.source) 0 standing.debugger.rules
+answer_to questions.Live standing = live_line standing.debugger.state.core.panel
+answer_to questions.Commands standing = commands_text

@@ -95,8 +95,11 @@ asked_with (number_commands.Told telling) limit = typed.Told telling limit
 -- what a command asks for by itself; one of scripts as it stands
 abbrev pub asked_alone : LoneCommand → Typed
 asked_alone lone_commands.Script = typed.Itself
+asked_alone lone_commands.ScriptQuestion = typed.Itself
 asked_alone lone_commands.Rules = typed.Asked questions.Rules
 asked_alone lone_commands.Labels = typed.Asked questions.Labels
+asked_alone lone_commands.Live = typed.Asked questions.Live
+asked_alone lone_commands.Commands = typed.Asked questions.Commands
 asked_alone lone_commands.Transcript = typed.Transcript
 asked_alone lone_commands.New = typed.New
 

@@ -26,25 +26,27 @@ verb_names =
     ∷ (codes "why", verbs.Address address_commands.Why)
     ∷ (codes "back", verbs.Number number_commands.Script)
     ∷ (codes "last", verbs.Lone lone_commands.Script)
-    ∷ (codes "panel", verbs.Lone lone_commands.Script)
+    ∷ (codes "panel", verbs.Lone lone_commands.ScriptQuestion)
     ∷ (codes "words", verbs.Range)
     ∷ (codes "show", verbs.Range)
     ∷ (codes "numbers", verbs.ScaledRange)
-    ∷ (codes "printed", verbs.Lone lone_commands.Script)
-    ∷ (codes "dump", verbs.Lone lone_commands.Script)
+    ∷ (codes "printed", verbs.Lone lone_commands.ScriptQuestion)
+    ∷ (codes "dump", verbs.Lone lone_commands.ScriptQuestion)
     ∷ (codes "source", verbs.Source)
     ∷ (codes "do", verbs.File)
     ∷ (codes "tape", verbs.File)
     ∷ (codes "archive", verbs.File)
     ∷ (codes "save", verbs.File)
     ∷ (codes "restore", verbs.File)
-    ∷ (codes "list", verbs.Lone lone_commands.Script)
+    ∷ (codes "list", verbs.Lone lone_commands.ScriptQuestion)
     ∷ (codes "load", verbs.Lone lone_commands.Script)
     ∷ (codes "break", verbs.Address address_commands.Script)
     ∷ (codes "watch", verbs.Address address_commands.Script)
     ∷ (codes "drop", verbs.Number number_commands.Script)
     ∷ (codes "rules", verbs.Lone lone_commands.Rules)
     ∷ (codes "labels", verbs.Lone lone_commands.Labels)
+    ∷ (codes "live", verbs.Lone lone_commands.Live)
+    ∷ (codes "commands", verbs.Lone lone_commands.Commands)
     ∷ (codes "transcript", verbs.Lone lone_commands.Transcript)
     ∷ (codes "new", verbs.Lone lone_commands.New)
     ∷ (codes "help", verbs.Command)
@@ -53,7 +55,7 @@ verb_names =
 
 -- what stands behind a command's name in its form
 unfoldable pub operands_form : Verb → List ℕ
-operands_form (verbs.Lone command) = []
+operands_form (verbs.Lone _) = []
 operands_form (verbs.Address command) = codes " ttss"
 operands_form (verbs.Number command) = codes " NUMBER"
 operands_form verbs.Range = codes " ttss NUMBER, at most 64"
@@ -67,6 +69,35 @@ operands_form verbs.Source =
 operands_form verbs.File = codes " FILE, in the program lgp_monitor"
 operands_form verbs.Command = codes " or help COMMAND"
 operands_form verbs.End = codes ", which ends the program lgp_monitor"
+
+-- the same in a word or two, for programs
+unfoldable pub operands_kind : Verb → List ℕ
+operands_kind (verbs.Lone _) = codes " nothing\n"
+operands_kind (verbs.Address command) = codes " address\n"
+operands_kind (verbs.Number command) = codes " number\n"
+operands_kind verbs.Range = codes " range\n"
+operands_kind verbs.ScaledRange = codes " range\n"
+operands_kind verbs.Word = codes " address word\n"
+operands_kind verbs.Text = codes " text\n"
+operands_kind verbs.Key = codes " button\n"
+operands_kind verbs.Source = codes " source\n"
+operands_kind verbs.File = codes " file\n"
+operands_kind verbs.Command = codes " command\n"
+operands_kind verbs.End = codes " nothing\n"
+
+-- whether a command shows something and changes nothing
+abbrev pub only_asks : Verb → Bool
+only_asks (verbs.Lone lone_commands.ScriptQuestion) = true
+only_asks (verbs.Lone lone_commands.Rules) = true
+only_asks (verbs.Lone lone_commands.Labels) = true
+only_asks (verbs.Lone lone_commands.Live) = true
+only_asks (verbs.Lone lone_commands.Commands) = true
+only_asks (verbs.Lone lone_commands.Transcript) = true
+only_asks (verbs.Address address_commands.Why) = true
+only_asks verbs.Range = true
+only_asks verbs.ScaledRange = true
+only_asks verbs.Command = true
+only_asks _ = false
 
 -- whether an address stands first behind a command's name
 abbrev pub takes_address : Verb → Bool

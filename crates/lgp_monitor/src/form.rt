@@ -6,10 +6,12 @@ ghost use Rattle.std.specs.Option.{option_map_or};
 ghost use Rattle.lgp_stream.specs.LineWords.{behind_word, first_word, has_no_word};
 ghost use Rattle.lgp_assembler.specs.AddressOperands.{address_operand};
 ghost use Rattle.lgp_text.specs.NamedValues.{named, pairs_of};
-ghost use Rattle.lgp_monitor.specs.Forms.{address_mistake, are_digits, by_address, form_line, has_capital, has_l_or_o, help_text, is_beyond_63, is_l_or_o, is_order_with_digits, misformed_address, misformed_text, mistake_text, no_command_reason, operand_reason, takes_numbers, takes_place, value_mistake, value_reason, verb_reason};
-ghost use Rattle.lgp_monitor.specs.Verbs.{operands_form, verb_names};
+ghost use Rattle.lgp_monitor.specs.Forms.{address_mistake, are_digits, by_address, command_line, commands_text, form_line, has_capital, has_l_or_o, help_text, is_beyond_63, is_l_or_o, is_order_with_digits, misformed_address, misformed_text, mistake_text, no_command_reason, operand_reason, takes_numbers, takes_place, value_mistake, value_reason, verb_reason};
+ghost use Rattle.lgp_monitor.specs.Verbs.{operands_form, operands_kind, verb_names};
 
-use crate::verb::{VERBS, Verb, operands_form, takes_address, verb_named};
+use crate::verb::{
+    VERBS, Verb, only_asks, operands_form, operands_kind, takes_address, verb_named,
+};
 use lgp_assembler::{Name, OperandFault, Symbols, address_operand};
 use lgp_stream::{has_no_word, split_word};
 use lgp_text::{Named, Piece, push_pieces};
@@ -223,6 +225,48 @@ pub(crate) fn push_help<A: Allocator>(text: &mut Vec<u8, A>) -> Result<(), Alloc
     ensures { OnOk result (text.new.items ≡ text.old.items ++ help_text) }
 {
     push_forms(text, &VERBS)
+}
+
+/// Appends a command's line for programs.
+#[tactic(auto, unfolding(crate::specs::Forms::command_line))]
+fn push_command_line<A: Allocator>(
+    text: &mut Vec<u8, A>,
+    name: &[u8],
+    verb: Verb,
+) -> Result<(), AllocError>
+    ensures { OnOk result (text.new.items ≡ text.old.items ++ command_line name.now verb) }
+{
+    let asks: &[u8] = if only_asks(verb) { b" asks" } else { b" does" };
+    push_pieces(
+        text,
+        &[
+            Piece::Text(name),
+            Piece::Text(asks),
+            Piece::Text(operands_kind(verb)),
+        ],
+    )
+}
+
+/// Appends the lines of commands for programs.
+fn push_command_lines<A: Allocator>(
+    text: &mut Vec<u8, A>,
+    names: &[Named<Verb>],
+) -> Result<(), AllocError>
+    ensures { OnOk result (text.new.items ≡ text.old.items
+        ++ flat_map (λ name. command_line name.0 name.1) (pairs_of names.now)) }
+{
+    for name in names {
+        push_command_line(text, name.name, name.value)?;
+    }
+    Ok(())
+}
+
+/// Appends of each command whether it only asks, and what its operands are.
+#[tactic(auto, unfolding(crate::specs::Forms::commands_text))]
+pub(crate) fn push_commands<A: Allocator>(text: &mut Vec<u8, A>) -> Result<(), AllocError>
+    ensures { OnOk result (text.new.items ≡ text.old.items ++ commands_text) }
+{
+    push_command_lines(text, &VERBS)
 }
 
 /// A command whose line is in no form, with what its addresses may name: the labels of the last source, and the counter.

@@ -1,87 +1,86 @@
-//! Runs in portions, between which is told how far they are.
+//! Runs that tell how far they are.
 
-ghost use Rattle.std.specs.Prelude.{◌≡◌, ◌+◌, ◌++◌, ◌<◌, ◌^◌, [], OnOk};
-ghost use Rattle.lgp_debugger.specs.Debugging.{performed};
-ghost use Rattle.lgp_debugger.specs.Run.{IsRun, UnlessMemory, orders_of, run_of};
+ghost use Rattle.std.specs.Prelude.{◌≡◌, ◌++◌, [], OnOk, true};
+ghost use Rattle.lgp_debugger.specs.Run.{IsRun};
 ghost use Rattle.lgp_lab.specs.HistoryCommands.{answer_to_run};
 
 use crate::progress::Progress;
 use lgp_assembler::Name;
-use lgp_debugger::{Debugger, Ran, Reason, RunFault, RunRefusal};
-use lgp_history::Records;
+use lgp_debugger::{Debugger, Ran, RunFault, WatchFault, Watcher};
+use lgp_history::{History, Records};
 use lgp_lab::{Laboratory, Teller};
 use std::alloc::{AllocError, Allocator};
 
-/// Tells that a run has ended, where it was told of.
-fn tell_end<P: Progress>(progress: &P, told: u64) {
-    if told > 0 {
-        progress.ended();
+/// Counts the orders of a run in portions.
+#[derive(Drop)]
+struct Portions<'a, P: Progress> {
+    progress: &'a P,
+    portion: u64,
+    /// How many orders of this portion are to come.
+    left: u64,
+    /// How many orders are done of which it was told.
+    told: u64,
+}
+
+impl<P: Progress> Portions<'_, P> {
+    /// One order more: where it is the first of a new portion, it is told how many are done.
+    #[inline(always)]
+    fn count(&mut self) {
+        if self.left == 0 {
+            self.told = self.told.saturating_add(self.portion);
+            self.left = self.portion;
+            self.progress.performed(self.told);
+        }
+        self.left = self.left.saturating_sub(1);
     }
 }
 
-/// What a run came to that has ended, with the orders in front that were told of.
-fn ended_behind<P: Progress>(progress: &P, told: u64, ran: Ran) -> Ran
-    requires { ran.orders + told < 2 ^ 64 }
-    ensures { result ≡ record ran { orders = ran.orders + told } }
-{
-    tell_end(progress, told);
-    Ran {
-        orders: ran.orders + told,
-        reason: ran.reason,
+impl<H: History<A>, A: Allocator, P: Progress> Watcher<H, A, ()> for Portions<'_, P> {
+    ghost in_force = { λ _ rules. rules };
+
+    ghost ready = { λ _ _ _. Unit {0} };
+
+    ghost Sees = { λ _ _ before after. after ≡ before };
+
+    ghost never_refused = { true };
+
+    #[inline(always)]
+    fn order(
+        &mut self,
+        debugger: &mut Debugger<H, A>,
+        _kept: &mut (),
+    ) -> Result<Option<u8>, WatchFault> {
+        match debugger.go_on() {
+            Ok(stop) => {
+                self.count();
+                Ok(stop)
+            }
+            Err(fault) => Err(WatchFault::Refused(fault)),
+        }
     }
 }
 
-/// Why a run was broken off, with the orders in front that were told of.
-fn broken_off_behind<P: Progress>(progress: &P, told: u64, fault: RunFault) -> RunFault
-    requires { fault.orders + told < 2 ^ 64 }
-    ensures { result ≡ record fault { orders = fault.orders + told } }
-{
-    tell_end(progress, told);
-    RunFault {
-        orders: fault.orders + told,
-        fault: fault.fault,
-    }
-}
-
-/// `Debugger::run`, as one function for all that call it here, so that its loop is that of a run in one portion.
+/// Runs a debugger as `Debugger::run` does, and tells after each portion of the orders how many are done.
 #[inline(never)]
-fn run_on<A: Allocator + Copy>(
-    debugger: &mut Debugger<Records<A>, A>,
-    limit: u64,
-) -> Result<Ran, RunFault>
-    ensures { IsRun debugger.old.rules limit debugger.old debugger.new result }
-{
-    debugger.run(limit)
-}
-
-/// Runs a debugger as `Debugger::run` does, and tells between portions of the orders how many are done.
 fn run_in_portions<A: Allocator + Copy, P: Progress>(
     debugger: &mut Debugger<Records<A>, A>,
     limit: u64,
     progress: &P,
 ) -> Result<Ran, RunFault>
-    ensures ran { UnlessMemory result
-        (run_of debugger.old.rules limit debugger.old.state ≡ result) }
-    ensures performed { UnlessMemory result
-        (debugger.new ≡ performed debugger.old (orders_of result)) }
+    ensures { IsRun debugger.old.rules limit debugger.old debugger.new result }
 {
     let portion = progress.portion().max(1);
-    let mut done: u64 = 0;
-    while portion < limit - done {
-        let ran = match run_on(debugger, portion) {
-            Ok(ran) => ran,
-            Err(fault) => return Err(broken_off_behind(progress, done, fault)),
-        };
-        if !matches!(ran.reason, Reason::Limit) {
-            return Ok(ended_behind(progress, done, ran));
-        }
-        done += portion;
-        progress.performed(done);
+    let mut portions = Portions {
+        progress,
+        portion,
+        left: portion,
+        told: 0,
+    };
+    let outcome = debugger.run_watched(limit, &mut portions, &mut ());
+    if portions.told > 0 {
+        progress.ended();
     }
-    match run_on(debugger, limit - done) {
-        Ok(ran) => Ok(ended_behind(progress, done, ran)),
-        Err(fault) => Err(broken_off_behind(progress, done, fault)),
-    }
+    outcome
 }
 
 /// Writes nothing about a run, and tells how far it is.

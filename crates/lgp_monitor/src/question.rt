@@ -3,19 +3,24 @@
 ghost use Rattle.std.specs.Prelude.{◌≡◌, ◌++◌, ◌+◌, ◌<◌, OnOk, codes, flat_map, if◌then◌else◌, nat_lt};
 ghost use Rattle.lgp_word.specs.Digits.{address_digits};
 ghost use Rattle.lgp_lab.specs.DrumCommands.{lines_text};
+ghost use Rattle.lgp_lab.specs.Names.{button_names};
 ghost use Rattle.lgp_lab.specs.Standing.{labels_of};
 ghost use Rattle.lgp_trace.specs.OriginLines.{why_text};
 ghost use Rattle.lgp_monitor.specs.Telling.{label_of};
-ghost use Rattle.lgp_monitor.specs.Questions.{answer_to, label_line, number_line, rule_address, rule_command, rule_line, rule_lines};
+ghost use Rattle.lgp_text.specs.NamedValues.{pairs_of};
+ghost use Rattle.lgp_monitor.specs.Questions.{answer_to, label_line, live_keys, live_line, live_name, number_line, rule_address, rule_command, rule_line, rule_lines};
 
+use crate::form::push_commands;
 use crate::labels::{NamedAddresses, push_name};
 use crate::scaled::{Point, push_scaled};
 use lgp_assembler::Name;
+use lgp_debugger::Debugger;
 use lgp_fraction::Fraction;
-use lgp_history::Rule;
-use lgp_lab::{Laboratory, Span};
-use lgp_machine::Machine;
-use lgp_text::{Piece, push_pieces};
+use lgp_history::{Records, Rule};
+use lgp_lab::{BUTTONS, Laboratory, Span};
+use lgp_machine::{Look, Machine};
+use lgp_table::{Action, Mode, Status};
+use lgp_text::{Named, Piece, push_pieces};
 use lgp_trace::push_why;
 use lgp_word::{Address, Word};
 use std::alloc::{AllocError, Allocator};
@@ -31,6 +36,10 @@ pub enum Question {
     Labels,
     /// The rules with their numbers.
     Rules,
+    /// Which buttons and keys would do something now.
+    Live,
+    /// Each command, whether it only asks, and what its operands are.
+    Commands,
 }
 
 /// Appends a word by its digits, as a fraction and as a number whose point is behind a place.
@@ -190,6 +199,86 @@ fn push_why_at<A: Allocator + Copy>(
     push_why(laboratory.debugger(), text, address, &labels)
 }
 
+/// Appends an action's name, where it is live.
+fn push_live_name<A: Allocator, B: Allocator + Clone>(
+    text: &mut Vec<u8, A>,
+    debugger: &Debugger<Records<B>, B>,
+    named: &Named<Action>,
+) -> Result<(), AllocError>
+    ensures { OnOk result (text.new.items ≡ text.old.items
+        ++ live_name debugger.now.state.core.panel (named.now.name.now, named.now.value)) }
+{
+    if !debugger.is_live(&named.value) {
+        return Ok(());
+    }
+    push_pieces(text, &[Piece::Text(b" "), Piece::Text(named.name)])
+}
+
+/// Appends the names of actions that are live.
+fn push_live_names<A: Allocator, B: Allocator + Clone>(
+    text: &mut Vec<u8, A>,
+    debugger: &Debugger<Records<B>, B>,
+    names: &[Named<Action>],
+) -> Result<(), AllocError>
+    ensures { OnOk result (text.new.items ≡ text.old.items
+        ++ flat_map (live_name debugger.now.state.core.panel) (pairs_of names.now)) }
+{
+    for named in names {
+        push_live_name(text, debugger, named)?;
+    }
+    Ok(())
+}
+
+/// The keys that are live of a machine that stands so.
+fn live_keys(status: Status, mode: Mode) -> &'static [u8]
+    ensures { result.now ≡ live_keys status mode }
+{
+    match (status, mode) {
+        (Status::Waiting, _) => b" keys stop",
+        (Status::Halted(_), Mode::Manual) => b" keys",
+        _ => b"",
+    }
+}
+
+/// Appends the names of the buttons that are live.
+fn push_live_buttons<A: Allocator, B: Allocator + Clone>(
+    text: &mut Vec<u8, A>,
+    debugger: &Debugger<Records<B>, B>,
+) -> Result<(), AllocError>
+    ensures { OnOk result (text.new.items ≡ text.old.items
+        ++ flat_map (live_name debugger.now.state.core.panel) button_names) }
+{
+    push_live_names(text, debugger, &BUTTONS)
+}
+
+/// Appends the keys that are live of a machine that shows this.
+fn push_live_keys<A: Allocator>(text: &mut Vec<u8, A>, look: &Look) -> Result<(), AllocError>
+    ensures { OnOk result (text.new.items
+        ≡ text.old.items ++ (live_keys look.now.status look.now.mode ++ codes "\n")) }
+{
+    push_pieces(
+        text,
+        &[
+            Piece::Text(live_keys(look.status, look.mode)),
+            Piece::Text(b"\n"),
+        ],
+    )
+}
+
+/// Appends which buttons and keys would do something now.
+#[tactic(auto, unfolding(crate::specs::Questions::live_line))]
+fn push_live<A: Allocator, B: Allocator + Clone>(
+    text: &mut Vec<u8, A>,
+    debugger: &Debugger<Records<B>, B>,
+) -> Result<(), AllocError>
+    ensures { OnOk result (text.new.items
+        ≡ text.old.items ++ live_line debugger.now.state.core.panel) }
+{
+    text.extend_from_slice(b"live")?;
+    push_live_buttons(text, debugger)?;
+    push_live_keys(text, &debugger.look())
+}
+
 /// Appends what is answered to a question.
 #[tactic(auto, unfolding(crate::specs::Questions::answer_to))]
 pub fn push_answer<A: Allocator + Copy>(
@@ -209,5 +298,7 @@ pub fn push_answer<A: Allocator + Copy>(
         Question::Rules => {
             push_rule_lines(text, laboratory.labels(), laboratory.debugger().rules())
         }
+        Question::Live => push_live(text, laboratory.debugger()),
+        Question::Commands => push_commands(text),
     }
 }

@@ -342,9 +342,11 @@ fn asked_alone(command: LoneCommand) -> Typed
     ensures { result ≡ asked_alone command }
 {
     match command {
-        LoneCommand::Script => Typed::Itself,
+        LoneCommand::Script | LoneCommand::ScriptQuestion => Typed::Itself,
         LoneCommand::Rules => Typed::Asked(Question::Rules),
         LoneCommand::Labels => Typed::Asked(Question::Labels),
+        LoneCommand::Live => Typed::Asked(Question::Live),
+        LoneCommand::Commands => Typed::Asked(Question::Commands),
         LoneCommand::Transcript => Typed::Transcript,
         LoneCommand::New => Typed::New,
     }

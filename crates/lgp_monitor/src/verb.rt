@@ -2,7 +2,7 @@
 
 ghost use Rattle.std.specs.Prelude.{◌≡◌};
 ghost use Rattle.lgp_text.specs.NamedValues.{named};
-ghost use Rattle.lgp_monitor.specs.Verbs.{operands_form, takes_address, verb_names};
+ghost use Rattle.lgp_monitor.specs.Verbs.{only_asks, operands_form, operands_kind, takes_address, verb_names};
 
 use crate::telling::Telling;
 use lgp_text::{Named, value_named};
@@ -12,8 +12,12 @@ use lgp_text::{Named, value_named};
 pub enum LoneCommand {
     /// One of scripts.
     Script,
+    /// One of scripts that only asks.
+    ScriptQuestion,
     Rules,
     Labels,
+    Live,
+    Commands,
     Transcript,
     New,
 }
@@ -66,7 +70,7 @@ pub enum Verb {
 }
 
 /// The commands by their first word.
-pub const VERBS: [Named<Verb>; 37] = [
+pub const VERBS: [Named<Verb>; 39] = [
     Named {
         name: b"put",
         value: Verb::Word,
@@ -125,7 +129,7 @@ pub const VERBS: [Named<Verb>; 37] = [
     },
     Named {
         name: b"panel",
-        value: Verb::Lone(LoneCommand::Script),
+        value: Verb::Lone(LoneCommand::ScriptQuestion),
     },
     Named {
         name: b"words",
@@ -141,11 +145,11 @@ pub const VERBS: [Named<Verb>; 37] = [
     },
     Named {
         name: b"printed",
-        value: Verb::Lone(LoneCommand::Script),
+        value: Verb::Lone(LoneCommand::ScriptQuestion),
     },
     Named {
         name: b"dump",
-        value: Verb::Lone(LoneCommand::Script),
+        value: Verb::Lone(LoneCommand::ScriptQuestion),
     },
     Named {
         name: b"source",
@@ -173,7 +177,7 @@ pub const VERBS: [Named<Verb>; 37] = [
     },
     Named {
         name: b"list",
-        value: Verb::Lone(LoneCommand::Script),
+        value: Verb::Lone(LoneCommand::ScriptQuestion),
     },
     Named {
         name: b"load",
@@ -198,6 +202,14 @@ pub const VERBS: [Named<Verb>; 37] = [
     Named {
         name: b"labels",
         value: Verb::Lone(LoneCommand::Labels),
+    },
+    Named {
+        name: b"live",
+        value: Verb::Lone(LoneCommand::Live),
+    },
+    Named {
+        name: b"commands",
+        value: Verb::Lone(LoneCommand::Commands),
     },
     Named {
         name: b"transcript",
@@ -248,6 +260,37 @@ pub fn operands_form(verb: Verb) -> &'static [u8]
         Verb::File => b" FILE, in the program lgp_monitor",
         Verb::Command => b" or help COMMAND",
         Verb::End => b", which ends the program lgp_monitor",
+    }
+}
+
+/// The same in a word or two, for programs.
+#[tactic(auto, unfolding(crate::specs::Verbs::operands_kind))]
+pub fn operands_kind(verb: Verb) -> &'static [u8]
+    ensures { result.now ≡ operands_kind verb }
+{
+    match verb {
+        Verb::Lone(_) | Verb::End => b" nothing\n",
+        Verb::Address(_) => b" address\n",
+        Verb::Number(_) => b" number\n",
+        Verb::Range | Verb::ScaledRange => b" range\n",
+        Verb::Word => b" address word\n",
+        Verb::Text => b" text\n",
+        Verb::Key => b" button\n",
+        Verb::Source => b" source\n",
+        Verb::File => b" file\n",
+        Verb::Command => b" command\n",
+    }
+}
+
+/// Whether a command shows something and changes nothing.
+pub fn only_asks(verb: Verb) -> bool
+    ensures { result ≡ only_asks verb }
+{
+    match verb {
+        Verb::Lone(command) => !matches!(command, LoneCommand::Script | LoneCommand::New),
+        Verb::Address(command) => matches!(command, AddressCommand::Why),
+        Verb::Range | Verb::ScaledRange | Verb::Command => true,
+        _ => false,
     }
 }
 

@@ -19,7 +19,7 @@ use std::process::Abort;
 /// Typed lines, what is written for them, and how many replies begin with a question mark.
 type Row = (&'static [u8], &'static [u8], u64);
 
-const ROWS: [Row; 29] = [
+const ROWS: [Row; 31] = [
     // Words by order, number and fraction: the machine's word of n at 30 is 2n, and -.5 is -2^30 of 2^31 steps.
     (
         b"put 0050 = 385\nput 0051 = -1\nput 0052 -.5\nput 0053 h 6363\nwords 0050 4\n",
@@ -48,6 +48,18 @@ const ROWS: [Row; 29] = [
         b"press start\nput 0000 00000002\nput *+1 z\nmount 12\nturn 1\npress manual\ndrop 0\nback 1\nlast\nlist\nmount 12A\ntranscript\n",
         b"live\n? 2 Moving: the machine is at work, press manual halts it\n? 2 Moving: the machine is at work, press manual halts it\n? 2 Moving: the machine is at work, press manual halts it\n? 3 AtWork: the machine is at work, and turn is for one at rest\nlive\n? 6 NoRule: no rule has this number, rules lists them\n? 7 TooFar 0: no more orders than this are kept\n? 8 NoHit 0: no rule hits one of the kept orders, which are so many\n? 10 NoImage: no source has assembled yet\n? 12 BadSign 2: the byte at this place of the text, counted from 0, begins no sign of a tape\npress start\nput 0000 00000002\nput 0001 00000000\nmount 12\nturn 1\npress manual\ndrop 0\nback 1\nlast\nlist\nmount 12A\n",
         9,
+    ),
+    // What is live: of a new machine, of one in Manual, at work, at an input that waits, and for one operation.
+    (
+        b"live\npress manual\nlive\npress normal\nput 0000 i 0000\npress start\nlive\norders 1\nlive\npress oneop\nlive now\npress compute\nlive\ntranscript\n",
+        b"live normal oneop manual start clear fill\nlive\nlive normal oneop manual clear fill read keys\nlive\nok\nlive\nlive normal oneop manual\norders 1 waiting\nlive normal oneop manual compute read keys stop\nlive\n? 1 Form: live\nlive\nlive normal oneop manual start clear fill execute\npress manual\npress normal\nput 0000 00040000\npress start\norders 1\npress oneop\nlive now\npress compute\n",
+        1,
+    ),
+    // Each command, whether it only asks, and what it takes.
+    (
+        b"commands\ntranscript\n",
+        b"put does address word\ngo does address\nmount does text\npress does button\ntype does text\nturn does number\norders does number\nrun does number\ntrace does number\nprofile does number\ndrum does number\nwhy asks address\nback does number\nlast does nothing\npanel asks nothing\nwords asks range\nshow asks range\nnumbers asks range\nprinted asks nothing\ndump asks nothing\nsource does source\ndo does file\ntape does file\narchive does file\nsave does file\nrestore does file\nlist asks nothing\nload does nothing\nbreak does address\nwatch does address\ndrop does number\nrules asks nothing\nlabels asks nothing\nlive asks nothing\ncommands asks nothing\ntranscript asks nothing\nnew does nothing\nhelp asks command\nquit does nothing\n",
+        0,
     ),
     // A new laboratory, with an empty transcript, and without the rules and names from before.
     (

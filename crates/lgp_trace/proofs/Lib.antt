@@ -1,4 +1,3 @@
-pub mod OrderLaws
 pub mod PhaseLaws
 pub mod Sums
 pub mod WordLaws
@@ -9,3 +8,4 @@ pub mod DrumLemmas
 pub mod PlaceLines
 pub mod Noting
 pub mod Telling
+pub mod UnchangedWords

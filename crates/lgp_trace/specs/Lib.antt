@@ -1,6 +1,5 @@
 pub mod Phases
 pub mod Account
-pub mod OrderInside
 pub mod Profile
 pub mod Columns
 pub mod AccountLines
@@ -8,6 +7,7 @@ pub mod OriginLines
 pub mod DrumRows
 pub mod ProfileLines
 pub mod Runs
+pub mod UnchangedInside
 pub use Rattle.lgp_table.specs.State
 pub use Rattle.lgp_table.specs.Activity
 pub use Rattle.lgp_table.specs.Interleaving

@@ -1,22 +1,12 @@
 -- Part of the public promise. Runs that are told: a number of orders of a debugger, and what is
 -- written of them.
-use Rattle.std.specs.Prelude.{◌≡◌, ◌≤◌, ℕ, zero, suc, ◌+◌, ◌++◌, List, [], Option, Ok}
+use Rattle.std.specs.Prelude.{ℕ, zero, suc, ◌++◌, List, [], Option}
 use Rattle.lgp_table.specs.After.{after}
 use Rattle.lgp_table.specs.State.{State}
 use Rattle.lgp_history.specs.declared.origin.Origin.{Origin}
-use Rattle.lgp_history.specs.declared.rule.Rule.{Rule}
-use Rattle.lgp_debugger.specs.Run.{run_of}
-use Rattle.lgp_debugger.specs.declared.fault.Reason.TheVariants.{Limit}
 use Rattle.lgp_trace.specs.Account.{account_of}
 use Rattle.lgp_trace.specs.OriginLines.{told_account}
 use Rattle.lgp_trace.specs.DrumRows.{signs_in_rows, signs_of}
-
--- of a run that was broken off: as many orders were told as are performed, or the last one was not;
--- and no rule has stopped it before that one
-abbrev pub IsBrokenOff : List Rule → State → ℕ → Type 0
-IsBrokenOff rules s orders =
-    (told : ℕ) × (told ≤ orders) × (orders ≤ told + 1)
-    × (run_of rules told s ≡ Ok (record { orders = told; reason = Limit }))
 
 -- the accounts of so many orders from a state on, one after another, each with the origin of its
 -- order

@@ -63,33 +63,6 @@ pub struct Account {
     pub passed: usize,
 }
 
-impl Account {
-    /// The account of nothing, where this shows: no word time passed. For `step_account` to write over.
-    pub fn nothing(look: &Look) -> Account
-        ensures { result ≡ record {
-          before = look.now;
-          after = look.now;
-          place = None;
-          order = None;
-          phases = only_act 0;
-          operand = None;
-          printed = None;
-          passed = 0;
-        } }
-    {
-        Account {
-            before: *look,
-            after: *look,
-            place: None,
-            order: None,
-            phases: only_act(0),
-            operand: None,
-            printed: None,
-            passed: 0,
-        }
-    }
-}
-
 /// Where the order stands of the activity that begins here.
 #[inline(always)]
 pub fn place_of<A: Allocator>(machine: &Machine<A>) -> Option<Address>

@@ -13,9 +13,9 @@ mod phases;
 mod profile;
 mod profile_lines;
 mod runs;
-mod stepping;
 mod take;
 mod trace;
+mod unchanged;
 
 pub use account::{Account, Begun, Found, Operand};
 pub use account_lines::{
@@ -30,6 +30,5 @@ pub use phases::Phases;
 pub use profile::Profile;
 pub use profile_lines::push_profile;
 pub use runs::profile_run;
-pub use stepping::step_account;
 pub use take::take_account;
 pub use trace::trace_run;

@@ -1,7 +1,7 @@
-//! Runs of a debugger whose orders are accounted for.
+//! Runs of a debugger whose orders are added up.
 
-ghost use Rattle.std.specs.Prelude.{◌≡◌, ◌+◌, ◌≤◌, OnErr, OnOk, sum};
-ghost use Rattle.lgp_debugger.specs.Run.{IsOrderOfRun, IsRun, orders_of};
+ghost use Rattle.std.specs.Prelude.{◌≡◌, ◌+◌, ◌≤◌, sum, true};
+ghost use Rattle.lgp_debugger.specs.Run.{IsRun, orders_of};
 ghost use Rattle.lgp_trace.specs.Account.{place_of};
 ghost use Rattle.lgp_trace.specs.Phases.{all_phases, phases_of};
 ghost use Rattle.lgp_trace.specs.Profile.{profile_of, with_activity};
@@ -9,35 +9,44 @@ ghost use Rattle.lgp_trace.specs.Profile.{profile_of, with_activity};
 use crate::account::place_of;
 use crate::phases::Phases;
 use crate::profile::Profile;
-use lgp_debugger::{Debugger, Ran, Reason, RunFault, RunRefusal, StepFault};
+use lgp_debugger::{Debugger, Ran, RunFault, WatchFault, Watcher};
 use lgp_history::History;
 use std::alloc::Allocator;
 
-/// One order of a run, added to a profile, and the number of the first rule that stops the run there.
-#[tactic(auto, using(crate::proofs::PhaseLaws::phases_cost, crate::proofs::PhaseLaws::phases_last))]
-#[inline(always)]
-fn note_order<H: History<A>, A: Allocator, B: Allocator>(
-    debugger: &mut Debugger<H, A>,
-    profile: &mut Profile<B>,
-) -> Result<Option<u8>, StepFault>
-    requires { all_phases profile.old.phases ≤ debugger.old.state.clock }
-    ensures order { IsOrderOfRun debugger.old.rules debugger.old debugger.new result }
-    ensures noted { OnOk result (profile.new ≡ with_activity profile.old
-        (place_of debugger.old.state) (phases_of debugger.old.state)) }
-    ensures profile_stays { OnErr result (profile.new ≡ profile.old) }
-{
-    let place = place_of(debugger.machine());
-    let Some(phases) = Phases::before_acting(debugger.machine()) else {
-        unreachable!()
-    };
-    let begun = debugger.look().clock;
-    match debugger.go_on() {
-        Ok(stop) => {
-            let times = debugger.look().clock - begun;
-            profile.add(place, phases.until(times));
-            Ok(stop)
+/// Adds each order of a run to a profile.
+#[derive(Drop)]
+struct Profiler;
+
+impl<H: History<A>, A: Allocator, B: Allocator> Watcher<H, A, Profile<B>> for Profiler {
+    ghost in_force = { λ _ rules. rules };
+
+    ghost ready = { λ _ d profile. all_phases profile.phases ≤ d.state.clock };
+
+    ghost Sees = { λ _ d before after.
+        after ≡ with_activity before (place_of d.state) (phases_of d.state) };
+
+    ghost never_refused = { true };
+
+    #[tactic(auto, using(crate::proofs::PhaseLaws::phases_cost, crate::proofs::PhaseLaws::phases_last))]
+    #[inline(always)]
+    fn order(
+        &mut self,
+        debugger: &mut Debugger<H, A>,
+        profile: &mut Profile<B>,
+    ) -> Result<Option<u8>, WatchFault> {
+        let place = place_of(debugger.machine());
+        let Some(phases) = Phases::before_acting(debugger.machine()) else {
+            unreachable!()
+        };
+        let begun = debugger.look().clock;
+        match debugger.go_on() {
+            Ok(stop) => {
+                let times = debugger.look().clock - begun;
+                profile.add(place, phases.until(times));
+                Ok(stop)
+            }
+            Err(fault) => Err(WatchFault::Refused(fault)),
         }
-        Err(fault) => Err(fault),
     }
 }
 
@@ -70,42 +79,5 @@ fn note_orders<H: History<A>, A: Allocator, B: Allocator>(
     ensures noted { profile.new ≡ profile_of debugger.old.state (orders_of result) }
 {
     profile.clear();
-    for orders in 0..limit {
-        match note_order(debugger, profile) {
-            Ok(None) => {}
-            Ok(Some(rule)) => {
-                return Ok(Ran {
-                    orders: orders + 1,
-                    reason: Reason::Rule(rule),
-                });
-            }
-            Err(StepFault::AtRest) => {
-                return Ok(Ran {
-                    orders,
-                    reason: Reason::Rest,
-                });
-            }
-            Err(StepFault::ClockEnd) => {
-                return Err(RunFault {
-                    orders,
-                    fault: RunRefusal::ClockEnd,
-                });
-            }
-            Err(StepFault::Memory) => {
-                return Err(RunFault {
-                    orders,
-                    fault: RunRefusal::Memory,
-                });
-            }
-        }
-    }
-    let reason = if debugger.look().status.is_at_rest() {
-        Reason::Rest
-    } else {
-        Reason::Limit
-    };
-    Ok(Ran {
-        orders: limit,
-        reason,
-    })
+    debugger.run_watched(limit, &mut Profiler, profile)
 }

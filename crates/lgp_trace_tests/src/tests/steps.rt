@@ -7,7 +7,7 @@ use lgp_debugger::{Debugger, StepFault};
 use lgp_history::{CAPACITY_LIMIT, History, Records};
 use lgp_machine::Machine;
 use lgp_table::Action;
-use lgp_trace::{Account, step_account};
+use lgp_trace::Begun;
 use lgp_word::Word;
 use std::alloc::{AllocError, Allocator};
 use std::test::Fail;
@@ -44,9 +44,11 @@ pub fn put_all<H: History<A>, A: Allocator>(
 
 /// The next order's row, or why it is refused.
 fn next_row<H: History<A>, A: Allocator>(lab: &mut Debugger<H, A>) -> Result<Row, StepFault> {
-    let mut account = Account::nothing(&lab.look());
-    match step_account(lab, &mut account) {
-        Ok(()) => Ok(row_of(&account)),
+    let Some(begun) = Begun::of(lab.machine()) else {
+        return Err(StepFault::Memory);
+    };
+    match lab.step() {
+        Ok(_) => Ok(row_of(&begun.finish(lab.machine()))),
         Err(fault) => Err(fault),
     }
 }

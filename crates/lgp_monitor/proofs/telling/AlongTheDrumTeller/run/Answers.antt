@@ -15,4 +15,4 @@ returns-clause-told g c =
     (λ told stands. pictured_all _ _ _ _ _ _ _ _ _
     c.draw_run-outcome.new.text.items c.push_rows_ended.new.text.items (ap (λ (l : Look). l.clock) c.look.ensures) (ap (λ (l : Look). l.clock) c.look-2.ensures) begun told
     (ap (λ (d : Debugging). d.state) stands ∙ performed_state _ _) ended)
-    c.draw_run-outcome.ensures.told c.draw_run-outcome.ensures.performed
+    c.draw_run-outcome.ensures.seen c.draw_run-outcome.ensures.performed

@@ -1,0 +1,97 @@
+//! Runs that are watched: what a watcher keeps, and where the run ends that it cannot keep.
+
+ghost use Rattle.std.specs.Prelude.{◌≡◌, false};
+
+use super::calls::{Button, Named, add_rule, clock, kept, press_button, with_order};
+use lgp_debugger::{Debugger, Ran, Reason, RunFault, RunRefusal, WatchFault, Watcher};
+use lgp_history::{History, Records};
+use std::alloc::Allocator;
+use std::test::Fail;
+
+/// Keeps the clock at which the latest order began, of as many orders as there is room for.
+#[derive(Drop)]
+struct LatestBeginning {
+    room: u64,
+}
+
+impl<H: History<A>, A: Allocator> Watcher<H, A, u64> for LatestBeginning {
+    ghost in_force = { λ _ rules. rules };
+
+    ghost ready = { λ _ _ _. Unit {0} };
+
+    ghost Sees = { λ _ d _ after. after ≡ d.state.clock };
+
+    ghost never_refused = { false };
+
+    fn order(
+        &mut self,
+        debugger: &mut Debugger<H, A>,
+        kept: &mut u64,
+    ) -> Result<Option<u8>, WatchFault> {
+        let begun = debugger.look().clock;
+        let stop = match debugger.go_on() {
+            Ok(stop) => stop,
+            Err(fault) => return Err(WatchFault::Refused(fault)),
+        };
+        if self.room == 0 {
+            return Err(WatchFault::Unseen);
+        }
+        self.room -= 1;
+        *kept = begun;
+        Ok(stop)
+    }
+}
+
+/// A transfer to 0000.
+const TRANSFER: u32 = 0x000a_0000;
+
+/// A run's limit, and how many orders the watcher has room for.
+type Asked = (u64, u64);
+
+/// What the run answers, what the watcher keeps, and then the clock and how many orders are kept.
+type Answered = (Result<Ran, RunFault>, u64, u64, u64);
+
+fn watched<H: History<A>, A: Allocator>(lab: &mut Debugger<H, A>, asked: Asked) -> Answered {
+    let mut latest = 0;
+    let mut watcher = LatestBeginning { room: asked.1 };
+    let answer = lab.run_watched(asked.0, &mut watcher, &mut latest);
+    (answer, latest, clock(lab), kept(lab).1)
+}
+
+fn ran(orders: u64, reason: Reason) -> Result<Ran, RunFault> {
+    Ok(Ran { orders, reason })
+}
+
+fn refused(orders: u64) -> Result<Ran, RunFault> {
+    Err(RunFault {
+        orders,
+        fault: RunRefusal::Memory,
+    })
+}
+
+/// Five runs one after another over a transfer to itself: at rest, of three orders, of none, without room for the third order, and by a rule.
+fn five_runs<H: History<A>, A: Allocator>(lab: &mut Debugger<H, A>) -> [Answered; 5] {
+    let at_rest = watched(lab, (3, 9));
+    let _live = press_button(lab, Button::Start);
+    let three = watched(lab, (3, 9));
+    let none = watched(lab, (0, 9));
+    let unseen = watched(lab, (5, 2));
+    let _number = add_rule(lab, Named::At(0));
+    [at_rest, three, none, unseen, watched(lab, (5, 2))]
+}
+
+/// The first transfer ends at 67, and each later one 64 word times after the one before. The order for which there was no room stands.
+#[test]
+fn what_is_seen_is_kept(rt: HostRuntime) -> Result<(), Fail> {
+    let history = Records::new(rt.alloc(), 4096)?;
+    let mut lab = with_order(rt.alloc(), history, TRANSFER)?;
+    let wanted = [
+        (ran(0, Reason::Rest), 0, 0, 0),
+        (ran(3, Reason::Limit), 131, 195, 3),
+        (ran(0, Reason::Limit), 0, 195, 3),
+        (refused(3), 259, 387, 6),
+        (ran(1, Reason::Rule(0)), 387, 451, 7),
+    ];
+    assert_eq!(rt; five_runs(&mut lab), wanted);
+    Ok(())
+}
