@@ -1,8 +1,8 @@
 -- What a session is given leads where its transcript does.
 use Rattle.std.proofs.Common.{◌≡◌, ℕ, ◌||◌, Bool, true, false, cond, List, [], ◌∷◌, refl}
 use Rattle.lgp_stream.specs.Language.{is_line_feed}
-use Rattle.lgp_transcript.specs.Transcript.{IsLine, IsToldByTranscript, Recorded}
-use Rattle.lgp_transcript.proofs.LineLaws.{IsTold, IsTold-all, IsTold-meaning, IsTold-none}
+use Rattle.lgp_stream.specs.Transcript.{IsLine, IsToldByTranscript, Recorded}
+use Rattle.lgp_stream.proofs.LineLaws.{IsTold, IsTold-all, IsTold-meaning, IsTold-none}
 use Rattle.lgp_lab.specs.Script.{script_language}
 use Rattle.lgp_lab.specs.Standing.{Standing, opening_standing}
 use Rattle.lgp_monitor.specs.Monitor.{meaning_at, monitor_language}

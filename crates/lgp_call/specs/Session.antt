@@ -2,7 +2,7 @@
 use Rattle.std.specs.Prelude.{ℕ, Bool, fold, if◌then◌else◌, List, [], codes, length}
 use Rattle.std.specs.List.{list_any}
 use Rattle.lgp_stream.specs.Language.{is_line_feed, is_question}
-use Rattle.lgp_transcript.specs.Transcript.{Recorded, untouched}
+use Rattle.lgp_stream.specs.Transcript.{Recorded, untouched}
 use Rattle.lgp_lab.specs.Standing.{Standing, opening_standing}
 use Rattle.lgp_monitor.specs.Monitor.{monitor_language}
 use Rattle.lgp_call.specs.declared.script.Outcome.{Outcome}

@@ -1,7 +1,7 @@
 //! What follows from the definitions, each law as the contract of a function that does nothing.
 
 ghost use Rattle.std.specs.Prelude.{List, ℕ};
-ghost use Rattle.lgp_transcript.specs.Transcript.{IsToldByTranscript};
+ghost use Rattle.lgp_stream.specs.Transcript.{IsToldByTranscript};
 ghost use Rattle.lgp_lab.specs.Script.{script_language};
 ghost use Rattle.lgp_lab.specs.Standing.{opening_standing};
 ghost use Rattle.lgp_call.specs.Session.{after_all, opening_sitting};

@@ -9,9 +9,9 @@ use Rattle.bstr.specs.Text.{lines_of}
 use Rattle.lgp_word.specs.Drum.{blank_words}
 use Rattle.lgp_stream.specs.KeptLine.{kept_of}
 use Rattle.lgp_stream.specs.Language.{state_after}
-use Rattle.lgp_transcript.specs.Transcript.{IsLine, IsToldByTranscript, Recorded, after_lines, untouched, with_line, with_standing}
-use Rattle.lgp_transcript.proofs.AfterLemmas.{after-append, after-none}
-use Rattle.lgp_transcript.proofs.LineLaws.{IsTold, IsTold-all, IsTold-lines, IsTold-meaning, IsTold-none, lines_are_lines}
+use Rattle.lgp_stream.specs.Transcript.{IsLine, IsToldByTranscript, Recorded, after_lines, untouched, with_line, with_standing}
+use Rattle.lgp_stream.proofs.AfterLemmas.{after-append, after-none}
+use Rattle.lgp_stream.proofs.LineLaws.{IsTold, IsTold-all, IsTold-lines, IsTold-meaning, IsTold-none, lines_are_lines}
 use Rattle.lgp_desk.specs.Desk.{Handed, Line, Seat, Whole, behind_handed, handed, handed_by, role_at, seat_after, taken_seat}
 use Rattle.lgp_desk.specs.Roles.{Block}
 use Rattle.lgp_desk.specs.declared.desk.Manner.{Manner}

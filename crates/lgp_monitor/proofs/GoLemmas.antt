@@ -1,8 +1,8 @@
 -- Lines answered in three parts.
 use Rattle.std.proofs.Common.{◌≡◌, ℕ, List, [], ◌∷◌, ◌++◌, sym, ap, ◌∙◌, append_assoc}
 use Rattle.lgp_stream.specs.Language.{Language}
-use Rattle.lgp_transcript.specs.Transcript.{Recorded, after_lines, replies_text}
-use Rattle.lgp_transcript.proofs.AfterLemmas.{after-append, replies-append}
+use Rattle.lgp_stream.specs.Transcript.{Recorded, after_lines, replies_text}
+use Rattle.lgp_stream.proofs.AfterLemmas.{after-append, replies-append}
 
 after-both : {S : Type 0} (language : Language S) (r₀ r₁ r₂ : Recorded S) (xs ys : List (List ℕ)) → r₁ ≡ after_lines language r₀ xs → r₂ ≡ after_lines language r₁ ys → r₂ ≡ after_lines language r₀ (xs ++ ys)
 after-both {S} language r₀ r₁ r₂ xs ys e₁ e₂ = e₂ ∙ (ap (λ (r : Recorded S). after_lines language r ys) e₁ ∙ after-append _ r₀ xs ys)

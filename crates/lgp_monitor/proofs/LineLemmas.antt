@@ -7,8 +7,8 @@ use Rattle.lgp_word.specs.Digits.{address_digits, digit_byte, digits, digits_of,
 use Rattle.lgp_stream.specs.KeptLine.{kept_of, line_limit}
 use Rattle.lgp_stream.specs.Language.{is_line_feed, state_after}
 use Rattle.lgp_stream.specs.LineWords.{behind_word, first_word, is_space, is_visible, without_spaces}
-use Rattle.lgp_transcript.specs.Transcript.{AreLines, IsLine, IsToldByTranscript, Recorded, stand_in, untouched}
-use Rattle.lgp_transcript.proofs.LineLaws.{told_by_transcript}
+use Rattle.lgp_stream.specs.Transcript.{AreLines, IsLine, IsToldByTranscript, Recorded, stand_in, untouched}
+use Rattle.lgp_stream.proofs.LineLaws.{told_by_transcript}
 use Rattle.lgp_lab.specs.Script.{script_language}
 use Rattle.lgp_lab.specs.Standing.{Standing, opening_standing}
 use Rattle.lgp_monitor.specs.Monitor.{go_lines, jump_line, meaning_at, meaning_of, monitor_language, placed_line, put_line, run_line}

@@ -15,7 +15,7 @@ use Rattle.lgp_lab.specs.HistoryCommands.{answer_to_run, orders_run}
 use Rattle.lgp_lab.specs.Script.{answer_to_command, answer_to_line, script_language}
 use Rattle.lgp_lab.specs.SourceText.{SourceText}
 use Rattle.lgp_lab.specs.Standing.{Answer, Standing, labels_of}
-use Rattle.lgp_transcript.specs.Transcript.{Recorded, after_lines, ended, replies_text, with_line, with_standing}
+use Rattle.lgp_stream.specs.Transcript.{Recorded, after_lines, ended, replies_text, with_line, with_standing}
 use Rattle.lgp_monitor.specs.Monitor.{counter_at, names_at, run_line, told_reply, typed_at}
 use Rattle.lgp_monitor.specs.Typed.{address_at, asked_alone, asked_at, asked_by, asked_with, numbers_typed, point_at, range_at, typed_by, typed_of, value_at}
 use Rattle.lgp_debugger.specs.Debugging.{order_origins}

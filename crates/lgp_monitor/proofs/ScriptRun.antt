@@ -3,7 +3,7 @@ use Rattle.std.proofs.Common.{◌≡◌, ◌∙◌, ℕ, ◌≤◌, false, None,
 use Rattle.std.proofs.lemmas.List.{append-nil}
 use Rattle.std.specs.Option.{option_map_or}
 use Rattle.lgp_stream.specs.KeptLine.{line_limit}
-use Rattle.lgp_transcript.specs.Transcript.{Recorded, after_lines, ended, replies_text, with_line, with_standing}
+use Rattle.lgp_stream.specs.Transcript.{Recorded, after_lines, ended, replies_text, with_line, with_standing}
 use Rattle.lgp_lab.specs.Command.{command_of}
 use Rattle.lgp_lab.specs.HistoryCommands.{answer_to_run}
 use Rattle.lgp_lab.specs.Script.{answer_to_command, answer_to_line, is_passed_over, script_language}

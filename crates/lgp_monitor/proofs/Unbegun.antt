@@ -5,7 +5,7 @@ use Rattle.lgp_stream.proofs.StreamLemmas.{StandsWritten-unnamed}
 use Rattle.lgp_stream.specs.declared.stream.StreamFault.TheVariants.{Memory}
 use Rattle.lgp_desk.specs.Desk.{opening_text, taken_seat}
 use Rattle.lgp_desk.specs.declared.desk.Manner.{Manner}
-use Rattle.lgp_transcript.specs.Transcript.{untouched}
+use Rattle.lgp_stream.specs.Transcript.{untouched}
 use Rattle.lgp_lab.specs.Standing.{opening_standing}
 use Rattle.lgp_lab.specs.Tasks.{Failures}
 use Rattle.lgp_monitor.specs.Attending.{attended_language, prompt_at}

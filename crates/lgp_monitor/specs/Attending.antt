@@ -6,7 +6,7 @@ use Rattle.std.specs.Str.Lines.{lines}
 use Rattle.lgp_word.specs.Digits.{address_digits}
 use Rattle.lgp_stream.specs.Language.{Language}
 use Rattle.lgp_text.specs.PanelWords.{status_text}
-use Rattle.lgp_transcript.specs.Transcript.{Recorded, untouched}
+use Rattle.lgp_stream.specs.Transcript.{Recorded, untouched}
 use Rattle.lgp_desk.specs.Desk.{BlockAnswers, Handed, Line, Seat, Whole, desk_faults}
 use Rattle.lgp_desk.specs.Desk.{desk_language, desk_text, handed, taken_seat}
 use Rattle.lgp_desk.specs.declared.desk.Manner.{Manner}

@@ -10,7 +10,7 @@ use Rattle.lgp_word.specs.Drum.{blank_words}
 use Rattle.lgp_stream.specs.LineWords.{first_word}
 use Rattle.lgp_table.specs.Console.{is_at_rest}
 use Rattle.lgp_desk.specs.Roles.{Block}
-use Rattle.lgp_transcript.specs.Transcript.{Recorded, after_lines, with_line, with_standing}
+use Rattle.lgp_stream.specs.Transcript.{Recorded, after_lines, with_line, with_standing}
 use Rattle.lgp_listing.specs.Dump.{cell_in, first_fault}
 use Rattle.lgp_listing.specs.declared.reading.DumpFault.{DumpFault}
 use Rattle.lgp_listing.specs.declared.reading.DumpFault.TheVariants as faults

@@ -9,8 +9,8 @@ use Rattle.lgp_stream.specs.KeptLine.{Kept, kept_of}
 use Rattle.lgp_stream.specs.Language.{Language}
 use Rattle.lgp_stream.specs.LineWords.{behind_word, first_word}
 use Rattle.lgp_table.specs.declared.panel.Panel.{Panel}
-use Rattle.lgp_transcript.specs.Transcript.{Meaning, Lines, Anew, Recorded, after_lines}
-use Rattle.lgp_transcript.specs.Transcript.{after_meaning, replies_text, stand_in}
+use Rattle.lgp_stream.specs.Transcript.{Meaning, Lines, Anew, Recorded, after_lines}
+use Rattle.lgp_stream.specs.Transcript.{after_meaning, replies_text, stand_in}
 use Rattle.lgp_debugger.specs.Debugging.{order_origins}
 use Rattle.lgp_lab.specs.Script.{script_language}
 use Rattle.lgp_lab.specs.HistoryCommands.{orders_run}

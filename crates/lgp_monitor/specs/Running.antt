@@ -3,7 +3,7 @@
 use Rattle.std.specs.Prelude.{ℕ, List}
 use Rattle.std.specs.List.{concat}
 use Rattle.lgp_stream.specs.Language.{question_count, text_replies}
-use Rattle.lgp_transcript.specs.Transcript.{untouched}
+use Rattle.lgp_stream.specs.Transcript.{untouched}
 use Rattle.lgp_lab.specs.Standing.{opening_standing}
 use Rattle.lgp_monitor.specs.Monitor.{monitor_language}
 

@@ -9,7 +9,7 @@ use Rattle.lgp_task.specs.Task.{IsFaultOn, SessionTask, session_for}
 use Rattle.lgp_task.specs.declared.task.TaskFault.{TaskFault}
 use Rattle.lgp_stream.specs.Language.{HasCause, StandsWritten}
 use Rattle.lgp_stream.specs.declared.stream.StreamFault.{StreamFault}
-use Rattle.lgp_transcript.specs.Transcript.{untouched}
+use Rattle.lgp_stream.specs.Transcript.{untouched}
 use Rattle.lgp_lab.specs.Standing.{opening_standing}
 use Rattle.lgp_lab.specs.Tasks.{Failures, IsRefused, answered_status, broken_status}
 use Rattle.lgp_desk.specs.Desk.{opening_text, taken_seat}

@@ -3,7 +3,7 @@
 ghost use Rattle.std.specs.Prelude.{◌≡◌, ◌∷◌, [], IfErr, IfOk, IfSome, OnOk};
 ghost use Rattle.std.specs.Io.KnownBytes.{Appends, IsAtEnd};
 ghost use Rattle.lgp_stream.specs.Language.{HasCause, StandsWritten};
-ghost use Rattle.lgp_transcript.specs.Transcript.{untouched};
+ghost use Rattle.lgp_stream.specs.Transcript.{untouched};
 ghost use Rattle.lgp_desk.specs.Desk.{opening_text, taken_seat};
 ghost use Rattle.lgp_lab.specs.Standing.{opening_standing};
 ghost use Rattle.lgp_monitor.specs.Attending.{attended_faults, attended_language, attended_text, monitor_blocks, prompt_at, takes_commands_at};

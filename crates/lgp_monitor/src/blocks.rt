@@ -2,7 +2,7 @@
 
 ghost use Rattle.std.specs.Prelude.{◌≡◌, ◌≢◌, ◌++◌, ◌==◌, ◌∷◌, [], if◌then◌else◌, length, map, decimal, codes, IfErr, IfOk, OnOk, Some, None};
 ghost use Rattle.lgp_listing.specs.Dump.{IsDrum, first_fault};
-ghost use Rattle.lgp_transcript.specs.Transcript.{after_lines, with_line, with_standing};
+ghost use Rattle.lgp_stream.specs.Transcript.{after_lines, with_line, with_standing};
 ghost use Rattle.lgp_lab.specs.Script.{script_language};
 ghost use Rattle.lgp_lab.specs.TapeCommands.{answer_to_tape_text};
 ghost use Rattle.lgp_monitor.specs.Blocks.{behind_block, block_reply, changed_cells, dump_fault_text, dumped_words, is_restore, is_tape, put_cell, restore_lines, restore_reply, rests_at};
@@ -14,9 +14,8 @@ use lgp_drum::Drum;
 use lgp_lab::Laboratory;
 use lgp_listing::{DumpFault, read_dump};
 use lgp_machine::Machine;
-use lgp_stream::split_word;
+use lgp_stream::{Recorder, split_word};
 use lgp_text::{Piece, push_pieces};
-use lgp_transcript::Recorder;
 use lgp_word::{Address, Word};
 use std::alloc::{AllocError, Allocator};
 

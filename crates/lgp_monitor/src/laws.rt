@@ -4,7 +4,7 @@ ghost use Rattle.std.specs.Prelude.{◌≡◌, ◌-◌, ◌*◌, ◌^◌, ◌≤
 ghost use Rattle.std.specs.List.{AllByRecursion};
 ghost use Rattle.std.specs.Str.Lines.{lines};
 ghost use Rattle.lgp_stream.specs.Language.{state_after};
-ghost use Rattle.lgp_transcript.specs.Transcript.{IsToldByTranscript, untouched};
+ghost use Rattle.lgp_stream.specs.Transcript.{IsToldByTranscript, untouched};
 ghost use Rattle.lgp_desk.specs.Desk.{taken_seat};
 ghost use Rattle.lgp_desk.specs.declared.desk.Manner.{Manner};
 ghost use Rattle.lgp_listing.specs.Dump.{IsDrum, dump_of};

@@ -3,7 +3,7 @@
 ghost use Rattle.std.specs.Prelude.{◌≡◌, ◌++◌, ◌∷◌, [], List, ℕ, IfOk, OnOk, codes, is_some, unwrap_or};
 ghost use Rattle.lgp_stream.specs.LineWords.{behind_word, first_word};
 ghost use Rattle.lgp_stream.specs.KeptLine.{kept_of};
-ghost use Rattle.lgp_transcript.specs.Transcript.{after_lines, after_meaning, replies_text, stand_in, untouched};
+ghost use Rattle.lgp_stream.specs.Transcript.{after_lines, after_meaning, replies_text, stand_in, untouched};
 ghost use Rattle.lgp_lab.specs.Script.{script_language};
 ghost use Rattle.lgp_lab.specs.Standing.{labels_of, opening_standing};
 ghost use Rattle.lgp_monitor.specs.Blocks.{behind_block, block_reply};
@@ -24,9 +24,8 @@ use crate::telling::{Telling, run_told};
 use crate::typed::{Typed, typed_of};
 use crate::verb::Verb;
 use lgp_lab::Laboratory;
-use lgp_stream::{Answers, LineBytes, split_word};
+use lgp_stream::{Answers, LineBytes, Recorder, split_word};
 use lgp_text::{Piece, push_pieces};
-use lgp_transcript::Recorder;
 use lgp_word::{Address, Op, Word, plain_order};
 use std::alloc::{AllocError, Allocator};
 use std::marker::Model;
@@ -41,7 +40,7 @@ pub struct Monitor<L, A: Allocator, P: Progress = Silence> {
 }
 
 impl<L, A: Allocator, P: Progress> Model for Monitor<L, A, P> {
-    ghost use Rattle.lgp_transcript.specs.Transcript.{Recorded};
+    ghost use Rattle.lgp_stream.specs.Transcript.{Recorded};
 
     ghost Value = { Recorded L };
 

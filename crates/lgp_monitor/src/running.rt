@@ -3,7 +3,7 @@
 ghost use Rattle.std.specs.Prelude.{◌≡◌, [], IfErr, IfOk, IfSome, OnOk, false};
 ghost use Rattle.std.specs.Io.KnownBytes.{Appends, IsAtEnd};
 ghost use Rattle.lgp_stream.specs.Language.{HasCause, StandsWritten};
-ghost use Rattle.lgp_transcript.specs.Transcript.{untouched};
+ghost use Rattle.lgp_stream.specs.Transcript.{untouched};
 ghost use Rattle.lgp_lab.specs.Standing.{opening_standing};
 ghost use Rattle.lgp_monitor.specs.Running.{monitor_faults, monitor_text};
 ghost use Rattle.lgp_monitor.specs.Monitor.{monitor_language};

@@ -2,7 +2,7 @@
 
 ghost use Rattle.std.specs.Prelude.{◌≡◌, ◌≤◌, ◌++◌, ◌∷◌, [], List, ℕ, None, Some, IfSome, OnOk, false, length};
 ghost use Rattle.lgp_stream.specs.KeptLine.{kept_of, line_limit};
-ghost use Rattle.lgp_transcript.specs.Transcript.{after_lines, replies_text, stand_in};
+ghost use Rattle.lgp_stream.specs.Transcript.{after_lines, replies_text, stand_in};
 ghost use Rattle.lgp_lab.specs.Command.{command_of};
 ghost use Rattle.lgp_lab.specs.Script.{is_passed_over, script_language};
 ghost use Rattle.lgp_lab.specs.declared.command.Command.TheVariants.{Run};
@@ -11,8 +11,7 @@ use crate::portions::run_shown;
 use crate::progress::Progress;
 use crate::typed::is_comment;
 use lgp_lab::{Laboratory, lone_number};
-use lgp_stream::{LineBytes, Split, has_no_word, split_word};
-use lgp_transcript::Recorder;
+use lgp_stream::{LineBytes, Recorder, Split, has_no_word, split_word};
 use std::alloc::{AllocError, Allocator};
 
 /// The limit of the run for which a line asks as a script's command.
@@ -54,7 +53,7 @@ fn run<A: Allocator + Copy, P: Progress>(
 }
 
 /// Answers a script's line of which this was kept, and tells of a run how far it is.
-#[tactic(auto, unfolding(lgp_transcript::specs::Transcript::stand_in))]
+#[tactic(auto, unfolding(lgp_stream::specs::Transcript::stand_in))]
 pub fn answer_kept<A: Allocator + Copy, P: Progress>(
     recorder: &mut Recorder<Laboratory<A>, A>,
     line: &LineBytes,

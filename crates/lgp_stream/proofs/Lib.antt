@@ -4,3 +4,6 @@ pub mod FrontLemmas
 pub mod LineLemmas
 pub mod CutLemmas
 pub mod StreamLemmas
+pub mod StandIns
+pub mod LineLaws
+pub mod AfterLemmas

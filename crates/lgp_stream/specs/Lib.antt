@@ -3,3 +3,5 @@ pub mod KeptLine
 pub mod Language
 pub mod OpenLineInside
 pub mod StreamInside
+pub mod Transcript
+pub mod Lent

@@ -1,5 +1,5 @@
 use Rattle.std.proofs.Common.{◌≡◌, drop, map}
-use Rattle.lgp_transcript.specs.Transcript.{after_lines}
+use Rattle.lgp_stream.specs.Transcript.{after_lines}
 use Rattle.lgp_lab.specs.Script.{script_language}
 use Rattle.lgp_monitor.specs.Blocks.{put_cell}
 use Rattle.lgp_monitor.proofs.blocks.put_cells.Given as goal

@@ -2,8 +2,8 @@ use Rattle.std.proofs.Common.{◌∙◌, sym, ap, Result, Ok, Err}
 use Rattle.std.specs.Result.{OnOk}
 use Rattle.lgp_lab.specs.Script.{script_language}
 use Rattle.lgp_lab.specs.Standing.{opening_standing}
-use Rattle.lgp_transcript.specs.Transcript.{after_meaning}
-use Rattle.lgp_transcript.proofs.AfterLemmas.{after-none}
+use Rattle.lgp_stream.specs.Transcript.{after_meaning}
+use Rattle.lgp_stream.proofs.AfterLemmas.{after-none}
 use Rattle.lgp_monitor.specs.Monitor.{meaning_of}
 use Rattle.lgp_monitor.specs.declared.typed.Typed.{Typed}
 use Rattle.lgp_monitor.proofs.monitor.perform.Goals as goal

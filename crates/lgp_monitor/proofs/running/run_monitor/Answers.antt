@@ -1,5 +1,5 @@
 use Rattle.lgp_stream.proofs.StreamLemmas.{StandsWritten-none}
-use Rattle.lgp_transcript.specs.Transcript.{untouched}
+use Rattle.lgp_stream.specs.Transcript.{untouched}
 use Rattle.lgp_lab.specs.Standing.{opening_standing}
 use Rattle.lgp_monitor.specs.Monitor.{monitor_language}
 use Rattle.lgp_monitor.proofs.running.run_monitor.Goals as goal

@@ -3,7 +3,7 @@ use Rattle.std.proofs.lemmas.Result.{on_ok_weaker}
 use Rattle.lgp_stream.specs.KeptLine.{Kept, kept_of}
 use Rattle.lgp_lab.specs.Script.{script_language}
 use Rattle.lgp_lab.specs.Standing.{Standing, labels_of, opening_standing}
-use Rattle.lgp_transcript.specs.Transcript.{Recorded, after_meaning}
+use Rattle.lgp_stream.specs.Transcript.{Recorded, after_meaning}
 use Rattle.lgp_monitor.specs.Monitor.{meaning_at, meaning_of, reply_at, reply_of, typed_at}
 use Rattle.lgp_monitor.specs.Typed.{typed_of}
 use Rattle.lgp_monitor.specs.declared.typed.Typed.{Typed}

@@ -2,9 +2,9 @@ use Rattle.std.proofs.Common.{◌≡◌, ◌∙◌, ◌++◌, [], List, ℕ, ap,
 use Rattle.std.proofs.lemmas.List.{append-nil}
 use Rattle.std.proofs.lemmas.Result.{on_ok_weaker}
 use Rattle.lgp_stream.specs.KeptLine.{Kept, kept_of}
-use Rattle.lgp_transcript.specs.Transcript.{Recorded, after_lines, ended, replies_text, stand_in}
-use Rattle.lgp_transcript.proofs.StandIns.{kept-stand_in}
-use Rattle.lgp_transcript.proofs.recorder.Recorder.answer_kept.Goals as goal
+use Rattle.lgp_stream.specs.Transcript.{Recorded, after_lines, ended, replies_text, stand_in}
+use Rattle.lgp_stream.proofs.StandIns.{kept-stand_in}
+use Rattle.lgp_stream.proofs.recorder.Recorder.answer_kept.Goals as goal
 
 kept_alike : (kept : Kept) (text : List ℕ) → kept ≡ kept_of text → kept ≡ kept_of (stand_in kept)
 kept_alike kept text e = e ∙ (sym (kept-stand_in _) ∙ ap (λ (k : Kept). kept_of (stand_in k)) (sym e))

@@ -7,7 +7,7 @@ use Rattle.std.proofs.lemmas.List.Folds.{list_all-append}
 use Rattle.std.specs.List.{list_all}
 use Rattle.lgp_stream.specs.KeptLine.{Kept, kept_of, line_limit}
 use Rattle.lgp_stream.specs.LineWords.{is_space}
-use Rattle.lgp_transcript.specs.Transcript.{stand_in}
+use Rattle.lgp_stream.specs.Transcript.{stand_in}
 
 -- the same for any limit
 front : (limit : ℕ) (line : List ℕ) (last : ℕ) → limit < length line → take limit (take limit line ++ last ∷ []) ≡ take limit line

@@ -1,8 +1,8 @@
 -- Part of the public promise: a recorder whose lines are answered by something that is lent out.
 use Rattle.std.specs.Borrow.{Fml, Lends, MutBor, RattleType}
 use Rattle.std.specs.declared.alloc.Allocator.{Ghosts}
-use Rattle.lgp_transcript.specs.Transcript.{Recorded, with_standing}
-use Rattle.lgp_transcript.specs.contracts.recorder.Recorder.{the_row}
+use Rattle.lgp_stream.specs.Transcript.{Recorded, with_standing}
+use Rattle.lgp_stream.specs.contracts.recorder.Recorder.{the_row}
 
 module _ (L A : RattleType) (alloc : Ghosts A.Denot) (recorder : MutBor (Recorded L.Denot)) where
   -- it stands where what was lent is left

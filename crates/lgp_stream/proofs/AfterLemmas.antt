@@ -6,7 +6,7 @@ use Rattle.std.proofs.lemmas.List.{append-nil, map-append, take_more}
 use Rattle.std.proofs.lemmas.List.Folds.{concat-append}
 use Rattle.lgp_stream.specs.Language.{Language, replies_to, state_after}
 use Rattle.lgp_stream.proofs.StreamLemmas.{replies_to-append, state_after-append}
-use Rattle.lgp_transcript.specs.Transcript.{Recorded, after_lines, bytes_of, ended, replies_text}
+use Rattle.lgp_stream.specs.Transcript.{Recorded, after_lines, bytes_of, ended, replies_text}
 
 abbrev text_of : List (List ℕ) → List ℕ
 text_of lines = concat (map ended lines)

@@ -1,7 +1,7 @@
 use Rattle.std.proofs.Common.{◌∙◌, ◌++◌, List, ℕ, ap, sym}
 use Rattle.std.proofs.lemmas.List.{append-nil}
-use Rattle.lgp_transcript.proofs.AfterLemmas.{after-more, after-none, replies-more, replies-none}
-use Rattle.lgp_transcript.proofs.recorder.Recorder.answer_lines.Goals as goal
+use Rattle.lgp_stream.proofs.AfterLemmas.{after-more, after-none, replies-more, replies-none}
+use Rattle.lgp_stream.proofs.recorder.Recorder.answer_lines.Goals as goal
 
 pub loop-line-init : goal.loop-line-init
 loop-line-init g c = record {

@@ -1,6 +1,6 @@
 use Rattle.std.proofs.Common.{◌≡◌, ◌++◌, take}
-use Rattle.lgp_transcript.specs.Transcript.{after_lines, bytes_of, replies_text}
-use Rattle.lgp_transcript.proofs.recorder.Recorder.answer_lines.Given as goal
+use Rattle.lgp_stream.specs.Transcript.{after_lines, bytes_of, replies_text}
+use Rattle.lgp_stream.proofs.recorder.Recorder.answer_lines.Given as goal
 
 abbrev pub invariant-loop-line : goal.invariant-loop-line
 invariant-loop-line g l = record {

@@ -7,7 +7,7 @@ use Rattle.std.proofs.Math.Seq.{get_or-append_seam, take-append_seam}
 use Rattle.lgp_stream.specs.Language.{Language, state_after}
 use Rattle.lgp_stream.specs.StreamInside.{IsCut}
 use Rattle.lgp_stream.proofs.CutLemmas.{IsCut-feed, IsCut-lines, IsCut-none, IsCut-push}
-use Rattle.lgp_transcript.specs.Transcript.{AreLines, HasMeanings, IsLine, IsToldByTranscript, Meaning, Anew, Lines, Recorded, StandForLines, after_lines, after_meaning, ended, untouched}
+use Rattle.lgp_stream.specs.Transcript.{AreLines, HasMeanings, IsLine, IsToldByTranscript, Meaning, Anew, Lines, Recorded, StandForLines, after_lines, after_meaning, ended, untouched}
 
 -- ---- a line behind complete ones
 

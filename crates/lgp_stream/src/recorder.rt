@@ -3,9 +3,10 @@
 ghost use Rattle.std.specs.Prelude.{◌≡◌, ◌++◌, ◌∷◌, [], List, ℕ, IfOk, OnOk, codes};
 ghost use Rattle.lgp_stream.specs.KeptLine.{kept_of};
 ghost use Rattle.std.specs.Borrow.{sem};
-ghost use Rattle.lgp_transcript.specs.Transcript.{after_lines, bytes_of, ended, replies_text, stand_in, untouched, with_line};
+ghost use Rattle.lgp_stream.specs.Transcript.{after_lines, bytes_of, ended, replies_text, stand_in, untouched, with_line};
 
-use lgp_stream::{Answers, LineBytes};
+use crate::line::LineBytes;
+use crate::stream::Answers;
 use std::alloc::{AllocError, Allocator};
 use std::marker::Model;
 
@@ -17,7 +18,7 @@ pub struct Recorder<L, A: Allocator> {
 }
 
 impl<L, A: Allocator> Model for Recorder<L, A> {
-    ghost use Rattle.lgp_transcript.specs.Transcript.{Recorded};
+    ghost use Rattle.lgp_stream.specs.Transcript.{Recorded};
 
     ghost Value = { Recorded L };
 
@@ -53,7 +54,7 @@ fn push_stand_in<A: Allocator>(text: &mut Vec<u8, A>, line: &LineBytes) -> Resul
 }
 
 impl<L, A: Allocator> Recorder<L, A> {
-    ghost use Rattle.lgp_transcript.specs.Lent.{lends_answers};
+    ghost use Rattle.lgp_stream.specs.Lent.{lends_answers};
 
     /// What answers the lines, for work that no line here asks for: the caller keeps the line that asks for the same.
     pub fn answers_mut(&mut self) -> &mut L

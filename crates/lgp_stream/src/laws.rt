@@ -5,7 +5,7 @@ ghost use Rattle.std.specs.List.{AllByRecursion};
 ghost use Rattle.std.specs.Str.Lines.{lines};
 ghost use Rattle.lgp_stream.specs.KeptLine.{kept_of, line_limit};
 ghost use Rattle.lgp_stream.specs.Language.{Language, state_after};
-ghost use Rattle.lgp_transcript.specs.Transcript.{HasMeanings, IsLine, IsToldByTranscript, Meaning, Recorded, StandForLines, stand_in, untouched};
+ghost use Rattle.lgp_stream.specs.Transcript.{HasMeanings, IsLine, IsToldByTranscript, Meaning, Recorded, StandForLines, stand_in, untouched};
 
 /// A line that stands in for another one is kept as that is; it is that one, where that is kept whole.
 #[tactic(auto, using(crate::proofs::StandIns::stand_ins))]

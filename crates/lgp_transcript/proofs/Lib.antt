@@ -1,3 +1,0 @@
-pub mod StandIns
-pub mod LineLaws
-pub mod AfterLemmas
