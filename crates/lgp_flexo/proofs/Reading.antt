@@ -1,10 +1,14 @@
 -- Reading a text from a place on.
-use Rattle.std.proofs.Common.{◌≡◌, ℕ, ◌+◌, ◌<◌, ◌≤◌, Bool, true, false, cond, List, [], ◌∷◌, ◌++◌, length, drop, take, ◌-◌, Some, None, Result, Ok, Err, refl, ap, sym, ◌∙◌, append_assoc, arith, length-drop}
+use Rattle.std.proofs.Common.{◌≡◌, ℕ, ◌+◌, ◌<◌, ◌≤◌, ◌==◌, Bool, true, false, cond, List, [], ◌∷◌, ◌++◌, length, drop, take, ◌-◌, Some, None, Result, Ok, Err, refl, ap, sym, ◌∙◌, append_assoc, arith, length-drop}
 use Rattle.std.specs.Option.{option_map}
+use Rattle.std.specs.Str.{byte}
 use Rattle.std.proofs.Math.ListN.{drop_of_length-le}
 use Rattle.std.proofs.lemmas.List.{drop-drop, take_rest}
 use Rattle.lgp_flexo.specs.TapeText.{before, code_of_group, codes_of_sign, joined, single, text_from}
-use Rattle.lgp_flexo.specs.PiecesInside.{first_codes, piece_length, rest_from}
+use Rattle.lgp_flexo.specs.Archive.{archived_from, codes_of_archived}
+use Rattle.lgp_flexo.specs.PiecesInside.{archived_codes, archived_length, first_codes, own_codes, own_length, piece_length, read_from, rest_from}
+use Rattle.lgp_flexo.specs.declared.pieces.Form.{Form}
+use Rattle.lgp_flexo.specs.declared.pieces.Form.TheVariants.{Own, Archived}
 
 -- this many codes in front of what follows
 abbrev pub added : ℕ → Result ℕ ℕ → Result ℕ ℕ
@@ -12,13 +16,14 @@ added count (Ok following) = Ok (count + following)
 added count (Err bad) = Err bad
 
 -- an empty text stands for nothing
-text_from-nothing : (place : ℕ) → text_from place [] ≡ Ok []
-unfolding text_from
-text_from-nothing place = refl
+read_from-nothing : (form : Form) (place : ℕ) → read_from form place [] ≡ Ok []
+unfolding text_from archived_from
+read_from-nothing Own place = refl
+read_from-nothing Archived place = refl
 
 -- a text's first piece, and what follows it
-pub text_from-piece : (place : ℕ) (text : List ℕ) → 0 < length text
-    → text_from place text ≡ joined place (first_codes text) (text_from (place + piece_length text) (drop (piece_length text) text))
+text_from-piece : (place : ℕ) (text : List ℕ) → 0 < length text
+    → text_from place text ≡ joined place (own_codes text) (text_from (place + own_length text) (drop (own_length text) text))
 unfolding text_from
 text_from-piece place [] some = absurd (omega arith)
 text_from-piece place (a ∷ []) some = refl
@@ -31,39 +36,57 @@ text_from-piece place (a ∷ b ∷ c ∷ d ∷ rest) some = by_group _ where
   by_group true = refl
   by_group false = refl
 
+archived_from-piece : (place : ℕ) (text : List ℕ) → 0 < length text
+    → archived_from place text ≡ joined place (archived_codes text) (archived_from (place + archived_length text) (drop (archived_length text) text))
+unfolding archived_from
+archived_from-piece place [] some = absurd (omega arith)
+archived_from-piece place (a ∷ []) some = refl
+archived_from-piece place (a ∷ b ∷ []) some = refl
+archived_from-piece place (a ∷ b ∷ c ∷ rest) some = by_group (a == byte "!") where
+  by_group : (t : Bool)
+      → cond t (joined place (option_map single (code_of_group b c)) (archived_from (place + 3) rest)) (joined place (codes_of_archived a) (archived_from (place + 1) (b ∷ c ∷ rest)))
+      ≡ joined place (cond t (option_map single (code_of_group b c)) (codes_of_archived a)) (archived_from (place + cond t 3 1) (drop (cond t 3 1) (a ∷ b ∷ c ∷ rest)))
+  by_group true = refl
+  by_group false = refl
+
+read_from-piece : (form : Form) (place : ℕ) (text : List ℕ) → 0 < length text
+    → read_from form place text ≡ joined place (first_codes form text) (read_from form (place + piece_length form text) (drop (piece_length form text) text))
+read_from-piece Own place text some = text_from-piece place text some
+read_from-piece Archived place text some = archived_from-piece place text some
+
 -- behind its end a text stands for nothing
-pub rest_from_end : (text : List ℕ) (place : ℕ) → length text ≤ place → rest_from text place ≡ Ok []
-rest_from_end text place past = ap (text_from place) (drop_of_length-le text past) ∙ text_from-nothing _
+pub rest_from_end : (form : Form) (text : List ℕ) (place : ℕ) → length text ≤ place → rest_from form text place ≡ Ok []
+rest_from_end form text place past = ap (read_from form place) (drop_of_length-le text past) ∙ read_from-nothing form place
 
 -- the same from a place on
-pub rest_from-piece : (text : List ℕ) (place : ℕ) → place < length text
-    → rest_from text place ≡ joined place (first_codes (drop place text)) (rest_from text (place + piece_length (drop place text)))
-rest_from-piece text place within =
+rest_from-piece : (form : Form) (text : List ℕ) (place : ℕ) → place < length text
+    → rest_from form text place ≡ joined place (first_codes form (drop place text)) (rest_from form text (place + piece_length form (drop place text)))
+rest_from-piece form text place within =
     let some : 0 < length (drop place text) = omega (arith, length-drop place text) in
-    text_from-piece _ _ some
-    ∙ ap (λ bytes. joined place (first_codes (drop place text)) (text_from (place + piece_length (drop place text)) bytes))
-    (drop-drop (piece_length (drop place text)) place text)
+    read_from-piece form place (drop place text) some
+    ∙ ap (λ bytes. joined place (first_codes form (drop place text)) (read_from form (place + piece_length form (drop place text)) bytes))
+    (drop-drop (piece_length form (drop place text)) place text)
 
 -- the same where the piece is there, as the code reads it, and where none is there
-pub rest_from-some : (text codes : List ℕ) (place past : ℕ) → place < length text
-    → Some codes ≡ first_codes (take (length text - place) (drop place text))
-    → past ≡ piece_length (take (length text - place) (drop place text))
-    → rest_from text place ≡ before codes (rest_from text (place + past))
-rest_from-some text codes place past within piece is =
+pub rest_from-some : (form : Form) (text codes : List ℕ) (place past : ℕ) → place < length text
+    → Some codes ≡ first_codes form (take (length text - place) (drop place text))
+    → past ≡ piece_length form (take (length text - place) (drop place text))
+    → rest_from form text place ≡ before codes (rest_from form text (place + past))
+rest_from-some form text codes place past within piece is =
     let whole : take (length text - place) (drop place text) ≡ drop place text = take_rest text place in
-    let found : first_codes (drop place text) ≡ Some codes = ap first_codes (sym whole) ∙ sym piece in
-    let long : piece_length (drop place text) ≡ past = ap piece_length (sym whole) ∙ sym is in
-    rest_from-piece _ _ within
-    ∙ ap (λ p. joined place p (rest_from text (place + piece_length (drop place text)))) found
-    ∙ ap (λ n. before codes (rest_from text (place + n))) long
+    let found : first_codes form (drop place text) ≡ Some codes = ap (first_codes form) (sym whole) ∙ sym piece in
+    let long : piece_length form (drop place text) ≡ past = ap (piece_length form) (sym whole) ∙ sym is in
+    rest_from-piece form text place within
+    ∙ ap (λ p. joined place p (rest_from form text (place + piece_length form (drop place text)))) found
+    ∙ ap (λ n. before codes (rest_from form text (place + n))) long
 
-pub rest_from-none : (text : List ℕ) (place : ℕ) → place < length text
-    → None ≡ first_codes (take (length text - place) (drop place text))
-    → rest_from text place ≡ Err place
-rest_from-none text place within none =
-    let found : first_codes (drop place text) ≡ None = ap first_codes (sym (take_rest text place)) ∙ sym none in
-    rest_from-piece _ _ within
-    ∙ ap (λ p. joined place p (rest_from text (place + piece_length (drop place text)))) found
+pub rest_from-none : (form : Form) (text : List ℕ) (place : ℕ) → place < length text
+    → None ≡ first_codes form (take (length text - place) (drop place text))
+    → rest_from form text place ≡ Err place
+rest_from-none form text place within none =
+    let found : first_codes form (drop place text) ≡ None = ap (first_codes form) (sym (take_rest text place)) ∙ sym none in
+    rest_from-piece form text place within
+    ∙ ap (λ p. joined place p (rest_from form text (place + piece_length form (drop place text)))) found
 
 -- codes in front of codes
 pub before-before : (first codes : List ℕ) (following : Result (List ℕ) ℕ) → before first (before codes following) ≡ before (first ++ codes) following

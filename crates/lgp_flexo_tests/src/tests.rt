@@ -9,6 +9,8 @@ use linked_list_allocator::LocalHeap;
 use std::alloc::Global;
 use std::test::Fail;
 
+mod archives;
+
 /// The numbers and signs of the table.
 const SIGNS: [(u8, char); 43] = [
     (2, '0'),

@@ -1,8 +1,7 @@
 //! Texts of files, looked over before anything of them is typed.
 
 use crate::filing::{FileTrouble, Unread};
-use lgp_archive::read_archive_text;
-use lgp_flexo::{Code, TextFault, read_tape_text};
+use lgp_flexo::{Code, TextFault, read_archive_text, read_tape_text};
 use std::alloc::Allocator;
 
 /// Whether a line of a text is this one, a carriage return at its end aside.

@@ -1,7 +1,6 @@
 //! Texts of archives, read as SIMH's simulator reads them.
 
-use lgp_archive::read_archive_text;
-use lgp_flexo::{TAPE_LIMIT, TextFault};
+use lgp_flexo::{TAPE_LIMIT, TextFault, read_archive_text};
 use lgp_scarce::Scarce;
 use std::alloc::{Allocator, Global};
 use std::test::Fail;

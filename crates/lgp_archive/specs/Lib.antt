@@ -1,2 +1,0 @@
-pub mod Archive
-pub mod PiecesInside
