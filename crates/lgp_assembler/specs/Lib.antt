@@ -13,3 +13,4 @@ pub mod KindNames
 pub mod Answers
 pub mod Laws
 pub mod Patch
+pub mod Marks

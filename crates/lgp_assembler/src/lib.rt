@@ -1,4 +1,4 @@
-//! The assembler: a source's words, or its faults.
+//! The assembler: a source's words, or its faults, and a faulty line as it is shown.
 #![tactic(auto)]
 
 ghost use Rattle.std.specs.Prelude.{◌≡◌, ◌≢◌, ◌+◌, ◌++◌, ◌<◌, ◌^◌, [], ◌∷◌, IfOk, OnOk, IfErr, length, ◌≤◌};
@@ -14,6 +14,7 @@ pub use laws::{
     places_count_from_orgs,
 };
 pub use line_fields::has_word;
+pub use marks::push_marked;
 pub use name_table::NameValues;
 pub use operands::OperandFault;
 pub use output::{Image, LOADER_PLACES, Name};
@@ -27,6 +28,7 @@ mod conditions;
 mod drafting;
 mod laws;
 mod line_fields;
+mod marks;
 mod name_table;
 mod numbers;
 mod operands;

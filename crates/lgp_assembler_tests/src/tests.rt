@@ -11,6 +11,7 @@ use std::test::Fail;
 
 mod bytes;
 mod growths;
+mod marks;
 mod patches;
 mod sizes;
 

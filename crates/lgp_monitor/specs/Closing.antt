@@ -8,7 +8,7 @@ use Rattle.lgp_source.specs.Source.{SourceLine, lines_of}
 use Rattle.lgp_assembler.specs.Image.{faults_of}
 use Rattle.lgp_assembler.specs.KindNames.{kind_name}
 use Rattle.lgp_assembler.specs.declared.refusal.Fault.{Fault}
-use Rattle.lgp_marks.specs.Marks.{marked_text}
+use Rattle.lgp_assembler.specs.Marks.{marked_text}
 use Rattle.lgp_stream.specs.KeptLine.{Kept}
 use Rattle.lgp_lab.specs.SourceText.{SourceText}
 use Rattle.lgp_lab.specs.Standing.{opened_text}

@@ -5,13 +5,12 @@ ghost use Rattle.std.specs.Str.{bytes_eq};
 ghost use Rattle.std.specs.Option.{option_copied, option_map_or};
 ghost use Rattle.lgp_assembler.specs.Image.{faults_of};
 ghost use Rattle.lgp_assembler.specs.KindNames.{kind_name};
-ghost use Rattle.lgp_marks.specs.Marks.{marked_text};
+ghost use Rattle.lgp_assembler.specs.Marks.{marked_text};
 ghost use Rattle.lgp_source.specs.Source.{lines_of};
 ghost use Rattle.lgp_monitor.specs.Closing.{closing_reply, marked_fault, shown_faults, text_at};
 
-use lgp_assembler::{AssembleError, Fault, FaultKind, assemble};
+use lgp_assembler::{AssembleError, Fault, FaultKind, assemble, push_marked};
 use lgp_lab::Laboratory;
-use lgp_marks::push_marked;
 use lgp_source::Lines;
 use lgp_stream::LineBytes;
 use lgp_text::{Piece, push_pieces};

@@ -1,7 +1,6 @@
 //! A test is a table of lines with the kinds of their faults, and what is shown for each.
 
-use lgp_assembler::FaultKind;
-use lgp_marks::push_marked;
+use lgp_assembler::{FaultKind, push_marked};
 use lgp_scarce::Scarce;
 use std::alloc::{AllocError, Allocator, Global};
 use std::process::Abort;

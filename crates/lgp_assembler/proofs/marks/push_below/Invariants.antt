@@ -1,6 +1,6 @@
 use Rattle.std.proofs.Common.{◌≡◌, ◌++◌, drop, map}
-use Rattle.lgp_marks.specs.Marks.{byte_below}
-use Rattle.lgp_marks.proofs.marks.push_below.Given as goal
+use Rattle.lgp_assembler.specs.Marks.{byte_below}
+use Rattle.lgp_assembler.proofs.marks.push_below.Given as goal
 
 abbrev pub invariant-loop-byte : goal.invariant-loop-byte
 invariant-loop-byte g l =
