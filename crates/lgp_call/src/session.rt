@@ -1,7 +1,6 @@
 //! Lines answered one at a time.
 
 ghost use Rattle.std.specs.Prelude.{◌≡◌, ◌<◌, ◌≤◌, IfOk, OnOk};
-ghost use Rattle.lgp_stream.specs.Language.{is_question};
 ghost use Rattle.lgp_call.specs.Room.{filled};
 ghost use Rattle.lgp_call.specs.Session.{after_line, closing_reply, has_line_feed, no_outcome, opening_sitting, outcome_of, questions_in};
 ghost use Rattle.lgp_call.specs.Status.{answered_status, memory_status, unread_status};
@@ -10,7 +9,7 @@ use crate::room::fill;
 use crate::script::Outcome;
 use lgp_lab::Laboratory;
 use lgp_monitor::Monitor;
-use lgp_stream::{Answers, LineBytes};
+use lgp_stream::{Answers, LineBytes, is_question};
 use std::alloc::{AllocError, Allocator};
 use std::marker::Model;
 
@@ -22,16 +21,6 @@ fn has_line_feed(line: &[u8]) -> bool
     ensures { result ≡ has_line_feed line.now }
 {
     line.iter().any(|byte| *byte == b'\n')
-}
-
-/// Whether a reply begins with a question mark.
-fn is_question(reply: &[u8]) -> bool
-    ensures { result ≡ is_question reply.now }
-{
-    match reply {
-        [first, ..] => *first == b'?',
-        [] => false,
-    }
 }
 
 /// A monitor that answers one line after another, and its last reply.

@@ -8,8 +8,8 @@ ghost use Rattle.lgp_desk.specs.Roles.{opened_by, with_line};
 
 use crate::role::{Role, behind_mark, block_role, command_role};
 use crate::texts::{Block, Source, copy_of};
-use crate::writing::{is_question, push_note_line, push_shown, push_shown_kind};
-use lgp_stream::{Answers, LineBytes};
+use crate::writing::{push_note_line, push_shown, push_shown_kind};
+use lgp_stream::{Answers, LineBytes, is_question};
 use std::alloc::{AllocError, Allocator};
 use std::marker::Model;
 

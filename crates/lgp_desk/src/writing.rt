@@ -6,18 +6,8 @@ ghost use Rattle.lgp_desk.specs.Desk.{echo_in, echo_of, line_echo, note_line};
 
 use crate::desk::Manner;
 use crate::texts::Source;
-use lgp_stream::LineBytes;
+use lgp_stream::{LineBytes, is_question};
 use std::alloc::{AllocError, Allocator};
-
-/// Whether a reply begins with a question mark.
-pub fn is_question(reply: &[u8]) -> bool
-    ensures { result ≡ is_question reply.now }
-{
-    match reply {
-        [first, ..] => *first == b'?',
-        [] => false,
-    }
-}
 
 /// The mark in front of a line that is shown above its reply.
 fn mark_of(reply: &[u8]) -> &'static [u8]

@@ -17,12 +17,15 @@ use Rattle.lgp_lab.specs.declared.refusal.Refusal.TheVariants as refusals
 
 -- ---- source
 
--- the lines of faults, each with its line's number and its kind
+-- the line of a fault: its line's number and its kind
+abbrev pub fault_line : Fault → List ℕ
+fault_line fault =
+    codes "line " ++ (decimal fault.line ++ (codes " " ++ (kind_name fault.kind ++ codes "\n")))
+
+-- the lines of faults
 unfoldable pub faults_text : List Fault → List ℕ
 faults_text [] = []
-faults_text (fault ∷ more) =
-    (codes "line " ++ (decimal fault.line ++ (codes " " ++ (kind_name fault.kind ++ codes "\n"))))
-    ++ faults_text more
+faults_text (fault ∷ more) = fault_line fault ++ faults_text more
 
 -- how many words a source has made, and where it starts
 abbrev pub start_text : Option ℕ → List ℕ

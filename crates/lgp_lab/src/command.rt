@@ -1,6 +1,7 @@
 //! What a line of a script asks for.
 
-ghost use Rattle.std.specs.Prelude.{◌≡◌, ◌≤◌, drop, is_some, length};
+ghost use Rattle.std.specs.Prelude.{◌≡◌, ◌==◌, ◌≤◌, drop, is_some, length, slice_index};
+ghost use Rattle.std.specs.Str.{byte};
 ghost use Rattle.lgp_word.specs.Digits.{address_text};
 ghost use Rattle.lgp_lab.specs.Command.{command_by, command_of, lone, lone_number, lone_operand, number_at, press_command, put_command, span_at, text_behind};
 
@@ -208,6 +209,16 @@ pub fn asked_in(line: &[u8]) -> Asked<'_>
     Asked {
         command,
         text: behind_space(behind),
+    }
+}
+
+/// Whether a line begins with a semicolon.
+pub fn is_comment(line: &[u8]) -> bool
+    ensures { result ≡ (slice_index line.now 0 == byte ";") }
+{
+    match line {
+        [first, ..] => *first == b';',
+        [] => false,
     }
 }
 

@@ -1,13 +1,12 @@
 //! The laboratory: a machine with its history and the source at hand, and what is answered to a line.
 
-ghost use Rattle.std.specs.Prelude.{◌≡◌, ◌++◌, ◌==◌, ◌≤◌, List, ℕ, IfOk, OnOk, is_some, length, slice_index};
-ghost use Rattle.std.specs.Str.{byte};
+ghost use Rattle.std.specs.Prelude.{◌≡◌, ◌++◌, ◌≤◌, List, ℕ, IfOk, OnOk, is_some, length};
 ghost use Rattle.lgp_stream.specs.KeptLine.{line_limit};
 ghost use Rattle.lgp_stream.specs.KeptLine.{kept_of};
 ghost use Rattle.lgp_lab.specs.Script.{answer_to, answer_to_command, is_passed_over, script_language};
 ghost use Rattle.lgp_lab.specs.Standing.{labels_of, opened_text, opening_standing};
 
-use crate::command::{Asked, Command, asked_in};
+use crate::command::{Asked, Command, asked_in, is_comment};
 use crate::limits::KEPT_LIMIT;
 use crate::program::Program;
 use crate::refusal::{Refusal, push_refusal};
@@ -28,7 +27,7 @@ mod source_commands;
 mod tape_commands;
 
 pub use machine_commands::push_panel;
-pub use source_commands::push_faults;
+pub use source_commands::{push_fault_line, push_faults};
 pub use tape_commands::push_printed;
 
 /// A machine with its history and its rules, on which a script's commands are performed, with the last source that assembled and
@@ -150,16 +149,6 @@ fn labels_in<A: Allocator + Copy>(program: &Option<Program<A>>) -> &[(Name, u16)
     match program {
         Some(program) => program.image().symbols(),
         None => &[],
-    }
-}
-
-/// Whether a line begins with a semicolon.
-fn is_comment(line: &[u8]) -> bool
-    ensures { result ≡ (slice_index line.now 0 == byte ";") }
-{
-    match line {
-        [first, ..] => *first == b';',
-        [] => false,
     }
 }
 

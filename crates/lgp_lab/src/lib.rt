@@ -1,9 +1,9 @@
 //! The LGP-30 laboratory: scripts.
 #![tactic(auto)]
 
-pub use command::{is_command, lone_number};
+pub use command::{is_command, is_comment, lone_number};
 pub use files::{asm_file, run_file, tape_file};
-pub use laboratory::Laboratory;
+pub use laboratory::{Laboratory, push_fault_line};
 pub use lgp_stream::{Failed, Feed, FeedOf, Sink, SinkOf, StreamFault as LabFault};
 pub use lgp_task::{FileName, FileNames, Task, TaskFault, task_of};
 pub use limits::READS;

@@ -1,15 +1,15 @@
 -- Part of the public promise: what is answered where a point closes a source with faults: each
 -- fault with its line of the source and a mark below the part that is at fault.
 use Rattle.std.specs.Prelude.{ℕ, ◌-◌, not, ◌&&◌, ◌||◌, ◌==◌, if◌then◌else◌, Option, Some, None}
-use Rattle.std.specs.Prelude.{option_map, List, [], ◌++◌, codes, decimal, flat_map, length, slice_get}
+use Rattle.std.specs.Prelude.{option_map, List, [], ◌++◌, codes, flat_map, length, slice_get}
 use Rattle.std.specs.Option.{option_map_or}
 use Rattle.std.specs.Str.{bytes_eq}
 use Rattle.lgp_source.specs.Source.{SourceLine, lines_of}
 use Rattle.lgp_assembler.specs.Image.{faults_of}
-use Rattle.lgp_assembler.specs.KindNames.{kind_name}
 use Rattle.lgp_assembler.specs.declared.refusal.Fault.{Fault}
 use Rattle.lgp_assembler.specs.Marks.{marked_text}
 use Rattle.lgp_stream.specs.KeptLine.{Kept}
+use Rattle.lgp_lab.specs.SourceCommands.{fault_line}
 use Rattle.lgp_lab.specs.SourceText.{SourceText}
 use Rattle.lgp_lab.specs.Standing.{opened_text}
 
@@ -17,12 +17,10 @@ use Rattle.lgp_lab.specs.Standing.{opened_text}
 abbrev pub text_at : List SourceLine → ℕ → Option (List ℕ)
 text_at lines place = option_map (λ (line : SourceLine). line.text) (slice_get lines place)
 
--- a fault of a source of these lines: the number of its line and its kind, as scripts have them,
--- and its marked line
+-- a fault of a source of these lines: its line as scripts have it, and its marked line
 unfoldable pub marked_fault : List SourceLine → Fault → List ℕ
 marked_fault lines fault =
-    codes "line " ++ (decimal fault.line ++ (codes " " ++ (kind_name fault.kind ++ (codes "\n"
-    ++ option_map_or (marked_text fault.kind) (text_at lines (fault.line - 1)) []))))
+    fault_line fault ++ option_map_or (marked_text fault.kind) (text_at lines (fault.line - 1)) []
 
 -- the reply to the end of a source, if it has faults; a source that is empty has no line to show,
 -- and of one that is too long nothing is kept

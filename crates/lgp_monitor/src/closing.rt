@@ -1,39 +1,19 @@
 //! What is answered where a point closes a source with faults.
 
-ghost use Rattle.std.specs.Prelude.{◌≡◌, ◌+◌, ◌^◌, ◌<◌, ◌≤◌, ◌++◌, ◌==◌, IfOk, None, OnOk, Some, [], codes, decimal, drop, flat_map, if◌then◌else◌, length, not, option_map, ◌&&◌};
+ghost use Rattle.std.specs.Prelude.{◌≡◌, ◌+◌, ◌^◌, ◌<◌, ◌≤◌, ◌++◌, ◌==◌, IfOk, None, OnOk, Some, [], codes, drop, flat_map, if◌then◌else◌, length, not, option_map, ◌&&◌};
 ghost use Rattle.std.specs.Str.{bytes_eq};
 ghost use Rattle.std.specs.Option.{option_copied, option_map_or};
 ghost use Rattle.lgp_assembler.specs.Image.{faults_of};
-ghost use Rattle.lgp_assembler.specs.KindNames.{kind_name};
 ghost use Rattle.lgp_assembler.specs.Marks.{marked_text};
 ghost use Rattle.lgp_source.specs.Source.{lines_of};
 ghost use Rattle.lgp_monitor.specs.Closing.{closing_reply, marked_fault, shown_faults, text_at};
 
 use lgp_assembler::{AssembleError, Fault, FaultKind, assemble, push_marked};
-use lgp_lab::Laboratory;
+use lgp_lab::{Laboratory, push_fault_line};
 use lgp_source::Lines;
 use lgp_stream::LineBytes;
-use lgp_text::{Piece, push_pieces};
 use std::alloc::{AllocError, Allocator};
 use std::marker::Model;
-
-/// Appends the number of a fault's line and its kind.
-fn push_fault_line<A: Allocator>(text: &mut Vec<u8, A>, fault: &Fault) -> Result<(), AllocError>
-    ensures { OnOk result (text.new.items ≡ text.old.items
-        ++ (codes "line " ++ (decimal fault.now.line
-        ++ (codes " " ++ (kind_name fault.now.kind ++ codes "\n"))))) }
-{
-    push_pieces(
-        text,
-        &[
-            Piece::Text(b"line "),
-            Piece::Number(fault.line),
-            Piece::Text(b" "),
-            Piece::Text(fault.kind.name().as_bytes()),
-            Piece::Text(b"\n"),
-        ],
-    )
-}
 
 /// Appends a line with its mark, if there is one.
 fn push_marked_at<A: Allocator>(

@@ -9,8 +9,7 @@ ghost use Rattle.lgp_lab.specs.declared.command.Command.TheVariants.{Run};
 
 use crate::portions::run_shown;
 use crate::progress::Progress;
-use crate::typed::is_comment;
-use lgp_lab::{Laboratory, lone_number};
+use lgp_lab::{Laboratory, is_comment, lone_number};
 use lgp_stream::{LineBytes, Recorder, Split, has_no_word, split_word};
 use std::alloc::{AllocError, Allocator};
 

@@ -19,7 +19,7 @@ use crate::telling::Telling;
 use crate::verb::{AddressCommand, LoneCommand, NumberCommand, Verb, verb_named};
 use lgp_assembler::{Name, OperandFault, Symbols, address_operand, operation_word};
 use lgp_fraction::Fraction;
-use lgp_lab::{Span, is_command, lone_number};
+use lgp_lab::{Span, is_command, is_comment, lone_number};
 use lgp_stream::{LineBytes, Split, has_no_word, split_word};
 use lgp_word::{Address, Word, read_digits};
 
@@ -394,16 +394,6 @@ fn typed_line(names: &[(Name, u16)], counter: Address, line: &[u8]) -> Typed
     }
     let Split { word, behind } = split_word(line);
     typed_by(names, counter, verb_named(word), behind)
-}
-
-/// Whether a line begins with a semicolon.
-pub fn is_comment(line: &[u8]) -> bool
-    ensures { result ≡ (slice_index line.now 0 == byte ";") }
-{
-    match line {
-        [first, ..] => *first == b';',
-        [] => false,
-    }
 }
 
 /// Whether a line is taken as it stands.

@@ -6,7 +6,7 @@ pub use feed::{Failed, Feed, FeedOf};
 pub use line::{LINE_LIMIT, LineBytes};
 pub use recorder::Recorder;
 pub use sink::{Sink, SinkOf};
-pub use stream::{Answers, CHUNK, StreamFault, run_text, write_whole};
+pub use stream::{Answers, CHUNK, StreamFault, is_question, run_text, write_whole};
 pub use words::{Split, has_no_word, split_word};
 
 mod feed;

@@ -60,7 +60,7 @@ pub trait Answers<A: Allocator>: Drop {
 }
 
 /// Whether a reply begins with a question mark.
-fn is_question(reply: &[u8]) -> bool
+pub fn is_question(reply: &[u8]) -> bool
     ensures { result ≡ is_question reply.now }
 {
     match reply {

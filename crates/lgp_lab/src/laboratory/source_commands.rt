@@ -2,7 +2,7 @@
 
 ghost use Rattle.std.specs.Prelude.{◌≡◌, ◌++◌, [], List, ℕ, Some, OnOk, codes};
 ghost use Rattle.lgp_stream.specs.KeptLine.{kept_of};
-ghost use Rattle.lgp_lab.specs.SourceCommands.{answer_in_source, answer_to_end, cells_text, faults_text, list_text, start_text};
+ghost use Rattle.lgp_lab.specs.SourceCommands.{answer_in_source, answer_to_end, cells_text, fault_line, faults_text, list_text, start_text};
 ghost use Rattle.lgp_lab.specs.SourceText.{source_of};
 ghost use Rattle.lgp_assembler.specs.Image.{image_of};
 
@@ -135,22 +135,29 @@ fn push_fault_list<A: Allocator>(text: &mut Vec<u8, A>, faults: &[Fault]) -> Res
     Ok(())
 }
 
+/// Appends the line of a fault: the number of its line and its kind.
+pub fn push_fault_line<A: Allocator>(text: &mut Vec<u8, A>, fault: &Fault) -> Result<(), AllocError>
+    ensures { OnOk result (text.new.items ≡ text.old.items ++ fault_line fault.now) }
+{
+    push_pieces(
+        text,
+        &[
+            Piece::Text(b"line "),
+            Piece::Number(fault.line),
+            Piece::Text(b" "),
+            Piece::Text(fault.kind.name().as_bytes()),
+            Piece::Text(b"\n"),
+        ],
+    )
+}
+
 /// Appends a line for each fault.
 #[tactic(auto, unfolding(crate::specs::SourceCommands::faults_text))]
 pub fn push_faults<A: Allocator>(text: &mut Vec<u8, A>, faults: &[Fault]) -> Result<(), AllocError>
     ensures { OnOk result (text.new.items ≡ text.old.items ++ faults_text faults.now) }
 {
     for fault in faults {
-        push_pieces(
-            text,
-            &[
-                Piece::Text(b"line "),
-                Piece::Number(fault.line),
-                Piece::Text(b" "),
-                Piece::Text(fault.kind.name().as_bytes()),
-                Piece::Text(b"\n"),
-            ],
-        )?;
+        push_fault_line(text, fault)?;
     }
     Ok(())
 }
