@@ -43,167 +43,53 @@ pub enum Switch {
 
 /// The commands by their first word.
 const VERBS: [Named<Verb>; 20] = [
-    Named {
-        name: b"put",
-        value: Verb::Put,
-    },
-    Named {
-        name: b"mount",
-        value: Verb::Mount,
-    },
-    Named {
-        name: b"press",
-        value: Verb::Press,
-    },
-    Named {
-        name: b"type",
-        value: Verb::Type,
-    },
-    Named {
-        name: b"turn",
-        value: Verb::Turn,
-    },
-    Named {
-        name: b"orders",
-        value: Verb::Orders,
-    },
-    Named {
-        name: b"panel",
-        value: Verb::Panel,
-    },
-    Named {
-        name: b"words",
-        value: Verb::Words,
-    },
-    Named {
-        name: b"show",
-        value: Verb::Show,
-    },
-    Named {
-        name: b"printed",
-        value: Verb::Printed,
-    },
-    Named {
-        name: b"dump",
-        value: Verb::Dump,
-    },
-    Named {
-        name: b"source",
-        value: Verb::Source,
-    },
-    Named {
-        name: b"list",
-        value: Verb::List,
-    },
-    Named {
-        name: b"load",
-        value: Verb::Load,
-    },
-    Named {
-        name: b"break",
-        value: Verb::Break,
-    },
-    Named {
-        name: b"watch",
-        value: Verb::Watch,
-    },
-    Named {
-        name: b"drop",
-        value: Verb::Drop,
-    },
-    Named {
-        name: b"run",
-        value: Verb::Run,
-    },
-    Named {
-        name: b"back",
-        value: Verb::Back,
-    },
-    Named {
-        name: b"last",
-        value: Verb::Last,
-    },
+    (b"put", Verb::Put),
+    (b"mount", Verb::Mount),
+    (b"press", Verb::Press),
+    (b"type", Verb::Type),
+    (b"turn", Verb::Turn),
+    (b"orders", Verb::Orders),
+    (b"panel", Verb::Panel),
+    (b"words", Verb::Words),
+    (b"show", Verb::Show),
+    (b"printed", Verb::Printed),
+    (b"dump", Verb::Dump),
+    (b"source", Verb::Source),
+    (b"list", Verb::List),
+    (b"load", Verb::Load),
+    (b"break", Verb::Break),
+    (b"watch", Verb::Watch),
+    (b"drop", Verb::Drop),
+    (b"run", Verb::Run),
+    (b"back", Verb::Back),
+    (b"last", Verb::Last),
 ];
 
 /// The buttons of the console.
 pub const BUTTONS: [Named<Action>; 9] = [
-    Named {
-        name: b"normal",
-        value: Action::Mode(Mode::Normal),
-    },
-    Named {
-        name: b"oneop",
-        value: Action::Mode(Mode::OneOperation),
-    },
-    Named {
-        name: b"manual",
-        value: Action::Mode(Mode::Manual),
-    },
-    Named {
-        name: b"start",
-        value: Action::Start,
-    },
-    Named {
-        name: b"clear",
-        value: Action::ClearCounter,
-    },
-    Named {
-        name: b"fill",
-        value: Action::Fill,
-    },
-    Named {
-        name: b"execute",
-        value: Action::Execute,
-    },
-    Named {
-        name: b"compute",
-        value: Action::StartCompute,
-    },
-    Named {
-        name: b"read",
-        value: Action::StartRead,
-    },
+    (b"normal", Action::Mode(Mode::Normal)),
+    (b"oneop", Action::Mode(Mode::OneOperation)),
+    (b"manual", Action::Mode(Mode::Manual)),
+    (b"start", Action::Start),
+    (b"clear", Action::ClearCounter),
+    (b"fill", Action::Fill),
+    (b"execute", Action::Execute),
+    (b"compute", Action::StartCompute),
+    (b"read", Action::StartRead),
 ];
 
 /// The switches of the console.
 const SWITCHES: [Named<Switch>; 6] = [
-    Named {
-        name: b"bp32",
-        value: Switch::BreakPoint(Which::B32),
-    },
-    Named {
-        name: b"bp16",
-        value: Switch::BreakPoint(Which::B16),
-    },
-    Named {
-        name: b"bp8",
-        value: Switch::BreakPoint(Which::B8),
-    },
-    Named {
-        name: b"bp4",
-        value: Switch::BreakPoint(Which::B4),
-    },
-    Named {
-        name: b"transfer",
-        value: Switch::Transfer,
-    },
-    Named {
-        name: b"sixbit",
-        value: Switch::SixBit,
-    },
+    (b"bp32", Switch::BreakPoint(Which::B32)),
+    (b"bp16", Switch::BreakPoint(Which::B16)),
+    (b"bp8", Switch::BreakPoint(Which::B8)),
+    (b"bp4", Switch::BreakPoint(Which::B4)),
+    (b"transfer", Switch::Transfer),
+    (b"sixbit", Switch::SixBit),
 ];
 
 /// The positions of a switch; true is down.
-const POSITIONS: [Named<bool>; 2] = [
-    Named {
-        name: b"down",
-        value: true,
-    },
-    Named {
-        name: b"up",
-        value: false,
-    },
-];
+const POSITIONS: [Named<bool>; 2] = [(b"down", true), (b"up", false)];
 
 /// The command of a first word.
 pub fn verb_named(name: &[u8]) -> Option<Verb>

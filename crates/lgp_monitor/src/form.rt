@@ -214,7 +214,7 @@ fn push_forms<A: Allocator>(text: &mut Vec<u8, A>, names: &[Named<Verb>]) -> Res
         ++ flat_map (λ name. form_line name.0 name.1) (pairs_of names.now)) }
 {
     for name in names {
-        push_form_line(text, name.name, name.value)?;
+        push_form_line(text, name.0, name.1)?;
     }
     Ok(())
 }
@@ -256,7 +256,7 @@ fn push_command_lines<A: Allocator>(
         ++ flat_map (λ name. command_line name.0 name.1) (pairs_of names.now)) }
 {
     for name in names {
-        push_command_line(text, name.name, name.value)?;
+        push_command_line(text, name.0, name.1)?;
     }
     Ok(())
 }

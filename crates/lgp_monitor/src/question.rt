@@ -206,12 +206,12 @@ fn push_live_name<A: Allocator, B: Allocator + Clone>(
     named: &Named<Action>,
 ) -> Result<(), AllocError>
     ensures { OnOk result (text.new.items ≡ text.old.items
-        ++ live_name debugger.now.state.core.panel (named.now.name.now, named.now.value)) }
+        ++ live_name debugger.now.state.core.panel (named.now.0.now, named.now.1)) }
 {
-    if !debugger.is_live(&named.value) {
+    if !debugger.is_live(&named.1) {
         return Ok(());
     }
-    push_pieces(text, &[Piece::Text(b" "), Piece::Text(named.name)])
+    push_pieces(text, &[Piece::Text(b" "), Piece::Text(named.0)])
 }
 
 /// Appends the names of actions that are live.

@@ -27,46 +27,16 @@ pub enum RefusalKind {
 
 /// The refusals that do not say all by themselves, by their numbers.
 const NUMBERS: [Named<RefusalKind>; 10] = [
-    Named {
-        name: b"2",
-        value: RefusalKind::Moving,
-    },
-    Named {
-        name: b"3",
-        value: RefusalKind::AtWork,
-    },
-    Named {
-        name: b"4",
-        value: RefusalKind::ClockEnd,
-    },
-    Named {
-        name: b"5",
-        value: RefusalKind::Full,
-    },
-    Named {
-        name: b"6",
-        value: RefusalKind::NoRule,
-    },
-    Named {
-        name: b"7",
-        value: RefusalKind::TooFar,
-    },
-    Named {
-        name: b"8",
-        value: RefusalKind::NoHit,
-    },
-    Named {
-        name: b"10",
-        value: RefusalKind::NoImage,
-    },
-    Named {
-        name: b"11",
-        value: RefusalKind::TooLong,
-    },
-    Named {
-        name: b"12",
-        value: RefusalKind::BadSign,
-    },
+    (b"2", RefusalKind::Moving),
+    (b"3", RefusalKind::AtWork),
+    (b"4", RefusalKind::ClockEnd),
+    (b"5", RefusalKind::Full),
+    (b"6", RefusalKind::NoRule),
+    (b"7", RefusalKind::TooFar),
+    (b"8", RefusalKind::NoHit),
+    (b"10", RefusalKind::NoImage),
+    (b"11", RefusalKind::TooLong),
+    (b"12", RefusalKind::BadSign),
 ];
 
 /// The refusal that has a number.

@@ -71,162 +71,48 @@ pub enum Verb {
 
 /// The commands by their first word.
 pub const VERBS: [Named<Verb>; 39] = [
-    Named {
-        name: b"put",
-        value: Verb::Word,
-    },
-    Named {
-        name: b"go",
-        value: Verb::Address(AddressCommand::Go),
-    },
-    Named {
-        name: b"mount",
-        value: Verb::Text,
-    },
-    Named {
-        name: b"press",
-        value: Verb::Key,
-    },
-    Named {
-        name: b"type",
-        value: Verb::Text,
-    },
-    Named {
-        name: b"turn",
-        value: Verb::Number(NumberCommand::Script),
-    },
-    Named {
-        name: b"orders",
-        value: Verb::Number(NumberCommand::Script),
-    },
-    Named {
-        name: b"run",
-        value: Verb::Number(NumberCommand::Script),
-    },
-    Named {
-        name: b"trace",
-        value: Verb::Number(NumberCommand::Told(Telling::Trace)),
-    },
-    Named {
-        name: b"profile",
-        value: Verb::Number(NumberCommand::Told(Telling::Profile)),
-    },
-    Named {
-        name: b"drum",
-        value: Verb::Number(NumberCommand::Told(Telling::Drum)),
-    },
-    Named {
-        name: b"why",
-        value: Verb::Address(AddressCommand::Why),
-    },
-    Named {
-        name: b"back",
-        value: Verb::Number(NumberCommand::Script),
-    },
-    Named {
-        name: b"last",
-        value: Verb::Lone(LoneCommand::Script),
-    },
-    Named {
-        name: b"panel",
-        value: Verb::Lone(LoneCommand::ScriptQuestion),
-    },
-    Named {
-        name: b"words",
-        value: Verb::Range,
-    },
-    Named {
-        name: b"show",
-        value: Verb::Range,
-    },
-    Named {
-        name: b"numbers",
-        value: Verb::ScaledRange,
-    },
-    Named {
-        name: b"printed",
-        value: Verb::Lone(LoneCommand::ScriptQuestion),
-    },
-    Named {
-        name: b"dump",
-        value: Verb::Lone(LoneCommand::ScriptQuestion),
-    },
-    Named {
-        name: b"source",
-        value: Verb::Source,
-    },
-    Named {
-        name: b"do",
-        value: Verb::File,
-    },
-    Named {
-        name: b"tape",
-        value: Verb::File,
-    },
-    Named {
-        name: b"archive",
-        value: Verb::File,
-    },
-    Named {
-        name: b"save",
-        value: Verb::File,
-    },
-    Named {
-        name: b"restore",
-        value: Verb::File,
-    },
-    Named {
-        name: b"list",
-        value: Verb::Lone(LoneCommand::ScriptQuestion),
-    },
-    Named {
-        name: b"load",
-        value: Verb::Lone(LoneCommand::Script),
-    },
-    Named {
-        name: b"break",
-        value: Verb::Address(AddressCommand::Script),
-    },
-    Named {
-        name: b"watch",
-        value: Verb::Address(AddressCommand::Script),
-    },
-    Named {
-        name: b"drop",
-        value: Verb::Number(NumberCommand::Script),
-    },
-    Named {
-        name: b"rules",
-        value: Verb::Lone(LoneCommand::Rules),
-    },
-    Named {
-        name: b"labels",
-        value: Verb::Lone(LoneCommand::Labels),
-    },
-    Named {
-        name: b"live",
-        value: Verb::Lone(LoneCommand::Live),
-    },
-    Named {
-        name: b"commands",
-        value: Verb::Lone(LoneCommand::Commands),
-    },
-    Named {
-        name: b"transcript",
-        value: Verb::Lone(LoneCommand::Transcript),
-    },
-    Named {
-        name: b"new",
-        value: Verb::Lone(LoneCommand::New),
-    },
-    Named {
-        name: b"help",
-        value: Verb::Command,
-    },
-    Named {
-        name: b"quit",
-        value: Verb::End,
-    },
+    (b"put", Verb::Word),
+    (b"go", Verb::Address(AddressCommand::Go)),
+    (b"mount", Verb::Text),
+    (b"press", Verb::Key),
+    (b"type", Verb::Text),
+    (b"turn", Verb::Number(NumberCommand::Script)),
+    (b"orders", Verb::Number(NumberCommand::Script)),
+    (b"run", Verb::Number(NumberCommand::Script)),
+    (b"trace", Verb::Number(NumberCommand::Told(Telling::Trace))),
+    (
+        b"profile",
+        Verb::Number(NumberCommand::Told(Telling::Profile)),
+    ),
+    (b"drum", Verb::Number(NumberCommand::Told(Telling::Drum))),
+    (b"why", Verb::Address(AddressCommand::Why)),
+    (b"back", Verb::Number(NumberCommand::Script)),
+    (b"last", Verb::Lone(LoneCommand::Script)),
+    (b"panel", Verb::Lone(LoneCommand::ScriptQuestion)),
+    (b"words", Verb::Range),
+    (b"show", Verb::Range),
+    (b"numbers", Verb::ScaledRange),
+    (b"printed", Verb::Lone(LoneCommand::ScriptQuestion)),
+    (b"dump", Verb::Lone(LoneCommand::ScriptQuestion)),
+    (b"source", Verb::Source),
+    (b"do", Verb::File),
+    (b"tape", Verb::File),
+    (b"archive", Verb::File),
+    (b"save", Verb::File),
+    (b"restore", Verb::File),
+    (b"list", Verb::Lone(LoneCommand::ScriptQuestion)),
+    (b"load", Verb::Lone(LoneCommand::Script)),
+    (b"break", Verb::Address(AddressCommand::Script)),
+    (b"watch", Verb::Address(AddressCommand::Script)),
+    (b"drop", Verb::Number(NumberCommand::Script)),
+    (b"rules", Verb::Lone(LoneCommand::Rules)),
+    (b"labels", Verb::Lone(LoneCommand::Labels)),
+    (b"live", Verb::Lone(LoneCommand::Live)),
+    (b"commands", Verb::Lone(LoneCommand::Commands)),
+    (b"transcript", Verb::Lone(LoneCommand::Transcript)),
+    (b"new", Verb::Lone(LoneCommand::New)),
+    (b"help", Verb::Command),
+    (b"quit", Verb::End),
 ];
 
 /// The command of a first word.

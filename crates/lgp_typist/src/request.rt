@@ -22,30 +22,12 @@ pub(crate) enum Work {
 
 /// What is done with a file, by the first word of a line.
 const WORKS: [Named<Work>; 6] = [
-    Named {
-        name: b"do",
-        value: Work::Lines,
-    },
-    Named {
-        name: b"source",
-        value: Work::Source,
-    },
-    Named {
-        name: b"tape",
-        value: Work::Tape,
-    },
-    Named {
-        name: b"archive",
-        value: Work::Archive,
-    },
-    Named {
-        name: b"save",
-        value: Work::Save,
-    },
-    Named {
-        name: b"restore",
-        value: Work::Restore,
-    },
+    (b"do", Work::Lines),
+    (b"source", Work::Source),
+    (b"tape", Work::Tape),
+    (b"archive", Work::Archive),
+    (b"save", Work::Save),
+    (b"restore", Work::Restore),
 ];
 
 /// Whether a byte belongs to a name at its ends.
