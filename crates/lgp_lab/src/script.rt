@@ -1,6 +1,6 @@
 //! Running scripts.
 
-ghost use Rattle.std.specs.Prelude.{◌≡◌, ◌∷◌, ◌++◌, [], IfErr, IfOk, IfSome, OnOk, false};
+ghost use Rattle.std.specs.Prelude.{◌≡◌, ◌∷◌, ◌++◌, [], IfErr, IfOk, IfSome, OnOk};
 ghost use Rattle.std.specs.Io.KnownBytes.{Appends, IsAtEnd};
 ghost use Rattle.lgp_lab.specs.Files.{heading};
 ghost use Rattle.lgp_stream.specs.Language.{HasCause, StandsWritten};
@@ -11,9 +11,10 @@ use crate::laboratory::Laboratory;
 use lgp_stream::{Feed, Sink, StreamFault, run_text, write_whole};
 use std::alloc::{AllocError, Allocator};
 
-/// Runs a script, wherever reader and writer stand.
+/// Runs a script: reads commands to the reader's end and writes the reply to each; answers how many replies begin with a
+/// question mark.
 #[tactic(auto, unfolding(crate::specs::Script::script_replies))]
-fn answer_script<A: Allocator + Copy, R: Feed, W: Sink>(
+pub fn run_script<A: Allocator + Copy, R: Feed, W: Sink>(
     alloc: A,
     reader: &mut R,
     writer: &mut W,
@@ -36,29 +37,6 @@ fn answer_script<A: Allocator + Copy, R: Feed, W: Sink>(
     Ok(faults)
 }
 
-/// Runs a script: reads commands to the reader's end and writes the reply to each; answers how many replies begin with a
-/// question mark.
-pub fn run_script<A: Allocator + Copy, R: Feed, W: Sink>(
-    alloc: A,
-    reader: &mut R,
-    writer: &mut W,
-) -> Result<u64, StreamFault>
-    requires reader { R.failed reader.old ≡ false }
-    requires writer { W.failed writer.old ≡ false }
-    ensures read { OnOk result (IsAtEnd (R.remaining reader.new)) }
-    ensures text { OnOk result (IfSome (R.remaining reader.old) (λ script.
-        Appends (W.contents writer.old) (W.contents writer.new) (script_text script))) }
-    ensures faults { IfOk result (λ faults. IfSome (R.remaining reader.old) (λ script.
-        faults ≡ script_faults script)) }
-    ensures cause { IfErr result (λ fault.
-        HasCause fault (R.failed reader.new) (W.failed writer.new)) }
-    ensures stands { IfErr result (λ fault. IfSome (R.remaining reader.old) (λ script.
-        StandsWritten [] (script_language) opening_standing fault script
-        (R.remaining reader.new) (W.contents writer.old) (W.contents writer.new))) }
-{
-    answer_script(alloc, reader, writer)
-}
-
 /// The line that names a script's file.
 #[tactic(auto, unfolding(crate::specs::Files::heading))]
 fn heading<A: Allocator>(alloc: A, name: &str) -> Result<Vec<u8, A>, AllocError>
@@ -71,8 +49,9 @@ fn heading<A: Allocator>(alloc: A, name: &str) -> Result<Vec<u8, A>, AllocError>
     Ok(text)
 }
 
-/// Runs a script of several, wherever reader and writer stand.
-pub(crate) fn answer_part<A: Allocator + Copy, R: Feed, W: Sink>(
+/// Runs a script of several: writes a line that names its file, and then does as `run_script`. The bytes of that line are counted
+/// among those of a failed write.
+pub fn batch_part<A: Allocator + Copy, R: Feed, W: Sink>(
     alloc: A,
     name: &str,
     reader: &mut R,
@@ -94,33 +73,8 @@ pub(crate) fn answer_part<A: Allocator + Copy, R: Feed, W: Sink>(
         return Err(StreamFault::Memory);
     };
     write_whole(writer, &heading)?;
-    match answer_script(alloc, reader, writer) {
+    match run_script(alloc, reader, writer) {
         Ok(faults) => Ok(faults),
         Err(fault) => Err(fault.behind(heading.len() as u64)),
     }
-}
-
-/// Runs a script of several: writes a line that names its file, and then does as `run_script`. The bytes of that line are counted
-/// among those of a failed write.
-pub fn batch_part<A: Allocator + Copy, R: Feed, W: Sink>(
-    alloc: A,
-    name: &str,
-    reader: &mut R,
-    writer: &mut W,
-) -> Result<u64, StreamFault>
-    requires reader { R.failed reader.old ≡ false }
-    requires writer { W.failed writer.old ≡ false }
-    ensures read { OnOk result (IsAtEnd (R.remaining reader.new)) }
-    ensures text { OnOk result (IfSome (R.remaining reader.old) (λ script.
-        Appends (W.contents writer.old) (W.contents writer.new)
-        (heading name.now ++ script_text script))) }
-    ensures faults { IfOk result (λ faults. IfSome (R.remaining reader.old) (λ script.
-        faults ≡ script_faults script)) }
-    ensures cause { IfErr result (λ fault.
-        HasCause fault (R.failed reader.new) (W.failed writer.new)) }
-    ensures stands { IfErr result (λ fault. IfSome (R.remaining reader.old) (λ script.
-        StandsWritten (heading name.now ∷ []) (script_language) opening_standing fault
-        script (R.remaining reader.new) (W.contents writer.old) (W.contents writer.new))) }
-{
-    answer_part(alloc, name, reader, writer)
 }

@@ -7,7 +7,7 @@ ghost use Rattle.lgp_stream.specs.Language.{HasCause};
 ghost use Rattle.lgp_lab.specs.Tasks.{HasDone, IsBatch, IsObeyed, IsOpenedAs, IsPerformed, IsRefused, IsTold, IsUnread, IsWorked, part_work, read_limit, script_work, status_for, unread_text, unseen_reads, usage_status, work_for};
 
 use crate::files::{asm_file, run_file, tape_file};
-use crate::script::{answer_part, run_script};
+use crate::script::{batch_part, run_script};
 use lgp_stream::{Feed, Sink, StreamFault, write_whole};
 use lgp_task::{FileNames, Task, TaskFault, task_of};
 use std::alloc::{Allocator, Global};
@@ -155,7 +155,7 @@ fn part<A: Allocator + Copy, F: Folder, W: Sink>(
     let Ok(mut reader) = folder.open(name) else {
         return Err(FileFault::NotOpened);
     };
-    match answer_part(alloc, name, &mut reader, writer) {
+    match batch_part(alloc, name, &mut reader, writer) {
         Ok(count) => Ok(count),
         Err(fault) => Err(FileFault::Broken(fault)),
     }

@@ -1,7 +1,7 @@
 use Rattle.lgp_lab.specs.Script.{script_language}
 use Rattle.lgp_lab.specs.Standing.{opening_standing}
 use Rattle.lgp_stream.proofs.StreamLemmas.{StandsWritten-none}
-use Rattle.lgp_lab.proofs.script.answer_script.Goals as goal
+use Rattle.lgp_lab.proofs.script.run_script.Goals as goal
 
 pub returns-in_default-clause-stands : goal.returns-in_default-clause-stands
 returns-in_default-clause-stands g c =

@@ -4,7 +4,7 @@ use Rattle.lgp_lab.specs.Script.{script_language}
 use Rattle.lgp_lab.specs.Standing.{opening_standing}
 use Rattle.lgp_stream.specs.Language.{fault_behind}
 use Rattle.lgp_stream.proofs.StreamLemmas.{StandsWritten-heading, StandsWritten-part, StandsWritten-unnamed}
-use Rattle.lgp_lab.proofs.script.answer_part.Goals as goal
+use Rattle.lgp_lab.proofs.script.batch_part.Goals as goal
 
 pub returns-in_default-clause-stands : goal.returns-in_default-clause-stands
 returns-in_default-clause-stands g c =
@@ -26,5 +26,5 @@ returns-clause-stands g c =
     let text : c.deref.result.now ≡ heading c.args.name.now = search rules in
     let written = rw text at c.in_ok-write_whole.ensures.all in
     let same : c.behind.result ≡ fault_behind (length (heading c.args.name.now)) c.in-Err.fault = search rules in
-    rw same (StandsWritten-part script_language opening_standing c.in-Err.fault (heading c.args.name.now) read (g.R.Feed.remaining c.answer_script.new.reader)
-    (g.W.Sink.contents c.args.writer.now) (g.W.Sink.contents c.write_whole.new.writer) (g.W.Sink.contents c.answer_script.new.writer) written c.in-Err.ensures.stands)
+    rw same (StandsWritten-part script_language opening_standing c.in-Err.fault (heading c.args.name.now) read (g.R.Feed.remaining c.run_script.new.reader)
+    (g.W.Sink.contents c.args.writer.now) (g.W.Sink.contents c.write_whole.new.writer) (g.W.Sink.contents c.run_script.new.writer) written c.in-Err.ensures.stands)
