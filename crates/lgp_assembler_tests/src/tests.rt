@@ -1,8 +1,7 @@
 //! Sources with the words, names and faults that they have.
 
 use lgp_assembler::{
-    AssembleError, Fault, FaultKind, Image, LOADER_PLACES, Name, assemble, faults_follow_lines,
-    has_word, names_are_first_places, places_count_from_orgs,
+    AssembleError, Fault, FaultKind, Image, LOADER_PLACES, Name, assemble, has_word,
 };
 use lgp_source::Lines;
 use lgp_word::{Address, Word, read_digits};
@@ -269,11 +268,4 @@ fn kinds_print_their_names(rt: HostRuntime) -> Result<(), Fail> {
     let text = format!(in rt.alloc(); "line 7 {kind}")?;
     assert_eq!(rt; text.as_str(), "line 7 MissingOperand");
     Ok(())
-}
-
-#[test]
-fn laws_do_nothing(_rt: HostRuntime) {
-    places_count_from_orgs();
-    names_are_first_places();
-    faults_follow_lines();
 }

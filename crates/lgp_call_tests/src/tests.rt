@@ -1,7 +1,6 @@
 //! Sessions by what they reply, a table of lines with the reply to each, and with each growth refused in turn. What a reply has to be is
 //! taken from the descriptions of the script language and of the monitor.
 
-use lgp_call::laws::transcript_of_a_session_is_the_script;
 use lgp_call::{Outcome, Session};
 use lgp_scarce::Scarce;
 use std::alloc::{Allocator, Global};
@@ -176,9 +175,4 @@ fn each_growth_refused_is_told(rt: HostRuntime) -> Result<(), Fail> {
     let many = refused_in_turn(&scarce).is_some_and(|growths| growths > 20);
     assert_eq!(rt; (many, scarce.blocks_out()), (true, 0));
     Ok(())
-}
-
-#[test]
-fn the_law_on_transcripts_does_nothing(_rt: HostRuntime) {
-    transcript_of_a_session_is_the_script();
 }

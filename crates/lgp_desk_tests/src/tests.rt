@@ -3,7 +3,6 @@
 
 ghost use Rattle.std.specs.Prelude.{if◌then◌else◌, codes, not, ◌++◌};
 
-use lgp_desk::laws::{desk_takes_lines_before_quit, echo_asks_as_its_reply};
 use lgp_desk::{Attended, Bell, Manner, sit};
 use lgp_scarce::Scarce;
 use lgp_stream::{Answers, FeedOf, LineBytes, SinkOf, StreamFault};
@@ -549,10 +548,4 @@ fn each_growth_is_refused_in_turn(rt: HostRuntime) {
         .iter()
         .all(|count| count.is_some_and(|count| count > 2));
     assert!(rt; all && scarce.blocks_out() == 0, "{refused:?}");
-}
-
-#[test]
-fn the_laws_do_nothing(_rt: HostRuntime) {
-    desk_takes_lines_before_quit::<u8>();
-    echo_asks_as_its_reply();
 }

@@ -1,5 +1,5 @@
 -- What is written reads back.
-use Rattle.std.proofs.Common.{◌≡◌, ℕ, zero, suc, ◌+◌, ◌/◌, ◌%◌, ◌<◌, ◌≤◌, Bool, true, false, not, ◌&&◌, ◌||◌, eqb, List, [], ◌∷◌, ◌++◌, length, get_or, take, Option, Some, None, Result, Ok, Err, refl, ap, sym, subst, ◌∙◌, ⊎_elim, arith, append_assoc, length-append}
+use Rattle.std.proofs.Common.{◌≡◌, ℕ, zero, suc, ◌+◌, ◌/◌, ◌%◌, ◌<◌, ◌≤◌, Bool, true, false, not, ◌&&◌, ◌||◌, eqb, List, [], ◌∷◌, ◌++◌, length, get_or, take, Option, Some, None, Ok, refl, ap, sym, subst, ◌∙◌, ⊎_elim, arith, append_assoc, length-append}
 use Rattle.std.proofs.lemmas.List.{append-nil, take_more}
 use Rattle.std.proofs.lemmas.Bool.{cases_lt, eqb-true, false≢true, not-true}
 use Rattle.std.specs.Option.{option_map}
@@ -83,19 +83,6 @@ ReadsBack-piece code (Some sign) small h = λ following place.
     ∙ ap (λ p. joined place p (text_from (place + 1) following)) (codes_of_sign-written _ _ (not-true line tests.1) parts.1)
 ReadsBack-piece code None small h = λ following place.
     ap (λ p. joined place (option_map single p) (text_from (place + 4) following)) (group-written _ small)
-
--- nothing reads back as nothing
-before-nothing : (place : ℕ) (following : List ℕ) → text_from place following ≡ before [] (text_from place following)
-before-nothing place following = by_reading (text_from place following) where
-  by_reading : (r : Result (List ℕ) ℕ) → r ≡ before [] r
-  by_reading (Ok codes) = refl
-  by_reading (Err bad) = refl
-
-pub ReadsBack-nothing : (text : List ℕ) → text ≡ [] → ReadsBack text []
-ReadsBack-nothing text empty = subst (λ (t : List ℕ). ReadsBack t []) (sym empty)
-    (λ following place.
-    let e : place ≡ place + 0 = omega arith in
-    before-nothing _ _ ∙ ap (λ n. before [] (text_from n following)) e)
 
 -- each code reads back as it is written
 pub ReadsBack-code : (code : ℕ) → code ≤ 63 → ReadsBack (written_code code) (code ∷ [])

@@ -1,6 +1,5 @@
 //! Codes and tape text on the table and on values from outside.
 
-use lgp_flexo::laws::words_entered;
 use lgp_flexo::{
     Code, TAPE_LIMIT, TextFault, code_of, digit_of, enter, read_tape_text, sign_of, skipped,
     write_tape_text,
@@ -310,9 +309,4 @@ fn a_bad_sign_is_told_without_room(rt: HostRuntime) -> Result<(), Fail> {
     let _filler: Vec<u8, &LocalHeap> = Vec::with_capacity(&heap, 1024)?;
     assert!(rt; matches!(read_tape_text(&heap, b"1A"), Err(TextFault::BadSign(1))));
     Ok(())
-}
-
-#[test]
-fn the_laws_do_nothing(_rt: HostRuntime) {
-    words_entered();
 }

@@ -77,9 +77,6 @@ with_own_sign (pos n) = rw (not_negative n) refl
 with_own_sign (negsuc n) = refl
 
 -- what a text with ten digits stands for
-abbrev value_of : Bool → ℕ → ℕ → ℤ
-value_of negative number places = nearest (with_sign negative (number * 2 ^ 30)) (pos (10 ^ places))
-
 value-text_of : (negative : Bool) (number : ℕ) → number < 10 ^ 10 → steps_of_text (text_of negative number) ≡ with_sign negative (nearest_size (number * 2 ^ 30) (10 ^ 10))
 unfolding steps_of_text
 value-text_of negative number small =

@@ -108,10 +108,6 @@ manual_halts Executing = refl
 manual_halts Waiting = refl
 manual_halts Reading = refl
 
-abbrev manual_in : Desk → Status → Bool → Desk
-manual_in desk status six_bit =
-    record { panel = record desk.panel { status = status; mode = Manual; switches = record desk.panel.switches { six_bit = six_bit } }; tape = desk.tape }
-
 manual_pressed : (desk : Desk) → desk.panel.switches.six_bit ≡ false
     → desk_after desk (actions.Mode Manual) ≡ manual_desk desk.panel desk.tape (cause_in_manual desk.panel.status) desk.panel.accumulator
 manual_pressed desk up =

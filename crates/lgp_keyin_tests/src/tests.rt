@@ -1,7 +1,6 @@
 //! What an operator presses.
 
 use lgp_flexo::{Code, code_of};
-use lgp_keyin::laws::{keyed_words, started_program};
 use lgp_keyin::{KeyFault, actions_to_start, actions_to_store, key_in};
 use lgp_machine::{Look, Machine, Pressed};
 use lgp_scarce::Scarce;
@@ -191,10 +190,4 @@ fn key_in_stops_before_the_store_that_passes_the_clocks_end(rt: HostRuntime) -> 
     let (fault, blank) = (Err(KeyFault::ClockEnd), [Word::default(); 3]);
     assert_eq!(rt; refused, (fault, Some(before_store), blank));
     Ok(())
-}
-
-#[test]
-fn the_laws_do_nothing(_rt: HostRuntime) {
-    keyed_words();
-    started_program();
 }

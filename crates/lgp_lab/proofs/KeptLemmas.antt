@@ -68,9 +68,6 @@ closed_none s e = rw e refl
 pub point_ends : (s : Standing) (source : SourceText) (line : List ℕ) → bytes_eq line (codes ".") ≡ true → answer_to_end s source ≡ answer_in_source s source line
 point_ends s source line point = rw point refl
 
-pub line_taken : (s : Standing) (source : SourceText) (line : List ℕ) → bytes_eq line (codes ".") ≡ false → silent (record s { opened = Some (with_line source line) }) ≡ answer_in_source s source line
-line_taken s source line other = rw other refl
-
 -- a line outside a source that is a command, and one that is none
 pub answer_none : (s : Standing) (kept : Kept) (line : List ℕ) → kept ≡ kept_of line → is_passed_over line ≡ false → kept.longer ≡ false → command_of kept.front ≡ None → answer_to_command s line ≡ refused Form s
 answer_none s kept line e other short none = grind (arith, answer_within)

@@ -3,8 +3,8 @@
 use lgp_assembler::{AssembleError, FaultKind, assemble};
 use lgp_drum::Drum;
 use lgp_listing::{
-    DrumWords, DumpFault, disassemble, dump, each_word_assembles, first_faults_are_first, listing,
-    listing_from_image, push_cell_line, push_dump, read_dump,
+    DrumWords, DumpFault, disassemble, dump, listing, listing_from_image, push_cell_line,
+    push_dump, read_dump,
 };
 use lgp_word::{Address, Word, read_digits};
 use std::alloc::{AllocError, Allocator, Global};
@@ -96,10 +96,4 @@ fn only_fault(alloc: Global, source: &[u8]) -> Option<(u64, FaultKind)> {
 fn a_faulty_source_has_no_listing(rt: HostRuntime) {
     let found = only_fault(rt.alloc(), b" b none\n end\n");
     assert_eq!(rt; found, Some((1, FaultKind::UnknownName)));
-}
-
-#[test]
-fn laws_do_nothing(_rt: HostRuntime) {
-    each_word_assembles();
-    first_faults_are_first();
 }

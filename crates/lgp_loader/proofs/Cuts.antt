@@ -178,12 +178,6 @@ as_many_chunks g s t u (chunk ∷ chunks) by (next, (parts, some, tests), others
 sum_more : (count : ℕ) (counts : List ℕ) → sum (count ∷ counts) ≡ count + sum counts
 sum_more count counts = sum_by-cons _ _ counts
 
-pub too_long_a_piece : (count : ℕ) (counts : List ℕ) (cells : List (ℕ × ℕ)) → length cells < count → is_cutting (count ∷ counts) cells ≡ false
-too_long_a_piece count counts cells over =
-    let sums = sum_more count counts in
-    let no : (sum (count ∷ counts) == length cells) ≡ false = grind (arith, nat_tests) in
-    ap (λ b. b && are_blocks (pieces_of (count ∷ counts) cells)) no
-
 pub cutting_more : (count : ℕ) (counts : List ℕ) (cells : List (ℕ × ℕ)) → count ≤ length cells
     → is_cutting (count ∷ counts) cells ≡ is_block (take count cells) && is_cutting counts (drop count cells)
 cutting_more count counts cells within =

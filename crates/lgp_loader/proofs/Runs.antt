@@ -1,5 +1,5 @@
 -- Activities one after another, over the core alone: no core depends on the clock.
-use Rattle.std.proofs.Common.{◌≡◌, ℕ, zero, suc, ◌<◌, refl, sym, ap, ◌∙◌, subst, arith, ◌++◌, append-nil, option_to_list}
+use Rattle.std.proofs.Common.{◌≡◌, ℕ, zero, suc, ◌<◌, sym, ap, ◌∙◌, subst, arith, ◌++◌, append-nil, option_to_list}
 use Rattle.lgp_table.specs.State.{Core, State}
 use Rattle.lgp_table.specs.Activity.{core_after, next}
 use Rattle.lgp_table.specs.After.{after}
@@ -13,9 +13,6 @@ Runs (suc count) core last = IsCalm core × Runs count (core_after core) last
 
 pub one_then : (count : ℕ) (core next last : Core) → Leads core next → Runs count next last → Runs (suc count) core last
 one_then count core next last leads runs = (leads.calm, subst (λ core. Runs count core last) (sym leads.next) runs)
-
-pub end_of_run : (core : Core) → Runs zero core core
-end_of_run core = refl
 
 -- the state after a calm activity
 calm_next : (s : State) → IsCalm s.core → next s ≡ record { core = core_after s.core; printed = s.printed; clock = (next s).clock }

@@ -3,9 +3,6 @@
 use lgp_assembler::{Image, assemble};
 use lgp_flexo::{Code, write_tape_text};
 use lgp_keyin::{actions_to_jump, key_in};
-use lgp_loader::laws::{
-    blind_to_switches, cuttings, program_is_loaded, single_loading, source_is_loaded, undisturbed,
-};
 use lgp_loader::{
     CutFault, LOADER, LOADER_10, LoadFault, load, load_cut, load_single, single_tape_of, tape_cut,
     tape_of,
@@ -195,14 +192,4 @@ fn the_words_of_the_loaders(rt: HostRuntime) {
         are_words(&LOADER_10, &SINGLE_LOADER),
     ];
     assert_eq!(rt; found, [true; 2]);
-}
-
-#[test]
-fn the_laws_do_nothing(_rt: HostRuntime) {
-    blind_to_switches();
-    cuttings();
-    program_is_loaded();
-    single_loading();
-    source_is_loaded();
-    undisturbed();
 }

@@ -7,9 +7,6 @@ mod progress;
 mod sessions;
 
 use lgp_lab::{FeedOf, READS, SinkOf};
-use lgp_monitor::laws::{
-    numbers_behind_place_30_are_whole, restored_words_have_the_dump, short_numbers_are_exact,
-};
 use lgp_monitor::run_monitor;
 use lgp_scarce::Scarce;
 use lgp_stream::StreamFault;
@@ -383,11 +380,4 @@ fn each_growth_of_marked_faults_is_refused(rt: HostRuntime) {
         are_back && refused.is_some_and(|count| count > 20),
         "{refused:?}"
     );
-}
-
-#[test]
-fn the_laws_do_nothing(_rt: HostRuntime) {
-    numbers_behind_place_30_are_whole();
-    restored_words_have_the_dump();
-    short_numbers_are_exact();
 }

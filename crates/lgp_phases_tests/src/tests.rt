@@ -4,7 +4,6 @@ mod bench;
 
 use bench::{Bench, CASE, Case, END, End, UP, Way, at, perform_all};
 use lgp_flexo::Code;
-use lgp_phases::laws::decoded_words;
 use lgp_phases::{Outcome, Processor, Progress, act_time, seek_time, wait};
 use lgp_reader::Reader;
 use lgp_table::{Cause, Mode, Status, Switches};
@@ -596,11 +595,6 @@ fn orders_are_kept_decoded(rt: HostRuntime) -> Result<(), Fail> {
         assert_eq!(rt; decoded_each_time(rt.alloc(), way)?, wanted, "{way:?}");
     }
     Ok(())
-}
-
-#[test]
-fn the_law_does_nothing(_rt: HostRuntime) {
-    decoded_words();
 }
 
 /// All the room that a heap has left, in one block.

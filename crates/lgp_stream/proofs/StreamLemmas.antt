@@ -7,7 +7,7 @@ use Rattle.std.proofs.lemmas.List.{append-nil, take-append-le}
 use Rattle.std.proofs.Math.Seq.{take-append-add}
 use Rattle.std.proofs.lemmas.List.Folds.{concat-append}
 use Rattle.std.proofs.lemmas.List.Sums.{sum_by-append}
-use Rattle.lgp_stream.specs.Language.{HasCause, HasWrittenBytes, HasWrittenReplies, Language, StandsWritten, complete_lines, count_limit, is_question, question_count, replies_to, state_after, text_replies, fault_behind, HasStopped}
+use Rattle.lgp_stream.specs.Language.{HasWrittenBytes, HasWrittenReplies, Language, StandsWritten, complete_lines, count_limit, is_question, question_count, replies_to, state_after, text_replies, fault_behind, HasStopped}
 use Rattle.lgp_stream.specs.KeptLine.{kept_of}
 use Rattle.lgp_stream.specs.OpenLineInside.{Open, open_of, open_push}
 use Rattle.lgp_stream.specs.StreamInside.{HasAnswered, HasRead, HasStoppedIn, HasTaken, HasWritten, IsCut}
@@ -272,12 +272,6 @@ pub HasWritten-faults : {S : Type 0} (language : Language S) (s : S) (r₀ r w�
 HasWritten-faults language s r₀ r w₀ w bytes tally consumed at_end written =
     IfSome-weaker r₀ (λ text. HasWritten w₀ w (text_replies language s text) tally) (λ text. tally.questions ≡ question_count (text_replies language s text))
     (λ text all. all.questions) (HasWritten-text language s r₀ r w₀ w bytes tally consumed at_end written)
-
--- a fault that is not the reader's
-pub HasCause-writer : (fault : StreamFault) (reader writer : Bool) → HasCause fault false writer → HasCause fault reader writer
-HasCause-writer Read reader writer cause = cc
-HasCause-writer (Write count) reader writer cause = cause
-HasCause-writer Memory reader writer cause = tt
 
 -- nothing was written yet
 lacks_first : (w : Option (List ℕ)) (replies : List (List ℕ)) (last : List ℕ) → HasWrittenReplies w w (replies ++ last ∷ [])

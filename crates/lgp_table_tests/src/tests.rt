@@ -1,13 +1,5 @@
-//! The plain types, and the laws and worked orders called once.
+//! The plain types.
 
-use lgp_table::laws::{
-    activities_together, costs, dead_actions, kept_actions, other_words, passed_codes,
-    pressed_switches, skipped_codes, unseen_switches, waits,
-};
-use lgp_table::worked::{
-    input, keys_in_manual, load, overflow, print, stop, store, stored_addresses, sum, test,
-    two_waits,
-};
 use lgp_table::{Cause, Ending, Mode, Panel, Status, Switches};
 use lgp_word::{Address, Word};
 
@@ -64,29 +56,4 @@ fn the_opening_registers(rt: HostRuntime) {
     assert_eq!(rt; panel.status, Status::Halted(Cause::Operator));
     assert_eq!(rt; panel.mode, Mode::Normal);
     assert_eq!(rt; panel.switches, Switches::default());
-}
-
-#[test]
-fn laws_and_worked_orders_do_nothing(_rt: HostRuntime) {
-    waits();
-    dead_actions();
-    costs();
-    other_words();
-    skipped_codes();
-    kept_actions();
-    passed_codes();
-    activities_together();
-    unseen_switches();
-    pressed_switches();
-    load();
-    sum();
-    overflow();
-    store();
-    stop();
-    two_waits();
-    stored_addresses();
-    test();
-    print();
-    input();
-    keys_in_manual();
 }

@@ -7,7 +7,6 @@ use super::{
 };
 use lgp_drum::Drum;
 use lgp_flexo::{Code, TAPE_LIMIT};
-use lgp_machine::laws::an_activity;
 use lgp_machine::{
     Machine, MountFault, OrderFault, PressFault, Pressed, PutFault, RestFault, TurnFault,
 };
@@ -358,9 +357,4 @@ fn a_tape_of_1048576_codes_is_mounted(rt: HostRuntime) -> Result<(), Fail> {
     let found = mounted_and_left(&mut machine, rt.alloc(), 1_048_576)?;
     assert_eq!(rt; found, (Ok(()), Some(1_048_576)));
     Ok(())
-}
-
-#[test]
-fn the_law_does_nothing(_rt: HostRuntime) {
-    an_activity();
 }
