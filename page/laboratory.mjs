@@ -1,5 +1,5 @@
 // The controller. All that the page does is lines to the monitor, and all that it knows are their replies.
-import { addressIn, isAmong, windowAt } from "./addresses.mjs";
+import { SECTORS, addressIn, addressOf, isAmong, numberOf, windowAt } from "./addresses.mjs";
 import { Deeds } from "./deeds.mjs";
 import { learnLive } from "./learn.mjs";
 import { isIdle, linesIn, setUp } from "./lines.mjs";
@@ -29,9 +29,11 @@ class Held extends Error {
 
 /** The laboratory as the page has it. After each change it dispatches an event `change`; views read its fields. */
 export class Laboratory extends EventTarget {
-    /** The last panel; the words shown, each with the order that changed it last, or null; and what has been printed. */
+    /** The last panel; the words shown, each with the order that changed it last, or null; the words of the track that the counter names; and what has
+     * been printed. */
     panel = null;
     words = [];
+    track = [];
     printed = { count: 0, text: "" };
     /** The accounts of the last orders and the rows of their turns, as far as these orders were told; and the last profile. */
     accounts = [];
@@ -333,19 +335,25 @@ export class Laboratory extends EventTarget {
         Object.assign(this, { accounts: [], rows: [] });
     }
 
-    /** Looks at the machine: panel, words around the counter, what is printed, and the rules. In an open source there is no looking. */
+    /** Looks at the machine: its panel, and then, asked at once, words around the counter, their track, what is printed, and the rules. In an open source there is no looking. */
     async #look() {
         if (this.openSource !== null) return;
         this.panel = replies.panelOf(await this.#ask("panel"));
         this.accounts = this.accounts.filter(({ clock }) => clock < this.panel.clock);
         const last = this.accounts.at(-1);
-        if (last !== undefined && last.register === undefined) last.register = this.panel.register;
+        if (last !== undefined && last.register === undefined) Object.assign(last, { register: this.panel.register, next: this.panel.counter });
         if (!isAmong(this.panel.counter, this.#first, SHOWN - 1)) this.#first = windowAt(this.panel.counter, SHOWN);
-        await this.#lookAtWords();
-        await this.#lookAtPaper();
-        if (this.knows("rules")) this.rules = replies.rulesOf(await this.#ask("rules"));
+        await Promise.all([this.#lookAtWords(), this.#lookAtTrack(), this.#lookAtPaper(), this.#lookAtRules()]);
         if (this.#hit !== null) this.notice = { kind: "rule", number: this.#hit, rule: this.rules[this.#hit], isOfScript: this.#isRuleOfScript[this.#hit] ?? false };
         this.#hit = null;
+    }
+
+    async #lookAtTrack() {
+        this.track = replies.placesOf(await this.#ask(`words ${this.panel.counter.slice(0, 2)}00 ${SECTORS}`));
+    }
+
+    async #lookAtRules() {
+        if (this.knows("rules")) this.rules = replies.rulesOf(await this.#ask("rules"));
     }
 
     async #lookAtPaper() {
@@ -354,9 +362,10 @@ export class Laboratory extends EventTarget {
     }
 
     async #lookAtWords() {
-        const digits = replies.placesOf(await this.#ask(`words ${this.#first} ${SHOWN}`));
-        const orders = replies.placesOf(await this.#ask(`show ${this.#first} ${SHOWN}`));
-        const origins = await this.#originsOf(digits.map(({ address }) => address));
+        const addresses = Array.from({ length: SHOWN }, (unused, place) => addressOf(numberOf(this.#first) + place));
+        const asked = [this.#ask(`words ${this.#first} ${SHOWN}`), this.#ask(`show ${this.#first} ${SHOWN}`), this.#originsOf(addresses)];
+        const [words, shown, origins] = await Promise.all(asked);
+        const [digits, orders] = [words, shown].map(replies.placesOf);
         this.words = digits.map(({ address, text }, place) => ({ address, digits: text, order: orders[place].text, origin: origins.get(address) ?? null }));
     }
 
@@ -402,20 +411,21 @@ export class Laboratory extends EventTarget {
         });
     }
 
-    /** Performs orders and tells each; fewer where the machine comes to rest. */
-    step(orders = 1) {
+    /** Performs orders and tells each; fewer where the machine comes to rest. Gives how many. Rows of the drum are left out where they are not wanted now. */
+    step(orders = 1, withRows = true) {
         return this.#work(async () => {
-            await this.#tell(Math.min(orders, TOLD_AT_ONCE), false);
+            const performed = await this.#tell(Math.min(orders, TOLD_AT_ONCE), false, withRows);
             await this.#look();
+            return performed;
         });
     }
 
     /** Traces, and, where rows are wanted, goes back over the same orders and draws them. */
-    async #tell(limit, isAgain) {
+    async #tell(limit, isAgain, withRows = true) {
         const reply = await this.#say(`trace ${limit}`, isAgain);
         if (replies.isRefusal(replies.toldOf(reply).end)) return 0;
         const { orders } = replies.runOf(reply);
-        if (this.wantsRows && orders > 0) await this.#draw(orders);
+        if (withRows && this.wantsRows && orders > 0) await this.#draw(orders);
         return orders;
     }
 

@@ -1,23 +1,31 @@
 // Puts the page together: the laboratory, its views, and what the address asks for.
+import { Drive } from "./drive.mjs";
 import { Laboratory } from "./laboratory.mjs";
 import { headOf, linesIn, withoutQuestions } from "./lines.mjs";
 import { Link } from "./link.mjs";
 import { askedIn } from "./opening.mjs";
+import { Player } from "./player.mjs";
 import { makeAccounts, makeTime } from "./views/accounts.mjs";
 import { makeConsole, makeKeyboard } from "./views/console.mjs";
 import { button, h, part } from "./views/dom.mjs";
 import { makeDrum } from "./views/drum.mjs";
 import { KIOSK, makeKioskBar, watchIdle } from "./views/kiosk.mjs";
 import { makeListing } from "./views/listing.mjs";
-import { makeNotices, wayText } from "./views/notice.mjs";
+import { makeNotices } from "./views/notice.mjs";
+import { makePace } from "./views/pace.mjs";
 import { makePanel } from "./views/panel.mjs";
 import { makePaper, makeTape } from "./views/paper.mjs";
 import { makeProfile } from "./views/profile.mjs";
+import { arrange, makeStage } from "./views/stage.mjs";
+import { makeTurns } from "./views/turns.mjs";
 import { makeLines, makeScript, makeSource } from "./views/writing.mjs";
 import { LANGUAGES, counted, textsIn } from "./words.mjs";
 
-const WALK_MILLISECONDS = 700;
-
+/** The time between two orders that are played one after another, at most: it passes on the drum as well. */
+const CARRIED_MILLISECONDS = 250;
+const player = new Player();
+const still = matchMedia("(prefers-reduced-motion: reduce)");
+const clocks = { now: () => performance.now(), sleep: (milliseconds) => new Promise((resolve) => setTimeout(resolve, milliseconds)) };
 const inlined = (id) => document.getElementById(id).textContent;
 const examples = new Map(Object.entries(JSON.parse(inlined("examples"))));
 const questions = JSON.parse(inlined("questions"));
@@ -28,7 +36,8 @@ let texts = textsIn(asked.language ?? (navigator.language ?? "en").slice(0, 2));
 let isKiosk = asked.isKiosk;
 let views = [];
 let notices = null;
-let walking = null;
+let drive = null;
+let picture = { frame: null, drum: null, last: 0 };
 let endIdle = () => {};
 let laboratory = null;
 let hasShortKeys = true;
@@ -87,23 +96,26 @@ function about() {
     dialog(texts.text("about"), ...texts.table.aboutText.map((paragraph) => h("p", {}, paragraph)), h("p", {}, h("label", {}, wanted, ` ${texts.text("shortKeys")}`)));
 }
 
-function walk() {
-    if (walking !== null) return endWalk();
-    walking = setInterval(async () => {
-        await laboratory.step(1);
-        if (laboratory.notice !== null) endWalk();
-    }, WALK_MILLISECONDS);
-    return undefined;
+/** What is played, as long as it leads to where the machine stands; in slow motion up to the next order. */
+function playing() {
+    const at = player.at();
+    if (at === null || at.account !== laboratory.accounts.at(-1) || at.account.clock + BigInt(at.account.sum) !== laboratory.panel.clock) return null;
+    return at.done && drive.pace !== "slow" ? null : at;
 }
 
-function endWalk() {
-    clearInterval(walking);
-    walking = null;
-}
-
-function halt() {
-    endWalk();
-    laboratory.stop();
+/** Draws the drum picture by picture, as long as an order is played. */
+function animate() {
+    const next = (now) => {
+        player.tick(Math.max(0, now - picture.last));
+        picture.last = now;
+        const at = playing();
+        picture.drum.frame();
+        picture.frame = at === null || at.done ? null : requestAnimationFrame(next);
+        if (picture.frame === null) drive.played();
+    };
+    if (picture.frame !== null) return;
+    if (performance.now() - picture.last > CARRIED_MILLISECONDS) picture.last = performance.now();
+    picture.frame = requestAnimationFrame(next);
 }
 
 async function run() {
@@ -125,14 +137,6 @@ function makeBar() {
     return view;
 }
 
-function makeDrive() {
-    const { text } = texts;
-    const deeds = [["step", () => laboratory.step(1)], ["walk", walk], ["run", run], ["halt", halt]];
-    const controls = deeds.map(([name, deed]) => button(text(name), deed, { id: name, class: "drive", title: text(`${name}Hint`) }));
-    const way = h("p", { class: "way" });
-    return { node: h("div", { class: "line drives" }, h("div", { class: "line", role: "toolbar", "aria-label": text("drives") }, ...controls), way), show: () => { way.textContent = laboratory.openSource === null ? wayText(laboratory, texts, false) : ""; } };
-}
-
 function makeExplanation() {
     const { text } = texts;
     const place = h("div", { class: "explanation-text" });
@@ -144,20 +148,45 @@ function makeExplanation() {
     return { node, show: showIt };
 }
 
-const column = (...made) => ({ made, node: h("div", { class: "column" }, ...made.map(({ node }) => node)) });
+/** What the drum asks: what is played, and whether it turns too fast to be read. */
+const showing = { playing, isFast: () => drive.pace === "own" || drive.pace === "fast" };
+
+/** All parts but the header, and the element that holds them in the order in which they are seen. */
+function makeWork() {
+    const made = {
+        drum: makeDrum(laboratory, texts, showing), panel: makePanel(laboratory, texts), console: makeConsole(laboratory, texts),
+        paper: makePaper(laboratory, texts), tape: makeTape(laboratory, texts), keyboard: makeKeyboard(laboratory, texts),
+        pace: makePace(laboratory, texts, drive), time: makeTime(laboratory, texts), accounts: makeAccounts(laboratory, texts), listing: makeListing(laboratory, texts),
+        explanation: makeExplanation(), script: makeScript(laboratory, texts), source: makeSource(laboratory, texts), lines: makeLines(laboratory, texts),
+        profile: makeProfile(laboratory, texts), turns: makeTurns(laboratory, texts),
+    };
+    return { node: makeStage(made), made: Object.values(made) };
+}
+
+function makeShow() {
+    const [drum, paper, panel, listing] = [makeDrum(laboratory, texts, showing), makePaper(laboratory, texts), makePanel(laboratory, texts), makeListing(laboratory, texts)];
+    const column = (...views) => h("div", { class: "column" }, ...views.map(({ node }) => node));
+    return { node: h("main", {}, h("div", { class: "cabinet" }, drum.node), column(paper, panel, listing)), made: [drum, paper, panel, listing] };
+}
+
+function makeLeave() {
+    const other = button(texts.code === "de" ? "English" : "Deutsch", () => { texts = textsIn(texts.code === "de" ? "en" : "de"); layFor("other-language"); }, { class: "plain", id: "other-language" });
+    return h("footer", {}, button(texts.text("leaveKiosk"), () => setKiosk(false), { class: "plain" }), " ", other);
+}
 
 function lay() {
     const { text } = texts;
     document.documentElement.lang = texts.code;
     document.title = text("title");
     document.body.className = isKiosk ? "kiosk" : "";
-    const top = isKiosk ? [makeKioskBar(laboratory, texts, openKiosk)] : [makeBar(), makeDrive()];
-    const heading = h("header", {}, h("h1", {}, text(isKiosk ? "kioskTitle" : "title")), h("p", {}, text("subtitle")), ...top.map(({ node }) => node));
-    const columns = isKiosk ? kioskColumns() : allColumns();
-    const leave = isKiosk ? [h("footer", {}, button(text("leaveKiosk"), () => setKiosk(false), { class: "plain" }), " ", button(texts.code === "de" ? "English" : "Deutsch", () => { texts = textsIn(texts.code === "de" ? "en" : "de"); layFor("other-language"); }, { class: "plain", id: "other-language" }))] : [];
-    notices = makeNotices(laboratory, texts, isKiosk, { run, save, anew: () => (isKiosk ? openKiosk() : laboratory.new()), linkTo: (lines) => linkTo(withoutQuestions(lines, questions)) });
-    views = [...top, ...columns.flatMap(({ made }) => made)];
-    document.getElementById("page").replaceChildren(heading, h("main", {}, ...columns.map(({ node }) => node)), ...leave);
+    const top = isKiosk ? makeKioskBar(laboratory, texts, openKiosk, drive) : makeBar();
+    const heading = h("header", {}, h("h1", {}, text(isKiosk ? "kioskTitle" : "title")), h("p", { class: "subtitle" }, text("subtitle")), top.node);
+    const { node, made } = isKiosk ? makeShow() : makeWork();
+    notices = makeNotices(laboratory, texts, isKiosk, { run: () => drive.go("fast"), save, anew: () => (isKiosk ? openKiosk() : laboratory.new()), linkTo: (lines) => linkTo(withoutQuestions(lines, questions)) });
+    views = [top, ...made];
+    picture.drum = made.find(({ frame }) => frame !== undefined);
+    document.getElementById("page").replaceChildren(heading, node, ...(isKiosk ? [makeLeave()] : []));
+    if (!isKiosk) arrange();
     show();
 }
 
@@ -167,14 +196,6 @@ function layFor(id) {
     lay();
     if (hadFocus) document.getElementById(id)?.focus();
 }
-
-const allColumns = () => [
-    column(makeDrum(laboratory, texts), makePanel(laboratory, texts), makeConsole(laboratory, texts), makeKeyboard(laboratory, texts)),
-    column(makeTime(laboratory, texts), makeListing(laboratory, texts), makeAccounts(laboratory, texts), makeProfile(laboratory, texts)),
-    column(makeExplanation(), makePaper(laboratory, texts), makeScript(laboratory, texts), makeTape(laboratory, texts), makeSource(laboratory, texts), makeLines(laboratory, texts)),
-];
-
-const kioskColumns = () => [column(makeDrum(laboratory, texts)), column(makePaper(laboratory, texts), makePanel(laboratory, texts), makeListing(laboratory, texts))];
 
 /** Opens the kiosk's program. An example that is not there is told. */
 async function openKiosk() {
@@ -187,17 +208,19 @@ async function openKiosk() {
 async function setKiosk(wanted) {
     isKiosk = wanted;
     endIdle();
-    halt();
+    drive.halt();
     layFor(isKiosk ? "kiosk-start" : "kiosk");
     if (isKiosk) {
         await openKiosk();
-        endIdle = watchIdle(asked.idleSeconds ?? KIOSK.idleSeconds, () => { halt(); openKiosk(); });
+        endIdle = watchIdle(asked.idleSeconds ?? KIOSK.idleSeconds, () => { drive.halt(); openKiosk(); });
     }
 }
 
 function onKey(event) {
     if (event.target.closest("input, textarea, select, dialog") || event.ctrlKey || event.altKey || event.metaKey) return;
-    const deed = { s: () => laboratory.step(1), w: walk, r: run, h: halt, "[": () => laboratory.back(1), "]": () => laboratory.forward(1) }[event.key];
+    const go = (pace) => () => drive.go(pace);
+    const [order, fast] = [go("order"), go("fast")];
+    const deed = { s: () => drive.step(), w: order, r: fast, h: () => drive.halt(), "[": () => laboratory.back(1), "]": () => laboratory.forward(1), 1: order, 2: go("slow"), 3: go("own"), 4: fast }[event.key];
     if (deed !== undefined && !isKiosk && hasShortKeys) deed();
 }
 
@@ -214,7 +237,12 @@ async function begin() {
     laboratory = new Laboratory(new Link(inlined("worker"), bytesOf(inlined("module"))));
     await laboratory.open();
     if (laboratory.panel === null) return globalThis.tellLacking(laboratory.notice.detail);
+    drive = new Drive(laboratory, player, run, clocks);
     laboratory.addEventListener("change", show);
+    drive.addEventListener("change", show);
+    drive.addEventListener("play", animate);
+    still.addEventListener("change", () => { player.isStill = still.matches; });
+    player.isStill = still.matches;
     lay();
     addEventListener("keydown", onKey);
     await openAsked();

@@ -33,8 +33,9 @@ function faintInPage() {
         return (Math.max(one, other) + 0.05) / (Math.min(one, other) + 0.05);
     };
     const contains = (box, { x, y, width, height }) => box.left <= x + width / 2 && x + width / 2 <= box.right && box.top <= y + height / 2 && y + height / 2 <= box.bottom;
-    const shapesBehind = (node) => [...node.ownerSVGElement.querySelectorAll("circle, rect")]
-        .filter((shape) => shape.compareDocumentPosition(node) & 4 && styleOf(shape).fill !== "none" && contains(shape.getBoundingClientRect(), node.getBoundingClientRect()))
+    const isBehind = (shape, node) => (shape.matches(".face") ? shape.parentElement === node.parentElement : contains(shape.getBoundingClientRect(), node.getBoundingClientRect()));
+    const shapesBehind = (node) => [...node.ownerSVGElement.querySelectorAll("circle, rect, .face")]
+        .filter((shape) => shape.compareDocumentPosition(node) & 4 && styleOf(shape).fill !== "none" && Number(styleOf(shape).opacity) > 0 && isBehind(shape, node))
         .map((shape) => styleOf(shape).fill);
     const found = [];
     const told = (what, least, front, back) => {
@@ -59,12 +60,13 @@ function faintInPage() {
         if (node.value !== undefined && node.tagName !== "BUTTON") told(`value, ${pathOf(node)}`, 4.5, styleOf(node).color, behind(node));
         if (node.type !== "checkbox" && styleOf(node).borderTopStyle === "solid") told(`border, ${pathOf(node)}`, 3, styleOf(node).borderTopColor, around);
     }
-    const marks = { "backgroundColor": ".dot, .lamp.lit, .bar", "stroke": ".arc", "fill": ".head, .arrow polygon" };
+    const marks = { "backgroundColor": ".dot, .lamp.lit, .bar", "stroke": ".head", "fill": ".arrow polygon" };
     for (const [property, selector] of Object.entries(marks)) {
         for (const node of document.querySelectorAll(selector)) if (isSeen(node)) told(`mark, ${pathOf(node)}`, 3, styleOf(node)[property], behind(node.parentElement));
     }
-    const focus = styleOf(document.documentElement).getPropertyValue("--focus").trim();
-    for (const ground of ["--ground", "--card", "--button", "--paper"]) told(`focus on ${ground}`, 3, focus, [styleOf(document.documentElement).getPropertyValue(ground)]);
+    const named = (name) => styleOf(document.documentElement).getPropertyValue(name).trim();
+    for (const ground of ["--wall", "--card", "--cabinet", "--key", "--flexo"]) told(`focus on ${ground}`, 3, named("--focus"), [named(ground)]);
+    for (const phase of ["find", "take", "seek", "act"]) told(`trail of ${phase}`, 3, named(`--in-${phase}`), [named("--plate")]);
     return [...new Set(found)];
 }
 

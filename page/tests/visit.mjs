@@ -33,6 +33,8 @@ const ENGINES = {
 const { Engine, without, left = [] } = ENGINES[process.env.ENGINE ?? "chromium"];
 // only Chromium's speed is asked for
 const LEAST_SPEED = Engine === Chromium ? Number(process.env.LEAST_SPEED ?? 10e6) : 0;
+const given = (name, otherwise) => Number(process.env[name] ?? otherwise);
+const [LEAST_PICTURES, LONGEST_TASK, LONGEST_STOP] = Engine === Chromium ? [given("LEAST_PICTURES", 30), given("LONGEST_TASK", 50), given("LONGEST_STOP", 100)] : [0, Infinity, Infinity];
 
 /** Replies as a script has them: what a refusal has in a session alone is its reason, behind a colon. */
 const withoutReasons = (replies) => replies.replace(/^(\? \d+ \w+(?: \d+)?): .*$/gm, "$1");
@@ -47,7 +49,9 @@ async function press(browser, selector) {
 }
 
 async function picture(browser, name) {
-    if (pictures !== undefined) await browser.picture(join(pictures, `page-${name}.png`));
+    if (pictures === undefined) return;
+    await browser.waitFor("document.querySelector('.drum-box').dataset.moving === 'false'");
+    await browser.picture(join(pictures, `page-${name}.png`));
 }
 
 /** A visitor of a museum presses Start and sees what is printed; left alone, the kiosk begins anew. */
@@ -94,16 +98,24 @@ async function addresses(browser) {
     await browser.waitFor("/waits for its operator's keys\\. The kiosk has none/.test(document.querySelector('.kiosk-told').textContent)");
 }
 
+/** Whether what has passed the head is drawn on the drum. */
+const hasTrail = (browser) => browser.value(`(() => {
+    const canvas = document.querySelector(".trail");
+    return canvas.getContext("2d").getImageData(0, 0, canvas.width, canvas.height).data.some((part) => part > 0);
+})()`);
+
 /** What the page shows of a word is what the monitor says now: after a run, a put by hand, and an order that stores what is there. */
 async function changes(browser) {
     await browser.open(`${address}?lang=en#self-modifying`);
     for (let order = 0; order < 4; order += 1) await press(browser, "#step");
     const row = () => textOf(browser, "tr[data-address='0009']");
     assert.match(await row(), /changed by y 0009 at 0005, clock 181/);
-    assert.equal(await browser.value("document.querySelectorAll('.arc').length > 0 && document.querySelector('.arrow') !== null && document.querySelectorAll('.rows > *').length > 0"), true);
+    assert.equal(await browser.value("document.querySelector('.arrow') !== null && document.querySelectorAll('.rows > *').length > 0"), true);
+    assert.equal(await hasTrail(browser), true);
     await browser.value("laboratoryOfPage().run(12)");
+    assert.equal(await hasTrail(browser), false);
     assert.match(await row(), /changed by y 0009 at 0013, clock (?!181)/);
-    assert.equal(await browser.value("document.querySelectorAll('.arc, .arrow, .accounts tbody tr, .rows > *').length"), 0);
+    assert.equal(await browser.value("document.querySelectorAll('.arrow, .accounts tbody tr, .rows > *').length"), 0);
     await browser.value("laboratoryOfPage().say('press manual', 'put 0009 a 0000')");
     assert.doesNotMatch(await row(), /changed/);
     await press(browser, "tr[data-address='0009'] button");
@@ -400,6 +412,119 @@ async function longRun(browser) {
     return (1000 * orders) / milliseconds;
 }
 
+/** How many pictures a second the page draws, over so many milliseconds, and how far the clock at the hub went in a second of them. */
+const pace = (browser, milliseconds) => browser.value(`new Promise((resolve) => {
+    const hub = () => Number(document.querySelector(".hub-clock").textContent.replace(/\\D/g, ""));
+    const [began, clock] = [performance.now(), hub()];
+    let pictures = 0;
+    const next = () => {
+        pictures += 1;
+        const seconds = (performance.now() - began) / 1000;
+        if (seconds < ${milliseconds / 1000}) requestAnimationFrame(next);
+        else resolve({ pictures: pictures / seconds, times: (hub() - clock) / seconds });
+    };
+    requestAnimationFrame(next);
+})`);
+
+/** How far a place on the ring, which the browser gives rounded, may be from what the page has set, in word times. */
+const ROUNDED = 0.001;
+
+/** How far the ring has turned, in word times, and the clock at its hub. */
+const turned = (browser) => browser.value(`(() => {
+    const { a, b } = new DOMMatrix(getComputedStyle(document.querySelector(".ring")).transform);
+    return { ring: ((Math.atan2(-b, a) / 2 / Math.PI) * 64 + 64) % 64, hub: Number(document.querySelector(".hub-clock").textContent.replace(/\\D/g, "")) };
+})()`);
+
+/** Presses Stop: after how many milliseconds the page stands, and that the drum stands where the machine's clock is. */
+async function stands(browser) {
+    const milliseconds = await browser.value(`(async () => {
+        const began = performance.now();
+        document.querySelector("#halt").click();
+        await laboratoryOfPage().settled();
+        return performance.now() - began;
+    })()`);
+    const { clock } = await panelOf(browser);
+    const { ring, hub } = await turned(browser);
+    assert.deepEqual([hub, Math.round(ring) % 64], [Number(clock), Number(clock) % 64]);
+    assert.equal(await browser.value("document.querySelectorAll('.drives [aria-pressed=true]').length"), 0);
+    await browser.value("new Promise((resolve) => setTimeout(resolve, 300))");
+    assert.equal((await panelOf(browser)).clock, clock);
+    return milliseconds;
+}
+
+/** The machine's clock over ten seconds of its own pace, as a share of the wall's. */
+const ownPace = (browser) => browser.value(`(async () => {
+    const laboratory = laboratoryOfPage();
+    const next = () => new Promise((resolve) => {
+        laboratory.addEventListener("change", () => resolve([performance.now(), Number(laboratory.panel.clock)]), { once: true });
+    });
+    const [began, clock] = await next();
+    await new Promise((resolve) => setTimeout(resolve, 10_000));
+    const [ended, reached] = await next();
+    return (0.26 * (reached - clock)) / (ended - began);
+})()`);
+
+/** Notes what the page says at each change of a run: the orders done, the counter, the clock twice, and the digits of the loop's sum. */
+const noteSaid = (browser) => browser.value(`(() => {
+    const textAt = (selector) => document.querySelector(selector).textContent;
+    const numberAt = (selector) => Number(/[\\d,]+/.exec(textAt(selector))[0].replaceAll(",", ""));
+    globalThis.said = [];
+    laboratoryOfPage().addEventListener("change", () => said.push({
+        orders: numberAt(".time output"), counter: textAt(".panel code.large"), hub: numberAt(".hub-clock"), clock: numberAt(".panel dl dd:last-of-type"), sum: textAt("tr[data-address='0010'] td:nth-of-type(3)"),
+        drum: document.querySelector(".drum-box").getAttribute("aria-label"), way: textAt(".way"),
+    }));
+})()`);
+
+/** All that a page has said of a fast run belongs together: it is true of one moment each. The loop adds one to its sum by its third order. */
+function areTrue(said) {
+    const [last, ...before] = said.toReversed();
+    assert.ok(before.length > 3 && before[0].orders > before.at(-1).orders, `${before.length} looks at a fast run`);
+    for (const { orders, counter, hub, clock, sum, drum, way } of said) {
+        assert.deepEqual([counter, hub], [`000${orders % 4}`, clock]);
+        assert.equal(parseInt([...sum].map((digit) => "0123456789fgjkqw".indexOf(digit).toString(16)).join(""), 16), 2 * Math.floor((orders + 1) / 4));
+        if (way.startsWith("The machine goes on as fast as it can")) assert.match(drum, /turns too fast for its numbers to be read/);
+    }
+    assert.match(last.way, /^The machine is going: Step/);
+}
+
+/** The paces: what each shows, how fast it is, and that Stop is heard. */
+async function paces(browser) {
+    await browser.open(`${address}?lang=en`);
+    await started(browser, "put 0000 b 0010", "put 0001 a 0011", "put 0002 h 0010", "put 0003 u 0000", "put 0011 = 1");
+    await browser.press("#slow");
+    await browser.waitFor("document.querySelector('.drum-box').dataset.moving === 'true'");
+    const slow = await pace(browser, 3000);
+    assert.ok(slow.pictures >= LEAST_PICTURES, `${slow.pictures} pictures a second`);
+    assert.ok(slow.times > 24 && slow.times < 36, `${slow.times} word times a second in slow motion`);
+    const { ring, hub } = await turned(browser);
+    assert.ok((ring - hub + 128 + ROUNDED) % 64 < 1 + 2 * ROUNDED, `the ring stands at ${ring}, the clock at ${hub}`);
+    const heard = [await stands(browser)];
+    await browser.press("#own");
+    const rate = await ownPace(browser);
+    assert.ok(Math.abs(rate - 1) < 0.05, `its own pace is ${rate} of the wall's clock`);
+    heard.push(await stands(browser));
+    await browser.value("(globalThis.long = [], new PerformanceObserver((list) => long.push(...list.getEntries().map(({ duration }) => duration))).observe({ type: 'longtask' }))");
+    await noteSaid(browser);
+    await browser.press("#run");
+    const fast = await pace(browser, 3000);
+    assert.ok(fast.pictures >= LEAST_PICTURES, `${fast.pictures} pictures a second in a fast run`);
+    const long = await browser.value("long");
+    assert.ok(Math.max(0, ...long) <= LONGEST_TASK, `a task of ${Math.max(...long)} milliseconds in a fast run`);
+    heard.push(await stands(browser));
+    areTrue(await browser.value("said"));
+    await browser.press("#walk");
+    await browser.waitFor("document.querySelector('.drum-box').dataset.moving === 'true'");
+    heard.push(await stands(browser));
+    await browser.press("#walk");
+    await browser.press("#slow");
+    await browser.waitFor("document.querySelector('.drum-box').dataset.moving === 'true'");
+    assert.equal(await browser.value("document.querySelector('.drives [aria-pressed=true]').id"), "slow");
+    heard.push(await stands(browser));
+    assert.ok(Math.max(...heard) <= LONGEST_STOP, `Stop was heard after ${heard} milliseconds`);
+    const numbers = [slow.pictures, 100 * Math.abs(rate - 1), Math.max(0, ...long), Math.max(...heard)].map((number) => number.toFixed(1));
+    return `${numbers[0]} pictures a second, ${numbers[1]} % from the wall's clock, longest task ${numbers[2]} ms, Stop after ${numbers[3]} ms`;
+}
+
 /** What is wrong is named, and nothing is lost. */
 async function badInput(browser) {
     await browser.open(`${address}?lang=en#no-such-example`);
@@ -599,6 +724,23 @@ async function readOut(browser) {
     assert.match(await textOf(browser, "#notice"), /no such command/);
 }
 
+/** Without motion the ring stands, for each order, in the four places where a phase ends. */
+async function pictureByPicture(browser) {
+    const places = await browser.value(`new Promise((resolve) => {
+        const places = new Set();
+        const look = () => {
+            places.add(document.querySelector(".ring").style.transform);
+            if (document.querySelector(".drum-box").dataset.moving === "true") requestAnimationFrame(look);
+            else resolve([...places].map((place) => (64 - Number(/-?[\\d.]+/.exec(place)[0]) / -5.625) % 64));
+        };
+        requestAnimationFrame(look);
+    })`);
+    const { clock, find, take, seek, act } = await browser.value("(({ clock, find, take, seek, act }) => ({ clock: Number(clock), find, take, seek, act }))(laboratoryOfPage().accounts.at(-1))");
+    let at = clock;
+    const ends = [find, take, seek, act].map((times) => { at += times; return at % 64; });
+    assert.deepEqual(places.map((place) => (64 - place) % 64), ends);
+}
+
 /** Nothing moves by itself: no animation runs after any step, whether motion is wanted or not. */
 async function stillness(browser) {
     for (const value of wishes(browser, "no-preference", "reduce")) {
@@ -608,6 +750,7 @@ async function stillness(browser) {
             await press(browser, "#step");
             assert.equal(await browser.value("document.getAnimations().length"), 0, value);
         }
+        if (value === "reduce") await pictureByPicture(browser);
     }
     await browser.media?.({});
 }
@@ -721,7 +864,7 @@ async function touch(browser) {
     await browser.size(1500, 1250);
 }
 
-const all = { kiosk, addresses, changes, thereAndBack, openSource, whatToPress, endlessPrint, firstHour, lesson, saved, source, profile, examples, badInput, usedUp, longRun, forPeople, everyone, byKeys, readOut, stillness, touch, withoutWebAssembly, cannotOpen };
+const all = { kiosk, addresses, changes, thereAndBack, openSource, whatToPress, endlessPrint, firstHour, lesson, saved, source, profile, examples, badInput, usedUp, longRun, paces, forPeople, everyone, byKeys, readOut, stillness, touch, withoutWebAssembly, cannotOpen };
 const wanted = process.env.VISITS?.split(" ") ?? Object.keys(all).filter((name) => !left.includes(name));
 const visits = Object.fromEntries(wanted.map((name) => [name, all[name]]));
 const browser = await Engine.start();
@@ -733,7 +876,7 @@ for (const [name, visit] of Object.entries(visits)) {
         if (name === "longRun") assert.ok(found >= LEAST_SPEED, `${Math.round(found)} orders a second`);
         const lines = ["withoutWebAssembly", "cannotOpen"].includes(name) ? null : await endsThere(browser);
         const saves = lines === null ? "" : `, ${lines[1]} lines saved of ${lines[0]}`;
-        console.log(`${name}: well${found === undefined ? "" : `, ${Math.round(found)}`}${saves}, ${((Date.now() - began) / 1000).toFixed(1)} s`);
+        console.log(`${name}: well${found === undefined ? "" : `, ${typeof found === "number" ? Math.round(found) : found}`}${saves}, ${((Date.now() - began) / 1000).toFixed(1)} s`);
     } catch (failure) {
         failed += 1;
         console.log(`${name}: ${failure.message}`);

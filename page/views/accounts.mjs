@@ -1,6 +1,6 @@
 // The accounts of the last orders as a table, and a slider over the orders behind and ahead.
 import { counted } from "../words.mjs";
-import { guarded, h, part, showLive } from "./dom.mjs";
+import { guarded, h, part, refill, showLive, tell } from "./dom.mjs";
 
 const SHOWN = 14;
 
@@ -22,8 +22,8 @@ function rowsOf(account, text) {
     const changes = account.before === account.after ? account.after : `${account.before} → ${account.after}`;
     const numbers = ["find", "take", "seek", "act", "sum"].map((phase) => h("td", { class: `number ${phase}` }, String(account[phase])));
     const effect = effectOf(account, text);
-    const below = effect === "" ? [] : [h("tr", { class: "below" }, h("td"), h("td", { class: "effect", colspan: 8 }, effect))];
-    return [h("tr", {}, h("td", { class: "number" }, String(account.clock)), h("td", {}, [account.at, account.label].filter(Boolean).join(" ")),
+    const below = effect === "" ? [] : [h("tr", {}, h("td"), h("td", { class: "effect", colspan: 8 }, effect))];
+    return [h("tr", { class: effect === "" ? null : "above" }, h("td", { class: "number" }, String(account.clock)), h("td", {}, [account.at, account.label].filter(Boolean).join(" ")),
         h("td", {}, h("code", {}, account.order)), ...numbers, h("td", { class: "changes" }, h("code", {}, changes))), ...below];
 }
 
@@ -34,9 +34,14 @@ export function makeAccounts(laboratory, { text }) {
     const heads = names.map((name) => h("th", { scope: "col" }, text(name)));
     const empty = h("p", {}, text("noAccounts"));
     const table = h("div", { class: "scroll", tabindex: "0", role: "group", "aria-label": text("accounts") }, h("table", {}, h("thead", {}, h("tr", {}, ...heads)), body));
+    const rows = new WeakMap();
+    const rowsKept = (account) => {
+        if (!rows.has(account)) rows.set(account, rowsOf(account, text));
+        return rows.get(account);
+    };
     const show = () => {
         const { accounts } = laboratory;
-        body.replaceChildren(...accounts.slice(-SHOWN).reverse().flatMap((account) => rowsOf(account, text)));
+        refill(body, ...accounts.slice(-SHOWN).reverse().flatMap((account) => rowsKept(account)));
         empty.hidden = accounts.length > 0;
         table.hidden = accounts.length === 0;
     };
@@ -62,7 +67,7 @@ export function makeTime(laboratory, { text, code }) {
         slider.disabled = behind + ahead === 0;
         showLive(back, behind > 0);
         showLive(forward, ahead > 0);
-        told.textContent = text("orderCount", { at: number(behind), of: number(behind + ahead) }) + (forgotten > 0 ? ` (${text("forgotten", { count: number(forgotten) })})` : "");
+        tell(told, text("orderCount", { at: number(behind), of: number(behind + ahead) }) + (forgotten > 0 ? ` (${text("forgotten", { count: number(forgotten) })})` : ""));
     };
     return { node: part("time", text("time"), h("div", { class: "line" }, back, slider, forward, told)), show };
 }

@@ -34,11 +34,33 @@ export function tellMore(place, text) {
     else place.textContent = text;
 }
 
-/** Fills a place anew; the focus stays on the control that it was on, known by its `data-name`. */
-export function refill(place, ...children) {
+/** Fills a place anew: a node that stands there stays, and so does the focus, on the control that it was on, known by its `data-name`. */
+export function refill(place, ...nodes) {
     const name = place.contains(document.activeElement) ? document.activeElement.dataset.name : undefined;
-    place.replaceChildren(...children);
+    nodes.forEach((node, at) => {
+        const there = place.children[at];
+        if (there === undefined) place.append(node);
+        else if (there !== node) there.replaceWith(node);
+    });
+    while (place.children.length > nodes.length) place.lastElementChild.remove();
     if (name !== undefined) place.querySelector(`[data-name="${CSS.escape(name)}"]`)?.focus();
+}
+
+/** Gives a node a text, where it has another one: what stays the same is not laid out anew. */
+export function tell(node, text) {
+    if (node.textContent !== text) node.textContent = text;
+}
+
+const plain = (unused, value) => (typeof value === "bigint" ? String(value) : value);
+
+/** Makes a node for what is to be shown under a name, and only where that is something else than before. */
+export function kept(make) {
+    const nodes = new Map();
+    return (name, shown) => {
+        const key = JSON.stringify(shown, plain);
+        if (nodes.get(name)?.key !== key) nodes.set(name, { key, node: make(shown) });
+        return nodes.get(name).node;
+    };
 }
 
 /** A control that does something only while it is live; while it is dead, a press says why. */

@@ -1,89 +1,220 @@
-// The drum: a circle of 64 sectors in the order in which they pass the head, and below it rows of word times.
-import { SECTORS, positionOf } from "../addresses.mjs";
+// The drum from its end: the head stands still, the ring of sectors turns below it. What is lit comes from replies; the look of ring, head and hub is the
+// page's own picture of the machine.
+import { SECTORS, addressIn, positionOf } from "../addresses.mjs";
+import { bitsOf } from "../module/replies.mjs";
 import { h, part, s } from "./dom.mjs";
 
-const CENTRE = 200;
-const RIM = 168;
-const ARCS = [146, 136, 126];
-const WIDTH = 8;
+/** The centre of the picture of 800 to 720, and what one word time turns. */
+const [X, Y] = [400, 372];
+const STEP = 360 / SECTORS;
+const RING = { outer: 318, inner: 260, numbers: 301, bits: [265, 281], rim: 321 };
+const WAY = 330;
+const PEN = { radius: 246, pitch: 20, turns: 4.6, waits: 4.5, works: 15 };
+const PHASES = ["find", "take", "seek", "act"];
+const WITHOUT_WORD = /^-?[ziput] /;
 
-const angleOf = (position) => (2 * Math.PI * position) / SECTORS - Math.PI / 2;
-const pointAt = (position, radius) => [CENTRE + radius * Math.cos(angleOf(position)), CENTRE + radius * Math.sin(angleOf(position))];
+const at = (degrees, radius) => [X + radius * Math.sin((degrees * Math.PI) / 180), Y - radius * Math.cos((degrees * Math.PI) / 180)];
 const fixed = (numbers) => numbers.map((number) => number.toFixed(1)).join(" ");
+const arc = (to, radius, sweep = 1) => `A ${radius} ${radius} 0 0 ${sweep} ${fixed(at(to, radius))}`;
+const startOf = (sector) => (positionOf(sector) - 1) * STEP;
 
-/** A path along the circle from a position over so many word times. A whole turn is drawn a little short of it. */
-function arc(from, times, radius) {
-    const length = Math.min(times, SECTORS - 0.2);
-    const [start, end] = [pointAt(from, radius), pointAt(from + length, radius)];
-    return `M ${fixed(start)} A ${radius} ${radius} 0 ${length > SECTORS / 2 ? 1 : 0} 1 ${fixed(end)}`;
+/** The sector that an address names, or null. */
+const sectorOf = (address) => (address == null ? null : Number(address.slice(2)));
+
+/** The address of the word that an order uses, or null where it uses none. */
+const wordOf = (order) => (WITHOUT_WORD.test(order) ? null : addressIn(order));
+
+function cell(sector) {
+    const from = startOf(sector);
+    const [outline, middle] = [[from, from + STEP], from + STEP / 2];
+    const [x, y] = at(middle, RING.numbers);
+    const path = `M ${fixed(at(outline[0], RING.outer))} ${arc(outline[1], RING.outer)} L ${fixed(at(outline[1], RING.inner))} ${arc(outline[0], RING.inner, 0)} Z`;
+    return s("g", { class: `cell ${positionOf(sector) % 2 === 0 ? "even" : "odd"}` }, s("path", { class: "face", d: path }), s("path", { class: "bits" }),
+        s("text", { x: x.toFixed(1), y: (y + 6.6).toFixed(1), transform: `rotate(${fixed([middle, x, y])})` }, String(sector).padStart(2, "0")));
 }
 
-/** The phases of an account as arcs: what it waited for its order, took it, waited for its word, and acted. */
-function arcsOf(account, radius) {
-    let position = Number(account.clock % BigInt(SECTORS));
-    return ["find", "take", "seek", "act"].filter((phase) => account[phase] > 0).map((phase) => {
-        const path = s("path", { class: `arc ${phase}`, d: arc(position, account[phase], radius), "stroke-width": WIDTH });
-        path.append(s("title", {}, `${account.at ?? ""} ${account.order}: ${phase} ${account[phase]}`));
-        position = (position + account[phase]) % SECTORS;
-        return path;
-    });
-}
+/** A stroke for each bit of a word that is 1. */
+const strokes = (sector, digits) => bitsOf(digits).map((bit, place) => [bit, startOf(sector) + (STEP * (place + 3)) / 38])
+    .filter(([bit]) => bit).map(([, angle]) => `M ${fixed(at(angle, RING.bits[0]))} L ${fixed(at(angle, RING.bits[1]))}`).join(" ");
 
-function sector(number, marks) {
-    const position = positionOf(number);
-    const [x, y] = pointAt(position, RIM);
-    const name = String(number).padStart(2, "0");
-    const mark = marks.get(number);
-    return s("g", { class: `sector ${mark ?? ""}` },
-        s("circle", { cx: x.toFixed(1), cy: y.toFixed(1), r: mark === undefined ? 7.4 : 10 }),
-        s("text", { x: x.toFixed(1), y: (y + 3).toFixed(1) }, name));
-}
-
-function head(clock) {
-    const position = Number(clock % BigInt(SECTORS));
-    const [tip, left, right] = [pointAt(position, 182), pointAt(position - 0.45, 197), pointAt(position + 0.45, 197)];
-    return s("polygon", { class: "head", points: [tip, left, right].map(fixed).join(" ") });
-}
-
-function picture(laboratory, text) {
-    const { panel, accounts, operand } = laboratory;
-    const marks = new Map();
-    if (operand !== null) marks.set(Number(operand.slice(2)), "operand");
-    marks.set(Number(panel.counter.slice(2)), "next");
-    const turn = (Number(panel.clock) / SECTORS).toFixed(1);
-    const sectors = Array.from({ length: SECTORS }, (unused, number) => sector(number, marks));
-    const last = accounts.slice(-ARCS.length).reverse();
-    const middle = [s("text", { class: "clock", x: CENTRE, y: CENTRE - 4 }, String(panel.clock)), s("text", { class: "turns", x: CENTRE, y: CENTRE + 18 }, `${turn} ↻`)];
-    const label = `${text("drumPicture")}. ${text("nextOrder")}: ${panel.counter}. ${text("operand")}: ${operand ?? "–"}. ${text("clockLong")}: ${panel.clock}.`;
-    return s("svg", { viewBox: "0 0 400 400", role: "img", "aria-label": label },
-        s("circle", { class: "surface", cx: CENTRE, cy: CENTRE, r: 116 }),
-        ...last.flatMap((account, place) => arcsOf(account, ARCS[place])), ...sectors, head(panel.clock), ...middle);
-}
-
-const KINDS = { ".": "wait", F: "find", i: "take", R: "seek", W: "seek", x: "act", "-": "none", " ": "" };
-
-/** Signs of a row: each run of one kind in its colour. */
-const runsOf = (signs) => [...signs.matchAll(/(.)\1*/g)].map(([run, sign]) => h("span", { class: KINDS[sign] ?? "" }, run));
-
-/** A row of the drum, in two halves, which stand below one another where there is no room for both. */
-function rowOf({ clock, signs }) {
-    const halves = [signs.slice(0, SECTORS / 2), signs.slice(SECTORS / 2)];
-    return h("div", { class: "drum-row" }, h("span", { class: "row-clock" }, `${String(clock).padStart(8)}  `), ...halves.map((half) => h("span", { class: "half" }, ...runsOf(half))));
-}
-
-/** The part of the page that shows the drum. */
-export function makeDrum(laboratory, { text }) {
-    const place = h("div", { class: "circle" });
-    const key = h("p", { class: "key" },
-        h("span", { class: "dot head" }), text("head"), " ", h("span", { class: "dot next" }), text("nextOrder"), " ",
-        h("span", { class: "dot operand" }), text("operand"), " ",
-        ...["find", "take", "seek", "act"].flatMap((phase) => [h("span", { class: `dot ${phase}` }), text(phase), " "]));
-    const rows = h("div", { class: "rows", tabindex: "0", role: "group", "aria-label": text("rows") });
-    const below = h("details", { open: laboratory.wantsRows }, h("summary", {}, text("rows")), h("p", { class: "key" }, h("code", {}, text("rowsKey"))), rows);
-    below.addEventListener("toggle", () => { laboratory.wantsRows = below.open; });
-    const show = () => {
-        place.replaceChildren(picture(laboratory, text));
-        rows.replaceChildren(...laboratory.rows.slice(-12).map(rowOf));
+/** The ring of sectors. `mark` lights those of the next order and of its word, `write` draws the words' bits, and `turn` turns it. */
+function makeRing() {
+    const cells = Array.from({ length: SECTORS }, (unused, sector) => cell(sector));
+    const box = [X - RING.rim, Y - RING.rim, 2 * RING.rim, 2 * RING.rim].join(" ");
+    const bolts = Array.from({ length: 8 }, (unused, place) => at(45 * place + 22.5, 133)).map(([cx, cy]) => s("circle", { class: "bolt", cx, cy, r: 6.5 }));
+    const svg = s("svg", { class: "ring", viewBox: box, "aria-hidden": "true" }, ...cells,
+        ...[RING.numbers, 272].map((r) => s("circle", { class: "streak", cx: X, cy: Y, r })), s("circle", { class: "face-plate", cx: X, cy: Y, r: RING.inner }), s("circle", { class: "hub-plate", cx: X, cy: Y, r: 146 }), ...bolts);
+    const [drawn, marked] = [new Map(), { next: null, operand: null }];
+    const mark = (marks) => {
+        for (const kind of Object.keys(marked)) {
+            const sector = sectorOf(marks[kind]);
+            if (sector === marked[kind]) continue;
+            cells[marked[kind]]?.classList.remove(kind);
+            cells[sector]?.classList.add(kind);
+            marked[kind] = sector;
+        }
     };
-    return { node: part("drum", text("drum"), place, key, below), show };
+    const write = (words) => {
+        for (const [sector, digits] of words) {
+            if (drawn.get(sector) !== digits) cells[sector].querySelector(".bits").setAttribute("d", strokes(sector, digits));
+            drawn.set(sector, digits);
+        }
+    };
+    return { node: h("div", { class: "well" }, svg), mark, write, turn: (position) => { svg.style.transform = `rotate(${-position * STEP}deg)`; } };
+}
+
+function makePin(kind) {
+    const label = s("text", { y: 6.5 });
+    const node = s("g", { class: `pin ${kind}` }, s("rect", { x: -32, y: -14, width: 64, height: 28, rx: kind === "next" ? 5 : 14 }), label);
+    return { node, show: (address, angle) => {
+        node.classList.toggle("away", address === null);
+        if (address === null) return;
+        label.textContent = address;
+        const slant = (angle * Math.PI) / 180;
+        node.setAttribute("transform", `translate(${fixed(at(angle, 328 + 14 * Math.abs(Math.cos(slant)) + 32 * Math.abs(Math.sin(slant))))})`);
+    } };
+}
+
+/** Two angles set apart where their pins would meet: each steps aside by half of what is missing. */
+function apart(one, other) {
+    const between = ((other - one + 540) % 360) - 180;
+    const missing = 5.6 + 6.6 * Math.abs(Math.cos((one * Math.PI) / 180)) - Math.abs(between);
+    const aside = missing > 0 ? (missing / 2) * (between < 0 ? -1 : 1) : 0;
+    return [one - aside, other + aside];
+}
+
+/** What stands still: the head with its tip, the way still to go, the hub with its text, and the pins. */
+function makeFixed({ text }) {
+    const [next, operand] = [makePin("next"), makePin("operand")];
+    const [tip, beam] = [s("path", { class: "tip", d: "M390 55h20l-10 9z" }), s("path", { class: "beam", d: `M393.5 64L${fixed(at(-1.3, RING.inner))}L${fixed(at(1.3, RING.inner))}L406.5 64z` })];
+    const way = s("path", { class: "way-to-go" });
+    const [phase, count, below, clock] = [["hub-phase", -52], ["hub-count", 18], ["hub-below", 52], ["hub-clock", 84]].map(([name, y]) => s("text", { class: name, x: X, y: Y + y }));
+    const svg = s("svg", { class: "fixed", viewBox: "0 0 800 720", "aria-hidden": "true" },
+        s("circle", { class: "casing", cx: X, cy: Y, r: WAY }), way,
+        s("path", { class: "turns-left", d: `M ${fixed(at(-20, 350))} ${arc(-40, 350, 0)}` }), s("path", { class: "turns-left tip-of", d: `M ${fixed(at(-43.2, 350))} L ${fixed(at(-38.8, 343))} L ${fixed(at(-38.8, 357))} Z` }),
+        beam, s("path", { class: "head", d: "M368 0h64v26l-14 22h-8l-10 7-10-7h-8l-14-22z" }), tip, s("text", { class: "head-name", x: 442, y: 20 }, text("head")),
+        s("circle", { class: "hub", cx: X, cy: Y, r: 119 }), phase, count, below, clock, operand.node, next.node);
+    const show = (view, position) => {
+        const angleOf = (address) => (positionOf(sectorOf(address)) - 0.5 - position) * STEP;
+        const [first, second] = view.operand === null || view.next === null ? [view.next, view.operand].map((address) => (address === null ? 0 : angleOf(address))) : apart(angleOf(view.next), angleOf(view.operand));
+        next.show(view.next, first);
+        operand.show(view.operand, second);
+        svg.dataset.phase = view.phase ?? "rest";
+        beam.classList.toggle("lit", view.isReading);
+        way.setAttribute("d", view.left > 0 ? sweep(Math.min(view.left, SECTORS)) : "");
+        Object.entries({ phase: text(`hub_${view.phase ?? "rest"}`), count: view.count, below: view.left > 0 ? text("placesToGo") : "", clock: `${text("clock")} ${view.clock}` })
+            .forEach(([name, value]) => { const node = { phase, count, below, clock }[name]; if (node.textContent !== value) node.textContent = value; });
+    };
+    return { node: svg, show };
+}
+
+/** A path along the way of the head, clockwise from it over so many word times. */
+function sweep(times) {
+    const angles = Array.from({ length: Math.ceil(times / 16) }, (unused, place) => Math.min(times, 16 * (place + 1)) * STEP);
+    return `M ${fixed(at(0, WAY))} ${angles.map((angle) => arc(angle, WAY)).join(" ")}`;
+}
+
+/** The pieces of the accounts that have passed the head, the newest last: phase, and how many word times ago it began and ended. */
+function passed(accounts, { clock, offset }) {
+    return accounts.flatMap((account) => {
+        let begins = Number(clock - account.clock) + offset;
+        return PHASES.flatMap((phase) => {
+            const [from, to] = [begins, Math.max(0, begins - account[phase])];
+            begins -= account[phase];
+            const isWait = phase === "find" || phase === "seek";
+            const works = { phase, from: isWait ? Math.min(from, begins + 1) : from, to, width: PEN.works };
+            return [...(isWait ? [{ phase, from, to: Math.max(to, begins + 1), width: PEN.waits }] : []), works];
+        });
+    }).filter(({ from, to }) => from > to && to < PEN.turns * SECTORS);
+}
+
+/** The trail on its canvas, whose size is asked for only when it changes. */
+function makeTrail() {
+    const node = h("canvas", { class: "trail", "aria-hidden": "true" });
+    const colours = {};
+    let redraw = () => {};
+    new ResizeObserver(([{ contentRect: { width } }]) => {
+        const ratio = Math.min(2, devicePixelRatio || 1);
+        Object.assign(node, { width: Math.round(width * ratio), height: Math.round((width * ratio * 720) / 800) });
+        for (const phase of PHASES) colours[phase] = getComputedStyle(node).getPropertyValue(`--in-${phase}`);
+        redraw();
+    }).observe(node);
+    const draw = (pieces, isFast) => {
+        const pen = node.getContext("2d");
+        pen.setTransform(node.width / 800, 0, 0, node.width / 800, 0, 0);
+        pen.clearRect(0, 0, 800, 720);
+        if (isFast) drawShares(pen, pieces, colours);
+        else for (const { phase, from, to, width } of pieces) stroke(pen, from, to, width, colours[phase]);
+    };
+    return { node, draw: (pieces, isFast) => { redraw = () => draw(pieces, isFast); redraw(); } };
+}
+
+/** A piece of the pen's line, eight word times at once, fainter the older it is. */
+function stroke(pen, from, to, width, colour) {
+    Object.assign(pen, { lineWidth: width, strokeStyle: colour });
+    for (let end = to; end < from; end += 8) {
+        const begin = Math.min(from, end + 8);
+        pen.globalAlpha = Math.max(0.12, 1 - end / (PEN.turns * SECTORS));
+        pen.beginPath();
+        for (let place = 0; place <= 8; place += 1) {
+            const age = end + ((begin - end) * place) / 8;
+            pen.lineTo(...at(-age * STEP, PEN.radius - (PEN.pitch * age) / SECTORS));
+        }
+        pen.stroke();
+    }
+}
+
+/** What the drum shows where the machine rests: the panel's place. */
+function atRest({ panel, operand, words }, isFast) {
+    const order = words.find(({ address }) => address === panel.counter)?.order ?? "";
+    return { clock: panel.clock, offset: 0, phase: isFast ? "turns" : null, next: panel.counter, operand: WITHOUT_WORD.test(order) ? null : operand, left: 0, count: isFast ? "↻" : "–", isReading: false };
+}
+
+/** What it shows while an order is played. */
+export function whilePlayed({ account, offset, phase, counter }) {
+    const ends = PHASES.slice(0, PHASES.indexOf(phase) + 1).reduce((sum, name) => sum + account[name], 0);
+    const left = phase === "find" || phase === "seek" ? ends - offset : 0;
+    const sign = account.printed === null ? account.order.trim()[0] : account.printed.sign ?? "·";
+    return { clock: account.clock, offset, phase, next: counter, operand: wordOf(account.order), left, count: left > 0 ? String(Math.ceil(left)) : sign, isReading: left > 0 && left <= 1 };
+}
+
+/** Rings in place of the trail, where it passes too fast to be read: one for each of the last turns, as strong as the share of a phase in it. */
+function drawShares(pen, pieces, colours) {
+    for (let turn = 0; turn < 4; turn += 1) {
+        for (const [place, phase] of ["find", "seek"].entries()) {
+            const times = pieces.filter((piece) => piece.phase === phase).map(({ from, to }) => Math.min(from, SECTORS * (turn + 1)) - Math.max(to, SECTORS * turn));
+            const share = times.filter((time) => time > 0).reduce((sum, time) => sum + time, 0) / SECTORS;
+            Object.assign(pen, { globalAlpha: Math.min(1, share), strokeStyle: colours[phase], lineWidth: 6 });
+            pen.beginPath();
+            pen.arc(X, Y, PEN.radius - 10 - PEN.pitch * turn - 7 * place, 0, 2 * Math.PI);
+            pen.stroke();
+        }
+    }
+}
+
+/** The part of the page that shows the drum. `playing` gives what is played at this moment, or null; `isFast` whether it turns too fast to be read. */
+export function makeDrum(laboratory, texts, { playing, isFast }) {
+    const { text } = texts;
+    const [ring, trail, still] = [makeRing(), makeTrail(), makeFixed(texts)];
+    const box = h("div", { class: "drum-box", role: "img" }, ring.node, trail.node, still.node);
+    const key = h("p", { class: "key" }, ...["find", "take", "seek", "act"].flatMap((phase) => [h("span", { class: `dot ${phase}` }), text(phase), " "]),
+        h("span", { class: "dot next" }), text("nextOrder"), " ", h("span", { class: "dot operand" }), text("operand"));
+    const frame = () => {
+        const played = isFast() ? null : playing();
+        const view = played === null ? atRest(laboratory, isFast()) : whilePlayed(played);
+        const position = Number(view.clock % BigInt(SECTORS)) + view.offset;
+        ring.turn(position % SECTORS);
+        ring.mark(view);
+        still.show({ ...view, clock: String(view.clock + BigInt(Math.floor(view.offset))) }, position);
+        trail.draw(passed(laboratory.accounts, view), isFast());
+        box.classList.toggle("fast", isFast());
+        box.dataset.moving = String(played !== null && !played.done);
+    };
+    const show = () => {
+        frame();
+        ring.write(laboratory.track.map(({ address, text: digits }) => [sectorOf(address), digits]));
+        const { panel: { clock, counter }, operand } = laboratory;
+        box.setAttribute("aria-label", isFast() ? text("drumRuns") : text("drumSays", { clock: String(clock), next: counter, operand: operand ?? "–" }));
+    };
+    return { node: part("drum", text("drum"), box, key), show, frame };
 }

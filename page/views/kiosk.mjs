@@ -6,20 +6,21 @@ import { button, guarded, h, showLive } from "./dom.mjs";
 export const KIOSK = { example: "message", idleSeconds: 90 };
 
 /** The bar of large buttons. `open` begins the program anew. */
-export function makeKioskBar(laboratory, { text }, open) {
+export function makeKioskBar(laboratory, { text }, open, drive) {
     const wayNow = () => wayOn(laboratory.live, laboratory.panel).kind;
     const start = guarded(text("kioskStart"), { id: "kiosk-start" }, () => laboratory.command("press start"), () => laboratory.tell({ kind: "dead", detail: text("kioskStart") }));
-    const step = button(text("kioskStep"), () => laboratory.step(1));
+    const step = button(text("kioskStep"), () => drive.step());
     const run = button(text("kioskRun"), async () => {
         if (wayNow() === "start") await laboratory.command("press start");
-        await laboratory.run();
+        await drive.go("fast");
     }, { id: "kiosk-run" });
     const again = button(text("kioskAgain"), open);
     const told = h("p", { class: "kiosk-told", role: "status" });
     const show = () => {
         const { panel, printed, live, deeds } = laboratory;
         showLive(start, isLive(live, panel, "start"));
-        if (wayNow() === "keys") told.textContent = text("kioskKeys");
+        if (drive.pace !== null) told.textContent = text("kioskRuns");
+        else if (wayNow() === "keys") told.textContent = text("kioskKeys");
         else if (wayNow() === "go") told.textContent = text(printed.count > 0 ? "kioskPrinted" : "kioskGoing");
         else told.textContent = text(deeds.behind === 0 ? "kioskIntro" : "kioskDone");
     };

@@ -1,21 +1,20 @@
 // The words around the counter: the next order lit, changed words in colour with an arrow from the order that wrote them.
-import { button, h, part, refill, s, unseen } from "./dom.mjs";
+import { button, h, kept, part, refill, s, unseen } from "./dom.mjs";
 
 const NAME_OF_ORDER = /^-?([a-z]) /;
 
 /** What is told of the order that changed a word, if there was one. */
 const toldOf = (writer, text) => (writer === null ? "" : text("changed", { order: writer.order, at: writer.at ?? "–", clock: writer.clock }));
 
-function row(word, laboratory, { text, table }, ask) {
-    const { panel } = laboratory;
-    const writer = laboratory.writerOf(word.address);
-    const isNext = word.address === panel.counter;
-    const labels = laboratory.labels.get(word.address) ?? [];
-    const meaning = table.orders[NAME_OF_ORDER.exec(word.order)?.[1]] ?? "";
-    return h("tr", { class: `${isNext ? "next" : ""} ${writer === null ? "" : "changed"}`, "data-address": word.address, "aria-current": isNext ? "true" : null },
-        h("td", {}, button(word.address, () => ask(word.address), { class: "plain", title: `${word.address}: ${text("whyHint")}`, "data-name": word.address })),
-        h("td", { class: "label" }, labels.join(" ")), h("td", {}, h("code", {}, word.digits)),
-        h("td", { title: meaning }, h("code", {}, word.order), unseen(meaning === "" ? "" : ` ${meaning}`)), h("td", { class: "told" }, toldOf(writer, text)));
+/** What a row shows. */
+const shownIn = (word, laboratory) => ({ ...word, writer: laboratory.writerOf(word.address), isNext: word.address === laboratory.panel.counter, labels: laboratory.labels.get(word.address) ?? [] });
+
+function row({ address, digits, order, writer, isNext, labels }, { text, table }, ask) {
+    const meaning = table.orders[NAME_OF_ORDER.exec(order)?.[1]] ?? "";
+    return h("tr", { class: `${isNext ? "next" : ""} ${writer === null ? "" : "changed"}`, "data-address": address, "aria-current": isNext ? "true" : null },
+        h("td", {}, button(address, () => ask(address), { class: "plain", title: `${address}: ${text("whyHint")}`, "data-name": address })),
+        h("td", { class: "label" }, labels.join(" ")), h("td", {}, h("code", {}, digits)),
+        h("td", { title: meaning }, h("code", {}, order), unseen(meaning === "" ? "" : ` ${meaning}`)), h("td", { class: "told" }, toldOf(writer, text)));
 }
 
 /** What a rule does, as `break 0100` or `watch 0009 loop` names it. */
@@ -57,8 +56,9 @@ export function makeListing(laboratory, texts) {
         button(text("show"), () => laboratory.showAt(place.value.padStart(4, "0"))), " ", button(text("startHere"), () => laboratory.command(`go ${place.value}`)), " ",
         button(text("breakAt"), () => laboratory.command(`break ${place.value}`)), " ", button(text("watchAt"), () => laboratory.command(`watch ${place.value}`)));
     const rules = h("ul", { class: "rules", "aria-label": text("rules") });
+    const rowOf = kept((shown) => row(shown, texts, ask));
     const show = () => {
-        refill(body, ...laboratory.words.map((word) => row(word, laboratory, texts, ask)));
+        refill(body, ...laboratory.words.map((word) => rowOf(word.address, shownIn(word, laboratory))));
         if (laboratory.words !== askedOf) answer.textContent = "";
         const drawn = arrow(body, laboratory);
         arrows.replaceChildren(...(drawn === null ? [] : [drawn]));

@@ -1,7 +1,7 @@
 // The panel: registers as bits with their readings, status, mode and clock.
 import { bitsOf, fractionOf, wholeOf } from "../module/replies.mjs";
 import { counted } from "../words.mjs";
-import { h, part } from "./dom.mjs";
+import { h, kept, part, refill } from "./dom.mjs";
 
 /** The bits of a word as lamps. The order and the address stand out. */
 function lamps(digits, name) {
@@ -12,19 +12,23 @@ function lamps(digits, name) {
     return h("span", { class: "lamps", role: "img", "aria-label": `${name} ${bits.join("")}` }, ...inGroups(inGroups(lampsOf, 4, "four"), 4, "sixteen"));
 }
 
+/** A line of the panel: a name, what stands there, its bits as lamps where it has any, and its reading. */
+const line = (text) => ({ name, value, digits, reading }) => [h("dt", {}, text(name)),
+    h("dd", {}, value, digits === undefined ? null : h("code", { class: "large" }, digits), digits?.length === 8 ? lamps(digits, `${text("bitsOf")} ${text(name)}`) : null, reading === undefined ? null : h("small", {}, reading))];
+
 /** The part of the page with the registers. */
 export function makePanel(laboratory, { text, table, code }) {
     const body = h("dl", { class: "registers" });
-    const item = (name, ...values) => [h("dt", {}, name), h("dd", {}, ...values)];
-    const reading = (digits) => `${text("asWhole")} ${counted(wholeOf(digits), code)}, ${text("asFraction")} ${fractionOf(digits).toFixed(9)}`;
+    const numbers = (digits) => `${text("asWhole")} ${counted(wholeOf(digits), code)}, ${text("asFraction")} ${fractionOf(digits).toFixed(9)}`;
+    const lineOf = kept(line(text));
     const show = () => {
-        const { panel, orderInRegister: order } = laboratory;
-        body.replaceChildren(
-            ...item(text("counter"), h("code", { class: "large" }, panel.counter)),
-            ...item(text("accumulator"), h("code", { class: "large" }, panel.accumulator), lamps(panel.accumulator, `${text("bitsOf")} ${text("accumulator")}`), h("small", {}, reading(panel.accumulator))),
-            ...item(text("register"), h("code", { class: "large" }, panel.register), lamps(panel.register, `${text("bitsOf")} ${text("register")}`), h("small", {}, order === null ? "" : `${text("asOrder")} ${order}`)),
-            ...item(text("status"), h("strong", { class: `status ${panel.status.split(" ")[0]}` }, table.statuses[panel.status] ?? panel.status), h("small", {}, ` ${table.modes[panel.mode] ?? panel.mode}`)),
-            ...item(text("clockLong"), h("code", {}, counted(panel.clock, code))));
+        const { panel: { counter, accumulator, register, status, mode, clock }, orderInRegister: order } = laboratory;
+        const lines = [
+            { name: "counter", digits: counter }, { name: "accumulator", digits: accumulator, reading: numbers(accumulator) },
+            { name: "register", digits: register, reading: order === null ? "" : `${text("asOrder")} ${order}` },
+            { name: "status", value: table.statuses[status] ?? status, reading: table.modes[mode] ?? mode }, { name: "clockLong", value: counted(clock, code) },
+        ];
+        refill(body, ...lines.flatMap((shown) => lineOf(shown.name, shown)));
     };
     return { node: part("panel", text("panel"), body), show };
 }

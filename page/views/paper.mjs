@@ -61,8 +61,11 @@ export function makeTape(laboratory, { text, code }) {
 export function makePaper(laboratory, { text, code }) {
     const paper = h("pre", { class: "paper", tabindex: "0", role: "log", "aria-label": text("paper") });
     const told = h("p");
+    let shown = null;
     const show = () => {
         const { count, text: printed } = laboratory.printed;
+        if (printed === shown) return;
+        shown = printed;
         const isAtEnd = paper.scrollTop + paper.clientHeight >= paper.scrollHeight - 4;
         tellMore(paper, paperOf(printed.slice(-40_000).replace(/^[^[]{0,2}\]/, "")));
         if (isAtEnd) paper.scrollTop = paper.scrollHeight;

@@ -66,11 +66,12 @@ export function makeLines(laboratory, { text, code }) {
             shown.get(said).remove();
             shown.delete(said);
         }
-        for (const said of talk.filter((said) => !shown.has(said))) {
+        const young = talk.filter((said) => !shown.has(said));
+        for (const said of young) {
             shown.set(said, h("span", {}, h("b", {}, `${said.line}\n`), said.reply.slice(0, REPLY_SHOWN), said.reply.length > REPLY_SHOWN ? `…\n${text("replyLength", { count: counted(said.reply.length, code) })}\n` : ""));
             log.append(shown.get(said));
         }
-        log.scrollTop = log.scrollHeight;
+        if (young.length > 0) requestAnimationFrame(() => { log.scrollTop = log.scrollHeight; });
         input.placeholder = laboratory.openSource === null ? "words 0050 2" : text("sourceLine");
     };
     return { node: part("lines", text("lines"), log, h("form", { class: "line", onsubmit: send }, input, h("button", {}, text("send")))), show };

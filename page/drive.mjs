@@ -1,0 +1,147 @@
+// Drives the machine in a pace: what is asked of the laboratory, and when. An order is done at once, and then played from its account.
+import { wayOn } from "./learn.mjs";
+
+/** The paces by their names: word times a second, how many times faster an act of more than a turn passes, and the rest between two orders. A word time of 0.26
+ * milliseconds is a setting of the page. */
+export const PACES = {
+    order: { speed: 64, hurry: 4, rest: 2600 },
+    slow: { speed: 32, hurry: 1, rest: 0 },
+    own: { speed: 1000 / 0.26 },
+    fast: {},
+};
+
+/** At its own pace: how often orders are asked for, at most how many at once, and how many word times one is thought to take at first. */
+const STRETCH = { milliseconds: 100, orders: 48, average: 75 };
+
+/** Goes on in a pace until it is halted, the machine rests, or a rule stops it. Dispatches `change` when the pace has changed. */
+export class Drive extends EventTarget {
+    /** The pace in which the machine goes on, or null. */
+    pace = null;
+
+    #laboratory;
+    #player;
+    #clocks;
+    #wake = () => {};
+    #since = null;
+    #isGoing = false;
+
+    /** `clocks` has `now`, milliseconds, and `sleep`. `run` does a run in portions. */
+    constructor(laboratory, player, run, clocks) {
+        super();
+        this.#laboratory = laboratory;
+        this.#player = player;
+        this.#clocks = { ...clocks, run };
+    }
+
+    /** One order, played. Where one is played it ends first, and so does a pace. */
+    async step() {
+        this.#changeTo(null);
+        await this.#order("order");
+    }
+
+    /** Goes on in a pace. The same one again is a halt, but for the fastest, which goes on. */
+    go(pace) {
+        if (pace === "fast" && this.pace === "fast") return undefined;
+        const wanted = this.pace === pace ? null : pace;
+        this.#changeTo(wanted);
+        return wanted === null || this.#isGoing ? undefined : this.#goOn();
+    }
+
+    /** Ends the pace and what is played; a run ends after its portion. */
+    halt() {
+        this.#changeTo(null);
+    }
+
+    /** The picture is where the clock is: what waited for it goes on. */
+    played() {
+        this.#wake();
+    }
+
+    #changeTo(pace) {
+        if (this.pace === "fast" || pace === null) this.#laboratory.stop();
+        this.#player.end();
+        this.pace = pace;
+        this.#since = null;
+        this.#wake();
+        this.dispatchEvent(new Event("change"));
+    }
+
+    async #goOn() {
+        this.#isGoing = true;
+        try {
+            for (let pace = this.pace; pace !== null; pace = this.pace) {
+                const isOn = await this.#a(pace);
+                if (!isOn && this.pace === pace) this.#rest();
+            }
+        } finally {
+            this.#isGoing = false;
+        }
+    }
+
+    #rest() {
+        this.pace = null;
+        this.dispatchEvent(new Event("change"));
+    }
+
+    #a(pace) {
+        if (pace === "fast") return this.#clocks.run().then(() => false);
+        return pace === "own" ? this.#stretch() : this.#played(pace);
+    }
+
+    /** An order and, where the pace has one, the rest after it. Whether there is a next one. */
+    async #played(pace) {
+        const isOn = await this.#order(pace);
+        if (!isOn || this.pace !== pace) return isOn;
+        await this.#until(PACES[pace].rest);
+        return this.#isOn;
+    }
+
+    /** Whether an order was performed. It is played to its end, or to a halt, where the pace waits for it. */
+    async #order(pace) {
+        const asked = this.pace;
+        const performed = await this.#laboratory.step(1);
+        if (!performed || this.pace !== asked) return Boolean(performed);
+        const { speed, hurry } = PACES[pace];
+        Object.assign(this.#player, { pace: speed, hurry });
+        this.#player.play(this.#laboratory.accounts.at(-1));
+        this.dispatchEvent(new Event("play"));
+        if (asked !== null) await this.#until(Infinity);
+        return true;
+    }
+
+    get #isOn() {
+        const { notice, live, panel } = this.#laboratory;
+        return notice === null && wayOn(live, panel).kind === "go";
+    }
+
+    /** As many orders as there are word times due. Whether the machine can go on. */
+    async #stretch() {
+        const laboratory = this.#laboratory;
+        const began = this.#clocks.now();
+        this.#since ??= { at: began, clock: laboratory.panel.clock, average: STRETCH.average };
+        const due = this.#due(began);
+        const orders = Math.max(1, Math.min(STRETCH.orders, Math.round(due / this.#since.average)));
+        if (due > 0 && !await this.#told(orders)) return false;
+        if (this.pace === "own") await this.#until(this.#due(this.#clocks.now()) > 0 ? 0 : STRETCH.milliseconds - (this.#clocks.now() - began));
+        return due <= 0 || this.#isOn;
+    }
+
+    #due(now) {
+        return ((now - this.#since.at) * PACES.own.speed) / 1000 - Number(this.#laboratory.panel.clock - this.#since.clock);
+    }
+
+    async #told(orders) {
+        const { clock } = this.#laboratory.panel;
+        const performed = await this.#laboratory.step(orders, false);
+        if (performed && this.#since !== null) this.#since.average = Number(this.#laboratory.panel.clock - clock) / performed;
+        return Boolean(performed);
+    }
+
+    /** Waits so long, or until the picture has come where the clock is, or a halt. */
+    #until(milliseconds) {
+        return new Promise((resolve) => {
+            this.#wake = resolve;
+            if (milliseconds < Infinity) this.#clocks.sleep(Math.max(0, milliseconds)).then(resolve);
+        });
+    }
+}

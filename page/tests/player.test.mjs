@@ -1,0 +1,76 @@
+// The player, with made-up accounts.
+import assert from "node:assert/strict";
+import { test } from "node:test";
+import { Player } from "../player.mjs";
+
+const bring = { clock: 90n, at: "0004", order: "b 0020", find: 24, take: 1, seek: 15, act: 1, sum: 41, before: "00000000", after: "00000100", register: "00010050", next: "0005" };
+const jump = { clock: 131n, at: "6363", order: "u 0004", find: 10, take: 1, seek: 1, act: 1, sum: 13, before: "00000100", after: "00000100", register: "000f0010", next: "0004" };
+const print = { ...jump, order: "p 4600", act: 384, sum: 396, next: "0000" };
+const played = (account, milliseconds, settings = {}) => {
+    const player = Object.assign(new Player(), settings);
+    player.play(account);
+    player.tick(milliseconds);
+    return player.at();
+};
+
+test("nothing is played at first, after the end, and a tick without an order does nothing", () => {
+    const player = new Player();
+    player.tick(100);
+    assert.equal(player.at(), null);
+    player.play(bring);
+    player.end();
+    assert.equal(player.at(), null);
+});
+
+test("the phases pass one after another, each for its word times", () => {
+    const phases = [0, 23.9, 24, 24.9, 25, 39.9, 40, 40.9].map((times) => played(bring, (1000 * times) / 32 + 0.001).phase);
+    assert.deepEqual(phases, ["find", "find", "take", "take", "seek", "seek", "act", "act"]);
+});
+
+test("counter and register change at the end of take, the accumulator and a jump's counter at the end of act", () => {
+    const told = (account, times) => (({ counter, register, accumulator, done }) => [counter, register, accumulator, done])(played(account, 1000 * times, { pace: 1 }));
+    assert.deepEqual(told(bring, 24.5), ["0004", null, "00000000", false]);
+    assert.deepEqual(told(bring, 25.5), ["0005", "00010050", "00000000", false]);
+    assert.deepEqual(told(bring, 41.5), ["0005", "00010050", "00000100", true]);
+    assert.deepEqual(told(jump, 12), ["0000", "000f0010", "00000100", false]);
+    assert.deepEqual(told(jump, 13), ["0004", "000f0010", "00000100", true]);
+});
+
+test("the register holds the order before until the next one is taken", () => {
+    const player = new Player();
+    player.play(bring);
+    player.tick(60_000);
+    player.play(jump);
+    assert.deepEqual([player.at().offset, player.at().register], [0, "00010050"]);
+});
+
+test("an order at no address has no counter of its own", () => {
+    assert.equal(played({ ...bring, at: null }, 10_000).counter, "0005");
+    assert.equal(played({ ...bring, at: null }, 10).counter, null);
+});
+
+test("a second passes as many word times as the pace says, and no more than the order has", () => {
+    assert.equal(played(bring, 500, { pace: 64 }).offset, 32);
+    assert.equal(played(bring, 5000, { pace: 64 }).offset, 41);
+});
+
+test("only an act of more than a turn is hurried, and only from its beginning on", () => {
+    assert.equal(played(print, 1000, { pace: 12, hurry: 4 }).offset, 12);
+    assert.equal(played(print, 2000, { pace: 12, hurry: 4 }).offset, 60);
+    assert.equal(played(bring, 4000, { pace: 10, hurry: 4 }).offset, 40);
+    assert.equal(played(bring, 4050, { pace: 10, hurry: 4 }).offset, 40.5);
+});
+
+test("without motion an order is four pictures, the ends of its phases", () => {
+    const player = Object.assign(new Player(), { isStill: true });
+    player.play(bring);
+    const seen = [];
+    for (let picture = 0; picture < 4; picture += 1) {
+        seen.push([player.at().offset, player.at().phase]);
+        player.tick(1000);
+        assert.equal(player.at().offset, seen.at(-1)[0]);
+        player.tick(300);
+    }
+    assert.deepEqual(seen, [[24, "find"], [25, "take"], [40, "seek"], [41, "act"]]);
+    assert.equal(player.at().done, true);
+});

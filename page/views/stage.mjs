@@ -1,0 +1,39 @@
+// Where the parts stand: the stage with cabinet and typewriter, the pace, the story beside the program, and the bench. Console and typewriter change
+// their places with the width, so that the document's order is the seen order.
+import { h } from "./dom.mjs";
+
+const WIDE = matchMedia("(min-width: 1280px)");
+const NARROW = matchMedia("(max-width: 760px)");
+
+const box = (name, ...views) => h("div", { class: name }, ...views.map((view) => view.node ?? view));
+
+/** The page below its header. */
+export function makeStage(made) {
+    for (const { node } of [made.drum, made.panel, made.console, made.time]) node.querySelector("h2").classList.add("unseen");
+    const cabinet = box("cabinet", made.drum, box("desk", made.panel, made.console));
+    const typewriter = box("flexowriter", made.paper, made.tape, made.keyboard);
+    const stage = box("stage", cabinet, typewriter);
+    const bench = box("bench", box("column", made.explanation, made.script, made.turns), box("column", made.source), box("column", made.lines, made.profile));
+    return h("main", {}, stage, box("pace", made.pace, made.time), box("telling", made.accounts, made.listing), bench);
+}
+
+/** Puts a node where it is seen, unless it stands there. The focus stays. */
+function put(node, where, beside) {
+    const isThere = where === "before" ? beside.previousElementSibling === node : node.parentElement === beside;
+    if (isThere) return;
+    const focused = node.contains(document.activeElement) ? document.activeElement : null;
+    beside[where](node);
+    focused?.focus();
+}
+
+/** Gives console and typewriter their places for the width of the window. */
+export function arrange() {
+    const [desk, typewriter, bench] = [".desk", ".flexowriter", ".bench"].map((name) => document.querySelector(name));
+    if (bench === null) return;
+    if (WIDE.matches) put(typewriter, "append", document.querySelector(".stage"));
+    else put(typewriter, "before", bench);
+    if (NARROW.matches) put(desk, "before", typewriter);
+    else put(desk, "append", document.querySelector(".cabinet"));
+}
+
+for (const width of [WIDE, NARROW]) width.addEventListener("change", arrange);

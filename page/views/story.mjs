@@ -1,0 +1,71 @@
+// The story of an order: a sentence, a bar of four colours that fills as the drum turns, and below them the exact account.
+import { PHASES } from "../player.mjs";
+import { h, part, refill, tell } from "./dom.mjs";
+import { saysOf } from "./says.mjs";
+
+/** The parts of a phase: a wait, drawn as a line, and the word time that reads; or a work. */
+const partsOf = (phase, times) => (["find", "seek"].includes(phase) && times > 1 ? [["wait", times - 1], ["work", 1]] : [["work", times]]);
+
+/** A text whose places are elements: `{m}` is an address, `{f}` and `{s}` are places in the colours of their phases. */
+function sentence(pattern, values) {
+    const made = { m: (value) => h("code", {}, value), f: (value) => h("b", { class: "find" }, value), s: (value) => h("b", { class: "seek" }, value), g: (value) => h("code", {}, value) };
+    return pattern.split(/(\{\w+\})/).filter((piece) => piece !== "").map((piece) => {
+        const name = /^\{(\w+)\}$/.exec(piece)?.[1];
+        return name === undefined ? piece : (made[name] ?? String)(String(values[name]));
+    });
+}
+
+/** The bar of an account, and what fills it up to so many word times. */
+function makeBar(account) {
+    let begins = 0;
+    const fills = PHASES.flatMap((phase) => partsOf(phase, account[phase]).filter(([, times]) => times > 0).map(([kind, times]) => {
+        const fill = h("i");
+        begins += times;
+        return { phase, from: begins - times, times, fill, node: h("span", { class: `piece ${phase} ${kind}`, style: `flex: ${times} 1 0` }, fill) };
+    }));
+    const show = (offset) => {
+        for (const { from, times, fill } of fills) fill.style.transform = `scaleX(${Math.max(0, Math.min(1, (offset - from) / times)).toFixed(3)})`;
+    };
+    return { nodes: fills.map(({ node }) => node), show };
+}
+
+/** The names of the phases with their word times, and their sum. */
+function legend(account, { text }) {
+    const names = PHASES.map((phase) => h("span", { "data-phase": phase }, h("span", { class: `dot ${phase}` }), `${text(phase)} `, h("b", {}, String(account[phase]))));
+    return [...names, h("span", {}, `${text("sum")} `, h("b", {}, String(account.sum)), ` ${text("places")}`)];
+}
+
+/** What is told where no order is: why there is none, and what tells one. */
+const untold = (pace) => ({ own: "storyOwn", fast: "storyFast" })[pace] ?? "noAccounts";
+
+/** The part of the page with the story of the order under way, or of the last one. */
+export function makeStory(laboratory, texts, { playing, isFast, pace }) {
+    const { text, table } = texts;
+    const [tile, told] = [h("span", { class: "tile", "aria-hidden": "true" }), h("p", { class: "sentence-of-order" })];
+    const [bar, names] = [h("div", { class: "order-bar", "aria-hidden": "true" }), h("p", { class: "phases" })];
+    let [shown, drawn] = [undefined, null];
+    const sentences = (account) => {
+        const { kind, waits, values } = saysOf(account);
+        return [h("code", {}, account.order), " ", ...sentence(table.says[kind], values), " ", ...(waits === null ? [] : sentence(text(waits), values))];
+    };
+    const draw = (account) => {
+        shown = account;
+        drawn = account === null ? null : makeBar(account);
+        tell(tile, account === null ? "–" : account.order.replace("-", "")[0]);
+        told.replaceChildren(...(account === null ? [text(untold(pace()))] : sentences(account)));
+        refill(bar, ...(drawn?.nodes ?? []));
+        refill(names, ...(account === null ? [] : legend(account, texts)));
+    };
+    const frame = () => {
+        const at = playing();
+        drawn?.show(at?.account === shown ? at.offset : Infinity);
+        for (const name of names.children) name.classList.toggle("now", at !== null && !at.done && name.dataset.phase === at.phase);
+    };
+    const show = () => {
+        const account = isFast() ? null : laboratory.accounts.at(-1) ?? null;
+        if (account !== shown || account === null) draw(account);
+        told.setAttribute("aria-live", pace() === "order" ? "polite" : "off");
+        frame();
+    };
+    return { node: part("story", text("story"), h("div", { class: "telling-order" }, tile, told), bar, names), show, frame };
+}
