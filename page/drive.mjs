@@ -99,14 +99,20 @@ export class Drive extends EventTarget {
     /** Whether an order was performed. It is played to its end, or to a halt, where the pace waits for it. */
     async #order(pace) {
         const asked = this.pace;
-        const performed = await this.#laboratory.step(1);
-        if (!performed || this.pace !== asked) return Boolean(performed);
+        let isPlayed = false;
+        const performed = await this.#laboratory.step(1, true, (account) => {
+            isPlayed = this.pace === asked;
+            if (isPlayed) this.#play(account, pace);
+        });
+        if (isPlayed && asked !== null && this.pace === asked) await this.#until(Infinity);
+        return Boolean(performed);
+    }
+
+    #play(account, pace) {
         const { speed, hurry } = PACES[pace];
         Object.assign(this.#player, { pace: speed, hurry });
-        this.#player.play(this.#laboratory.accounts.at(-1));
+        this.#player.play(account);
         this.dispatchEvent(new Event("play"));
-        if (asked !== null) await this.#until(Infinity);
-        return true;
     }
 
     get #isOn() {

@@ -341,7 +341,7 @@ export class Laboratory extends EventTarget {
         this.panel = replies.panelOf(await this.#ask("panel"));
         this.accounts = this.accounts.filter(({ clock }) => clock < this.panel.clock);
         const last = this.accounts.at(-1);
-        if (last !== undefined && last.register === undefined) Object.assign(last, { register: this.panel.register, next: this.panel.counter });
+        if (last !== undefined && last.register === undefined) Object.assign(last, { register: this.panel.register, next: this.panel.counter, status: this.panel.status });
         if (!isAmong(this.panel.counter, this.#first, SHOWN - 1)) this.#first = windowAt(this.panel.counter, SHOWN);
         await Promise.all([this.#lookAtWords(), this.#lookAtTrack(), this.#lookAtPaper(), this.#lookAtRules()]);
         if (this.#hit !== null) this.notice = { kind: "rule", number: this.#hit, rule: this.rules[this.#hit], isOfScript: this.#isRuleOfScript[this.#hit] ?? false };
@@ -411,11 +411,13 @@ export class Laboratory extends EventTarget {
         });
     }
 
-    /** Performs orders and tells each; fewer where the machine comes to rest. Gives how many. Rows of the drum are left out where they are not wanted now. */
-    step(orders = 1, withRows = true) {
+    /** Performs orders and tells each; fewer where the machine comes to rest. Gives how many. Rows of the drum are left out where they are not wanted now.
+     * `whenDone` is given the last account before the change is shown. */
+    step(orders = 1, withRows = true, whenDone = () => {}) {
         return this.#work(async () => {
             const performed = await this.#tell(Math.min(orders, TOLD_AT_ONCE), false, withRows);
             await this.#look();
+            if (performed > 0) whenDone(this.accounts.at(-1));
             return performed;
         });
     }

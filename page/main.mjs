@@ -17,6 +17,7 @@ import { makePanel } from "./views/panel.mjs";
 import { makePaper, makeTape } from "./views/paper.mjs";
 import { makeProfile } from "./views/profile.mjs";
 import { arrange, makeStage } from "./views/stage.mjs";
+import { makeStory } from "./views/story.mjs";
 import { makeTurns } from "./views/turns.mjs";
 import { makeLines, makeScript, makeSource } from "./views/writing.mjs";
 import { LANGUAGES, counted, textsIn } from "./words.mjs";
@@ -37,7 +38,7 @@ let isKiosk = asked.isKiosk;
 let views = [];
 let notices = null;
 let drive = null;
-let picture = { frame: null, drum: null, last: 0 };
+let picture = { frame: null, views: [], last: 0 };
 let endIdle = () => {};
 let laboratory = null;
 let hasShortKeys = true;
@@ -103,15 +104,21 @@ function playing() {
     return at.done && drive.pace !== "slow" ? null : at;
 }
 
-/** Draws the drum picture by picture, as long as an order is played. */
+/** The order that is played, as long as it has not done what it does. */
+function held() {
+    const at = playing();
+    return at === null || at.done ? null : at.account;
+}
+
+/** Draws what moves picture by picture, as long as an order is played. When it has ended, what it has done is shown. */
 function animate() {
     const next = (now) => {
         player.tick(Math.max(0, now - picture.last));
         picture.last = now;
         const at = playing();
-        picture.drum.frame();
+        for (const view of picture.views) view.frame();
         picture.frame = at === null || at.done ? null : requestAnimationFrame(next);
-        if (picture.frame === null) drive.played();
+        if (picture.frame === null) { show(); drive.played(); }
     };
     if (picture.frame !== null) return;
     if (performance.now() - picture.last > CARRIED_MILLISECONDS) picture.last = performance.now();
@@ -148,15 +155,15 @@ function makeExplanation() {
     return { node, show: showIt };
 }
 
-/** What the drum asks: what is played, and whether it turns too fast to be read. */
-const showing = { playing, isFast: () => drive.pace === "own" || drive.pace === "fast" };
+/** What the views ask: what is played, what it has not done yet, whether the drum turns too fast to be read, and the pace. */
+const showing = { playing, held, isFast: () => drive.pace === "own" || drive.pace === "fast", pace: () => drive.pace };
 
 /** All parts but the header, and the element that holds them in the order in which they are seen. */
 function makeWork() {
     const made = {
         drum: makeDrum(laboratory, texts, showing), panel: makePanel(laboratory, texts), console: makeConsole(laboratory, texts),
-        paper: makePaper(laboratory, texts), tape: makeTape(laboratory, texts), keyboard: makeKeyboard(laboratory, texts),
-        pace: makePace(laboratory, texts, drive), time: makeTime(laboratory, texts), accounts: makeAccounts(laboratory, texts), listing: makeListing(laboratory, texts),
+        paper: makePaper(laboratory, texts, showing), tape: makeTape(laboratory, texts), keyboard: makeKeyboard(laboratory, texts),
+        pace: makePace(laboratory, texts, drive), time: makeTime(laboratory, texts), story: makeStory(laboratory, texts, showing), accounts: makeAccounts(laboratory, texts, showing), listing: makeListing(laboratory, texts, showing),
         explanation: makeExplanation(), script: makeScript(laboratory, texts), source: makeSource(laboratory, texts), lines: makeLines(laboratory, texts),
         profile: makeProfile(laboratory, texts), turns: makeTurns(laboratory, texts),
     };
@@ -164,7 +171,7 @@ function makeWork() {
 }
 
 function makeShow() {
-    const [drum, paper, panel, listing] = [makeDrum(laboratory, texts, showing), makePaper(laboratory, texts), makePanel(laboratory, texts), makeListing(laboratory, texts)];
+    const [drum, paper, panel, listing] = [makeDrum(laboratory, texts, showing), makePaper(laboratory, texts, showing), makePanel(laboratory, texts), makeListing(laboratory, texts, showing)];
     const column = (...views) => h("div", { class: "column" }, ...views.map(({ node }) => node));
     return { node: h("main", {}, h("div", { class: "cabinet" }, drum.node), column(paper, panel, listing)), made: [drum, paper, panel, listing] };
 }
@@ -184,7 +191,7 @@ function lay() {
     const { node, made } = isKiosk ? makeShow() : makeWork();
     notices = makeNotices(laboratory, texts, isKiosk, { run: () => drive.go("fast"), save, anew: () => (isKiosk ? openKiosk() : laboratory.new()), linkTo: (lines) => linkTo(withoutQuestions(lines, questions)) });
     views = [top, ...made];
-    picture.drum = made.find(({ frame }) => frame !== undefined);
+    picture.views = made.filter(({ frame }) => frame !== undefined);
     document.getElementById("page").replaceChildren(heading, node, ...(isKiosk ? [makeLeave()] : []));
     if (!isKiosk) arrange();
     show();

@@ -48,6 +48,11 @@ async function press(browser, selector) {
     await settled(browser);
 }
 
+/** So many orders, each played to its end by the press of Stop. */
+async function steps(browser, orders) {
+    for (let order = 0; order < orders; order += 1) for (const selector of ["#step", "#halt"]) await press(browser, selector);
+}
+
 async function picture(browser, name) {
     if (pictures === undefined) return;
     await browser.waitFor("document.querySelector('.drum-box').dataset.moving === 'false'");
@@ -107,7 +112,7 @@ const hasTrail = (browser) => browser.value(`(() => {
 /** What the page shows of a word is what the monitor says now: after a run, a put by hand, and an order that stores what is there. */
 async function changes(browser) {
     await browser.open(`${address}?lang=en#self-modifying`);
-    for (let order = 0; order < 4; order += 1) await press(browser, "#step");
+    await steps(browser, 4);
     const row = () => textOf(browser, "tr[data-address='0009']");
     assert.match(await row(), /changed by y 0009 at 0005, clock 181/);
     assert.equal(await browser.value("document.querySelector('.arrow') !== null && document.querySelectorAll('.rows > *').length > 0"), true);
@@ -305,7 +310,7 @@ async function ownProgram(browser) {
 async function lesson(browser) {
     await browser.open(`${address}?lang=en#self-modifying`);
     assert.equal((await panelOf(browser)).status, "going");
-    for (let order = 0; order < 4; order += 1) await press(browser, "#step");
+    await steps(browser, 4);
     assert.equal((await panelOf(browser)).clock, "274");
     const stored = await browser.value("laboratoryOfPage().writerOf('0009').order");
     assert.equal(stored, "y 0009");
@@ -329,6 +334,58 @@ async function lesson(browser) {
     assert.equal((await panelOf(browser)).status, "halted stop");
     await browser.value("laboratoryOfPage().say('words 0025 1')");
     assert.equal(await browser.value("laboratoryOfPage().talk.at(-1).reply"), "0025 00000014\n");
+}
+
+/** The story of an order as the page shows it: its sentence, the widths of the bar's parts in word times, how far they are filled, and the phases' numbers. */
+const story = (browser) => browser.value(`(() => {
+    const pieces = [...document.querySelectorAll(".piece")];
+    return {
+        says: document.querySelector(".sentence-of-order").innerText, bar: pieces.map((it) => [it.className.slice(6), Number(it.style.flexGrow)]),
+        filled: pieces.map((it) => new DOMMatrix(getComputedStyle(it.firstElementChild).transform).a), phases: [...document.querySelectorAll(".phases [data-phase] b")].map((it) => Number(it.textContent)),
+    };
+})()`);
+
+/** Runs until something holds in the page, and gives what the page shows at each picture on the way. */
+const watched = (browser, until, shown) => browser.value(`new Promise((resolve) => {
+    const seen = [];
+    const next = () => {
+        seen.push(${shown});
+        if (${until}) resolve(seen);
+        else requestAnimationFrame(next);
+    };
+    next();
+})`);
+
+/** Each order is told by a sentence and a bar that fills; what it writes or prints is seen when it has done so, and that the program has changed itself is told for three orders. */
+async function stories(browser) {
+    await browser.open(`${address}?lang=en#self-modifying`);
+    await steps(browser, 3);
+    assert.deepEqual(await story(browser), {
+        says: "b 0020 brings the word of 0020 into the accumulator. The drum had to turn 24 places to the order and 15 to the word.", phases: [24, 1, 15, 1],
+        bar: [["find wait", 23], ["find work", 1], ["take work", 1], ["seek wait", 14], ["seek work", 1], ["act work", 1]], filled: [1, 1, 1, 1, 1, 1],
+    });
+    await press(browser, "#step");
+    const isStill = "document.querySelector('.drum-box').dataset.moving === 'false'";
+    const seen = await watched(browser, isStill, "[document.querySelector(\"tr[data-address='0009'] td:nth-of-type(4) code\").textContent, document.querySelector('.rewritten').textContent, document.querySelector('.cell.written') === null]");
+    const [before, rewritten] = ["r 0017 at 0000 turned u 0000 at 0017 into u 0002", "y 0009 at 0005 turned a 0000 at 0009 into a 0100"].map((what) => `The program has rewritten itself: ${what}.`);
+    assert.ok(seen.length > 3);
+    assert.deepEqual(seen.slice(0, -1).filter(([order, told, isUnmarked]) => order !== "a 0000" || told !== before || !isUnmarked), []);
+    assert.deepEqual(seen.at(-1), ["a 0100", rewritten, false]);
+    const toldNow = () => textOf(browser, ".rewritten");
+    assert.equal(await browser.value("document.querySelector('.arrow') !== null"), true);
+    await steps(browser, 2);
+    assert.equal(await toldNow(), rewritten);
+    await steps(browser, 1);
+    assert.equal(await toldNow(), "");
+    await started(browser, "put 0000 p =h", "put 0001 z 0000");
+    await press(browser, "#step");
+    const printed = await watched(browser, isStill, "[document.querySelector('.paper').textContent, document.querySelector('.piece.act i').style.transform]");
+    assert.ok(printed.length > 3);
+    assert.deepEqual([...new Set(printed.slice(0, -1).map(([paper]) => paper))], [""]);
+    assert.deepEqual(printed.at(-1), ["h", "scaleX(1)"]);
+    assert.match((await story(browser)).says, /^p 4900 types the sign h\. The drum had to turn \d+ places to the order; it needs no word\.$/);
+    await steps(browser, 1);
+    assert.match((await story(browser)).says, /^z 0000 stops the machine\./);
 }
 
 /** What Save gives stands in its dialog, at first without the lines that only ask; it leads to the same place. */
@@ -741,15 +798,19 @@ async function pictureByPicture(browser) {
     assert.deepEqual(places.map((place) => (64 - place) % 64), ends);
 }
 
-/** Nothing moves by itself: no animation runs after any step, whether motion is wanted or not. */
+/** Nothing moves by itself: no animation runs after any step, but for a word that turns over once as it is changed; and none at all where no motion is wanted. */
 async function stillness(browser) {
     for (const value of wishes(browser, "no-preference", "reduce")) {
         await browser.media?.({ "prefers-reduced-motion": value });
         await browser.open(`${address}?lang=en#self-modifying`);
-        for (let order = 0; order < 5; order += 1) {
+        for (let order = 0; order < 4; order += 1) {
             await press(browser, "#step");
             assert.equal(await browser.value("document.getAnimations().length"), 0, value);
         }
+        await press(browser, "#halt");
+        if (value !== "reduce") await browser.value("Promise.all(document.getAnimations().map(({ finished }) => finished))");
+        assert.equal(await browser.value("document.getAnimations().length"), 0, value);
+        await press(browser, "#step");
         if (value === "reduce") await pictureByPicture(browser);
     }
     await browser.media?.({});
@@ -852,7 +913,7 @@ async function touch(browser) {
     assert.deepEqual(await sideways(browser), []);
     const small = "[...document.querySelectorAll('#page button, #page select, #page input')].filter((it) => it.checkVisibility() && !it.closest('label') && Math.min(it.getBoundingClientRect().width, it.getBoundingClientRect().height) < 24).map((it) => it.outerHTML.slice(0, 90))";
     assert.deepEqual(await browser.value(small), []);
-    for (let order = 0; order < 4; order += 1) await taps("#step");
+    for (let order = 0; order < 4; order += 1) for (const selector of ["#step", "#halt"]) await taps(selector);
     await taps("tr[data-address='0009'] button");
     assert.match(await textOf(browser, ".why"), /put there by y 0009 at 0005/);
     await taps(".time button[aria-label='One order back']");
@@ -864,7 +925,7 @@ async function touch(browser) {
     await browser.size(1500, 1250);
 }
 
-const all = { kiosk, addresses, changes, thereAndBack, openSource, whatToPress, endlessPrint, firstHour, lesson, saved, source, profile, examples, badInput, usedUp, longRun, paces, forPeople, everyone, byKeys, readOut, stillness, touch, withoutWebAssembly, cannotOpen };
+const all = { kiosk, addresses, changes, thereAndBack, openSource, whatToPress, endlessPrint, firstHour, lesson, stories, saved, source, profile, examples, badInput, usedUp, longRun, paces, forPeople, everyone, byKeys, readOut, stillness, touch, withoutWebAssembly, cannotOpen };
 const wanted = process.env.VISITS?.split(" ") ?? Object.keys(all).filter((name) => !left.includes(name));
 const visits = Object.fromEntries(wanted.map((name) => [name, all[name]]));
 const browser = await Engine.start();

@@ -27,8 +27,8 @@ function rowsOf(account, text) {
         h("td", {}, h("code", {}, account.order)), ...numbers, h("td", { class: "changes" }, h("code", {}, changes))), ...below];
 }
 
-/** The part of the page with the accounts. */
-export function makeAccounts(laboratory, { text }) {
+/** The part of the page with the accounts. Of the order that is played, what it has not done yet is not seen. */
+export function makeAccounts(laboratory, { text }, { playing, held }) {
     const body = h("tbody");
     const names = ["clock", "at", "order", "find", "take", "seek", "act", "sum", "accumulator"];
     const heads = names.map((name) => h("th", { scope: "col" }, text(name)));
@@ -44,8 +44,14 @@ export function makeAccounts(laboratory, { text }) {
         refill(body, ...accounts.slice(-SHOWN).reverse().flatMap((account) => rowsKept(account)));
         empty.hidden = accounts.length > 0;
         table.hidden = accounts.length === 0;
+        frame();
     };
-    return { node: part("accounts", text("accounts"), empty, table), show };
+    const frame = () => {
+        const isHeld = held() !== null;
+        table.dataset.phase = isHeld ? playing().phase : "";
+        table.classList.toggle("under-way", isHeld);
+    };
+    return { node: part("accounts", text("accounts"), empty, table), show, frame };
 }
 
 /** The part of the page that goes back and forward. */

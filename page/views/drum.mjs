@@ -2,16 +2,17 @@
 // page's own picture of the machine.
 import { SECTORS, addressIn, positionOf } from "../addresses.mjs";
 import { bitsOf } from "../module/replies.mjs";
+import { PHASES } from "../player.mjs";
 import { h, part, s } from "./dom.mjs";
+import { WITHOUT_WORD } from "./says.mjs";
 
 /** The centre of the picture of 800 to 720, and what one word time turns. */
 const [X, Y] = [400, 372];
 const STEP = 360 / SECTORS;
 const RING = { outer: 318, inner: 260, numbers: 301, bits: [265, 281], rim: 321 };
 const WAY = 330;
+const WRITTEN_MILLISECONDS = 1100;
 const PEN = { radius: 246, pitch: 20, turns: 4.6, waits: 4.5, works: 15 };
-const PHASES = ["find", "take", "seek", "act"];
-const WITHOUT_WORD = /^-?[ziput] /;
 
 const at = (degrees, radius) => [X + radius * Math.sin((degrees * Math.PI) / 180), Y - radius * Math.cos((degrees * Math.PI) / 180)];
 const fixed = (numbers) => numbers.map((number) => number.toFixed(1)).join(" ");
@@ -44,7 +45,7 @@ function makeRing() {
     const bolts = Array.from({ length: 8 }, (unused, place) => at(45 * place + 22.5, 133)).map(([cx, cy]) => s("circle", { class: "bolt", cx, cy, r: 6.5 }));
     const svg = s("svg", { class: "ring", viewBox: box, "aria-hidden": "true" }, ...cells,
         ...[RING.numbers, 272].map((r) => s("circle", { class: "streak", cx: X, cy: Y, r })), s("circle", { class: "face-plate", cx: X, cy: Y, r: RING.inner }), s("circle", { class: "hub-plate", cx: X, cy: Y, r: 146 }), ...bolts);
-    const [drawn, marked] = [new Map(), { next: null, operand: null }];
+    const [drawn, marked] = [new Map(), { next: null, operand: null, written: null }];
     const mark = (marks) => {
         for (const kind of Object.keys(marked)) {
             const sector = sectorOf(marks[kind]);
@@ -167,7 +168,7 @@ function stroke(pen, from, to, width, colour) {
 /** What the drum shows where the machine rests: the panel's place. */
 function atRest({ panel, operand, words }, isFast) {
     const order = words.find(({ address }) => address === panel.counter)?.order ?? "";
-    return { clock: panel.clock, offset: 0, phase: isFast ? "turns" : null, next: panel.counter, operand: WITHOUT_WORD.test(order) ? null : operand, left: 0, count: isFast ? "↻" : "–", isReading: false };
+    return { clock: panel.clock, offset: 0, phase: isFast ? "turns" : null, next: panel.counter, operand: WITHOUT_WORD.test(order) ? null : operand, left: 0, count: isFast ? "↻" : "–", isReading: false, written: null };
 }
 
 /** What it shows while an order is played. */
@@ -175,7 +176,7 @@ export function whilePlayed({ account, offset, phase, counter }) {
     const ends = PHASES.slice(0, PHASES.indexOf(phase) + 1).reduce((sum, name) => sum + account[name], 0);
     const left = phase === "find" || phase === "seek" ? ends - offset : 0;
     const sign = account.printed === null ? account.order.trim()[0] : account.printed.sign ?? "·";
-    return { clock: account.clock, offset, phase, next: counter, operand: wordOf(account.order), left, count: left > 0 ? String(Math.ceil(left)) : sign, isReading: left > 0 && left <= 1 };
+    return { clock: account.clock, offset, phase, next: counter, operand: wordOf(account.order), left, count: left > 0 ? String(Math.ceil(left)) : sign, isReading: left > 0 && left <= 1, written: null };
 }
 
 /** Rings in place of the trail, where it passes too fast to be read: one for each of the last turns, as strong as the share of a phase in it. */
@@ -192,16 +193,24 @@ function drawShares(pen, pieces, colours) {
     }
 }
 
-/** The part of the page that shows the drum. `playing` gives what is played at this moment, or null; `isFast` whether it turns too fast to be read. */
-export function makeDrum(laboratory, texts, { playing, isFast }) {
+/** The part of the page that shows the drum. `playing` gives what is played at this moment, or null, `held` the order that has not yet done what it does; `isFast` whether it turns too fast to be read. */
+export function makeDrum(laboratory, texts, { playing, held, isFast }) {
     const { text } = texts;
     const [ring, trail, still] = [makeRing(), makeTrail(), makeFixed(texts)];
     const box = h("div", { class: "drum-box", role: "img" }, ring.node, trail.node, still.node);
     const key = h("p", { class: "key" }, ...["find", "take", "seek", "act"].flatMap((phase) => [h("span", { class: `dot ${phase}` }), text(phase), " "]),
         h("span", { class: "dot next" }), text("nextOrder"), " ", h("span", { class: "dot operand" }), text("operand"));
+    /** The word that the last order has stored, for a moment after it has done so. */
+    let [told, until] = [null, 0];
+    const writtenNow = (isDone) => {
+        const account = laboratory.accounts.at(-1);
+        if (isDone && account !== told) [told, until] = [account, performance.now() + WRITTEN_MILLISECONDS];
+        return isDone && performance.now() < until ? account?.stored?.address ?? null : null;
+    };
     const frame = () => {
         const played = isFast() ? null : playing();
         const view = played === null ? atRest(laboratory, isFast()) : whilePlayed(played);
+        view.written = isFast() ? null : writtenNow(held() === null);
         const position = Number(view.clock % BigInt(SECTORS)) + view.offset;
         ring.turn(position % SECTORS);
         ring.mark(view);
@@ -209,10 +218,12 @@ export function makeDrum(laboratory, texts, { playing, isFast }) {
         trail.draw(passed(laboratory.accounts, view), isFast());
         box.classList.toggle("fast", isFast());
         box.dataset.moving = String(played !== null && !played.done);
+        if (view.written !== null) setTimeout(frame, until - performance.now() + 1);
     };
     const show = () => {
         frame();
-        ring.write(laboratory.track.map(({ address, text: digits }) => [sectorOf(address), digits]));
+        const stored = held()?.stored;
+        ring.write(laboratory.track.map(({ address, text: digits }) => [sectorOf(address), address === stored?.address ? stored.before.digits : digits]));
         const { panel: { clock, counter }, operand } = laboratory;
         box.setAttribute("aria-label", isFast() ? text("drumRuns") : text("drumSays", { clock: String(clock), next: counter, operand: operand ?? "–" }));
     };

@@ -1,17 +1,25 @@
 // The words around the counter: the next order lit, changed words in colour with an arrow from the order that wrote them.
-import { button, h, kept, part, refill, s, unseen } from "./dom.mjs";
+import { button, h, kept, part, refill, s, tell, unseen } from "./dom.mjs";
+import { rewrittenBy } from "./says.mjs";
 
 const NAME_OF_ORDER = /^-?([a-z]) /;
 
 /** What is told of the order that changed a word, if there was one. */
 const toldOf = (writer, text) => (writer === null ? "" : text("changed", { order: writer.order, at: writer.at ?? "–", clock: writer.clock }));
 
-/** What a row shows. */
-const shownIn = (word, laboratory) => ({ ...word, writer: laboratory.writerOf(word.address), isNext: word.address === laboratory.panel.counter, labels: laboratory.labels.get(word.address) ?? [] });
+/** For how many orders it stands beside the words that the program has rewritten itself. */
+const REWRITTEN_ORDERS = 3;
 
-function row({ address, digits, order, writer, isNext, labels }, { text, table }, ask) {
+/** What a row shows. The word that an order stores that is played stands there as it was. */
+function shownIn(word, { labels, panel }, { writer, stored, isNew }) {
+    const isHeld = word.address === stored?.address;
+    const { digits, order } = isHeld ? stored.before : word;
+    return { address: word.address, digits, order: order ?? `word ${digits}`, writer: isHeld ? null : writer, isNext: word.address === panel.counter, isNew, labels: labels.get(word.address) ?? [] };
+}
+
+function row({ address, digits, order, writer, isNext, isNew, labels }, { text, table }, ask) {
     const meaning = table.orders[NAME_OF_ORDER.exec(order)?.[1]] ?? "";
-    return h("tr", { class: `${isNext ? "next" : ""} ${writer === null ? "" : "changed"}`, "data-address": address, "aria-current": isNext ? "true" : null },
+    return h("tr", { class: `${isNext ? "next" : ""} ${writer === null ? "" : "changed"} ${isNew ? "new" : ""}`, "data-address": address, "aria-current": isNext ? "true" : null },
         h("td", {}, button(address, () => ask(address), { class: "plain", title: `${address}: ${text("whyHint")}`, "data-name": address })),
         h("td", { class: "label" }, labels.join(" ")), h("td", {}, h("code", {}, digits)),
         h("td", { title: meaning }, h("code", {}, order), unseen(meaning === "" ? "" : ` ${meaning}`)), h("td", { class: "told" }, toldOf(writer, text)));
@@ -23,26 +31,40 @@ export function ruleText(rule, { table }) {
     return `${table.ruleKind[kind]} ${place.join(" ")}`;
 }
 
-/** An arrow beside the rows, from the last order to what it wrote, where it was told and both are shown. */
-function arrow(body, laboratory) {
-    const writer = laboratory.accounts.at(-1);
+/** Where an arrow beside the rows begins and ends, from an order that was told to what it wrote; null where one of them is not shown. */
+function arrowEnds(body, writer) {
     const rowAt = (address) => body.querySelector(`tr[data-address="${address}"]`);
     const [from, to] = [rowAt(writer?.at), rowAt(writer?.stored?.address)];
     if (from === null || to === null || from === to) return null;
     const middle = (line) => line.offsetTop + line.offsetHeight / 2;
-    const [start, end] = [middle(from), middle(to)];
-    return s("svg", { class: "arrow", width: 26, height: body.offsetHeight + body.offsetTop, "aria-hidden": "true" },
-        s("path", { d: `M 24 ${start} C 2 ${start} 2 ${end} 18 ${end}` }),
-        s("polygon", { points: `18,${end - 5} 26,${end} 18,${end + 5}` }));
+    return { clock: writer.clock, start: middle(from), end: middle(to), height: body.offsetHeight + body.offsetTop };
+}
+
+/** Scrolls a list by whole rows, so that rows are seen together, the first one where not all can be. */
+function scrollTo(list, selectors) {
+    const rows = selectors.map((selector) => list.querySelector(selector)).filter((it) => it !== null);
+    if (rows.length === 0) return;
+    const [head, room] = [list.querySelector("thead").offsetHeight, list.clientHeight];
+    const [first, last] = [Math.min, Math.max].map((choose) => choose(...rows.map(({ offsetTop }) => offsetTop)));
+    const [top, end] = last + rows[0].offsetHeight - first <= room - head ? [first, last] : [rows[0].offsetTop, rows[0].offsetTop];
+    if (top >= list.scrollTop + head && end + rows[0].offsetHeight <= list.scrollTop + room) return;
+    list.scrollTop = top - head;
+}
+
+function arrow({ start, end, height }) {
+    return s("svg", { class: "arrow", width: 26, height, "aria-hidden": "true" },
+        s("path", { pathLength: 1, d: `M 24 ${start} C 2 ${start} 2 ${end} 18 ${end}` }), s("polygon", { points: `18,${end - 5} 26,${end} 18,${end + 5}` }));
 }
 
 /** The part of the page that shows words of the drum. */
-export function makeListing(laboratory, texts) {
+export function makeListing(laboratory, texts, { held, isFast }) {
     const { text } = texts;
+    const rewritten = h("p", { class: "rewritten", role: "status" });
     const body = h("tbody");
     const heads = ["address", "label", "digits", "order", "change"].map((name) => h("th", { scope: "col" }, ["label", "change"].includes(name) ? unseen(text(name)) : text(name)));
     const table = h("table", { class: "words-table" }, h("thead", {}, h("tr", {}, ...heads)), body);
     const arrows = h("div", { class: "arrows" });
+    const list = h("div", { class: "scroll with-arrows" }, arrows, table);
     const answer = h("p", { class: "why", role: "status" });
     let askedOf = null;
     const ask = async (address) => {
@@ -57,14 +79,27 @@ export function makeListing(laboratory, texts) {
         button(text("breakAt"), () => laboratory.command(`break ${place.value}`)), " ", button(text("watchAt"), () => laboratory.command(`watch ${place.value}`)));
     const rules = h("ul", { class: "rules", "aria-label": text("rules") });
     const rowOf = kept((shown) => row(shown, texts, ask));
+    const arrowOf = kept(arrow);
+    const showWords = () => {
+        const stored = held()?.stored;
+        const told = isFast() ? [] : laboratory.accounts.filter((account) => account !== held()).slice(-REWRITTEN_ORDERS);
+        const events = told.map(rewrittenBy);
+        const newest = held() === null ? events.at(-1)?.m : undefined;
+        refill(body, ...laboratory.words.map((word) => {
+            return rowOf(word.address, shownIn(word, laboratory, { writer: laboratory.writerOf(word.address), stored, isNew: word.address === newest }));
+        }));
+        const event = events.findLast((it) => it !== null);
+        tell(rewritten, event === undefined ? "" : text("rewritten", event));
+        const ends = held() === null ? arrowEnds(body, told.at(-1)) : null;
+        refill(arrows, ...(ends === null ? [] : [arrowOf("arrow", ends)]));
+        requestAnimationFrame(() => scrollTo(list, [".next", ...(ends === null ? [] : [`[data-address="${told.at(-1).at}"]`, `[data-address="${told.at(-1).stored.address}"]`])]));
+    };
     const show = () => {
-        refill(body, ...laboratory.words.map((word) => rowOf(word.address, shownIn(word, laboratory))));
+        showWords();
         if (laboratory.words !== askedOf) answer.textContent = "";
-        const drawn = arrow(body, laboratory);
-        arrows.replaceChildren(...(drawn === null ? [] : [drawn]));
         refill(rules, ...laboratory.rules.map((rule, number) => {
             return h("li", {}, `${number}: ${ruleText(rule, texts)} `, button("×", () => laboratory.command(`drop ${number}`), { "aria-label": text("dropRule", { number }), "data-name": number }));
         }));
     };
-    return { node: part("listing", text("words"), h("div", { class: "with-arrows" }, arrows, h("div", { class: "scroll" }, table)), answer, form, rules), show };
+    return { node: part("listing", text("words"), rewritten, list, answer, form, rules), show };
 }

@@ -57,13 +57,18 @@ export function makeTape(laboratory, { text, code }) {
     return { node: part("tape", text("tape"), place, told, h("form", { class: "line", onsubmit: (event) => { event.preventDefault(); mount.click(); } }, input, mount)), show };
 }
 
-/** The part of the page with the typewriter's paper. */
-export function makePaper(laboratory, { text, code }) {
+/** The last code of a tape's text. */
+const LAST = /(\[\d+\]|[^\]])$/;
+
+/** The part of the page with the typewriter's paper. What an order prints that is played stands there when it has been printed. */
+export function makePaper(laboratory, { text, code }, { held }) {
     const paper = h("pre", { class: "paper", tabindex: "0", role: "log", "aria-label": text("paper") });
     const told = h("p");
     let shown = null;
     const show = () => {
-        const { count, text: printed } = laboratory.printed;
+        const isHeld = held()?.printed != null;
+        const count = laboratory.printed.count - (isHeld ? 1 : 0);
+        const printed = isHeld ? laboratory.printed.text.replace(LAST, "") : laboratory.printed.text;
         if (printed === shown) return;
         shown = printed;
         const isAtEnd = paper.scrollTop + paper.clientHeight >= paper.scrollHeight - 4;

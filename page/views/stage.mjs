@@ -9,12 +9,12 @@ const box = (name, ...views) => h("div", { class: name }, ...views.map((view) =>
 
 /** The page below its header. */
 export function makeStage(made) {
-    for (const { node } of [made.drum, made.panel, made.console, made.time]) node.querySelector("h2").classList.add("unseen");
+    for (const { node } of [made.drum, made.panel, made.console, made.time, made.story]) node.querySelector("h2").classList.add("unseen");
     const cabinet = box("cabinet", made.drum, box("desk", made.panel, made.console));
     const typewriter = box("flexowriter", made.paper, made.tape, made.keyboard);
     const stage = box("stage", cabinet, typewriter);
     const bench = box("bench", box("column", made.explanation, made.script, made.turns), box("column", made.source), box("column", made.lines, made.profile));
-    return h("main", {}, stage, box("pace", made.pace, made.time), box("telling", made.accounts, made.listing), bench);
+    return h("main", {}, stage, box("pace", made.pace, made.time), box("telling", box("column", made.story, made.accounts), made.listing), bench);
 }
 
 /** Puts a node where it is seen, unless it stands there. The focus stays. */

@@ -1,0 +1,43 @@
+import assert from "node:assert/strict";
+import { test } from "node:test";
+import { rewrittenBy, saysOf } from "../views/says.mjs";
+import { LANGUAGES } from "../words.mjs";
+
+/** An account as the reader of replies makes it, with these fields. */
+const account = (fields) => ({ order: "b 0020", at: "0004", find: 24, take: 1, seek: 15, act: 1, before: "00000000", after: "00000000", stored: null, printed: null, passed: 0, ...fields });
+const word = (digits, order = null) => ({ digits, order, number: 0 });
+
+test("an order that uses a word tells both waits, one that uses none tells the first alone", () => {
+    const { kind, waits, values } = saysOf(account());
+    assert.deepEqual([kind, waits, values.m, values.f, values.s], ["b", "waitsOrderWord", "0020", 24, 15]);
+    for (const letter of "ziput") assert.equal(saysOf(account({ order: `${letter} 0020` })).waits, "waitsOrder", letter);
+    assert.deepEqual(["b 0020", "u 0020"].map((order) => saysOf(account({ order, at: null, find: 0 })).waits), ["waitsRegisterWord", "waitsRegister"]);
+    assert.deepEqual((({ kind: name, waits: wait }) => [name, wait])(saysOf(account({ order: "reading" }))), ["other", null]);
+});
+
+test("a test tells what it has found: the sign, or the switch where the order has a sign of its own", () => {
+    const kindOf = (fields) => saysOf(account({ order: "t 0008", ...fields })).kind;
+    assert.deepEqual(["7wwwwwww", "80000000", "wwwwwwww"].map((before) => kindOf({ before })), ["tNot", "tBelow", "tBelow"]);
+    assert.deepEqual([kindOf({ next: "0008" }), kindOf({ order: "-t 0008", next: "0008" }), kindOf({ order: "-t 0008", next: "0005" }), kindOf({ order: "-t 0008" })], ["tNot", "tSwitch", "tNot", "tOpen"]);
+});
+
+test("a stop tells whether the machine stood still, and a print its sign or its code", () => {
+    assert.deepEqual(["halted stop", "going", undefined].map((status) => saysOf(account({ order: "z 0400", status })).kind), ["z", "zPast", "zPast"]);
+    assert.deepEqual([{ code: 46, sign: "g" }, { code: 16, sign: null }].map((printed) => (({ kind, values }) => [kind, values.g, values.code])(saysOf(account({ order: "p 4600", printed })))), [["p", "g", 46], ["pCode", "", 16]]);
+});
+
+test("each order has a sentence in each language", () => {
+    for (const letter of "zbyridnmpeuthcas") {
+        const { kind } = saysOf(account({ order: `${letter} 0020`, printed: { code: 46, sign: "g" } }));
+        for (const { says } of Object.values(LANGUAGES)) assert.equal(typeof says[kind], "string", kind);
+    }
+});
+
+test("an order that gives another one another address has rewritten it; one that changes nothing, or holds a number, has not", () => {
+    const stored = { address: "0009", label: null, before: word("000q0000", "a 0000"), after: word("000q0100", "a 0100") };
+    assert.deepEqual(rewrittenBy(account({ order: "y 0009", at: "0005", stored })), { o: "y 0009", at: "0005", m: "0009", b: "a 0000", a: "a 0100" });
+    assert.equal(rewrittenBy(account({ order: "y 0009", stored: { ...stored, after: stored.before } })), null);
+    assert.equal(rewrittenBy(account({ order: "h 0009", stored })), null);
+    assert.equal(rewrittenBy(account()), null);
+    assert.deepEqual(rewrittenBy(account({ order: "r 0009", at: null, stored: { ...stored, before: word("wwwwwwww") } })), { o: "r 0009", at: "–", m: "0009", b: "wwwwwwww", a: "a 0100" });
+});
