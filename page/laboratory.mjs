@@ -415,8 +415,10 @@ export class Laboratory extends EventTarget {
      * `whenDone` is given the last account before the change is shown. */
     step(orders = 1, withRows = true, whenDone = () => {}) {
         return this.#work(async () => {
+            const { register } = this.panel;
             const performed = await this.#tell(Math.min(orders, TOLD_AT_ONCE), false, withRows);
             await this.#look();
+            if (performed === 1) this.accounts.at(-1).registerBefore = register;
             if (performed > 0) whenDone(this.accounts.at(-1));
             return performed;
         });

@@ -16,6 +16,7 @@ import { makePace } from "./views/pace.mjs";
 import { makePanel } from "./views/panel.mjs";
 import { makePaper, makeTape } from "./views/paper.mjs";
 import { makeProfile } from "./views/profile.mjs";
+import { makePlate, makeScope } from "./views/scope.mjs";
 import { arrange, makeStage } from "./views/stage.mjs";
 import { makeStory } from "./views/story.mjs";
 import { makeTurns } from "./views/turns.mjs";
@@ -161,7 +162,7 @@ const showing = { playing, held, isFast: () => drive.pace === "own" || drive.pac
 /** All parts but the header, and the element that holds them in the order in which they are seen. */
 function makeWork() {
     const made = {
-        drum: makeDrum(laboratory, texts, showing), panel: makePanel(laboratory, texts), console: makeConsole(laboratory, texts),
+        drum: makeDrum(laboratory, texts, showing), plate: makePlate(laboratory, texts), scope: makeScope(laboratory, texts, showing), panel: makePanel(laboratory, texts), console: makeConsole(laboratory, texts),
         paper: makePaper(laboratory, texts, showing), tape: makeTape(laboratory, texts), keyboard: makeKeyboard(laboratory, texts),
         pace: makePace(laboratory, texts, drive), time: makeTime(laboratory, texts), story: makeStory(laboratory, texts, showing), accounts: makeAccounts(laboratory, texts, showing), listing: makeListing(laboratory, texts, showing),
         explanation: makeExplanation(), script: makeScript(laboratory, texts), source: makeSource(laboratory, texts), lines: makeLines(laboratory, texts),

@@ -6,7 +6,6 @@ export const PHASES = ["find", "take", "seek", "act"];
 
 /** Without motion each phase is one picture, its end, for this long. */
 const PICTURE_MILLISECONDS = 1200;
-const BLANK = { register: null, accumulator: null };
 
 const after = (address) => addressOf((numberOf(address) + 1) % PLACES);
 
@@ -18,13 +17,13 @@ export class Player {
     isStill = false;
 
     #account = null;
-    #before = BLANK;
+    #before = null;
     #offset = 0;
     #waited = 0;
 
-    /** Begins with an order. What the registers held before it is known from the order before, where that was played. */
+    /** Begins with an order. What the register held before it is known where it was seen, or from the order before, where that was played. */
     play(account) {
-        this.#before = this.#account === null ? BLANK : { register: this.#account.register ?? null, accumulator: this.#account.after };
+        this.#before = account.registerBefore ?? this.#account?.register ?? null;
         this.#account = account;
         this.#offset = this.isStill ? account.find : 0;
         this.#waited = 0;
@@ -76,7 +75,7 @@ export class Player {
         return {
             account, offset, done, phase: PHASES[ends.findIndex(isIn)] ?? "act",
             counter: done ? account.next ?? counted : isTaken ? counted : account.at,
-            register: isTaken ? account.register ?? null : this.#before.register,
+            register: isTaken ? account.register ?? null : this.#before,
             accumulator: done ? account.after : account.before,
         };
     }

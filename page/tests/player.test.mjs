@@ -42,6 +42,7 @@ test("the register holds the order before until the next one is taken", () => {
     player.tick(60_000);
     player.play(jump);
     assert.deepEqual([player.at().offset, player.at().register], [0, "00010050"]);
+    assert.equal(played({ ...jump, registerBefore: "000q0000" }, 10).register, "000q0000");
 });
 
 test("an order at no address has no counter of its own", () => {

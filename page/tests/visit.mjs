@@ -13,6 +13,7 @@ import { tmpdir } from "node:os";
 import { dirname, join, resolve } from "node:path";
 import { fileURLToPath, pathToFileURL } from "node:url";
 import { questionsIn, withoutQuestions } from "../lines.mjs";
+import { bitsOf } from "../module/replies.mjs";
 import { disorder, faint, losesFocus, nameless, noteMouse, unreached } from "./access.mjs";
 import { Chromium } from "./chromium.mjs";
 import { Firefox } from "./firefox.mjs";
@@ -386,6 +387,41 @@ async function stories(browser) {
     assert.match((await story(browser)).says, /^p 4900 types the sign h\. The drum had to turn \d+ places to the order; it needs no word\.$/);
     await steps(browser, 1);
     assert.match((await story(browser)).says, /^z 0000 stops the machine\./);
+}
+
+/** What the oscilloscope shows: the bits of its three traces, and the digits beside them. */
+const TRACES = "[[...document.querySelectorAll('.scope canvas')].map((it) => it.dataset.bits), [...document.querySelectorAll('.trace-value code')].map((it) => it.textContent)]";
+
+/** The bits of what a panel shows, each address as the twelve bits that it has in an order. */
+const tracesOf = ({ counter, register, accumulator }) => {
+    const address = 64 * Number(counter.slice(0, 2)) + Number(counter.slice(2));
+    return [[address.toString(2).padStart(12, "0"), ...[register, accumulator].map((digits) => bitsOf(digits).join(""))], [counter, register, accumulator]];
+};
+
+/** The oscilloscope shows at rest what the panel says, and while an order is played what the registers hold by then. */
+async function scope(browser) {
+    await browser.open(`${address}?lang=en#self-modifying`);
+    const registers = () => browser.value("(({ counter, register, accumulator }) => ({ counter, register, accumulator }))(laboratoryOfPage().panel)");
+    const shown = async () => {
+        await browser.value("new Promise((resolve) => requestAnimationFrame(() => requestAnimationFrame(resolve)))");
+        return browser.value(TRACES);
+    };
+    assert.deepEqual(await shown(), tracesOf(await registers()));
+    await steps(browser, 2);
+    const before = await registers();
+    assert.deepEqual(await shown(), tracesOf(before));
+    await press(browser, "#step");
+    const seen = await watched(browser, "document.querySelector('.drum-box').dataset.moving === 'false'", "[document.querySelector('.fixed').dataset.phase, [...document.querySelectorAll('.trace-value code')].map((it) => it.textContent).join(' ')]");
+    const after = await registers();
+    const places = new Map([["find", before], ["seek", { ...after, accumulator: before.accumulator }]].map(([phase, { counter, register, accumulator }]) => [phase, `${counter} ${register} ${accumulator}`]));
+    for (const [phase, digits] of seen.filter(([name]) => places.has(name))) assert.equal(digits, places.get(phase), phase);
+    assert.ok(["find", "seek"].every((phase) => seen.some(([name]) => name === phase)));
+    assert.notEqual(before.accumulator, after.accumulator);
+    assert.deepEqual(await shown(), tracesOf(after));
+    assert.equal(await browser.value("document.querySelector('.scope').getAttribute('aria-label')"), `Oscilloscope: counter ${after.counter}, instruction register ${after.register}, accumulator ${after.accumulator}.`);
+    await press(browser, ".console button[data-name='bp8']");
+    const lit = await browser.value("[...document.querySelectorAll('.square.lit, .lever[aria-checked=true]')].map((it) => it.dataset.name)");
+    assert.deepEqual(lit, ["normal", "start", "bp8"]);
 }
 
 /** What Save gives stands in its dialog, at first without the lines that only ask; it leads to the same place. */
@@ -925,7 +961,7 @@ async function touch(browser) {
     await browser.size(1500, 1250);
 }
 
-const all = { kiosk, addresses, changes, thereAndBack, openSource, whatToPress, endlessPrint, firstHour, lesson, stories, saved, source, profile, examples, badInput, usedUp, longRun, paces, forPeople, everyone, byKeys, readOut, stillness, touch, withoutWebAssembly, cannotOpen };
+const all = { kiosk, addresses, changes, thereAndBack, openSource, whatToPress, endlessPrint, firstHour, lesson, stories, scope, saved, source, profile, examples, badInput, usedUp, longRun, paces, forPeople, everyone, byKeys, readOut, stillness, touch, withoutWebAssembly, cannotOpen };
 const wanted = process.env.VISITS?.split(" ") ?? Object.keys(all).filter((name) => !left.includes(name));
 const visits = Object.fromEntries(wanted.map((name) => [name, all[name]]));
 const browser = await Engine.start();

@@ -8,26 +8,37 @@ const KEY_ROWS = ["0123456789", "fgjkqw-+;/.,", "zbyrindmpe", "uthcasvox "];
 /** What a press of a dead control does: it says that, and what to press. */
 const tellDead = (laboratory, detail) => () => laboratory.tell({ kind: "dead", detail });
 
+/** How many of the square buttons stand in the first row; the others stand beside the switches. */
+const FIRST_ROW = 7;
+/** Whether the lamp of a button is lit: a mode's while it is the machine's, Start's while the machine does not stand still. */
+const isLit = ({ mode, status }, name) => mode === name || (name === "start" && !status.startsWith("halted"));
+
 /** The part of the page with buttons and switches. */
 export function makeConsole(laboratory, { text, table }) {
     const buttons = BUTTONS.map((name) => {
         const [label, hint] = table.button[name];
-        return guarded(label, { title: hint, "data-name": name }, () => laboratory.command(`press ${name}`), tellDead(laboratory, label));
+        const control = guarded("", { title: hint, class: "square", "data-name": name }, () => laboratory.command(`press ${name}`), tellDead(laboratory, label));
+        control.append(h("i", { class: "strip", "aria-hidden": "true" }), label);
+        return control;
     });
     const switches = SWITCHES.map((name) => {
         const [label, hint] = table.switch[name];
-        return button(label, () => laboratory.command(`press ${name} ${laboratory.panel.down[name] ? "up" : "down"}`), { title: hint, role: "switch", "data-name": name });
+        const control = button("", () => laboratory.command(`press ${name} ${laboratory.panel.down[name] ? "up" : "down"}`), { title: hint, class: "lever", role: "switch", "data-name": name });
+        control.append(h("i", { "aria-hidden": "true" }), label);
+        return control;
     });
     const show = () => {
+        const { live, panel } = laboratory;
         for (const control of buttons) {
             const { name } = control.dataset;
-            showLive(control, isLive(laboratory.live, laboratory.panel, name));
-            if (name in table.modes) control.setAttribute("aria-pressed", String(laboratory.panel.mode === name));
+            showLive(control, isLive(live, panel, name));
+            control.classList.toggle("lit", isLit(panel, name));
+            if (name in table.modes) control.setAttribute("aria-pressed", String(panel.mode === name));
         }
-        for (const control of switches) control.setAttribute("aria-checked", String(laboratory.panel.down[control.dataset.name]));
+        for (const control of switches) control.setAttribute("aria-checked", String(panel.down[control.dataset.name]));
     };
-    const group = (name, controls) => h("div", { class: "controls", role: "group", "aria-label": text(name) }, ...controls);
-    return { node: part("console", text("console"), group("buttons", buttons), group("switches", switches)), show };
+    const group = (name, controls) => h("div", { class: `controls ${name}`, role: "group", "aria-label": text(name) }, ...controls);
+    return { node: part("console", text("console"), group("buttons", buttons.slice(0, FIRST_ROW)), h("div", { class: "second-row" }, group("switches", switches), group("inputs", buttons.slice(FIRST_ROW)))), show };
 }
 
 /** The part of the page with the Flexowriter's keys. */

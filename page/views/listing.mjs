@@ -40,15 +40,16 @@ function arrowEnds(body, writer) {
     return { clock: writer.clock, start: middle(from), end: middle(to), height: body.offsetHeight + body.offsetTop };
 }
 
-/** Scrolls a list by whole rows, so that rows are seen together, the first one where not all can be. */
+/** Scrolls a list by whole rows, so that rows are seen together in its middle; the first one alone, where not all can be. */
 function scrollTo(list, selectors) {
     const rows = selectors.map((selector) => list.querySelector(selector)).filter((it) => it !== null);
     if (rows.length === 0) return;
-    const [head, room] = [list.querySelector("thead").offsetHeight, list.clientHeight];
-    const [first, last] = [Math.min, Math.max].map((choose) => choose(...rows.map(({ offsetTop }) => offsetTop)));
-    const [top, end] = last + rows[0].offsetHeight - first <= room - head ? [first, last] : [rows[0].offsetTop, rows[0].offsetTop];
-    if (top >= list.scrollTop + head && end + rows[0].offsetHeight <= list.scrollTop + room) return;
-    list.scrollTop = top - head;
+    const [head, height] = [list.querySelector("thead").offsetHeight, rows[0].offsetHeight];
+    const room = list.clientHeight - head;
+    const tops = rows.map(({ offsetTop }) => offsetTop - head);
+    const [first, last] = Math.max(...tops) + height - Math.min(...tops) <= room ? [Math.min(...tops), Math.max(...tops)] : [tops[0], tops[0]];
+    if (first >= list.scrollTop && last + height <= list.scrollTop + room) return;
+    list.scrollTop = height * Math.round(((first + last + height - room) / 2) / height);
 }
 
 function arrow({ start, end, height }) {

@@ -9,11 +9,11 @@ const box = (name, ...views) => h("div", { class: name }, ...views.map((view) =>
 
 /** The page below its header. */
 export function makeStage(made) {
-    for (const { node } of [made.drum, made.panel, made.console, made.time, made.story]) node.querySelector("h2").classList.add("unseen");
-    const cabinet = box("cabinet", made.drum, box("desk", made.panel, made.console));
+    for (const { node } of [made.drum, made.console, made.time, made.story]) node.querySelector("h2").classList.add("unseen");
+    const cabinet = box("cabinet", made.drum, box("desk", made.plate, made.scope, made.console));
     const typewriter = box("flexowriter", made.paper, made.tape, made.keyboard);
     const stage = box("stage", cabinet, typewriter);
-    const bench = box("bench", box("column", made.explanation, made.script, made.turns), box("column", made.source), box("column", made.lines, made.profile));
+    const bench = box("bench", box("column", made.panel, made.explanation, made.script, made.turns), box("column", made.source), box("column", made.lines, made.profile));
     return h("main", {}, stage, box("pace", made.pace, made.time), box("telling", box("column", made.story, made.accounts), made.listing), bench);
 }
 
