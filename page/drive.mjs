@@ -11,7 +11,7 @@ export const PACES = {
 };
 
 /** At its own pace: how often orders are asked for, at most how many at once, and how many word times one is thought to take at first. */
-const STRETCH = { milliseconds: 100, orders: 48, average: 75 };
+const STRETCH = { milliseconds: 100, orders: 200, average: 75 };
 
 /** Goes on in a pace until it is halted, the machine rests, or a rule stops it. Dispatches `change` when the pace has changed. */
 export class Drive extends EventTarget {

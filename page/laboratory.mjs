@@ -13,6 +13,7 @@ export const SHOWN = 16;
 const ACCOUNTS_KEPT = 400;
 const TALK_KEPT = 300;
 const TOLD_AT_ONCE = 48;
+const STEPPED_AT_ONCE = 200;
 const PORTION = { first: 2000, most: 50_000_000, milliseconds: 50 };
 const TELL_EVERY = 250;
 const NEW = /^ *new *$/;
@@ -416,7 +417,7 @@ export class Laboratory extends EventTarget {
     step(orders = 1, withRows = true, whenDone = () => {}) {
         return this.#work(async () => {
             const { register } = this.panel;
-            const performed = await this.#tell(Math.min(orders, TOLD_AT_ONCE), false, withRows);
+            const performed = await this.#tell(Math.min(orders, STEPPED_AT_ONCE), false, withRows);
             await this.#look();
             if (performed === 1) this.accounts.at(-1).registerBefore = register;
             if (performed > 0) whenDone(this.accounts.at(-1));

@@ -114,8 +114,7 @@ function held() {
 /** Draws what moves picture by picture, as long as an order is played. When it has ended, what it has done is shown. */
 function animate() {
     const next = (now) => {
-        player.tick(Math.max(0, now - picture.last));
-        picture.last = now;
+        picture.last = now - player.tick(Math.max(0, now - picture.last));
         const at = playing();
         for (const view of picture.views) view.frame();
         picture.frame = at === null || at.done ? null : requestAnimationFrame(next);

@@ -29,19 +29,22 @@ export class Player {
         this.#waited = 0;
     }
 
-    /** So many milliseconds have passed. */
+    /** So many milliseconds have passed. Gives how many of them were not needed, since the order has ended. */
     tick(milliseconds) {
-        if (this.#account === null) return;
-        if (this.isStill) this.#nextPicture(milliseconds);
-        else this.#pass(milliseconds / 1000);
+        if (this.#account === null) return 0;
+        if (!this.isStill) return 1000 * this.#pass(milliseconds / 1000);
+        this.#nextPicture(milliseconds);
+        return 0;
     }
 
     #pass(seconds) {
         const { sum, act } = this.#account;
         const toAct = Math.max(0, sum - act - this.#offset);
         const before = Math.min(seconds, toAct / this.pace);
-        const hurry = act > 64 ? this.hurry : 1;
-        this.#offset = Math.min(sum, this.#offset + this.pace * (before + hurry * (seconds - before)));
+        const speed = act > 64 ? this.hurry * this.pace : this.pace;
+        const left = seconds - before - (sum - this.#offset - this.pace * before) / speed;
+        this.#offset = Math.min(sum, this.#offset + this.pace * before + speed * (seconds - before));
+        return Math.max(0, left);
     }
 
     #nextPicture(milliseconds) {

@@ -55,6 +55,17 @@ test("a second passes as many word times as the pace says, and no more than the 
     assert.equal(played(bring, 5000, { pace: 64 }).offset, 41);
 });
 
+test("what an order did not need of a tick is given back, so that the next one can begin in its midst", () => {
+    const player = Object.assign(new Player(), { pace: 10, hurry: 2 });
+    assert.equal(player.tick(500), 0);
+    player.play(bring);
+    assert.deepEqual([player.tick(4000), player.tick(300), player.tick(200)].map(Math.round), [0, 200, 200]);
+    player.play(print);
+    assert.equal(Math.round(player.tick(1200 + 384 * 50 + 70)), 70);
+    player.isStill = true;
+    assert.equal(player.tick(5000), 0);
+});
+
 test("only an act of more than a turn is hurried, and only from its beginning on", () => {
     assert.equal(played(print, 1000, { pace: 12, hurry: 4 }).offset, 12);
     assert.equal(played(print, 2000, { pace: 12, hurry: 4 }).offset, 60);

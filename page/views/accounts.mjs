@@ -28,11 +28,11 @@ function rowsOf(account, text) {
 }
 
 /** The part of the page with the accounts. Of the order that is played, what it has not done yet is not seen. */
-export function makeAccounts(laboratory, { text }, { playing, held }) {
+export function makeAccounts(laboratory, { text }, { playing, held, isFast }) {
     const body = h("tbody");
     const names = ["clock", "at", "order", "find", "take", "seek", "act", "sum", "accumulator"];
     const heads = names.map((name) => h("th", { scope: "col" }, text(name)));
-    const empty = h("p", {}, text("noAccounts"));
+    const empty = h("p");
     const table = h("div", { class: "scroll", tabindex: "0", role: "group", "aria-label": text("accounts") }, h("table", {}, h("thead", {}, h("tr", {}, ...heads)), body));
     const rows = new WeakMap();
     const rowsKept = (account) => {
@@ -40,8 +40,9 @@ export function makeAccounts(laboratory, { text }, { playing, held }) {
         return rows.get(account);
     };
     const show = () => {
-        const { accounts } = laboratory;
+        const accounts = isFast() ? [] : laboratory.accounts;
         refill(body, ...accounts.slice(-SHOWN).reverse().flatMap((account) => rowsKept(account)));
+        tell(empty, text(isFast() ? "accountsLater" : "noAccounts"));
         empty.hidden = accounts.length > 0;
         table.hidden = accounts.length === 0;
         frame();
