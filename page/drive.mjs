@@ -24,6 +24,7 @@ export class Drive extends EventTarget {
     #wake = () => {};
     #since = null;
     #isGoing = false;
+    #left = Infinity;
 
     /** `clocks` has `now`, milliseconds, and `sleep`. `run` does a run in portions. */
     constructor(laboratory, player, run, clocks) {
@@ -39,11 +40,12 @@ export class Drive extends EventTarget {
         await this.#order("order");
     }
 
-    /** Goes on in a pace. The same one again is a halt, but for the fastest, which goes on. */
-    go(pace) {
+    /** Goes on in a pace, for so many orders where they are played. The same one again is a halt, but for the fastest, which goes on. */
+    go(pace, orders = Infinity) {
         if (pace === "fast" && this.pace === "fast") return undefined;
         const wanted = this.pace === pace ? null : pace;
         this.#changeTo(wanted);
+        this.#left = orders;
         return wanted === null || this.#isGoing ? undefined : this.#goOn();
     }
 
@@ -71,7 +73,7 @@ export class Drive extends EventTarget {
         try {
             for (let pace = this.pace; pace !== null; pace = this.pace) {
                 const isOn = await this.#a(pace);
-                if (!isOn && this.pace === pace) this.#rest();
+                if ((!isOn || this.#left <= 0) && this.pace === pace) this.#rest();
             }
         } finally {
             this.#isGoing = false;
@@ -91,7 +93,8 @@ export class Drive extends EventTarget {
     /** An order and, where the pace has one, the rest after it. Whether there is a next one. */
     async #played(pace) {
         const isOn = await this.#order(pace);
-        if (!isOn || this.pace !== pace) return isOn;
+        this.#left -= 1;
+        if (!isOn || this.#left <= 0 || this.pace !== pace) return isOn;
         await this.#until(PACES[pace].rest);
         return this.#isOn;
     }

@@ -58,8 +58,9 @@ export class Laboratory extends EventTarget {
     notice = null;
     /** The lines of laboratories that were lost because memory had ended, until they are put away. */
     lost = [];
-    /** Whether rows of the drum are wanted with accounts. */
+    /** Whether rows of the drum are wanted with accounts, and whether the page shows something of its own, which no reader has done. */
     wantsRows = true;
+    isOnShow = false;
     deeds = new Deeds();
 
     #link;
@@ -216,7 +217,7 @@ export class Laboratory extends EventTarget {
         if (this.openSource === null && await this.#isLongRun(line)) return this.#longRun(line);
         const before = this.openSource === null && NEW.test(line) ? await this.#offer() : null;
         this.#said.push(line);
-        this.#isTouched ||= !this.#isInScript;
+        this.#isTouched ||= !this.#isInScript && !this.isOnShow;
         const reply = await this.#ask(line);
         this.talk = [...this.talk, { line, reply }].slice(-TALK_KEPT);
         if (this.openSource !== null) await this.#sourceLine(line, reply);

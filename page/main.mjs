@@ -1,6 +1,7 @@
 // Puts the page together: the laboratory, its views, and what the address asks for.
 import { Drive } from "./drive.mjs";
 import { Laboratory } from "./laboratory.mjs";
+import { wayOn } from "./learn.mjs";
 import { headOf, linesIn, withoutQuestions } from "./lines.mjs";
 import { Link } from "./link.mjs";
 import { askedIn } from "./opening.mjs";
@@ -8,8 +9,10 @@ import { Player } from "./player.mjs";
 import { makeAccounts, makeTime } from "./views/accounts.mjs";
 import { makeConsole, makeKeyboard } from "./views/console.mjs";
 import { button, h, part } from "./views/dom.mjs";
+import { addressOfDoor, behind, makeDoors, makeHall, showDoor } from "./views/doors.mjs";
 import { makeDrum } from "./views/drum.mjs";
 import { KIOSK, makeKioskBar, watchIdle } from "./views/kiosk.mjs";
+import { makeLesson } from "./views/lesson.mjs";
 import { makeListing } from "./views/listing.mjs";
 import { makeNotices } from "./views/notice.mjs";
 import { makePace } from "./views/pace.mjs";
@@ -19,6 +22,7 @@ import { makeProfile } from "./views/profile.mjs";
 import { makePlate, makeScope } from "./views/scope.mjs";
 import { arrange, makeStage } from "./views/stage.mjs";
 import { makeStory } from "./views/story.mjs";
+import { makeTales } from "./views/tales.mjs";
 import { makeTurns } from "./views/turns.mjs";
 import { makeLines, makeScript, makeSource } from "./views/writing.mjs";
 import { LANGUAGES, counted, textsIn } from "./words.mjs";
@@ -36,6 +40,7 @@ const asked = askedIn(location);
 
 let texts = textsIn(asked.language ?? (navigator.language ?? "en").slice(0, 2));
 let isKiosk = asked.isKiosk;
+let door = asked.door;
 let views = [];
 let notices = null;
 let drive = null;
@@ -64,7 +69,31 @@ function show() {
     if (panel !== null) for (const view of views) view.show();
 }
 
-const openExample = (name) => laboratory.openScript(name, examples.get(name));
+/** What the hall shows. */
+const HALL_EXAMPLE = "self-modifying";
+
+function openExample(name) {
+    drive.halt();
+    if (door === "hall") goTo("work");
+    return laboratory.openScript(name, examples.get(name));
+}
+
+/** Opens an example that the page shows by itself, and sets it going. */
+async function openShown(name) {
+    await laboratory.openForShow(name, examples.get(name));
+    if (wayOn(laboratory.live, laboratory.panel).kind === "start") await laboratory.command("press start");
+}
+
+/** Goes through a door. The machine stays as it is, but that what moves in the hall stops. */
+function goTo(wanted, isNew = true) {
+    if (door === "hall") drive.halt();
+    door = wanted;
+    laboratory.isOnShow = door === "hall" || door === "look";
+    showDoor(door);
+    arrange();
+    show();
+    if (isNew) history.pushState(null, "", addressOfDoor(door));
+}
 
 function dialog(heading, ...children) {
     const node = h("dialog", { "aria-label": heading }, h("h2", {}, heading), ...children, button(texts.text("close"), () => node.close()));
@@ -138,7 +167,7 @@ function makeBar() {
         ...[...examples].map(([name, script]) => h("option", { value: name }, `${name}: ${headOf(script).title}`)));
     const language = h("select", { id: "language", "aria-label": "Language, Sprache", onchange: () => { texts = textsIn(language.value); layFor("language"); } },
         ...Object.entries(LANGUAGES).map(([code, table]) => h("option", { value: code, selected: code === texts.code }, table.language)));
-    const view = { node: h("div", { class: "line choices", role: "toolbar", "aria-label": text("choices") }, choice, button(text("new"), () => laboratory.new(), { title: text("newHint") }), button(text("save"), save, { title: text("saveHint"), id: "save" }),
+    const view = { node: h("div", { class: "line choices", role: "toolbar", "aria-label": text("choices") }, choice, behind("work", button(text("new"), () => laboratory.new(), { title: text("newHint") })), behind("work", button(text("save"), save, { title: text("saveHint"), id: "save" })),
         button(text("kiosk"), () => setKiosk(true), { id: "kiosk" }), button(text("about"), about, { id: "about" }), language),
         show: () => { choice.value = laboratory.script?.name ?? ""; } };
     return view;
@@ -161,7 +190,7 @@ const showing = { playing, held, isFast: () => drive.pace === "own" || drive.pac
 /** All parts but the header, and the element that holds them in the order in which they are seen. */
 function makeWork() {
     const made = {
-        drum: makeDrum(laboratory, texts, showing), plate: makePlate(laboratory, texts), scope: makeScope(laboratory, texts, showing), panel: makePanel(laboratory, texts), console: makeConsole(laboratory, texts),
+        hall: makeHall(texts, goTo, drive), tales: makeTales(laboratory, texts, drive, openShown), lesson: makeLesson(laboratory, texts, openShown), drum: makeDrum(laboratory, texts, showing), plate: makePlate(laboratory, texts), scope: makeScope(laboratory, texts, showing), panel: makePanel(laboratory, texts), console: makeConsole(laboratory, texts),
         paper: makePaper(laboratory, texts, showing), tape: makeTape(laboratory, texts), keyboard: makeKeyboard(laboratory, texts),
         pace: makePace(laboratory, texts, drive), time: makeTime(laboratory, texts), story: makeStory(laboratory, texts, showing), accounts: makeAccounts(laboratory, texts, showing), listing: makeListing(laboratory, texts, showing),
         explanation: makeExplanation(), script: makeScript(laboratory, texts), source: makeSource(laboratory, texts), lines: makeLines(laboratory, texts),
@@ -187,12 +216,14 @@ function lay() {
     document.title = text("title");
     document.body.className = isKiosk ? "kiosk" : "";
     const top = isKiosk ? makeKioskBar(laboratory, texts, openKiosk, drive) : makeBar();
-    const heading = h("header", {}, h("h1", {}, text(isKiosk ? "kioskTitle" : "title")), h("p", { class: "subtitle" }, text("subtitle")), top.node);
+    const heading = h("header", {}, h("h1", {}, text(isKiosk ? "kioskTitle" : "title")), h("p", { class: "subtitle" }, text("subtitle")), ...(isKiosk ? [] : [makeDoors(texts, goTo)]), top.node);
     const { node, made } = isKiosk ? makeShow() : makeWork();
     notices = makeNotices(laboratory, texts, isKiosk, { run: () => drive.go("fast"), save, anew: () => (isKiosk ? openKiosk() : laboratory.new()), linkTo: (lines) => linkTo(withoutQuestions(lines, questions)) });
     views = [top, ...made];
     picture.views = made.filter(({ frame }) => frame !== undefined);
     document.getElementById("page").replaceChildren(heading, node, ...(isKiosk ? [makeLeave()] : []));
+    if (isKiosk) delete document.body.dataset.door;
+    else showDoor(door);
     if (!isKiosk) arrange();
     show();
 }
@@ -231,11 +262,17 @@ function onKey(event) {
     if (deed !== undefined && !isKiosk && hasShortKeys) deed();
 }
 
+/** In the hall the drum turns, until it is stopped; where no motion is wanted it stands. */
+async function openHall() {
+    await openShown(HALL_EXAMPLE);
+    if (!still.matches) drive.go("slow");
+}
+
 /** Opens what the address asks for. What it names and is not there is told. */
 async function openAsked() {
     if (isKiosk) return setKiosk(true);
     if (asked.script !== null) return laboratory.openScript("#script", asked.script);
-    if (asked.example === null) return undefined;
+    if (asked.example === null) return door === "hall" ? openHall() : undefined;
     if (examples.has(asked.example)) return openExample(asked.example);
     return laboratory.tell({ kind: "noExample", detail: asked.example });
 }
@@ -250,8 +287,10 @@ async function begin() {
     drive.addEventListener("play", animate);
     still.addEventListener("change", () => { player.isStill = still.matches; });
     player.isStill = still.matches;
+    laboratory.isOnShow = door === "hall" || door === "look";
     lay();
     addEventListener("keydown", onKey);
+    addEventListener("popstate", () => goTo(askedIn(location).door, false));
     await openAsked();
     document.documentElement.dataset.ready = "true";
     return undefined;

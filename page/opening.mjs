@@ -1,6 +1,8 @@
-// What the page's address asks for: an example or a script, a language, the kiosk.
+// What the page's address asks for: an example or a script, a language, a door, the kiosk.
 
-/** What an address says behind `?` and `#`: `?kiosk`, `?kiosk=games/matches`, `?idle=60`, `?lang=de`, `#first-run`, `#kiosk`, `#script=..`. */
+const DOORS = ["hall", "look", "learn", "work"];
+
+/** What an address says behind `?` and `#`: `?kiosk`, `?kiosk=games/matches`, `?idle=60`, `?lang=de`, `?door=work`, `#first-run`, `#kiosk`, `#script=..`. */
 export function askedIn({ search, hash }) {
     const query = new URLSearchParams(search);
     const behind = decoded(hash.replace(/^#/, ""));
@@ -11,6 +13,7 @@ export function askedIn({ search, hash }) {
         isKiosk, script,
         example: query.get("kiosk") || example || null,
         language: query.get("lang"),
+        door: DOORS.find((door) => door === query.get("door")) ?? (example !== null || script !== null ? "work" : "hall"),
         idleSeconds: Number(query.get("idle")) || null,
     };
 }

@@ -19,6 +19,34 @@ const en = {
     goTo: "Show address", show: "Show", startHere: "Start here",
     accounts: "What the last orders did", clock: "clock", at: "at", find: "find", take: "take", seek: "seek", act: "act", sum: "sum",
     accumulator: "accumulator", storedAt: "{address}: {before} → {after}", printedSign: "printed {sign}", passed: "codes passed: {count}",
+    doors: "Doors of the laboratory", look: "Look", learn: "Learn", work: "Work", hallGo: "Let it turn",
+    hallTitle: "A computer that lives on a turning drum", hallText: "A computer of 1956 kept its numbers and its orders on a drum that never stopped turning. It is at work here. How would you like to meet it?",
+    lookText: "Four stories of two minutes. You watch, we explain.", learnText: "A lesson with tasks, for a class or for you alone.", workText: "The whole laboratory: write programs, run them, ask who changed what.",
+    chooseTale: "Choose a story.", captionBack: "Back", captionNext: "Next", nextTale: "Next story", captionAt: "{at} of {of}",
+    tales: {
+        wait: { title: "Why does it wait?", captions: {
+            0: "The drum turns, and the head stands still. What the head needs has to come by: first an order, then its word.", 1: "The next order is at 0001. It has gone by already, so the drum has to turn nearly once round: count the orange line down.",
+            2: "This order names a word, at 0020. So the machine waits twice: orange until the order comes, blue until its word does.", 3: "Four colours, four phases: find, take, seek, act. Nearly all of it is waiting.",
+            4: "That is why the sectors do not follow one another, but pass as 00, 57, 50: neighbours lie nine places apart, time enough to fetch a word between them." } },
+        rewrite: { title: "An order that changes", captions: {
+            0: "This program adds up a table of numbers. But an order names one place only, as a 0100 does.", 1: "So the program brings the order itself into the accumulator, as a number …", 2: "… adds one to the address in it …",
+            3: "… and writes it back. Look at 0009: the word turns over, and the order now names the next number.", 4: "To the machine an order is a word like any other. In 1956 that was how a program went through a table." } },
+        type: { title: "From drum to paper", captions: {
+            0: "This program types a message. Each sign is an order of its own: p 4600 types g.", 1: "It takes the next sign from a table, and writes its code into the order p.", 2: "Now it types. That is slow: the drum turns six times for one sign.",
+            3: "Then it changes another order of its own, so that the next sign comes next.", 4: "And so on, until the table ends: here at the machine's own pace." } },
+        who: { title: "Who put this order here?", captions: {
+            0: "The order at 0009 is not the one that was loaded. Who has changed it?", 1: "Watch the order y at 0013: it writes into 0009.", 2: "The laboratory keeps each step, so that it can go back, and so it can tell where a word came from.",
+            3: "Here it has been asked: below the words stands which order changed the word at 0009, when, and what was lost.", 4: "Ask yourself: press any address in the list." } },
+    },
+    lesson: {
+        title: "The order that changes", about: "A lesson of six steps, some ten minutes. The program adds up a table, and changes its own orders to do so.",
+        steps: { 0: "Press Step until the next order is y 0009 at 0005.", 1: "How many places must the drum turn until the head has read the order at 0005? Look at the sectors, and count clockwise from the head.",
+            2: "Press Step, and watch the drum. At which address has a word changed?", 3: "Go one order back, by the button with the arrow to the left. Which order stands at 0009 now?",
+            4: "Go on with Step, until the order at 0009 is a 0101.", 5: "Press Run, and wait until the machine has stopped. Which order stands at 0009 now?" },
+        hints: { 0: "", 1: "Not yet. Begin with the sector just right of the head, which comes next, and count until 05 has passed.", 2: "Not yet. The address is named in the order, and in the line that tells that the program has rewritten itself.",
+            3: "Not yet. Look at the row of 0009: the letter, a blank, and four digits.", 4: "", 5: "Not yet. Look at the row of 0009: a letter, a blank, and four digits." },
+    },
+    lessonBegin: "Begin", lessonAnew: "Begin anew", lessonRight: "Yes.", lessonNotThere: "The machine does not stand there yet: do what the step says first.", lessonEnd: "All steps are done. The order has gone through the whole table.", answer: "Your answer to step {number}", check: "Check", stepDone: "Done:",
     story: "What this order does", places: "places", storyOwn: "At its own pace an order is over before it can be read. Stop, and the last one is told.", storyFast: "The orders go by too fast to be told. Stop, and step on.",
     waitsOrder: "The drum had to turn {f} places to the order; it needs no word.", waitsOrderWord: "The drum had to turn {f} places to the order and {s} to the word.",
     waitsRegister: "The order stood in the register, and it needs no word.", waitsRegisterWord: "The order stood in the register; the drum had to turn {s} places to the word.",
@@ -140,6 +168,34 @@ const de = {
     goTo: "Adresse zeigen", show: "Zeigen", startHere: "Hier starten",
     accounts: "Was die letzten Befehle taten", clock: "Uhr", at: "auf", find: "finden", take: "holen", seek: "suchen", act: "ausführen", sum: "Summe",
     accumulator: "Akkumulator", storedAt: "{address}: {before} → {after}", printedSign: "gedruckt {sign}", passed: "gelesene Codes: {count}",
+    doors: "Türen des Labors", look: "Schauen", learn: "Lernen", work: "Arbeiten", hallGo: "Drehen lassen",
+    hallTitle: "Ein Rechner, der auf einer Trommel lebt", hallText: "Ein Rechner von 1956 hatte seine Zahlen und Befehle auf einer Trommel, die sich ohne Halt drehte. Hier arbeitet er. Wie möchten Sie ihn kennenlernen?",
+    lookText: "Vier Geschichten von zwei Minuten. Sie schauen zu, wir erklären.", learnText: "Eine Lektion mit Aufgaben, für eine Klasse oder für Sie allein.", workText: "Das ganze Labor: Programme schreiben, laufen lassen, fragen, wer was geändert hat.",
+    chooseTale: "Wählen Sie eine Geschichte.", captionBack: "Zurück", captionNext: "Weiter", nextTale: "Nächste Geschichte", captionAt: "{at} von {of}",
+    tales: {
+        wait: { title: "Warum wartet er?", captions: {
+            0: "Die Trommel dreht sich, und der Kopf steht still. Was der Kopf braucht, muss vorbeikommen: erst ein Befehl, dann sein Wort.", 1: "Der nächste Befehl liegt auf 0001. Er ist schon vorbei, also muss sich die Trommel fast einmal herumdrehen: Zählen Sie an der orangen Linie mit.",
+            2: "Dieser Befehl nennt ein Wort, auf 0020. Also wartet die Maschine zweimal: orange, bis der Befehl kommt, und blau, bis sein Wort kommt.", 3: "Vier Farben, vier Phasen: finden, holen, suchen, ausführen. Fast alles davon ist Warten.",
+            4: "Darum folgen die Sektoren nicht aufeinander, sondern kommen als 00, 57, 50 vorbei: Nachbarn liegen neun Plätze auseinander, Zeit genug, dazwischen ein Wort zu holen." } },
+        rewrite: { title: "Ein Befehl ändert sich", captions: {
+            0: "Dieses Programm addiert eine Tabelle von Zahlen. Aber ein Befehl nennt nur einen Platz, wie a 0100.", 1: "Also bringt das Programm den Befehl selbst in den Akkumulator, als Zahl …", 2: "… addiert eins zu seiner Adresse …",
+            3: "… und schreibt ihn zurück. Sehen Sie auf 0009: Das Wort klappt um, und der Befehl nennt nun die nächste Zahl.", 4: "Für die Maschine ist ein Befehl ein Wort wie jedes andere. So ging 1956 ein Programm durch eine Tabelle." } },
+        type: { title: "Von der Trommel aufs Papier", captions: {
+            0: "Dieses Programm schreibt eine Nachricht. Jedes Zeichen ist ein eigener Befehl: p 4600 schreibt g.", 1: "Es holt das nächste Zeichen aus einer Tabelle und schreibt dessen Code in den Befehl p.", 2: "Jetzt schreibt es. Das ist langsam: Die Trommel dreht sich sechsmal für ein Zeichen.",
+            3: "Dann ändert es noch einen seiner Befehle, damit danach das nächste Zeichen kommt.", 4: "Und so fort, bis die Tabelle endet: hier im eigenen Tempo der Maschine." } },
+        who: { title: "Wer schrieb diesen Befehl?", captions: {
+            0: "Der Befehl auf 0009 ist nicht der, der geladen wurde. Wer hat ihn geändert?", 1: "Sehen Sie auf den Befehl y auf 0013: Er schreibt auf 0009.", 2: "Das Labor bewahrt jeden Schritt auf, um zurückgehen zu können. Darum kann es sagen, woher ein Wort kam.",
+            3: "Hier wurde es gefragt: Unter den Wörtern steht, welcher Befehl das Wort auf 0009 geändert hat, wann, und was verloren ging.", 4: "Fragen Sie selbst: Drücken Sie auf eine Adresse der Liste." } },
+    },
+    lesson: {
+        title: "Der Befehl, der sich ändert", about: "Eine Lektion von sechs Schritten, etwa zehn Minuten. Das Programm addiert eine Tabelle und ändert dafür seine eigenen Befehle.",
+        steps: { 0: "Drücken Sie Schritt, bis der nächste Befehl y 0009 auf 0005 ist.", 1: "Wie viele Plätze muss sich die Trommel drehen, bis der Kopf den Befehl auf 0005 gelesen hat? Sehen Sie auf die Sektoren, und zählen Sie vom Kopf aus im Uhrzeigersinn.",
+            2: "Drücken Sie Schritt, und sehen Sie auf die Trommel. Auf welcher Adresse hat sich ein Wort geändert?", 3: "Gehen Sie einen Befehl zurück, mit der Taste mit dem Pfeil nach links. Welcher Befehl steht jetzt auf 0009?",
+            4: "Gehen Sie mit Schritt weiter, bis der Befehl auf 0009 a 0101 ist.", 5: "Drücken Sie Laufen, und warten Sie, bis die Maschine angehalten hat. Welcher Befehl steht jetzt auf 0009?" },
+        hints: { 0: "", 1: "Noch nicht. Beginnen Sie mit dem Sektor gleich rechts vom Kopf, der als Nächster kommt, und zählen Sie, bis 05 vorbei ist.", 2: "Noch nicht. Die Adresse nennt der Befehl, und die Zeile, die sagt, dass sich das Programm umgeschrieben hat.",
+            3: "Noch nicht. Sehen Sie auf die Zeile von 0009: der Buchstabe, ein Leerzeichen und vier Ziffern.", 4: "", 5: "Noch nicht. Sehen Sie auf die Zeile von 0009: ein Buchstabe, ein Leerzeichen und vier Ziffern." },
+    },
+    lessonBegin: "Beginnen", lessonAnew: "Von vorn beginnen", lessonRight: "Ja.", lessonNotThere: "Die Maschine steht noch nicht da: Tun Sie erst, was der Schritt sagt.", lessonEnd: "Alle Schritte sind getan. Der Befehl ist durch die ganze Tabelle gegangen.", answer: "Ihre Antwort auf Schritt {number}", check: "Prüfen", stepDone: "Getan:",
     story: "Was dieser Befehl tut", places: "Plätze", storyOwn: "Im eigenen Tempo ist ein Befehl vorbei, ehe man ihn lesen kann. Halten Sie an, und der letzte wird erzählt.", storyFast: "Die Befehle gehen so schnell vorbei, dass sie nicht erzählt werden. Halten Sie an, und gehen Sie Schritt für Schritt weiter.",
     waitsOrder: "Die Trommel musste {f} Plätze bis zum Befehl drehen; ein Wort braucht er nicht.", waitsOrderWord: "Die Trommel musste {f} Plätze bis zum Befehl drehen und {s} bis zum Wort.",
     waitsRegister: "Der Befehl stand im Register, und ein Wort braucht er nicht.", waitsRegisterWord: "Der Befehl stand im Register; die Trommel musste {s} Plätze bis zum Wort drehen.",

@@ -133,7 +133,7 @@ async function changes(browser) {
 
 /** Start here, a few steps, all the way back and forward again: nothing is lost. */
 async function thereAndBack(browser) {
-    await browser.open(`${address}?lang=en`);
+    await browser.open(`${address}?lang=en&door=work`);
     await started(browser, "put 0000 u 0000", "put 0100 b 0050", "put 0101 u 0100");
     await press(browser, "#step");
     await browser.value("document.querySelector('.listing form input').value = '0100'");
@@ -153,7 +153,7 @@ async function thereAndBack(browser) {
 
 /** A source that is typed line by line is seen, takes no button's line, and ends by a button; then all can be saved. */
 async function openSource(browser) {
-    await browser.open(`${address}?lang=en`);
+    await browser.open(`${address}?lang=en&door=work`);
     await type(browser, "put 0050 = 3");
     const typed = async (line) => {
         await browser.value(`(() => { const form = document.querySelector('.lines form'); form.querySelector('input').value = ${JSON.stringify(line)}; form.requestSubmit(); })()`);
@@ -179,7 +179,7 @@ async function openSource(browser) {
 
 /** The page says what to press: before a start, while the machine goes, where a mode or a key is wanted, and where a rule of an example has stopped a run. */
 async function whatToPress(browser) {
-    await browser.open(`${address}?lang=en`);
+    await browser.open(`${address}?lang=en&door=work`);
     const way = () => textOf(browser, ".way");
     assert.match(await way(), /Start sets it going/);
     await press(browser, "#step");
@@ -232,7 +232,7 @@ const shownClock = (browser) => browser.value("document.querySelector('.panel dl
 
 /** A class that has never programmed does what the first lesson says, and compares its tables with the page. */
 async function firstHour(browser) {
-    await browser.open(`${address}?lang=en`);
+    await browser.open(`${address}?lang=en&door=work`);
     assert.deepEqual(await panelOf(browser), { counter: "0000", accumulator: "00000000", status: "halted operator", clock: "0" });
     await started(browser, "put 0000 b 0050", "put 0050 = 6");
     await press(browser, "#step");
@@ -424,6 +424,91 @@ async function scope(browser) {
     assert.deepEqual(lit, ["normal", "start", "bp8"]);
 }
 
+const isMoving = "document.querySelector('.drum-box').dataset.moving === 'true'";
+const wordAt = (browser, place) => browser.value(`laboratoryOfPage().words.find(({ address }) => address === "${place}").order`);
+const seenOf = (browser, ...selectors) => browser.value(`${JSON.stringify(selectors)}.filter((it) => document.querySelector(it).checkVisibility())`);
+const doorNow = (browser) => browser.value("[new URLSearchParams(location.search).get('door'), document.querySelector('.doors [aria-current]')?.textContent ?? null]");
+
+/** The hall: its drum turns until it is stopped; each door shows what is its own, stands in the address, and leaves the machine as it is. */
+async function doors(browser) {
+    await browser.open(`${address}?lang=en`);
+    await browser.waitFor(isMoving);
+    assert.deepEqual(await seenOf(browser, ".hall", ".desk", ".flexowriter", ".pace", ".telling", ".bench"), [".hall"]);
+    assert.equal(await textOf(browser, "#hall-stop"), "Stop");
+    await press(browser, "#hall-stop");
+    const before = await panelOf(browser);
+    assert.deepEqual([await browser.value(isMoving), await textOf(browser, "#hall-stop")], [false, "Let it turn"]);
+    for (const [door, seen] of [["look", [".tales"]], ["learn", [".lesson", ".keyboard", ".telling-order"]], ["work", [".keyboard", ".telling-order", ".bench", "#save", ".listing form"]]]) {
+        await press(browser, `.doors [data-door-to="${door}"]`);
+        assert.deepEqual(await seenOf(browser, ".hall", ".tales", ".lesson", ".keyboard", ".telling-order", ".bench", "#save", ".listing form"), seen, door);
+        assert.deepEqual(await seenOf(browser, ".scope", ".paper", ".pace", ".words-table"), [".scope", ".paper", ".pace", ".words-table"], door);
+        assert.deepEqual(await doorNow(browser), [door, door[0].toUpperCase() + door.slice(1)]);
+        assert.deepEqual(await panelOf(browser), before);
+    }
+    await browser.value("history.back()");
+    await browser.waitFor("document.body.dataset.door === 'learn'");
+    await browser.open(`${address}?lang=en&door=work`);
+    assert.deepEqual([await doorNow(browser), (await panelOf(browser)).clock], [["work", "Work"], "0"]);
+}
+
+/** A visitor follows the stories: each caption plays its orders and stands; Back goes back; the last of a message lets it type. */
+async function look(browser) {
+    await browser.open(`${address}?lang=en&door=look`);
+    assert.equal(await textOf(browser, ".caption"), "Choose a story.");
+    const tale = async (name) => { await press(browser, `[data-tale="${name}"]`); await browser.waitFor("document.querySelector('.caption-at').textContent === '1 of 5'"); await settled(browser); };
+    const caption = async (at, selector = "#caption-next") => { await press(browser, selector); await browser.waitFor(`document.querySelector('.caption-at').textContent === '${at} of 5'`); await settled(browser); };
+    await tale("rewrite");
+    assert.deepEqual([await wordAt(browser, "0009"), (await panelOf(browser)).counter], ["a 0100", "0011"]);
+    for (const at of [2, 3, 4]) await caption(at);
+    await browser.waitFor("laboratoryOfPage().panel.counter === '0014'");
+    await browser.waitFor(`!(${isMoving})`);
+    assert.equal(await wordAt(browser, "0009"), "a 0101");
+    assert.match(await textOf(browser, ".rewritten"), /y 0009 at 0013 turned a 0100 at 0009 into a 0101/);
+    await picture(browser, "look");
+    await caption(3, ".tales .line:last-of-type button");
+    await browser.waitFor(`!(${isMoving}) && laboratoryOfPage().panel.counter === '0013'`);
+    assert.equal(await wordAt(browser, "0009"), "a 0100");
+    await tale("who");
+    for (const at of [2, 3, 4]) await caption(at);
+    await browser.waitFor("/put there by y 0009 at 0013/.test(document.querySelector('.why').textContent)");
+    await tale("type");
+    for (const at of [2, 3, 4, 5]) await caption(at);
+    await browser.waitFor("document.querySelector('.paper').textContent.startsWith('good day')", 120_000);
+    await browser.waitFor("laboratoryOfPage().panel.status === 'halted stop'", 60_000);
+    assert.equal(await browser.value("document.querySelectorAll('.drives [aria-pressed=true]').length"), 0);
+}
+
+/** A pupil goes through the lesson: a step is ticked off where the machine or the answer tells it, and a wrong answer is met by a hint. */
+async function learn(browser) {
+    await browser.open(`${address}?lang=en&door=learn`);
+    await press(browser, "#lesson-begin");
+    await browser.waitFor("document.querySelector('.lesson li.now') !== null");
+    const done = () => browser.value("document.querySelectorAll('.lesson li.done').length");
+    const answer = async (text) => {
+        await browser.value(`(() => { const form = document.querySelector(".lesson .now form"); form.querySelector("input").value = ${JSON.stringify(text)}; form.requestSubmit(); })()`);
+        return done();
+    };
+    assert.equal(await done(), 0);
+    await steps(browser, 3);
+    assert.equal(await done(), 1);
+    assert.equal(await answer("24"), 1);
+    assert.match(await textOf(browser, ".lesson .now .hint"), /Not yet\. Begin with the sector/);
+    assert.equal(await answer(" 56 "), 2);
+    await steps(browser, 1);
+    assert.deepEqual([await answer("0005"), await answer("0009")], [2, 3]);
+    assert.equal(await answer("a 0100"), 3);
+    assert.match(await textOf(browser, ".lesson .now .hint"), /does not stand there yet/);
+    await press(browser, ".time button[aria-label='One order back']");
+    assert.deepEqual([await answer("a 0100"), await answer("A  0000")], [3, 4]);
+    await steps(browser, 9);
+    assert.equal(await done(), 5);
+    await picture(browser, "learn");
+    await press(browser, "#run");
+    await browser.waitFor("laboratoryOfPage().panel.status === 'halted stop'");
+    assert.deepEqual([await answer("a 0101"), await answer(await wordAt(browser, "0009"))], [5, 6]);
+    assert.match(await textOf(browser, ".lesson-end"), /All steps are done/);
+}
+
 /** What Save gives stands in its dialog, at first without the lines that only ask; it leads to the same place. */
 async function saved(browser) {
     const before = await panelOf(browser);
@@ -444,7 +529,7 @@ async function saved(browser) {
 
 /** A source with a fault, mended, loaded and run, and its profile. */
 async function source(browser) {
-    await browser.open(`${address}?lang=en`);
+    await browser.open(`${address}?lang=en&door=work`);
     const faulty = "start   b one       ; take\n        a tow       ; no line has this label\n        h sum\n        z\none     word 00000002\ntwo     word 00000004\nsum     word 00000000\n        end start";
     const write = (text) => browser.value(`(() => { const it = document.querySelector('.source textarea'); it.value = ${JSON.stringify(text)}; it.dispatchEvent(new Event('input')); })()`);
     await write(faulty);
@@ -482,7 +567,7 @@ async function profile(browser) {
 
 /** All examples give their stored replies, line by line in a session. */
 async function examples(browser) {
-    await browser.open(`${address}?lang=en`);
+    await browser.open(`${address}?lang=en&door=work`);
     const names = readdirSync(shelf, { recursive: true }).map(String).filter((name) => name.endsWith(".txt")).sort();
     for (const name of names) {
         const path = join(shelf, name);
@@ -495,7 +580,7 @@ async function examples(browser) {
 
 /** A loop without end runs fast, and can be stopped. */
 async function longRun(browser) {
-    await browser.open(`${address}?lang=en`);
+    await browser.open(`${address}?lang=en&door=work`);
     await browser.value("laboratoryOfPage().say('put 0000 b 0010', 'put 0001 a 0011', 'put 0002 h 0010', 'put 0003 u 0000', 'press start')");
     await browser.press("#run");
     await new Promise((resolve) => setTimeout(resolve, 4000));
@@ -582,7 +667,7 @@ function areTrue(said) {
 
 /** The paces: what each shows, how fast it is, and that Stop is heard. */
 async function paces(browser) {
-    await browser.open(`${address}?lang=en`);
+    await browser.open(`${address}?lang=en&door=work`);
     await started(browser, "put 0000 b 0010", "put 0001 a 0011", "put 0002 h 0010", "put 0003 u 0000", "put 0011 = 1");
     await browser.press("#slow");
     await browser.waitFor("document.querySelector('.drum-box').dataset.moving === 'true'");
@@ -634,7 +719,7 @@ async function badInput(browser) {
 
 /** A run that prints without end asks, and goes on; before memory ends the page begins nothing more, and all can be saved. */
 async function endlessPrint(browser) {
-    await browser.open(`${address}?lang=en`);
+    await browser.open(`${address}?lang=en&door=work`);
     await started(browser, "put 0000 p =h", "put 0001 p =i", "put 0002 u 0000");
     await press(browser, "#run");
     assert.match(await textOf(browser, "#notice"), /^The run has printed [\d,]+ codes\. Go on\?/);
@@ -660,7 +745,7 @@ async function endlessPrint(browser) {
 /** Where lines have used up what memory there is, nothing more is begun. Where memory ends in spite of it, the lines are offered until they are put away. */
 async function usedUp(browser) {
     const long = "Array(17000).fill('; ' + 'x'.repeat(4000))";
-    await browser.open(`${address}?lang=en`);
+    await browser.open(`${address}?lang=en&door=work`);
     await browser.value(`laboratoryOfPage().say('put 0050 = 3', ...${long})`);
     assert.match(await textOf(browser, "#notice"), /nothing more is begun/);
     await browser.value("laboratoryOfPage().say('words 0050 1')");
@@ -678,7 +763,7 @@ async function usedUp(browser) {
 
 /** Dead buttons are shown dead, everything has a name, and German is there. */
 async function forPeople(browser) {
-    await browser.open(`${address}?lang=de`);
+    await browser.open(`${address}?lang=de&door=work`);
     const dead = await browser.value("[...document.querySelectorAll('.console .dead')].map((it) => it.dataset.name).sort()");
     assert.deepEqual(dead, ["compute", "execute", "read"]);
     assert.match(await textOf(browser, "h1"), /bewiesen/);
@@ -699,6 +784,18 @@ async function forPeople(browser) {
     await browser.media({ "forced-colors": "active" });
     await lamps(browser, "with forced colours");
     await browser.media({});
+}
+
+/** At each width nothing has to be scrolled sideways, behind no door. */
+async function widths(browser) {
+    for (const door of ["hall", "look", "learn", "work"]) {
+        await browser.open(`${address}?lang=de&door=${door}`);
+        for (const width of [390, 768, 1024, 1440, 1920]) {
+            await browser.size(width, 900);
+            assert.deepEqual([await sideways(browser), await browser.value("document.documentElement.scrollWidth <= innerWidth")], [[], true], `${door} at ${width}`);
+        }
+    }
+    await browser.size(1500, 1250);
 }
 
 /** What has to be scrolled sideways, but for tables, tape and the source's text. */
@@ -762,6 +859,13 @@ async function everyone(browser) {
             assert.deepEqual([...await nameless(browser), ...await faint(browser)], []);
             await browser.strike("Escape");
         }
+        for (const door of ["hall", "look", "learn"]) {
+            await openNoted(browser, `?door=${door}&lang=${language}`);
+            if (door !== "hall") await press(browser, { look: "[data-tale='rewrite']", learn: "#lesson-begin" }[door]);
+            await browser.waitFor({ hall: "true", look: "!document.querySelector('.caption-at').hidden", learn: "document.querySelector('.lesson .now') !== null" }[door]);
+            if (door === "hall") await press(browser, "#hall-stop");
+            assert.deepEqual(await troubles(browser), [], door);
+        }
         await openNoted(browser, `?kiosk=message&lang=${language}`);
         await press(browser, ".kiosk-bar button:nth-of-type(3)");
         assert.deepEqual(await troubles(browser), []);
@@ -796,7 +900,7 @@ async function byKeys(browser) {
 
 /** What is read out: of a line typed, the line and its reply and nothing that stood there before; of the paper, what is printed now. */
 async function readOut(browser) {
-    await browser.open(`${address}?lang=en`);
+    await browser.open(`${address}?lang=en&door=work`);
     for (const line of ["put 0000 p =h", "put 0001 p =i", "put 0002 z 0000", "press start"]) await browser.value(`laboratoryOfPage().say('${line}')`);
     await browser.value(`(() => {
         globalThis.added = {};
@@ -834,7 +938,7 @@ async function pictureByPicture(browser) {
     assert.deepEqual(places.map((place) => (64 - place) % 64), ends);
 }
 
-/** Nothing moves by itself: no animation runs after any step, but for a word that turns over once as it is changed; and none at all where no motion is wanted. */
+/** Nothing moves by itself: no animation runs after any step, but for a word that turns over once as it is changed; and none at all where no motion is wanted, and the hall stands. */
 async function stillness(browser) {
     for (const value of wishes(browser, "no-preference", "reduce")) {
         await browser.media?.({ "prefers-reduced-motion": value });
@@ -848,6 +952,9 @@ async function stillness(browser) {
         assert.equal(await browser.value("document.getAnimations().length"), 0, value);
         await press(browser, "#step");
         if (value === "reduce") await pictureByPicture(browser);
+        await browser.open(`${address}?lang=en`);
+        if (value === "reduce") assert.deepEqual([await browser.value(isMoving), (await panelOf(browser)).clock], [false, "0"]);
+        else await browser.waitFor(isMoving);
     }
     await browser.media?.({});
 }
@@ -961,7 +1068,7 @@ async function touch(browser) {
     await browser.size(1500, 1250);
 }
 
-const all = { kiosk, addresses, changes, thereAndBack, openSource, whatToPress, endlessPrint, firstHour, lesson, stories, scope, saved, source, profile, examples, badInput, usedUp, longRun, paces, forPeople, everyone, byKeys, readOut, stillness, touch, withoutWebAssembly, cannotOpen };
+const all = { kiosk, addresses, changes, thereAndBack, openSource, whatToPress, endlessPrint, firstHour, lesson, stories, scope, doors, look, learn, saved, source, profile, examples, badInput, usedUp, longRun, paces, forPeople, widths, everyone, byKeys, readOut, stillness, touch, withoutWebAssembly, cannotOpen };
 const wanted = process.env.VISITS?.split(" ") ?? Object.keys(all).filter((name) => !left.includes(name));
 const visits = Object.fromEntries(wanted.map((name) => [name, all[name]]));
 const browser = await Engine.start();

@@ -1,20 +1,26 @@
 // Where the parts stand: the stage with cabinet and typewriter, the pace, the story beside the program, and the bench. Console and typewriter change
 // their places with the width, so that the document's order is the seen order.
 import { h } from "./dom.mjs";
+import { behind } from "./doors.mjs";
 
 const WIDE = matchMedia("(min-width: 1280px)");
 const NARROW = matchMedia("(max-width: 760px)");
 
 const box = (name, ...views) => h("div", { class: name }, ...views.map((view) => view.node ?? view));
 
-/** The page below its header. */
+/** The page below its header: the stage, and what is seen behind each door. */
 export function makeStage(made) {
     for (const { node } of [made.drum, made.console, made.time, made.story]) node.querySelector("h2").classList.add("unseen");
-    const cabinet = box("cabinet", made.drum, box("desk", made.plate, made.scope, made.console));
-    const typewriter = box("flexowriter", made.paper, made.tape, made.keyboard);
-    const stage = box("stage", cabinet, typewriter);
+    const [stand, all] = ["learn work", "look learn work"];
+    behind(stand, made.console.node.querySelector(".second-row"));
+    behind(stand, made.story.node.querySelector(".telling-order"));
+    for (const node of made.listing.node.querySelectorAll("form, .rules")) behind("work", node);
+    const desk = behind(all, box("desk", made.plate, made.scope, made.console));
+    const cabinet = box("cabinet", made.drum, behind("hall", made.hall.node), desk);
+    const typewriter = behind(all, box("flexowriter", made.paper, behind(stand, made.tape.node), behind(stand, made.keyboard.node)));
+    const told = box("column", behind("look", made.tales.node), made.story, behind(stand, made.accounts.node));
     const bench = box("bench", box("column", made.panel, made.explanation, made.script, made.turns), box("column", made.source), box("column", made.lines, made.profile));
-    return h("main", {}, stage, box("pace", made.pace, made.time), box("telling", box("column", made.story, made.accounts), made.listing), bench);
+    return h("main", {}, box("stage", cabinet, typewriter), behind(all, box("pace", made.pace, made.time)), behind(all, box("telling", behind("learn", made.lesson.node), told, made.listing)), behind("work", bench));
 }
 
 /** Puts a node where it is seen, unless it stands there. The focus stays. */
