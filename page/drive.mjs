@@ -1,14 +1,23 @@
 // Drives the machine in a pace: what is asked of the laboratory, and when. An order is done at once, and then played from its account.
 import { wayOn } from "./learn.mjs";
+import { rewrittenBy } from "./views/says.mjs";
 
 /** The paces by their names: word times a second, how many times faster an act of more than a turn passes, and the rest between two orders. A word time of 0.26
  * milliseconds is a setting of the page. */
 export const PACES = {
     order: { speed: 64, hurry: 4, rest: 2600 },
     slow: { speed: 32, hurry: 1, rest: 0 },
+    show: { rest: 0 },
     own: { speed: 1000 / 0.26 },
     fast: {},
 };
+
+/** In a show each order has its own speed: the first ones and those that rewrite another one are slow, those that print are hurried while they type, all else passes quickly. */
+export function speedInShow(account, behind) {
+    if (behind <= SHOWN_SLOWLY || rewrittenBy(account) !== null) return { speed: 32, hurry: 1 };
+    return account.printed === null ? { speed: 96, hurry: 1 } : { speed: 48, hurry: 128 / 48 };
+}
+const SHOWN_SLOWLY = 3;
 
 /** At its own pace: how often orders are asked for, at most how many at once, and how many word times one is thought to take at first. */
 const STRETCH = { milliseconds: 100, orders: 200, average: 75 };
@@ -112,7 +121,7 @@ export class Drive extends EventTarget {
     }
 
     #play(account, pace) {
-        const { speed, hurry } = PACES[pace];
+        const { speed, hurry } = pace === "show" ? speedInShow(account, this.#laboratory.deeds.behind) : PACES[pace];
         Object.assign(this.#player, { pace: speed, hurry });
         this.#player.play(account);
         this.dispatchEvent(new Event("play"));

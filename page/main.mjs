@@ -11,7 +11,7 @@ import { makeConsole, makeKeyboard } from "./views/console.mjs";
 import { button, h, part } from "./views/dom.mjs";
 import { addressOfDoor, behind, makeDoors, makeHall, showDoor } from "./views/doors.mjs";
 import { makeDrum } from "./views/drum.mjs";
-import { KIOSK, makeKioskBar, watchIdle } from "./views/kiosk.mjs";
+import { KIOSK, makeKiosk, watchIdle } from "./views/kiosk.mjs";
 import { makeLesson } from "./views/lesson.mjs";
 import { makeListing } from "./views/listing.mjs";
 import { makeNotices } from "./views/notice.mjs";
@@ -46,6 +46,8 @@ let notices = null;
 let drive = null;
 let picture = { frame: null, views: [], last: 0 };
 let endIdle = () => {};
+let isAttract = false;
+let attractRound = 0;
 let laboratory = null;
 let hasShortKeys = true;
 
@@ -131,7 +133,7 @@ function about() {
 function playing() {
     const at = player.at();
     if (at === null || at.account !== laboratory.accounts.at(-1) || at.account.clock + BigInt(at.account.sum) !== laboratory.panel.clock) return null;
-    return at.done && drive.pace !== "slow" ? null : at;
+    return at.done && !["slow", "show"].includes(drive.pace) ? null : at;
 }
 
 /** The order that is played, as long as it has not done what it does. */
@@ -185,7 +187,7 @@ function makeExplanation() {
 }
 
 /** What the views ask: what is played, what it has not done yet, whether the drum turns too fast to be read, and the pace. */
-const showing = { playing, held, isFast: () => drive.pace === "own" || drive.pace === "fast", pace: () => drive.pace };
+const showing = { playing, held, isFast: () => drive.pace === "own" || drive.pace === "fast", pace: () => drive.pace, isAttract: () => isAttract };
 
 /** All parts but the header, and the element that holds them in the order in which they are seen. */
 function makeWork() {
@@ -199,32 +201,36 @@ function makeWork() {
     return { node: makeStage(made), made: Object.values(made) };
 }
 
-function makeShow() {
-    const [drum, paper, panel, listing] = [makeDrum(laboratory, texts, showing), makePaper(laboratory, texts, showing), makePanel(laboratory, texts), makeListing(laboratory, texts, showing)];
-    const column = (...views) => h("div", { class: "column" }, ...views.map(({ node }) => node));
-    return { node: h("main", {}, h("div", { class: "cabinet" }, drum.node), column(paper, panel, listing)), made: [drum, paper, panel, listing] };
+function makeOthers() {
+    const other = button(texts.code === "de" ? "English" : "Deutsch", () => { texts = textsIn(texts.code === "de" ? "en" : "de"); layFor("other-language"); }, { id: "other-language", lang: texts.code === "de" ? "en" : "de" });
+    return [button(texts.text("leaveKiosk"), () => setKiosk(false), { id: "leave-kiosk" }), other];
 }
 
-function makeLeave() {
-    const other = button(texts.code === "de" ? "English" : "Deutsch", () => { texts = textsIn(texts.code === "de" ? "en" : "de"); layFor("other-language"); }, { class: "plain", id: "other-language" });
-    return h("footer", {}, button(texts.text("leaveKiosk"), () => setKiosk(false), { class: "plain" }), " ", other);
+function makeExhibit() {
+    const made = { drum: makeDrum(laboratory, texts, showing), scope: makeScope(laboratory, texts, showing), paper: makePaper(laboratory, texts, showing) };
+    for (const node of [made.drum.node, made.paper.node]) node.querySelector("h2").classList.add("unseen");
+    return makeKiosk(laboratory, texts, { ...showing, drive }, openKiosk, made, makeOthers());
+}
+
+function makePage() {
+    const { text } = texts;
+    const top = makeBar();
+    const heading = h("header", {}, h("h1", {}, text("title")), h("p", { class: "subtitle" }, text("subtitle")), makeDoors(texts, goTo), top.node);
+    const { node, made } = makeWork();
+    return { nodes: [heading, node], views: [top, ...made] };
 }
 
 function lay() {
-    const { text } = texts;
     document.documentElement.lang = texts.code;
-    document.title = text("title");
+    document.title = texts.text("title");
     document.body.className = isKiosk ? "kiosk" : "";
-    const top = isKiosk ? makeKioskBar(laboratory, texts, openKiosk, drive) : makeBar();
-    const heading = h("header", {}, h("h1", {}, text(isKiosk ? "kioskTitle" : "title")), h("p", { class: "subtitle" }, text("subtitle")), ...(isKiosk ? [] : [makeDoors(texts, goTo)]), top.node);
-    const { node, made } = isKiosk ? makeShow() : makeWork();
+    const made = isKiosk ? makeExhibit() : makePage();
     notices = makeNotices(laboratory, texts, isKiosk, { run: () => drive.go("fast"), save, anew: () => (isKiosk ? openKiosk() : laboratory.new()), linkTo: (lines) => linkTo(withoutQuestions(lines, questions)) });
-    views = [top, ...made];
-    picture.views = made.filter(({ frame }) => frame !== undefined);
-    document.getElementById("page").replaceChildren(heading, node, ...(isKiosk ? [makeLeave()] : []));
+    views = made.views;
+    picture.views = views.filter(({ frame }) => frame !== undefined);
+    document.getElementById("page").replaceChildren(...made.nodes);
     if (isKiosk) delete document.body.dataset.door;
-    else showDoor(door);
-    if (!isKiosk) arrange();
+    else { showDoor(door); arrange(); }
     show();
 }
 
@@ -237,21 +243,50 @@ function layFor(id) {
 
 /** Opens the kiosk's program. An example that is not there is told. */
 async function openKiosk() {
+    drive.halt();
     const isThere = asked.example === null || examples.has(asked.example);
     const name = isThere ? asked.example ?? KIOSK.example : KIOSK.example;
     await laboratory.openForShow(name, examples.get(name));
     if (!isThere) await laboratory.tell({ kind: "noKioskExample", detail: asked.example, shown: KIOSK.example });
 }
 
+/** Opens the kiosk's program, which then plays by itself until someone takes over. What has to be told first, or a wish for no motion, leaves it standing. */
+async function attract() {
+    isAttract = true;
+    attractRound += 1;
+    await openKiosk();
+    if (laboratory.notice === null && !still.matches) playOn(attractRound);
+}
+
+/** Plays the program again and again. */
+async function playOn(round) {
+    const isOn = () => isAttract && round === attractRound;
+    while (isOn()) {
+        if (wayOn(laboratory.live, laboratory.panel).kind === "start") await laboratory.command("press start");
+        if (isOn()) await drive.go("show");
+        if (isOn()) await clocks.sleep(KIOSK.restMilliseconds);
+        if (isOn()) await openKiosk();
+    }
+}
+
+/** Someone has touched the kiosk: what plays by itself stops where it is. A touch of no button does nothing else. */
+function takeOver({ target }) {
+    if (!isAttract) return;
+    isAttract = false;
+    drive.halt();
+    if (target.closest?.("button") === null) show();
+}
+
 async function setKiosk(wanted) {
     isKiosk = wanted;
+    isAttract = false;
     endIdle();
     drive.halt();
+    laboratory.isOnShow = isKiosk || door === "hall" || door === "look";
     layFor(isKiosk ? "kiosk-start" : "kiosk");
-    if (isKiosk) {
-        await openKiosk();
-        endIdle = watchIdle(asked.idleSeconds ?? KIOSK.idleSeconds, () => { drive.halt(); openKiosk(); });
-    }
+    if (!isKiosk) return;
+    endIdle = watchIdle(asked.idleSeconds ?? KIOSK.idleSeconds, () => { if (!isAttract) attract(); }, takeOver);
+    await attract();
 }
 
 function onKey(event) {

@@ -102,7 +102,10 @@ const en = {
     kioskTitle: "A computer of 1956 at work", kioskStart: "Start", kioskStep: "One order", kioskRun: "Let it run", kioskAgain: "From the beginning",
     kioskIntro: "The LGP-30 kept everything on a turning drum, its orders too. Press Start and see what it prints.",
     kioskGoing: "The machine is going. Press One order or Let it run.", kioskKeys: "The program waits for its operator's keys. The kiosk has none, so it cannot go on here: press From the beginning.",
-    kioskRuns: "The machine runs.", kioskDone: "The machine has stopped.", kioskPrinted: "It has printed",
+    kioskRuns: "The machine runs.", kioskStop: "Stop", kioskTouch: "Touch to take over",
+    kiosk_find: "All that it knows lies on this drum: its numbers, and its orders too. It waits until the next order comes by below the head.", kiosk_seek: "Now it has the order. The order names a word, and that has to come by as well: the blue line.",
+    kiosk_write: "This order rewrites another one! In 1956 a program had to change itself to go through a table.", kiosk_type: "It types a sign. For that the drum turns six times.",
+    colour_find: "waits for the order", colour_take: "takes it", colour_seek: "waits for the word", colour_act: "acts", kioskDone: "The machine has stopped.", kioskPrinted: "It has printed",
     ruleKind: { break: "stops at", watch: "stops when it changes:" },
     statuses: {
         "halted operator": "halted by the operator", "halted stop": "halted by a stop order", "halted overflow": "halted by an overflow",
@@ -251,7 +254,10 @@ const de = {
     kioskTitle: "Ein Rechner von 1956 bei der Arbeit", kioskStart: "Start", kioskStep: "Ein Befehl", kioskRun: "Laufen lassen", kioskAgain: "Von vorn",
     kioskIntro: "Die LGP-30 hatte alles auf einer drehenden Trommel, auch ihre Befehle. Drücken Sie Start, und sehen Sie, was sie druckt.",
     kioskGoing: "Die Maschine läuft. Drücken Sie Ein Befehl oder Laufen lassen.", kioskKeys: "Das Programm wartet auf die Tasten seines Bedieners. Der Kiosk hat keine, darum geht es hier nicht weiter: Drücken Sie Von vorn.",
-    kioskRuns: "Die Maschine läuft.", kioskDone: "Die Maschine hat angehalten.", kioskPrinted: "Sie hat gedruckt",
+    kioskRuns: "Die Maschine läuft.", kioskStop: "Anhalten", kioskTouch: "Berühren und übernehmen",
+    kiosk_find: "Alles, was er weiß, liegt auf dieser Trommel: seine Zahlen und auch seine Befehle. Er wartet, bis der nächste Befehl unter dem Kopf vorbeikommt.", kiosk_seek: "Jetzt hat er den Befehl. Der nennt ein Wort, und auch das muss vorbeikommen: die blaue Linie.",
+    kiosk_write: "Dieser Befehl schreibt einen anderen um! 1956 musste ein Programm sich selbst ändern, um durch eine Tabelle zu gehen.", kiosk_type: "Er schreibt ein Zeichen. Dafür dreht sich die Trommel sechsmal.",
+    colour_find: "wartet auf den Befehl", colour_take: "holt ihn", colour_seek: "wartet auf das Wort", colour_act: "führt aus", kioskDone: "Die Maschine hat angehalten.", kioskPrinted: "Sie hat gedruckt",
     ruleKind: { break: "hält an bei", watch: "hält an, wenn sich ändert:" },
     statuses: {
         "halted operator": "angehalten vom Bediener", "halted stop": "angehalten durch einen Haltbefehl", "halted overflow": "angehalten durch einen Überlauf",

@@ -107,7 +107,7 @@ export const noteMouse = (browser) => browser.preload(`
 
 /** Goes through the whole page by Tab, past its end to its beginning: what a mouse can press and Tab does not reach. */
 export async function unreached(browser) {
-    await browser.value("(globalThis.reachedByTab = new Set(), document.activeElement.blur())");
+    await browser.value("(globalThis.reachedByTab = new Set(), document.querySelector('#page a[href], #page button')?.focus())");
     for (let count = 0, isNew = true; isNew && count < 500; count += 1) {
         await browser.strike("Tab");
         isNew = await browser.value("(() => { const it = document.activeElement; const isNew = !reachedByTab.has(it); reachedByTab.add(it); return isNew; })()");

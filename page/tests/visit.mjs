@@ -49,6 +49,9 @@ async function press(browser, selector) {
     await settled(browser);
 }
 
+/** Whether an order is played. */
+const isMoving = "document.querySelector('.drum-box').dataset.moving === 'true'";
+
 /** So many orders, each played to its end by the press of Stop. */
 async function steps(browser, orders) {
     for (let order = 0; order < orders; order += 1) for (const selector of ["#step", "#halt"]) await press(browser, selector);
@@ -60,26 +63,48 @@ async function picture(browser, name) {
     await browser.picture(join(pictures, `page-${name}.png`));
 }
 
-/** A visitor of a museum presses Start and sees what is printed; left alone, the kiosk begins anew. */
+/** What of the kiosk lies outside of the window, or is a large button lower than 84 pixels. */
+const outside = (browser) => browser.value(`[...document.querySelectorAll("#page *")].filter((it) => it.checkVisibility() && it.closest(".unseen, .well, .paper, .scope") === null).filter((it) => {
+    const { left, top, right, bottom, height } = it.getBoundingClientRect();
+    return left < -1 || top < -1 || right > innerWidth + 1 || bottom > innerHeight + 1 || (it.matches(".kiosk-bar button") && height < 84);
+}).map((it) => it.tagName + "." + it.className)`);
+
+/** The kiosk plays by itself, with captions, and fills its window. A visitor takes over by a touch and presses its buttons; left alone, it begins anew. */
 async function kiosk(browser) {
-    await browser.open(`${address}?kiosk=message&lang=en&idle=2`);
-    const buttons = await browser.value("[...document.querySelectorAll('.kiosk-bar button')].map((it) => it.textContent)");
-    assert.deepEqual(buttons, ["Start", "One order", "Let it run", "From the beginning"]);
-    assert.match(await textOf(browser, ".kiosk-told"), /Press Start/);
-    await press(browser, ".kiosk-bar button:nth-of-type(1)");
-    assert.equal((await panelOf(browser)).status, "going");
-    assert.match(await textOf(browser, ".kiosk-told"), /The machine is going/);
-    await press(browser, ".kiosk-bar button:nth-of-type(1)");
-    assert.match(await textOf(browser, "#notice"), /Start does nothing now[^]*One order[^]*Let it run/);
-    await press(browser, ".kiosk-bar button:nth-of-type(2)");
-    await browser.press(".kiosk-bar button:nth-of-type(3)");
+    await browser.open(`${address}?kiosk=message&lang=en&idle=4`);
+    await browser.waitFor(isMoving);
+    assert.match(await textOf(browser, ".kiosk-told"), /^(All that it knows lies on this drum|Now it has the order)/);
+    assert.deepEqual(await seenOf(browser, ".kiosk-hint"), [".kiosk-hint"]);
+    await browser.waitFor("/^This order rewrites another one/.test(document.querySelector('.kiosk-told').textContent)");
+    const buttons = () => browser.value("[...document.querySelectorAll('.kiosk-bar button')].map((it) => it.textContent)");
+    assert.deepEqual(await buttons(), ["Start", "One order", "Let it run", "From the beginning"]);
+    for (const [width, height] of [[1920, 1080], [1024, 768], [768, 1024]]) {
+        await browser.size(width, height);
+        assert.deepEqual([await outside(browser), await browser.value("document.documentElement.scrollHeight <= innerHeight")], [[], true], `at ${width} by ${height}`);
+    }
+    await browser.size(1500, 1250);
+    await press(browser, ".kiosk-told");
+    const before = await panelOf(browser);
+    assert.deepEqual([await browser.value(isMoving), before.status, await seenOf(browser, ".kiosk-hint")], [false, "going", []]);
+    await press(browser, "#kiosk-step");
+    assert.ok(BigInt((await panelOf(browser)).clock) > BigInt(before.clock));
+    await press(browser, "#kiosk-start");
+    await browser.waitFor(isMoving);
+    assert.deepEqual([(await buttons())[0], await textOf(browser, ".kiosk-told")], ["Stop", "The machine runs."]);
+    await press(browser, "#kiosk-start");
+    assert.equal(await browser.value(isMoving), false);
+    await browser.press("#kiosk-run");
     await browser.waitFor("laboratoryOfPage().panel.status === 'halted stop'");
     await settled(browser);
-    assert.notEqual((await textOf(browser, ".paper")).trim(), "");
+    assert.equal((await textOf(browser, ".paper")).trim(), "good day");
+    assert.match(await textOf(browser, ".kiosk-told"), /The machine has stopped/);
     await picture(browser, "kiosk");
-    await browser.waitFor("laboratoryOfPage().deeds.behind === 0 && laboratoryOfPage().printed.count === 0", 8000);
-    await settled(browser);
+    await browser.waitFor(`laboratoryOfPage().printed.count === 0 && ${isMoving}`, 20_000);
+    await browser.open(`${address}?kiosk=first-run&lang=en`);
+    for (const told of ["The machine has stopped", "All that it knows"]) await browser.waitFor(`document.querySelector('.kiosk-told').textContent.startsWith('${told}')`);
+    await press(browser, "#kiosk-again");
     assert.equal((await panelOf(browser)).status, "halted operator");
+    assert.match(await textOf(browser, ".kiosk-told"), /Press Start/);
 }
 
 /** What an address names and is not there is told, whatever its name; and so is that a program waits for keys, which the kiosk does not have. */
@@ -92,7 +117,6 @@ async function addresses(browser) {
         assert.match(await textOf(browser, ".kiosk-told"), /Press Start/);
     }
     await browser.open(`${address}?lang=en&kiosk=tables/primes`);
-    await press(browser, "#kiosk-start");
     await browser.press("#kiosk-run");
     await browser.waitFor("laboratoryOfPage().panel.status === 'halted stop'");
     await settled(browser);
@@ -424,7 +448,6 @@ async function scope(browser) {
     assert.deepEqual(lit, ["normal", "start", "bp8"]);
 }
 
-const isMoving = "document.querySelector('.drum-box').dataset.moving === 'true'";
 const wordAt = (browser, place) => browser.value(`laboratoryOfPage().words.find(({ address }) => address === "${place}").order`);
 const seenOf = (browser, ...selectors) => browser.value(`${JSON.stringify(selectors)}.filter((it) => document.querySelector(it).checkVisibility())`);
 const doorNow = (browser) => browser.value("[new URLSearchParams(location.search).get('door'), document.querySelector('.doors [aria-current]')?.textContent ?? null]");
@@ -867,7 +890,7 @@ async function everyone(browser) {
             assert.deepEqual(await troubles(browser), [], door);
         }
         await openNoted(browser, `?kiosk=message&lang=${language}`);
-        await press(browser, ".kiosk-bar button:nth-of-type(3)");
+        await press(browser, "#kiosk-run");
         assert.deepEqual(await troubles(browser), []);
     }
     await browser.ask?.("Accessibility.disable");
@@ -1041,8 +1064,10 @@ async function touch(browser) {
     await browser.open(`${address}?kiosk=message&lang=en`);
     const hidden = "[...document.querySelectorAll('.kiosk-bar button')].filter((it) => { const { bottom, height } = it.getBoundingClientRect(); return bottom > innerHeight || height < 44; }).length";
     assert.equal(await browser.value(hidden), 0);
-    const before = await panelOf(browser);
-    for (const place of [1, 2]) await taps(`.kiosk-bar button:nth-of-type(${place})`);
+    await browser.waitFor(isMoving);
+    await taps(".kiosk .plate");
+    assert.equal(await browser.value(isMoving), false);
+    for (const place of [1, 1, 2]) await taps(`.kiosk-bar button:nth-of-type(${place})`);
     assert.equal((await panelOf(browser)).status, "going");
     await browser.tap(".kiosk-bar button:nth-of-type(3)");
     await browser.waitFor("laboratoryOfPage().panel.status === 'halted stop'");
@@ -1051,7 +1076,7 @@ async function touch(browser) {
     await browser.tap(".kiosk-bar button:nth-of-type(4)");
     await browser.waitFor("laboratoryOfPage().deeds.behind === 0 && laboratoryOfPage().printed.count === 0");
     await settled(browser);
-    assert.deepEqual(await panelOf(browser), before);
+    assert.equal((await panelOf(browser)).status, "halted operator");
     await browser.open(`${address}?lang=en#self-modifying`);
     assert.deepEqual(await sideways(browser), []);
     const small = "[...document.querySelectorAll('#page button, #page select, #page input')].filter((it) => it.checkVisibility() && !it.closest('label') && Math.min(it.getBoundingClientRect().width, it.getBoundingClientRect().height) < 24).map((it) => it.outerHTML.slice(0, 90))";

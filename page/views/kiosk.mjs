@@ -1,44 +1,95 @@
-// The kiosk: one program, large buttons, and a return to the beginning after a time without input.
-import { isLive, wayOn } from "../learn.mjs";
-import { button, guarded, h, showLive } from "./dom.mjs";
+// The kiosk: one program that plays by itself with captions until it is touched, four large buttons, and a return to the beginning after a time without input.
+import { wayOn } from "../learn.mjs";
+import { button, h, tell } from "./dom.mjs";
+import { rewrittenBy } from "./says.mjs";
 
-/** The example that a kiosk shows where its address names none, and the seconds without input after which it begins anew. */
-export const KIOSK = { example: "message", idleSeconds: 90 };
+/** The example that a kiosk shows where its address names none; the seconds without input after which it begins anew; and how long it rests at the end. */
+export const KIOSK = { example: "message", idleSeconds: 90, restMilliseconds: 3500 };
 
-/** The bar of large buttons. `open` begins the program anew. */
-export function makeKioskBar(laboratory, { text }, open, drive) {
-    const wayNow = () => wayOn(laboratory.live, laboratory.panel).kind;
-    const start = guarded(text("kioskStart"), { id: "kiosk-start" }, () => laboratory.command("press start"), () => laboratory.tell({ kind: "dead", detail: text("kioskStart") }));
-    const step = button(text("kioskStep"), () => drive.step());
-    const run = button(text("kioskRun"), async () => {
-        if (wayNow() === "start") await laboratory.command("press start");
-        await drive.go("fast");
-    }, { id: "kiosk-run" });
-    const again = button(text("kioskAgain"), open);
-    const told = h("p", { class: "kiosk-told", role: "status" });
-    const show = () => {
-        const { panel, printed, live, deeds } = laboratory;
-        showLive(start, isLive(live, panel, "start"));
-        if (drive.pace !== null) told.textContent = text("kioskRuns");
-        else if (wayNow() === "keys") told.textContent = text("kioskKeys");
-        else if (wayNow() === "go") told.textContent = text(printed.count > 0 ? "kioskPrinted" : "kioskGoing");
-        else told.textContent = text(deeds.behind === 0 ? "kioskIntro" : "kioskDone");
-    };
-    return { node: h("div", { class: "kiosk-bar" }, told, start, step, run, again), show };
+/** For how long a caption stands at least, in milliseconds. That an order has been rewritten is told at once, and stands by its own time. */
+const STANDS = { caption: 2600, write: 2200 };
+
+/** What happens in an order that is played, by the name of its caption. */
+function happening(at) {
+    if (at === null) return null;
+    const { account, phase, done } = at;
+    if (done && rewrittenBy(account) !== null) return "write";
+    if (phase === "act" && account.printed !== null) return "type";
+    return phase === "seek" ? "seek" : "find";
 }
 
-/** Calls `reset` after so many seconds in which nobody touched the page. Returns what ends the watch. */
-export function watchIdle(seconds, reset) {
+/** The caption of what happens, one after another, each for its time at least. */
+function makeCaptions() {
+    let [shown, until] = [null, 0];
+    return (kind) => {
+        const now = performance.now();
+        if (kind !== null && kind !== shown && (now >= until || kind === "write")) [shown, until] = [kind, now + (STANDS[kind] ?? STANDS.caption)];
+        return shown ?? "find";
+    };
+}
+
+/** What is told at the top: while it plays by itself, what happens; otherwise what can be done. */
+function makeTold(laboratory, { text }, { drive, playing, isAttract }) {
+    const told = h("p", { class: "kiosk-told", role: "status" });
+    const captionOf = makeCaptions();
+    const stands = () => {
+        const { panel, printed, live, deeds } = laboratory;
+        const { kind } = wayOn(live, panel);
+        if (drive.pace !== null) return "kioskRuns";
+        if (kind === "keys") return "kioskKeys";
+        if (kind === "go") return printed.count > 0 ? "kioskPrinted" : "kioskGoing";
+        return deeds.behind === 0 ? "kioskIntro" : "kioskDone";
+    };
+    const frame = () => {
+        told.setAttribute("aria-live", isAttract() ? "off" : "polite");
+        tell(told, text(isAttract() && drive.pace !== null ? `kiosk_${captionOf(happening(playing()))}` : stands()));
+    };
+    return { node: told, show: frame, frame };
+}
+
+/** The large buttons. `open` begins the program anew. */
+function makeButtons(laboratory, { text }, { drive, isAttract }, open) {
+    const goOn = async (deed) => {
+        if (wayOn(laboratory.live, laboratory.panel).kind === "start") await laboratory.command("press start");
+        await deed();
+    };
+    const start = button("", () => (drive.pace === null ? goOn(() => drive.go("show")) : drive.halt()), { id: "kiosk-start" });
+    const step = button(text("kioskStep"), () => goOn(() => drive.step()), { id: "kiosk-step" });
+    const run = button(text("kioskRun"), () => goOn(() => drive.go("fast")), { id: "kiosk-run" });
+    const again = button(text("kioskAgain"), open, { id: "kiosk-again" });
+    const show = () => tell(start, text(drive.pace === null || isAttract() ? "kioskStart" : "kioskStop"));
+    return { node: h("div", { class: "kiosk-bar" }, start, step, run, again), show };
+}
+
+/** The colours of the phases with their words. */
+const colours = ({ text }) => h("p", { class: "colours" }, ...["find", "take", "seek", "act"].map((phase) => h("span", {}, h("span", { class: `dot ${phase}` }), text(`colour_${phase}`))));
+
+/** The kiosk: header, main and footer. `made` has the views of the page that it shows, `others` the small buttons at the top. */
+export function makeKiosk(laboratory, texts, showing, open, made, others) {
+    const { text } = texts;
+    const [told, buttons] = [makeTold(laboratory, texts, showing), makeButtons(laboratory, texts, showing, open)];
+    const hint = h("p", { class: "kiosk-hint" }, text("kioskTouch"));
+    const header = h("header", {}, h("h1", {}, text("kioskTitle")), h("div", { class: "others" }, ...others), told.node, hint);
+    const cabinet = h("div", { class: "cabinet" }, h("p", { class: "plate" }, h("b", {}, "ROYAL McBEE LGP-30")), made.drum.node, colours(texts));
+    const shown = { show: () => { hint.hidden = !showing.isAttract(); } };
+    return { nodes: [header, h("main", {}, cabinet, made.scope.node, made.paper.node), h("footer", {}, buttons.node)], views: [told, buttons, shown, ...Object.values(made)] };
+}
+
+/** Calls `reset` after so many seconds in which nobody touched the page, and `touched` at each touch, before a button hears it. Returns what ends the watch. */
+export function watchIdle(seconds, reset, touched) {
     let timer;
     const again = () => {
         clearTimeout(timer);
         timer = setTimeout(reset, 1000 * seconds);
     };
-    const kinds = ["pointerdown", "pointermove", "keydown", "touchstart"];
-    for (const kind of kinds) addEventListener(kind, again);
+    const touch = (event) => { again(); touched(event); };
+    const [moves, touches] = [["pointermove"], ["pointerdown", "keydown", "click"]];
+    for (const kind of moves) addEventListener(kind, again);
+    for (const kind of touches) addEventListener(kind, touch, true);
     again();
     return () => {
         clearTimeout(timer);
-        for (const kind of kinds) removeEventListener(kind, again);
+        for (const kind of moves) removeEventListener(kind, again);
+        for (const kind of touches) removeEventListener(kind, touch, true);
     };
 }
