@@ -6,6 +6,7 @@ import { headOf, linesIn, withoutQuestions } from "./lines.mjs";
 import { Link } from "./link.mjs";
 import { askedIn } from "./opening.mjs";
 import { Player } from "./player.mjs";
+import { Sound, follow } from "./sound.mjs";
 import { makeAccounts, makeTime } from "./views/accounts.mjs";
 import { makeConsole, makeKeyboard } from "./views/console.mjs";
 import { button, h, part } from "./views/dom.mjs";
@@ -31,6 +32,7 @@ import { LANGUAGES, counted, textsIn } from "./words.mjs";
 const CARRIED_MILLISECONDS = 250;
 const player = new Player();
 const still = matchMedia("(prefers-reduced-motion: reduce)");
+const sound = new Sound(() => new AudioContext());
 const clocks = { now: () => performance.now(), sleep: (milliseconds) => new Promise((resolve) => setTimeout(resolve, milliseconds)) };
 const inlined = (id) => document.getElementById(id).textContent;
 const examples = new Map(Object.entries(JSON.parse(inlined("examples"))));
@@ -162,6 +164,16 @@ async function run() {
     showProgress({ orders: ran.orders, milliseconds: Math.max(1, ran.milliseconds) }, false);
 }
 
+/** The switch of the sound. */
+function makeSoundSwitch() {
+    const control = button(texts.text("sound"), () => {
+        sound.switchTo(!sound.isOn);
+        control.setAttribute("aria-pressed", String(sound.isOn));
+        show();
+    }, { id: "sound", title: texts.text("soundHint"), "aria-pressed": String(sound.isOn) });
+    return control;
+}
+
 function makeBar() {
     const { text } = texts;
     const choice = h("select", { id: "example", "aria-label": text("openExample"), onchange: () => examples.has(choice.value) && openExample(choice.value) },
@@ -170,7 +182,7 @@ function makeBar() {
     const language = h("select", { id: "language", "aria-label": "Language, Sprache", onchange: () => { texts = textsIn(language.value); layFor("language"); } },
         ...Object.entries(LANGUAGES).map(([code, table]) => h("option", { value: code, selected: code === texts.code }, table.language)));
     const view = { node: h("div", { class: "line choices", role: "toolbar", "aria-label": text("choices") }, choice, behind("work", button(text("new"), () => laboratory.new(), { title: text("newHint") })), behind("work", button(text("save"), save, { title: text("saveHint"), id: "save" })),
-        button(text("kiosk"), () => setKiosk(true), { id: "kiosk" }), button(text("about"), about, { id: "about" }), language),
+        makeSoundSwitch(), button(text("kiosk"), () => setKiosk(true), { id: "kiosk" }), button(text("about"), about, { id: "about" }), language),
         show: () => { choice.value = laboratory.script?.name ?? ""; } };
     return view;
 }
@@ -203,7 +215,7 @@ function makeWork() {
 
 function makeOthers() {
     const other = button(texts.code === "de" ? "English" : "Deutsch", () => { texts = textsIn(texts.code === "de" ? "en" : "de"); layFor("other-language"); }, { id: "other-language", lang: texts.code === "de" ? "en" : "de" });
-    return [button(texts.text("leaveKiosk"), () => setKiosk(false), { id: "leave-kiosk" }), other];
+    return [makeSoundSwitch(), button(texts.text("leaveKiosk"), () => setKiosk(false), { id: "leave-kiosk" }), other];
 }
 
 function makeExhibit() {
@@ -226,7 +238,7 @@ function lay() {
     document.body.className = isKiosk ? "kiosk" : "";
     const made = isKiosk ? makeExhibit() : makePage();
     notices = makeNotices(laboratory, texts, isKiosk, { run: () => drive.go("fast"), save, anew: () => (isKiosk ? openKiosk() : laboratory.new()), linkTo: (lines) => linkTo(withoutQuestions(lines, questions)) });
-    views = made.views;
+    views = [...made.views, follow(laboratory, sound, showing)];
     picture.views = views.filter(({ frame }) => frame !== undefined);
     document.getElementById("page").replaceChildren(...made.nodes);
     if (isKiosk) delete document.body.dataset.door;

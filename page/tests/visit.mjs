@@ -98,7 +98,9 @@ async function kiosk(browser) {
     await settled(browser);
     assert.equal((await textOf(browser, ".paper")).trim(), "good day");
     assert.match(await textOf(browser, ".kiosk-told"), /The machine has stopped/);
+    await browser.size(1024, 768);
     await picture(browser, "kiosk");
+    await browser.size(1500, 1250);
     await browser.waitFor(`laboratoryOfPage().printed.count === 0 && ${isMoving}`, 20_000);
     await browser.open(`${address}?kiosk=first-run&lang=en`);
     for (const told of ["The machine has stopped", "All that it knows"]) await browser.waitFor(`document.querySelector('.kiosk-told').textContent.startsWith('${told}')`);
@@ -530,6 +532,32 @@ async function learn(browser) {
     await browser.waitFor("laboratoryOfPage().panel.status === 'halted stop'");
     assert.deepEqual([await answer("a 0101"), await answer(await wordAt(browser, "0009"))], [5, 6]);
     assert.match(await textOf(browser, ".lesson-end"), /All steps are done/);
+}
+
+/** Sound is off until it is switched on; then a printed sign is a stroke, and the drum hums while it works. */
+async function sound(browser) {
+    await browser.open(`${address}?lang=en&door=work`);
+    await browser.value(`(() => {
+        const { AudioContext } = globalThis;
+        globalThis.heard = { contexts: 0, strokes: 0, hum: [] };
+        globalThis.AudioContext = class extends AudioContext {
+            constructor() { super(); heard.contexts += 1; }
+            createBufferSource() { heard.strokes += 1; return super.createBufferSource(); }
+            createOscillator() { const made = super.createOscillator(); const { frequency } = made; const set = frequency.setTargetAtTime.bind(frequency); frequency.setTargetAtTime = (...all) => { heard.hum.push(all[0]); return set(...all); }; return made; }
+        };
+    })()`);
+    await started(browser, "put 0000 p =h", "put 0001 p =i", "put 0002 z 0000");
+    await steps(browser, 1);
+    assert.deepEqual([await browser.value("heard"), await browser.value("document.querySelector('#sound').getAttribute('aria-pressed')")], [{ contexts: 0, strokes: 0, hum: [] }, "false"]);
+    await press(browser, "#sound");
+    await press(browser, "#step");
+    assert.deepEqual(await browser.value("[heard.contexts, heard.strokes]"), [1, 0]);
+    await browser.waitFor(`!(${isMoving})`);
+    assert.deepEqual(await browser.value("[heard.contexts, heard.strokes, heard.hum.length > 1]"), [1, 1, true]);
+    await press(browser, "#sound");
+    const before = await browser.value("heard");
+    await steps(browser, 1);
+    assert.deepEqual(await browser.value("heard"), before);
 }
 
 /** What Save gives stands in its dialog, at first without the lines that only ask; it leads to the same place. */
@@ -1059,6 +1087,7 @@ async function touch(browser) {
     const taps = async (selector) => {
         await browser.tap(selector);
         await settled(browser);
+        await browser.value("new Promise((resolve) => requestAnimationFrame(() => requestAnimationFrame(resolve)))");
     };
     await browser.size(1024, 768);
     await browser.open(`${address}?kiosk=message&lang=en`);
@@ -1093,7 +1122,7 @@ async function touch(browser) {
     await browser.size(1500, 1250);
 }
 
-const all = { kiosk, addresses, changes, thereAndBack, openSource, whatToPress, endlessPrint, firstHour, lesson, stories, scope, doors, look, learn, saved, source, profile, examples, badInput, usedUp, longRun, paces, forPeople, widths, everyone, byKeys, readOut, stillness, touch, withoutWebAssembly, cannotOpen };
+const all = { kiosk, addresses, changes, thereAndBack, openSource, whatToPress, endlessPrint, firstHour, lesson, stories, scope, doors, look, learn, sound, saved, source, profile, examples, badInput, usedUp, longRun, paces, forPeople, widths, everyone, byKeys, readOut, stillness, touch, withoutWebAssembly, cannotOpen };
 const wanted = process.env.VISITS?.split(" ") ?? Object.keys(all).filter((name) => !left.includes(name));
 const visits = Object.fromEntries(wanted.map((name) => [name, all[name]]));
 const browser = await Engine.start();
