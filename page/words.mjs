@@ -47,7 +47,7 @@ const en = {
             3: "Not yet. Look at the row of 0009: the letter, a blank, and four digits.", 4: "", 5: "Not yet. Look at the row of 0009: a letter, a blank, and four digits." },
     },
     lessonBegin: "Begin", lessonAnew: "Begin anew", lessonRight: "Yes.", lessonNotThere: "The machine does not stand there yet: do what the step says first.", lessonEnd: "All steps are done. The order has gone through the whole table.", answer: "Your answer to step {number}", check: "Check", stepDone: "Done:",
-    story: "What this order does", places: "places", storyOwn: "At its own pace an order is over before it can be read. Stop, and the last one is told.", storyFast: "The orders go by too fast to be told. Stop, and step on.",
+    story: "What this order does", places: "places", storyNone: "Step performs one order, and it is told here.", storyOwn: "At its own pace an order is over before it can be read. Stop, and the last one is told.", storyFast: "The orders go by too fast to be told. Stop, and step on.",
     waitsOrder: "The drum had to turn {f} places to the order; it needs no word.", waitsOrderWord: "The drum had to turn {f} places to the order and {s} to the word.",
     waitsRegister: "The order stood in the register, and it needs no word.", waitsRegisterWord: "The order stood in the register; the drum had to turn {s} places to the word.",
     says: {
@@ -199,7 +199,7 @@ const de = {
             3: "Noch nicht. Sehen Sie auf die Zeile von 0009: der Buchstabe, ein Leerzeichen und vier Ziffern.", 4: "", 5: "Noch nicht. Sehen Sie auf die Zeile von 0009: ein Buchstabe, ein Leerzeichen und vier Ziffern." },
     },
     lessonBegin: "Beginnen", lessonAnew: "Von vorn beginnen", lessonRight: "Ja.", lessonNotThere: "Die Maschine steht noch nicht da: Tun Sie erst, was der Schritt sagt.", lessonEnd: "Alle Schritte sind getan. Der Befehl ist durch die ganze Tabelle gegangen.", answer: "Ihre Antwort auf Schritt {number}", check: "Prüfen", stepDone: "Getan:",
-    story: "Was dieser Befehl tut", places: "Plätze", storyOwn: "Im eigenen Tempo ist ein Befehl vorbei, ehe man ihn lesen kann. Halten Sie an, und der letzte wird erzählt.", storyFast: "Die Befehle gehen so schnell vorbei, dass sie nicht erzählt werden. Halten Sie an, und gehen Sie Schritt für Schritt weiter.",
+    story: "Was dieser Befehl tut", places: "Plätze", storyNone: "Schritt führt einen Befehl aus, und hier wird er erzählt.", storyOwn: "Im eigenen Tempo ist ein Befehl vorbei, ehe man ihn lesen kann. Halten Sie an, und der letzte wird erzählt.", storyFast: "Die Befehle gehen so schnell vorbei, dass sie nicht erzählt werden. Halten Sie an, und gehen Sie Schritt für Schritt weiter.",
     waitsOrder: "Die Trommel musste {f} Plätze bis zum Befehl drehen; ein Wort braucht er nicht.", waitsOrderWord: "Die Trommel musste {f} Plätze bis zum Befehl drehen und {s} bis zum Wort.",
     waitsRegister: "Der Befehl stand im Register, und ein Wort braucht er nicht.", waitsRegisterWord: "Der Befehl stand im Register; die Trommel musste {s} Plätze bis zum Wort drehen.",
     says: {

@@ -107,12 +107,18 @@ export const noteMouse = (browser) => browser.preload(`
 
 /** Goes through the whole page by Tab, past its end to its beginning: what a mouse can press and Tab does not reach. */
 export async function unreached(browser) {
-    await browser.value("(globalThis.reachedByTab = new Set(), document.querySelector('#page a[href], #page button')?.focus())");
+    await browser.value(`(() => {
+        const begin = Object.assign(document.createElement("button"), { id: "before-all" });
+        document.body.prepend(begin);
+        begin.focus();
+        globalThis.reachedByTab = new Set([begin]);
+    })()`);
     for (let count = 0, isNew = true; isNew && count < 500; count += 1) {
         await browser.strike("Tab");
         isNew = await browser.value("(() => { const it = document.activeElement; const isNew = !reachedByTab.has(it); reachedByTab.add(it); return isNew; })()");
     }
     return browser.value(`(() => {
+        document.querySelector("#before-all").remove();
         const wanted = [...document.querySelectorAll("a[href], button, input, select, textarea, summary, [tabindex='0']"), ...heardByMouse];
         const missed = wanted.filter((it) => it.isConnected && it.checkVisibility() && !it.disabled && !reachedByTab.has(it)).map((it) => "Tab does not reach " + it.outerHTML.slice(0, 100));
         return [...new Set(missed)];

@@ -49,6 +49,11 @@ async function press(browser, selector) {
     await settled(browser);
 }
 
+/** A picture of the page as it stands at this moment, while it moves. */
+async function moment(browser, name) {
+    if (pictures !== undefined) await browser.picture(join(pictures, `page-${name}.png`));
+}
+
 /** Whether an order is played. */
 const isMoving = "document.querySelector('.drum-box').dataset.moving === 'true'";
 
@@ -59,7 +64,7 @@ async function steps(browser, orders) {
 
 async function picture(browser, name) {
     if (pictures === undefined) return;
-    await browser.waitFor("document.querySelector('.drum-box').dataset.moving === 'false'");
+    await browser.waitFor("document.querySelector('.drum-box').dataset.moving === 'false' && document.getAnimations().length === 0");
     await browser.picture(join(pictures, `page-${name}.png`));
 }
 
@@ -448,6 +453,19 @@ async function scope(browser) {
     await press(browser, ".console button[data-name='bp8']");
     const lit = await browser.value("[...document.querySelectorAll('.square.lit, .lever[aria-checked=true]')].map((it) => it.dataset.name)");
     assert.deepEqual(lit, ["normal", "start", "bp8"]);
+    await stage(browser);
+}
+
+/** The stage in slow motion, in the window of a usual screen, for a picture. */
+async function stage(browser) {
+    await browser.size(1440, 900);
+    await browser.open(`${address}?lang=en#self-modifying`);
+    await steps(browser, 12);
+    await browser.press("#slow");
+    await browser.waitFor("document.querySelector('.fixed').dataset.phase === 'seek'");
+    await moment(browser, "stage");
+    await press(browser, "#halt");
+    await browser.size(1500, 1250);
 }
 
 const wordAt = (browser, place) => browser.value(`laboratoryOfPage().words.find(({ address }) => address === "${place}").order`);
@@ -456,8 +474,11 @@ const doorNow = (browser) => browser.value("[new URLSearchParams(location.search
 
 /** The hall: its drum turns until it is stopped; each door shows what is its own, stands in the address, and leaves the machine as it is. */
 async function doors(browser) {
+    await browser.size(1440, 900);
     await browser.open(`${address}?lang=en`);
     await browser.waitFor(isMoving);
+    await browser.waitFor("document.querySelector('.fixed').dataset.phase === 'seek'");
+    await moment(browser, "hall");
     assert.deepEqual(await seenOf(browser, ".hall", ".desk", ".flexowriter", ".pace", ".telling", ".bench"), [".hall"]);
     assert.equal(await textOf(browser, "#hall-stop"), "Stop");
     await press(browser, "#hall-stop");
@@ -472,6 +493,7 @@ async function doors(browser) {
     }
     await browser.value("history.back()");
     await browser.waitFor("document.body.dataset.door === 'learn'");
+    await browser.size(1500, 1250);
     await browser.open(`${address}?lang=en&door=work`);
     assert.deepEqual([await doorNow(browser), (await panelOf(browser)).clock], [["work", "Work"], "0"]);
 }
@@ -942,7 +964,13 @@ async function byKeys(browser) {
     await browser.strike("s");
     assert.equal(await clock(), one);
     await browser.value("laboratoryOfPage().say('break 0100', 'break 0101')");
-    assert.deepEqual(await losesFocus(browser, "#page button:not([data-name='key'])"), []);
+    assert.deepEqual(await losesFocus(browser, "#page button:not([data-name='key'], #kiosk)"), []);
+    await press(browser, "#kiosk");
+    assert.deepEqual(await losesFocus(browser, "#page button:not(#leave-kiosk)"), []);
+    await browser.value("document.querySelector('#leave-kiosk').focus()");
+    await browser.strike("Enter");
+    await browser.waitFor("document.querySelector('.lines input') !== null");
+    assert.equal(await browser.value("document.activeElement.id"), "kiosk");
     await browser.value("document.querySelector('.lines input').focus()");
     await browser.type("new");
     await browser.strike("Enter");
@@ -1005,7 +1033,7 @@ async function stillness(browser) {
         if (value === "reduce") await pictureByPicture(browser);
         await browser.open(`${address}?lang=en`);
         if (value === "reduce") assert.deepEqual([await browser.value(isMoving), (await panelOf(browser)).clock], [false, "0"]);
-        else await browser.waitFor(isMoving);
+        else await browser.waitFor(isMoving).then(() => press(browser, "#hall-stop"));
     }
     await browser.media?.({});
 }
