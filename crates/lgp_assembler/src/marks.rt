@@ -5,7 +5,7 @@ ghost use Rattle.std.specs.Option.{option_map_or};
 ghost use Rattle.lgp_source.specs.Seen.{line_seen, token_seen};
 ghost use Rattle.lgp_assembler.specs.Marks.{byte_below, shown_line, mark_line, marked_line, marked_text, operands_part, part_of, shown_byte, token_part};
 
-use lgp_assembler::FaultKind;
+use crate::refusal::FaultKind;
 use lgp_source::{Line, Lines, Token};
 use std::alloc::{AllocError, Allocator};
 
