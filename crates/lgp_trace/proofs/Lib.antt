@@ -7,5 +7,10 @@ pub mod Dearest
 pub mod DrumLemmas
 pub mod PlaceLines
 pub mod Noting
+pub mod MovedClocks
+pub mod Shares
+pub mod TurnsLemmas
+pub mod UsesLemmas
+pub mod OptimumLemmas
 pub mod Telling
 pub mod UnchangedWords

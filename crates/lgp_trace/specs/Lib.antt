@@ -8,6 +8,11 @@ pub mod DrumRows
 pub mod ProfileLines
 pub mod Runs
 pub mod UnchangedInside
+pub mod Optimum
+pub mod OptimumKept
+pub mod TurnsInside
+pub mod UsesInside
+pub mod OptimumInside
 pub use Rattle.lgp_table.specs.State
 pub use Rattle.lgp_table.specs.Activity
 pub use Rattle.lgp_table.specs.Interleaving

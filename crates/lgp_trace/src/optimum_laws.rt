@@ -1,0 +1,26 @@
+//! What follows of words at other sectors, each law as the contract of a function that does nothing.
+
+ghost use Rattle.std.specs.Prelude.{◌≡◌, ℕ, ◌+◌, false};
+ghost use Rattle.lgp_word.specs.Address.{sector_of};
+ghost use Rattle.lgp_table.specs.After.{after};
+ghost use Rattle.lgp_table.specs.State.{State};
+ghost use Rattle.lgp_trace.specs.Optimum.{clock_with, is_named, moved, with_sector};
+
+/// With a word at its own sector the orders take what they took, and with one that none of them named at any.
+#[tactic(auto, using(crate::proofs::MovedClocks::own_sector, crate::proofs::MovedClocks::unnamed))]
+pub fn own_sector()
+    ensures own { (s : State) → (count : ℕ) → (word : ℕ)
+        → clock_with (moved word (sector_of word)) s count ≡ (after s count).clock }
+    ensures unnamed { (s : State) → (count : ℕ) → (word : ℕ) → (sector : ℕ)
+        → is_named s count word ≡ false
+        → clock_with (moved word sector) s count ≡ (after s count).clock }
+{}
+
+/// What the orders take more or less with one word more at another sector is what they do with this word alone there, wherever other
+/// words stand: so what words save adds up.
+pub fn savings_add_up()
+    ensures { (s : State) → (count : ℕ) → (sectors : ℕ → ℕ) → (word : ℕ) → (sector : ℕ)
+        → sectors word ≡ sector_of word
+        → clock_with (with_sector sectors word sector) s count + (after s count).clock
+        ≡ clock_with sectors s count + clock_with (moved word sector) s count }
+{}
