@@ -2,7 +2,7 @@
 import { SECTORS, addressIn, addressOf, isAmong, numberOf, windowAt } from "./addresses.mjs";
 import { Deeds } from "./deeds.mjs";
 import { learnLive } from "./learn.mjs";
-import { isIdle, linesIn, setUp } from "./lines.mjs";
+import { commentsIn, isIdle, linesIn, setUp } from "./lines.mjs";
 import * as replies from "./module/replies.mjs";
 import { ROOM, Room } from "./room.mjs";
 import { NoMemory } from "./module/session.mjs";
@@ -51,6 +51,8 @@ export class Laboratory extends EventTarget {
     /** The rules, each by the command that made it, and the lines of a script that are still to be done. */
     rules = [];
     script = null;
+    /** What the script says of the words that it puts, by their addresses. */
+    comments = new Map();
     /** What a run under way has done so far, or null, and what the last one did. */
     progress = null;
     lastRun = null;
@@ -622,6 +624,7 @@ export class Laboratory extends EventTarget {
         this.notice = await this.#fresh();
         this.talk = [];
         this.script = { name, lines: linesIn(text), at: 0 };
+        this.comments = commentsIn(this.script.lines);
         await this.#scriptTo(setUp(this.script.lines, isBeforeStart));
         await this.#look();
     }

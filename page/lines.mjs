@@ -18,6 +18,18 @@ export function headOf(script) {
     return { title, paragraphs };
 }
 
+const PUT = /^ *put +(\d{4}) +([0-9fgjkqw]{8}) *$/;
+const OF_A_PLACE = /^; *(\d{4}) +(?:-?[a-z] \d{4} +)?(.*)$/;
+
+/** What a script says of the words that it puts: the comment before a `put` that begins with its address, up to its first full stop, and the word's digits. */
+export function commentsIn(lines) {
+    return new Map(lines.flatMap((line, place) => {
+        const [, address, digits] = PUT.exec(line) ?? [];
+        const [, named, comment] = OF_A_PLACE.exec(lines[place - 1] ?? "") ?? [];
+        return address === undefined || named !== address ? [] : [[address, { digits, comment: comment.split(/\. /)[0].replace(/\.$/, "") }]];
+    }));
+}
+
 const RUNS = /^ *(run|orders|trace|profile|drum)( |$)/;
 const SOURCE = /^ *source *$/;
 const STARTS = /^ *press +start *$/;

@@ -206,7 +206,7 @@ function makeWork() {
     const made = {
         hall: makeHall(texts, goTo, drive), tales: makeTales(laboratory, texts, drive, openShown), lesson: makeLesson(laboratory, texts, openShown), drum: makeDrum(laboratory, texts, showing), plate: makePlate(laboratory, texts), scope: makeScope(laboratory, texts, showing), panel: makePanel(laboratory, texts), console: makeConsole(laboratory, texts),
         paper: makePaper(laboratory, texts, showing), tape: makeTape(laboratory, texts), keyboard: makeKeyboard(laboratory, texts),
-        pace: makePace(laboratory, texts, drive), time: makeTime(laboratory, texts), story: makeStory(laboratory, texts, showing), accounts: makeAccounts(laboratory, texts, showing), listing: makeListing(laboratory, texts, showing),
+        pace: makePace(laboratory, texts, drive), time: makeTime(laboratory, texts, showing), story: makeStory(laboratory, texts, showing), accounts: makeAccounts(laboratory, texts, showing), listing: makeListing(laboratory, texts, showing),
         explanation: makeExplanation(), script: makeScript(laboratory, texts), source: makeSource(laboratory, texts), lines: makeLines(laboratory, texts),
         profile: makeProfile(laboratory, texts), turns: makeTurns(laboratory, texts),
     };

@@ -1,10 +1,10 @@
-// The lines that only ask: which they are, and a script without them.
+// What a script says of itself; the lines that only ask: which they are, and a script without them.
 import assert from "node:assert/strict";
 import { readFileSync } from "node:fs";
 import { dirname, join } from "node:path";
 import { test } from "node:test";
 import { fileURLToPath } from "node:url";
-import { questionsIn, withoutQuestions } from "../lines.mjs";
+import { commentsIn, questionsIn, withoutQuestions } from "../lines.mjs";
 
 const formats = readFileSync(join(dirname(fileURLToPath(import.meta.url)), "../../docs/FORMATS.md"), "utf8");
 const questions = questionsIn(formats);
@@ -27,4 +27,9 @@ test("a script without the lines that only ask", () => {
         ["source\npanel\n", "source\npanel\n"],
     ];
     for (const [script, short] of cases) assert.equal(withoutQuestions(script, questions), short, JSON.stringify(script));
+});
+
+test("a script tells what a word is for, in the comment before its put that begins with its address", () => {
+    const lines = ["; 0004  b 0020   bring the word. And more", "put 0004 00010050", "; 0005  y 0009   store address: the order changes", "put 0006 00020024", "; a word", "put 0007 00000002", "; 0008  17", "put 0008 00000022", "put 0009 b 0020"];
+    assert.deepEqual([...commentsIn(lines)], [["0004", { digits: "00010050", comment: "bring the word" }], ["0008", { digits: "00000022", comment: "17" }]]);
 });

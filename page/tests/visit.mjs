@@ -409,6 +409,8 @@ async function stories(browser) {
     assert.equal(await toldNow(), rewritten);
     await steps(browser, 1);
     assert.equal(await toldNow(), "");
+    assert.deepEqual(await browser.value("[document.querySelector('.timeline').dataset.bars, document.querySelector('.clock-turn').textContent]"), ["ftsarftsaftsaftsarftsaftsaftsa", `clock 473 · turn 7.4`]);
+    assert.match(await textOf(browser, "tr[data-address='0006']"), /bring zero/);
     await started(browser, "put 0000 p =h", "put 0001 z 0000");
     await press(browser, "#step");
     const printed = await watched(browser, isStill, "[document.querySelector('.paper').textContent, document.querySelector('.piece.act i').style.transform]");

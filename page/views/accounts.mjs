@@ -1,6 +1,8 @@
 // The accounts of the last orders as a table, and a slider over the orders behind and ahead.
+import { SECTORS } from "../addresses.mjs";
 import { counted } from "../words.mjs";
 import { guarded, h, part, refill, showLive, tell } from "./dom.mjs";
+import { makeTimeline } from "./timeline.mjs";
 
 const SHOWN = 14;
 
@@ -55,15 +57,16 @@ export function makeAccounts(laboratory, { text }, { playing, held, isFast }) {
     return { node: part("accounts", text("accounts"), empty, table), show, frame };
 }
 
-/** The part of the page that goes back and forward. */
-export function makeTime(laboratory, { text, code }) {
+/** The part of the page that goes back and forward, below the time line. */
+export function makeTime(laboratory, { text, code }, showing) {
+    const line = makeTimeline(laboratory, showing);
     const goTo = (at) => {
         const { behind } = laboratory.deeds;
         if (at < behind) laboratory.back(behind - at);
         else if (at > behind) laboratory.forward(at - behind);
     };
     const slider = h("input", { type: "range", min: 0, max: 0, step: 1, "aria-label": text("slider"), onchange: () => goTo(Number(slider.value)) });
-    const told = h("output");
+    const [told, clock] = [h("output"), h("span", { class: "clock-turn" })];
     const back = guarded("◀", { "aria-label": text("backOne"), title: text("backOne") }, () => laboratory.back(1), () => laboratory.tell({ kind: "noneBehind" }));
     const forward = guarded("▶", { "aria-label": text("forwardOne"), title: text("forwardOne") }, () => laboratory.forward(1), () => laboratory.tell({ kind: "noneAhead" }));
     const show = () => {
@@ -75,6 +78,9 @@ export function makeTime(laboratory, { text, code }) {
         showLive(back, behind > 0);
         showLive(forward, ahead > 0);
         tell(told, text("orderCount", { at: number(behind), of: number(behind + ahead) }) + (forgotten > 0 ? ` (${text("forgotten", { count: number(forgotten) })})` : ""));
+        slider.setAttribute("aria-valuetext", text("orderCount", { at: number(behind), of: number(behind + ahead) }));
+        tell(clock, text("clockTurn", { clock: number(laboratory.panel.clock), turn: (Number(laboratory.panel.clock) / SECTORS).toFixed(1) }));
+        line.show();
     };
-    return { node: part("time", text("time"), h("div", { class: "line" }, back, slider, forward, told)), show };
+    return { node: part("time", text("time"), h("div", { class: "line" }, back, h("div", { class: "along" }, line.node, slider), forward, h("div", { class: "when" }, told, clock))), show };
 }

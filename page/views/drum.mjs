@@ -43,8 +43,10 @@ function makeRing() {
     const cells = Array.from({ length: SECTORS }, (unused, sector) => cell(sector));
     const box = [X - RING.rim, Y - RING.rim, 2 * RING.rim, 2 * RING.rim].join(" ");
     const bolts = Array.from({ length: 8 }, (unused, place) => at(45 * place + 22.5, 133)).map(([cx, cy]) => s("circle", { class: "bolt", cx, cy, r: 6.5 }));
-    const svg = s("svg", { class: "ring", viewBox: box, "aria-hidden": "true" }, ...cells,
-        ...[RING.numbers, 272].map((r) => s("circle", { class: "streak", cx: X, cy: Y, r })), s("circle", { class: "face-plate", cx: X, cy: Y, r: RING.inner }), s("circle", { class: "hub-plate", cx: X, cy: Y, r: 146 }), ...bolts);
+    const plates = () => [s("circle", { class: "face-plate", cx: X, cy: Y, r: RING.inner }), s("circle", { class: "hub-plate", cx: X, cy: Y, r: 146 })];
+    const svg = s("svg", { class: "ring", viewBox: box, "aria-hidden": "true" }, ...cells, ...plates(), ...bolts);
+    // what an eye sees of it where nothing on it can be read: it lies above, so that the ring need not be drawn anew when it comes and goes
+    const blur = s("svg", { class: "blur", viewBox: box, "aria-hidden": "true" }, s("circle", { class: "rim", cx: X, cy: Y, r: RING.rim }), ...[RING.numbers, 272].map((r) => s("circle", { class: "streak", cx: X, cy: Y, r })), ...plates());
     const [drawn, marked] = [new Map(), { next: null, operand: null, written: null }];
     const mark = (marks) => {
         for (const kind of Object.keys(marked)) {
@@ -61,7 +63,7 @@ function makeRing() {
             drawn.set(sector, digits);
         }
     };
-    return { node: h("div", { class: "well" }, svg), mark, write, turn: (position) => { svg.style.transform = `rotate(${-position * STEP}deg)`; } };
+    return { node: h("div", { class: "well" }, svg, blur), mark, write, turn: (position) => { svg.style.transform = `rotate(${-position * STEP}deg)`; } };
 }
 
 function makePin(kind) {

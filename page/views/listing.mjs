@@ -10,19 +10,25 @@ const toldOf = (writer, text) => (writer === null ? "" : text("changed", { order
 /** For how many orders it stands beside the words that the program has rewritten itself. */
 const REWRITTEN_ORDERS = 3;
 
-/** What a row shows. The word that an order stores that is played stands there as it was. */
-function shownIn(word, { labels, panel }, { writer, stored, isNew }) {
-    const isHeld = word.address === stored?.address;
-    const { digits, order } = isHeld ? stored.before : word;
-    return { address: word.address, digits, order: order ?? `word ${digits}`, writer: isHeld ? null : writer, isNext: word.address === panel.counter, isNew, labels: labels.get(word.address) ?? [] };
+/** What the script says of the word at a place, as long as the script's word stands there, or what an order has made of it. */
+function commentOf({ address, origin }, digits, comments) {
+    const put = comments.get(address);
+    return put !== undefined && (put.digits === digits || origin?.order != null) ? put.comment : "";
 }
 
-function row({ address, digits, order, writer, isNext, isNew, labels }, { text, table }, ask) {
+/** What a row shows. The word that an order stores that is played stands there as it was. */
+function shownIn(word, { labels, panel, comments }, { writer, stored, isNew }) {
+    const isHeld = word.address === stored?.address;
+    const { digits, order } = isHeld ? stored.before : word;
+    return { comment: commentOf(word, digits, comments), address: word.address, digits, order: order ?? `word ${digits}`, writer: isHeld ? null : writer, isNext: word.address === panel.counter, isNew, labels: labels.get(word.address) ?? [] };
+}
+
+function row({ address, digits, order, writer, isNext, isNew, labels, comment }, { text, table }, ask) {
     const meaning = table.orders[NAME_OF_ORDER.exec(order)?.[1]] ?? "";
     return h("tr", { class: `${isNext ? "next" : ""} ${writer === null ? "" : "changed"} ${isNew ? "new" : ""}`, "data-address": address, "aria-current": isNext ? "true" : null },
         h("td", {}, button(address, () => ask(address), { class: "plain", title: `${address}: ${text("whyHint")}`, "data-name": address })),
         h("td", { class: "label" }, labels.join(" ")), h("td", {}, h("code", {}, digits)),
-        h("td", { title: meaning }, h("code", {}, order), unseen(meaning === "" ? "" : ` ${meaning}`)), h("td", { class: "told" }, toldOf(writer, text)));
+        h("td", { title: meaning }, h("code", {}, order), unseen(meaning === "" ? "" : ` ${meaning}`)), h("td", { class: "told" }, h("span", { class: "comment" }, comment), " ", toldOf(writer, text)));
 }
 
 /** What a rule does, as `break 0100` or `watch 0009 loop` names it. */

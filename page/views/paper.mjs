@@ -76,5 +76,5 @@ export function makePaper(laboratory, { text, code }, { held }) {
         if (isAtEnd) paper.scrollTop = paper.scrollHeight;
         told.textContent = count === 0 ? text("nothingPrinted") : text("printedCount", { count: counted(count, code) });
     };
-    return { node: part("typewriter", text("paper"), paper, told), show };
+    return { node: part("typewriter", text("paper"), h("div", { class: "sheet" }, paper), h("div", { class: "platen", "aria-hidden": "true" }), told), show };
 }

@@ -10,14 +10,15 @@ const box = (name, ...views) => h("div", { class: name }, ...views.map((view) =>
 
 /** The page below its header: the stage, and what is seen behind each door. */
 export function makeStage(made) {
-    for (const { node } of [made.drum, made.console, made.time, made.story]) node.querySelector("h2").classList.add("unseen");
+    for (const { node } of [made.drum, made.console, made.time, made.story, made.paper]) node.querySelector("h2").classList.add("unseen");
     const [stand, all] = ["learn work", "look learn work"];
     behind(stand, made.console.node.querySelector(".second-row"));
     behind(stand, made.story.node.querySelector(".telling-order"));
     for (const node of made.listing.node.querySelectorAll("form, .rules")) behind("work", node);
     const desk = behind(all, box("desk", made.plate, made.scope, made.console));
     const cabinet = box("cabinet", made.drum, behind("hall", made.hall.node), desk);
-    const typewriter = behind(all, box("flexowriter", made.paper, behind(stand, made.tape.node), behind(stand, made.keyboard.node)));
+    const body = behind(stand, box("flexo-body", made.tape, made.keyboard));
+    const typewriter = behind(all, box("flexowriter", made.paper, body));
     const told = box("column", behind("look", made.tales.node), made.story, behind(stand, made.accounts.node));
     const bench = box("bench", box("column", made.panel, made.explanation, made.script, made.turns), box("column", made.source), box("column", made.lines, made.profile));
     return h("main", {}, box("stage", cabinet, typewriter), behind(all, box("pace", made.pace, made.time)), behind(all, box("telling", behind("learn", made.lesson.node), told, made.listing)), behind("work", bench));

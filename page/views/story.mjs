@@ -36,7 +36,7 @@ function legend(account, { text }) {
 }
 
 /** What is told where no order is: why there is none, and what tells one. */
-const untold = (pace) => ({ own: "storyOwn", fast: "storyFast" })[pace] ?? "noAccounts";
+const untold = (pace) => ({ own: "storyOwn", fast: "storyFast" })[pace] ?? "storyNone";
 
 /** The part of the page with the story of the order under way, or of the last one. */
 export function makeStory(laboratory, texts, { playing, isFast, pace }) {

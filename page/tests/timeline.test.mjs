@@ -1,0 +1,19 @@
+import assert from "node:assert/strict";
+import { test } from "node:test";
+import { barsOf } from "../views/timeline.mjs";
+
+const account = (clock, fields = {}) => ({ clock, order: "b 0020", at: "0004", find: 24, take: 1, seek: 15, act: 1, stored: null, ...fields });
+const told = (bars) => bars.map(({ kind, from, times }) => [kind, from, times]);
+
+test("a told order has a bar for each phase, and what was not told one bar up to it and after it", () => {
+    assert.deepEqual(told(barsOf([account(10n)], 60n)), [["untold", 0, 10], ["find", 10, 24], ["take", 34, 1], ["seek", 35, 15], ["act", 50, 1], ["untold", 51, 9]]);
+    assert.deepEqual(told(barsOf([account(0n), account(50n)], 91n)).filter(([kind]) => kind === "untold"), [["untold", 41, 9]]);
+    assert.deepEqual(told(barsOf([], 60n)), [["untold", 0, 60]]);
+    assert.deepEqual(told(barsOf([account(0n, { find: 0, take: 0 })], 16n)), [["seek", 0, 15], ["act", 15, 1]]);
+});
+
+test("an order that was rewritten is marked where that was done", () => {
+    const word = (digits) => ({ digits, order: null });
+    const stored = { address: "0009", before: word("000q0000"), after: word("000q0100") };
+    assert.deepEqual(told(barsOf([account(0n, { order: "y 0009", stored })], 41n)).at(-1), ["rewritten", 41, 0]);
+});
