@@ -227,7 +227,7 @@ function makeExhibit() {
 function makePage() {
     const { text } = texts;
     const top = makeBar();
-    const heading = h("header", {}, h("h1", {}, text("title")), h("p", { class: "subtitle" }, text("subtitle")), makeDoors(texts, goTo), top.node);
+    const heading = h("header", {}, behind("look learn work", h("a", { class: "skip unseen", href: "#story" }, text("skip"))), h("h1", {}, text("title")), h("p", { class: "subtitle" }, text("subtitle")), makeDoors(texts, goTo), top.node);
     const { node, made } = makeWork();
     return { nodes: [heading, node], views: [top, ...made] };
 }

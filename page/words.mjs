@@ -19,9 +19,9 @@ const en = {
     goTo: "Show address", show: "Show", startHere: "Start here",
     accounts: "What the last orders did", clock: "clock", at: "at", find: "find", take: "take", seek: "seek", act: "act", sum: "sum",
     accumulator: "accumulator", storedAt: "{address}: {before} → {after}", printedSign: "printed {sign}", passed: "codes passed: {count}",
-    doors: "Doors of the laboratory", look: "Look", learn: "Learn", work: "Work", hallGo: "Let it turn",
+    skip: "To the story", doors: "Doors of the laboratory", look: "Look", learn: "Learn", work: "Work", hallGo: "Let it turn",
     hallTitle: "A computer that lives on a turning drum", hallText: "A computer of 1956 kept its numbers and its orders on a drum that never stopped turning. It is at work here. How would you like to meet it?",
-    lookText: "Four stories of two minutes. You watch, we explain.", learnText: "A lesson with tasks, for a class or for you alone.", workText: "The whole laboratory: write programs, run them, ask who changed what.",
+    lookText: "Four stories of two minutes. You watch, we explain.", learnText: "Lessons with tasks, for a class or for you alone.", workText: "The whole laboratory: write programs, run them, ask who changed what.",
     chooseTale: "Choose a story.", captionBack: "Back", captionNext: "Next", nextTale: "Next story", captionAt: "{at} of {of}",
     tales: {
         wait: { title: "Why does it wait?", captions: {
@@ -38,15 +38,24 @@ const en = {
             0: "The order at 0009 is not the one that was loaded. Who has changed it?", 1: "Watch the order y at 0013: it writes into 0009.", 2: "The laboratory keeps each step, so that it can go back, and so it can tell where a word came from.",
             3: "Here it has been asked: below the words stands which order changed the word at 0009, when, and what was lost.", 4: "Ask yourself: press any address in the list." } },
     },
-    lesson: {
-        title: "The order that changes", about: "A lesson of six steps, some ten minutes. The program adds up a table, and changes its own orders to do so.",
-        steps: { 0: "Press Step until the next order is y 0009 at 0005.", 1: "How many places must the drum turn until the head has read the order at 0005? Look at the sectors, and count clockwise from the head.",
+    lessons: {
+        time: {
+            title: "Where does the time go?", about: "A lesson of seven steps, some ten minutes. The program adds two numbers, with four orders.",
+            steps: { 0: "Press Step: that is one order.", 1: "How many word times has this order taken in all?", 2: "For how many of them did the drum turn until the head had read the order?", 3: "The next order is at 0001. How many places must the drum turn until the head has read it? Count clockwise from the head.",
+                4: "Press Step twice more.", 5: "Which digits does the accumulator hold now?", 6: "Press Run, and wait until the machine has stopped." },
+            hints: { 0: "", 1: "Not yet. The sum stands below the bar.", 2: "Not yet. It is the orange part of the bar, find.", 3: "Not yet. Begin with the sector just right of the head, which comes next, and count until 01 has passed.", 4: "",
+                5: "Not yet. The eight digits stand beside the lowest trace.", 6: "" },
+            end: "All steps are done. Nearly all of the time was waiting." },
+        change: {
+            title: "The order that changes", about: "A lesson of six steps, some ten minutes. The program adds up a table, and changes its own orders to do so.",
+            steps: { 0: "Press Step until the next order is y 0009 at 0005.", 1: "How many places must the drum turn until the head has read the order at 0005? Look at the sectors, and count clockwise from the head.",
             2: "Press Step, and watch the drum. At which address has a word changed?", 3: "Go one order back, by the button with the arrow to the left. Which order stands at 0009 now?",
             4: "Go on with Step, until the order at 0009 is a 0101.", 5: "Press Run, and wait until the machine has stopped. Which order stands at 0009 now?" },
-        hints: { 0: "", 1: "Not yet. Begin with the sector just right of the head, which comes next, and count until 05 has passed.", 2: "Not yet. The address is named in the order, and in the line that tells that the program has rewritten itself.",
+            hints: { 0: "", 1: "Not yet. Begin with the sector just right of the head, which comes next, and count until 05 has passed.", 2: "Not yet. The address is named in the order, and in the line that tells that the program has rewritten itself.",
             3: "Not yet. Look at the row of 0009: the letter, a blank, and four digits.", 4: "", 5: "Not yet. Look at the row of 0009: a letter, a blank, and four digits." },
+            end: "All steps are done. The order has gone through the whole table." },
     },
-    lessonBegin: "Begin", lessonAnew: "Begin anew", lessonRight: "Yes.", lessonNotThere: "The machine does not stand there yet: do what the step says first.", lessonEnd: "All steps are done. The order has gone through the whole table.", answer: "Your answer to step {number}", check: "Check", stepDone: "Done:",
+    chooseLesson: "Choose a lesson.", lessonsName: "Lessons", lessonRight: "Yes.", lessonNotThere: "The machine does not stand there yet: do what the step says first.", answer: "Your answer to step {number}", check: "Check", stepDone: "Done:",
     story: "What this order does", places: "places", storyNone: "Step performs one order, and it is told here.", storyOwn: "At its own pace an order is over before it can be read. Stop, and the last one is told.", storyFast: "The orders go by too fast to be told. Stop, and step on.",
     waitsOrder: "The drum had to turn {f} places to the order; it needs no word.", waitsOrderWord: "The drum had to turn {f} places to the order and {s} to the word.",
     waitsRegister: "The order stood in the register, and it needs no word.", waitsRegisterWord: "The order stood in the register; the drum had to turn {s} places to the word.",
@@ -171,9 +180,9 @@ const de = {
     goTo: "Adresse zeigen", show: "Zeigen", startHere: "Hier starten",
     accounts: "Was die letzten Befehle taten", clock: "Uhr", at: "auf", find: "finden", take: "holen", seek: "suchen", act: "ausführen", sum: "Summe",
     accumulator: "Akkumulator", storedAt: "{address}: {before} → {after}", printedSign: "gedruckt {sign}", passed: "gelesene Codes: {count}",
-    doors: "Türen des Labors", look: "Schauen", learn: "Lernen", work: "Arbeiten", hallGo: "Drehen lassen",
+    skip: "Zur Erzählung", doors: "Türen des Labors", look: "Schauen", learn: "Lernen", work: "Arbeiten", hallGo: "Drehen lassen",
     hallTitle: "Ein Rechner, der auf einer Trommel lebt", hallText: "Ein Rechner von 1956 hatte seine Zahlen und Befehle auf einer Trommel, die sich ohne Halt drehte. Hier arbeitet er. Wie möchten Sie ihn kennenlernen?",
-    lookText: "Vier Geschichten von zwei Minuten. Sie schauen zu, wir erklären.", learnText: "Eine Lektion mit Aufgaben, für eine Klasse oder für Sie allein.", workText: "Das ganze Labor: Programme schreiben, laufen lassen, fragen, wer was geändert hat.",
+    lookText: "Vier Geschichten von zwei Minuten. Sie schauen zu, wir erklären.", learnText: "Lektionen mit Aufgaben, für eine Klasse oder für Sie allein.", workText: "Das ganze Labor: Programme schreiben, laufen lassen, fragen, wer was geändert hat.",
     chooseTale: "Wählen Sie eine Geschichte.", captionBack: "Zurück", captionNext: "Weiter", nextTale: "Nächste Geschichte", captionAt: "{at} von {of}",
     tales: {
         wait: { title: "Warum wartet er?", captions: {
@@ -190,15 +199,24 @@ const de = {
             0: "Der Befehl auf 0009 ist nicht der, der geladen wurde. Wer hat ihn geändert?", 1: "Sehen Sie auf den Befehl y auf 0013: Er schreibt auf 0009.", 2: "Das Labor bewahrt jeden Schritt auf, um zurückgehen zu können. Darum kann es sagen, woher ein Wort kam.",
             3: "Hier wurde es gefragt: Unter den Wörtern steht, welcher Befehl das Wort auf 0009 geändert hat, wann, und was verloren ging.", 4: "Fragen Sie selbst: Drücken Sie auf eine Adresse der Liste." } },
     },
-    lesson: {
-        title: "Der Befehl, der sich ändert", about: "Eine Lektion von sechs Schritten, etwa zehn Minuten. Das Programm addiert eine Tabelle und ändert dafür seine eigenen Befehle.",
-        steps: { 0: "Drücken Sie Schritt, bis der nächste Befehl y 0009 auf 0005 ist.", 1: "Wie viele Plätze muss sich die Trommel drehen, bis der Kopf den Befehl auf 0005 gelesen hat? Sehen Sie auf die Sektoren, und zählen Sie vom Kopf aus im Uhrzeigersinn.",
+    lessons: {
+        time: {
+            title: "Wohin geht die Zeit?", about: "Eine Lektion von sieben Schritten, etwa zehn Minuten. Das Programm addiert zwei Zahlen, mit vier Befehlen.",
+            steps: { 0: "Drücken Sie Schritt: Das ist ein Befehl.", 1: "Wie viele Wortzeiten hat dieser Befehl im Ganzen gebraucht?", 2: "Wie viele davon drehte sich die Trommel, bis der Kopf den Befehl gelesen hatte?", 3: "Der nächste Befehl liegt auf 0001. Wie viele Plätze muss sich die Trommel drehen, bis der Kopf ihn gelesen hat? Zählen Sie vom Kopf aus im Uhrzeigersinn.",
+                4: "Drücken Sie noch zweimal Schritt.", 5: "Welche Ziffern hat jetzt der Akkumulator?", 6: "Drücken Sie Laufen, und warten Sie, bis die Maschine angehalten hat." },
+            hints: { 0: "", 1: "Noch nicht. Die Summe steht unter dem Balken.", 2: "Noch nicht. Es ist der orange Teil des Balkens, finden.", 3: "Noch nicht. Beginnen Sie mit dem Sektor gleich rechts vom Kopf, der als Nächster kommt, und zählen Sie, bis 01 vorbei ist.", 4: "",
+                5: "Noch nicht. Die acht Ziffern stehen neben der untersten Spur des Oszilloskops.", 6: "" },
+            end: "Alle Schritte sind getan. Fast die ganze Zeit war Warten." },
+        change: {
+            title: "Der Befehl, der sich ändert", about: "Eine Lektion von sechs Schritten, etwa zehn Minuten. Das Programm addiert eine Tabelle und ändert dafür seine eigenen Befehle.",
+            steps: { 0: "Drücken Sie Schritt, bis der nächste Befehl y 0009 auf 0005 ist.", 1: "Wie viele Plätze muss sich die Trommel drehen, bis der Kopf den Befehl auf 0005 gelesen hat? Sehen Sie auf die Sektoren, und zählen Sie vom Kopf aus im Uhrzeigersinn.",
             2: "Drücken Sie Schritt, und sehen Sie auf die Trommel. Auf welcher Adresse hat sich ein Wort geändert?", 3: "Gehen Sie einen Befehl zurück, mit der Taste mit dem Pfeil nach links. Welcher Befehl steht jetzt auf 0009?",
             4: "Gehen Sie mit Schritt weiter, bis der Befehl auf 0009 a 0101 ist.", 5: "Drücken Sie Laufen, und warten Sie, bis die Maschine angehalten hat. Welcher Befehl steht jetzt auf 0009?" },
-        hints: { 0: "", 1: "Noch nicht. Beginnen Sie mit dem Sektor gleich rechts vom Kopf, der als Nächster kommt, und zählen Sie, bis 05 vorbei ist.", 2: "Noch nicht. Die Adresse nennt der Befehl, und die Zeile, die sagt, dass sich das Programm umgeschrieben hat.",
+            hints: { 0: "", 1: "Noch nicht. Beginnen Sie mit dem Sektor gleich rechts vom Kopf, der als Nächster kommt, und zählen Sie, bis 05 vorbei ist.", 2: "Noch nicht. Die Adresse nennt der Befehl, und die Zeile, die sagt, dass sich das Programm umgeschrieben hat.",
             3: "Noch nicht. Sehen Sie auf die Zeile von 0009: der Buchstabe, ein Leerzeichen und vier Ziffern.", 4: "", 5: "Noch nicht. Sehen Sie auf die Zeile von 0009: ein Buchstabe, ein Leerzeichen und vier Ziffern." },
+            end: "Alle Schritte sind getan. Der Befehl ist durch die ganze Tabelle gegangen." },
     },
-    lessonBegin: "Beginnen", lessonAnew: "Von vorn beginnen", lessonRight: "Ja.", lessonNotThere: "Die Maschine steht noch nicht da: Tun Sie erst, was der Schritt sagt.", lessonEnd: "Alle Schritte sind getan. Der Befehl ist durch die ganze Tabelle gegangen.", answer: "Ihre Antwort auf Schritt {number}", check: "Prüfen", stepDone: "Getan:",
+    chooseLesson: "Wählen Sie eine Lektion.", lessonsName: "Lektionen", lessonRight: "Ja.", lessonNotThere: "Die Maschine steht noch nicht da: Tun Sie erst, was der Schritt sagt.", answer: "Ihre Antwort auf Schritt {number}", check: "Prüfen", stepDone: "Getan:",
     story: "Was dieser Befehl tut", places: "Plätze", storyNone: "Schritt führt einen Befehl aus, und hier wird er erzählt.", storyOwn: "Im eigenen Tempo ist ein Befehl vorbei, ehe man ihn lesen kann. Halten Sie an, und der letzte wird erzählt.", storyFast: "Die Befehle gehen so schnell vorbei, dass sie nicht erzählt werden. Halten Sie an, und gehen Sie Schritt für Schritt weiter.",
     waitsOrder: "Die Trommel musste {f} Plätze bis zum Befehl drehen; ein Wort braucht er nicht.", waitsOrderWord: "Die Trommel musste {f} Plätze bis zum Befehl drehen und {s} bis zum Wort.",
     waitsRegister: "Der Befehl stand im Register, und ein Wort braucht er nicht.", waitsRegisterWord: "Der Befehl stand im Register; die Trommel musste {s} Plätze bis zum Wort drehen.",

@@ -524,14 +524,14 @@ async function look(browser) {
     for (const at of [2, 3, 4, 5]) await caption(at);
     await browser.waitFor("document.querySelector('.paper').textContent.startsWith('good day')", 120_000);
     await browser.waitFor("laboratoryOfPage().panel.status === 'halted stop'", 60_000);
-    assert.equal(await browser.value("document.querySelectorAll('.drives [aria-pressed=true]').length"), 0);
+    await browser.waitFor("document.querySelectorAll('.drives [aria-pressed=true]').length === 0");
 }
 
 /** A pupil goes through the lesson: a step is ticked off where the machine or the answer tells it, and a wrong answer is met by a hint. */
 async function learn(browser) {
     await browser.open(`${address}?lang=en&door=learn`);
-    await press(browser, "#lesson-begin");
-    await browser.waitFor("document.querySelector('.lesson li.now') !== null");
+    const begin = async (name) => { await press(browser, `[data-lesson="${name}"]`); await browser.waitFor(`document.querySelector('[data-lesson="${name}"][aria-pressed=true]') !== null && document.querySelector('.lesson li.now') !== null`); };
+    await begin("change");
     const done = () => browser.value("document.querySelectorAll('.lesson li.done').length");
     const answer = async (text) => {
         await browser.value(`(() => { const form = document.querySelector(".lesson .now form"); form.querySelector("input").value = ${JSON.stringify(text)}; form.requestSubmit(); })()`);
@@ -555,7 +555,21 @@ async function learn(browser) {
     await press(browser, "#run");
     await browser.waitFor("laboratoryOfPage().panel.status === 'halted stop'");
     assert.deepEqual([await answer("a 0101"), await answer(await wordAt(browser, "0009"))], [5, 6]);
-    assert.match(await textOf(browser, ".lesson-end"), /All steps are done/);
+    assert.match(await textOf(browser, ".lesson-end"), /The order has gone through the whole table/);
+    await begin("time");
+    await steps(browser, 1);
+    assert.deepEqual([await done(), await textOf(browser, ".lesson-end")], [1, ""]);
+    const [account] = await browser.value("laboratoryOfPage().accounts.map(({ find, sum }) => ({ find, sum }))");
+    assert.deepEqual([await answer(String(account.find)), await answer(String(account.sum)), await answer(String(account.find))], [1, 2, 3]);
+    // sector 01 is the ninth to pass from clock 0 on
+    const places = (9 - (account.sum % 64) + 64) % 64;
+    assert.deepEqual([await answer("1"), await answer(String(places))], [3, 4]);
+    await steps(browser, 1);
+    assert.equal(await browser.value("laboratoryOfPage().accounts.at(-1).find"), places);
+    await steps(browser, 1);
+    assert.deepEqual([await done(), await answer("00000016"), await answer("00000010")], [5, 5, 6]);
+    await press(browser, "#run");
+    await browser.waitFor("/Nearly all of the time was waiting/.test(document.querySelector('.lesson-end').textContent)");
 }
 
 /** Sound is off until it is switched on; then a printed sign is a stroke, and the drum hums while it works. */
@@ -936,7 +950,7 @@ async function everyone(browser) {
         }
         for (const door of ["hall", "look", "learn"]) {
             await openNoted(browser, `?door=${door}&lang=${language}`);
-            if (door !== "hall") await press(browser, { look: "[data-tale='rewrite']", learn: "#lesson-begin" }[door]);
+            if (door !== "hall") await press(browser, { look: "[data-tale='rewrite']", learn: "[data-lesson='change']" }[door]);
             await browser.waitFor({ hall: "true", look: "!document.querySelector('.caption-at').hidden", learn: "document.querySelector('.lesson .now') !== null" }[door]);
             if (door === "hall") await press(browser, "#hall-stop");
             assert.deepEqual(await troubles(browser), [], door);

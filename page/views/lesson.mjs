@@ -8,56 +8,79 @@ const isOrderAt = (laboratory, address, order) => wordAt(laboratory, address)?.o
 /** How many word times it takes until the head has read a sector, from a clock on: the drum is read once at least. */
 const placesTo = (sector, clock) => ((positionOf(sector) - Number(clock % BigInt(SECTORS)) + 2 * SECTORS - 1) % SECTORS) + 1;
 
-/** The lesson on the order that changes. A step is `done` when that holds, or asks for what `answer` gives. */
-export const LESSON = {
-    example: "self-modifying",
-    steps: [
-        { done: ({ panel }) => panel.counter === "0005" },
-        { answer: ({ panel }) => String(placesTo(5, panel.clock)), isAsked: ({ panel }) => panel.counter === "0005" },
-        { answer: ({ accounts }) => accounts.at(-1)?.stored?.address ?? null, isAsked: ({ accounts }) => accounts.at(-1)?.at === "0005" },
-        { answer: (laboratory) => wordAt(laboratory, "0009")?.order ?? null, isAsked: ({ panel }) => panel.counter === "0005" },
+const isAt = (address) => ({ panel }) => panel.counter === address;
+const wasAt = (address) => ({ accounts }) => accounts.at(-1)?.at === address;
+const lastOf = (phase) => ({ accounts }) => (accounts.length === 0 ? null : String(accounts.at(-1)[phase]));
+const hasStopped = ({ panel }) => panel.status === "halted stop";
+
+/** The lessons: the example that each opens, and its steps. A step is `done` when that holds, or asks for what `answer` gives, where `isAsked` holds. */
+export const LESSONS = [
+    { name: "time", example: "first-run", steps: [
+        { done: wasAt("0000") },
+        { answer: lastOf("sum"), isAsked: wasAt("0000") },
+        { answer: lastOf("find"), isAsked: wasAt("0000") },
+        { answer: ({ panel }) => String(placesTo(1, panel.clock)), isAsked: isAt("0001") },
+        { done: isAt("0003") },
+        { answer: ({ panel }) => panel.accumulator, isAsked: isAt("0003") },
+        { done: hasStopped },
+    ] },
+    { name: "change", example: "self-modifying", steps: [
+        { done: isAt("0005") },
+        { answer: ({ panel }) => String(placesTo(5, panel.clock)), isAsked: isAt("0005") },
+        { answer: ({ accounts }) => accounts.at(-1)?.stored?.address ?? null, isAsked: wasAt("0005") },
+        { answer: (laboratory) => wordAt(laboratory, "0009")?.order ?? null, isAsked: isAt("0005") },
         { done: (laboratory) => isOrderAt(laboratory, "0009", "a 0101") },
-        { answer: (laboratory) => wordAt(laboratory, "0009")?.order ?? null, isAsked: ({ panel }) => panel.status === "halted stop" },
-    ],
-};
+        { answer: (laboratory) => wordAt(laboratory, "0009")?.order ?? null, isAsked: hasStopped },
+    ] },
+];
 
 const plain = (answer) => answer.trim().toLowerCase().replace(/\s+/g, " ");
 
 /** The step in its row: its number or a tick, what is to be done, and a place for the answer where there is one. */
-function makeStep(laboratory, step, place, { text, table }, done) {
+function makeStep(laboratory, step, place, { steps, hints }, { text }, done) {
     const [mark, hint] = [h("span", { class: "mark", "aria-hidden": "true" }), h("span", { class: "hint", role: "status" })];
     const input = h("input", { size: 8, "aria-label": text("answer", { number: place + 1 }), autocapitalize: "off", autocomplete: "off" });
     const check = () => {
         if (!step.isAsked(laboratory)) return tell(hint, text("lessonNotThere"));
         const isRight = plain(input.value) === step.answer(laboratory);
-        tell(hint, isRight ? text("lessonRight") : table.lesson.hints[place]);
+        tell(hint, isRight ? text("lessonRight") : hints[place]);
         return isRight ? done() : undefined;
     };
     const form = step.answer === undefined ? null : h("form", { class: "line", onsubmit: (event) => { event.preventDefault(); check(); } }, input, button(text("check"), check));
     const state = h("span", { class: "unseen" });
-    const node = h("li", {}, mark, h("div", {}, state, h("span", {}, table.lesson.steps[place]), form, hint));
+    const node = h("li", {}, mark, h("div", {}, state, h("span", {}, steps[place]), form, hint));
     const show = (isDone, isNow) => {
         tell(mark, isDone ? "✓" : String(place + 1));
         tell(state, isDone ? `${text("stepDone")} ` : "");
         node.className = isDone ? "done" : isNow ? "now" : "";
-        node.toggleAttribute("aria-current", isNow);
+        if (isNow) node.setAttribute("aria-current", "step");
+        else node.removeAttribute("aria-current");
         if (form !== null) form.hidden = !isNow;
     };
     return { node, show };
 }
 
-/** The part of the page with the lesson. `open` opens its example. */
+/** The part of the page with the lessons. `open` opens an example and sets it going. */
 export function makeLesson(laboratory, texts, open) {
     const { text, table } = texts;
-    let at = null;
-    const steps = LESSON.steps.map((step, place) => makeStep(laboratory, step, place, texts, () => { at = place + 1; show(); }));
-    const begin = button(text("lessonBegin"), async () => { await open(LESSON.example); at = 0; show(); }, { id: "lesson-begin" });
-    const show = () => {
-        while (at !== null && LESSON.steps[at]?.done?.(laboratory)) at += 1;
-        steps.forEach((step, place) => step.show(at !== null && place < at, place === at));
-        tell(begin, text(at === null ? "lessonBegin" : "lessonAnew"));
-        tell(ended, at === steps.length ? text("lessonEnd") : "");
+    let [lesson, steps, at] = [null, [], 0];
+    const [about, list, ended] = [h("p", {}, text("chooseLesson")), h("ol"), h("p", { role: "status", class: "lesson-end" })];
+    const choices = LESSONS.map((it) => button(table.lessons[it.name].title, () => begin(it), { "data-lesson": it.name }));
+    const begin = async (chosen) => {
+        await open(chosen.example);
+        [lesson, at] = [chosen, 0];
+        const written = table.lessons[chosen.name];
+        steps = chosen.steps.map((step, place) => makeStep(laboratory, step, place, written, texts, () => { at = place + 1; show(); }));
+        list.replaceChildren(...steps.map(({ node }) => node));
+        tell(about, written.about);
+        show();
     };
-    const ended = h("p", { role: "status", class: "lesson-end" });
-    return { node: part("lesson", table.lesson.title, h("p", {}, table.lesson.about), h("p", {}, begin), h("ol", {}, ...steps.map(({ node }) => node)), ended), show };
+    const show = () => {
+        for (const control of choices) control.setAttribute("aria-pressed", String(control.dataset.lesson === lesson?.name));
+        if (lesson === null) return;
+        while (lesson.steps[at]?.done?.(laboratory)) at += 1;
+        steps.forEach((step, place) => step.show(place < at, place === at));
+        tell(ended, at === steps.length ? table.lessons[lesson.name].end : "");
+    };
+    return { node: part("lesson", text("lessonsName"), h("div", { class: "line" }, ...choices), about, list, ended), show };
 }

@@ -67,5 +67,7 @@ export function makeStory(laboratory, texts, { playing, isFast, pace }) {
         told.setAttribute("aria-live", pace() === "order" ? "polite" : "off");
         frame();
     };
-    return { node: part("story", text("story"), h("div", { class: "telling-order" }, tile, told), bar, names), show, frame };
+    const node = part("story", text("story"), h("div", { class: "telling-order" }, tile, told), bar, names);
+    Object.assign(node, { id: "story", tabIndex: -1 });
+    return { node, show, frame };
 }
