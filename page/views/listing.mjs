@@ -55,7 +55,9 @@ function scrollTo(list, selectors) {
     const tops = rows.map(({ offsetTop }) => offsetTop - head);
     const [first, last] = Math.max(...tops) + height - Math.min(...tops) <= room ? [Math.min(...tops), Math.max(...tops)] : [tops[0], tops[0]];
     if (first >= list.scrollTop && last + height <= list.scrollTop + room) return;
-    list.scrollTop = height * Math.round(((first + last + height - room) / 2) / height);
+    const wanted = (first + last + height - room) / 2;
+    const all = [...list.querySelectorAll("tbody tr")].map(({ offsetTop }) => offsetTop - head);
+    list.scrollTop = Math.max(0, ...all.filter((top) => top <= wanted + height / 2));
 }
 
 function arrow({ start, end, height }) {
