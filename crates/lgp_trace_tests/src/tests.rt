@@ -7,6 +7,8 @@ mod ends;
 mod exchanges;
 mod growths;
 mod lines;
+mod moves;
+mod optimum;
 mod origins;
 mod runs;
 mod single;
