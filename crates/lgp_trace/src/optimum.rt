@@ -109,7 +109,7 @@ impl<A: Allocator> Optimum<A> {
         Ok(())
     }
 
-    /// Gives a word room for its counts, unless it has some; or a refused growth.
+    /// Has memory for what an order would take that waits for this word, or a refused growth.
     pub(crate) fn make_room(&mut self, word: Address) -> Result<(), AllocError>
         ensures room { OnOk result (0 < slice_index self.new.turned.rows word) }
         ensures same { ShowsSame self.old self.new }
