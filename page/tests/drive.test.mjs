@@ -1,0 +1,63 @@
+// The drive, over a made-up laboratory whose orders are done at once and whose pictures come at once.
+import assert from "node:assert/strict";
+import { test } from "node:test";
+import { Drive, speedInShow } from "../drive.mjs";
+import { Player } from "../player.mjs";
+
+const account = { clock: 0n, order: "b 0020", at: "0004", find: 24, take: 1, seek: 15, act: 1, sum: 41, before: "00000000", after: "00000000", stored: null, printed: null };
+
+/** A drive, and what was done: the orders performed. `orders` is how many the machine has before it halts. */
+function madeUp(orders = Infinity) {
+    const done = { orders: 0, rests: 0, runs: 0 };
+    const laboratory = {
+        notice: null, live: new Map(), panel: { status: "going", mode: "normal", clock: 0n }, deeds: { get behind() { return done.orders; } }, stop: () => {},
+        step: async (count, withRows, whenDone = () => {}) => {
+            if (done.orders >= orders) return 0;
+            done.orders += 1;
+            laboratory.panel = { ...laboratory.panel, status: done.orders < orders ? "going" : "halted stop", clock: laboratory.panel.clock + 41n };
+            whenDone(account);
+            return 1;
+        },
+    };
+    const sleep = (milliseconds) => { done.rests += milliseconds; return new Promise((resolve) => setTimeout(resolve)); };
+    const drive = new Drive(laboratory, new Player(), async () => { done.runs += 1; }, { now: () => 0, sleep });
+    drive.addEventListener("play", () => setTimeout(() => drive.played()));
+    return { drive, done };
+}
+
+test("a pace goes on for so many orders, and until the machine stands still", async () => {
+    const { drive, done } = madeUp(5);
+    await drive.go("slow", 2);
+    assert.deepEqual([done.orders, drive.pace], [2, null]);
+    await drive.go("slow");
+    assert.deepEqual([done.orders, drive.pace], [5, null]);
+});
+
+test("order by order rests after each order but the last one that was asked for", async () => {
+    const { drive, done } = madeUp();
+    await drive.go("order", 3);
+    assert.deepEqual([done.orders, done.rests], [3, 2 * 2600]);
+});
+
+test("a halt ends a pace, another pace goes on from there, and the fastest is a run", async () => {
+    const { drive, done } = madeUp();
+    const went = drive.go("slow");
+    drive.addEventListener("play", () => { if (done.orders === 3) drive.halt(); });
+    await went;
+    assert.deepEqual([done.orders, drive.pace], [3, null]);
+    await drive.go("fast");
+    assert.deepEqual([done.runs, drive.pace], [1, null]);
+});
+
+test("a step performs one order and waits for nothing", async () => {
+    const { drive, done } = madeUp();
+    await drive.step();
+    assert.deepEqual([done.orders, drive.pace], [1, null]);
+});
+
+test("in a show the first orders and those that rewrite another one are slow, and what prints is hurried while it types", () => {
+    const word = (digits) => ({ digits, order: null });
+    const rewriting = { ...account, order: "y 0009", stored: { address: "0009", before: word("000q0000"), after: word("000q0100") } };
+    assert.deepEqual([[account, 3], [account, 4], [rewriting, 40], [{ ...account, printed: { code: 46 } }, 40]].map(([it, behind]) => speedInShow(it, behind)),
+        [{ speed: 32, hurry: 1 }, { speed: 96, hurry: 1 }, { speed: 32, hurry: 1 }, { speed: 48, hurry: 128 / 48 }]);
+});
