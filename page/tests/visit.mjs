@@ -733,7 +733,7 @@ const noteSaid = (browser) => browser.value(`(() => {
     const numberAt = (selector) => Number(/[\\d,]+/.exec(textAt(selector))[0].replaceAll(",", ""));
     globalThis.said = [];
     laboratoryOfPage().addEventListener("change", () => said.push({
-        orders: numberAt(".time output"), counter: textAt(".panel code.large"), hub: numberAt(".hub-clock"), clock: numberAt(".panel dl dd:last-of-type"), sum: textAt("tr[data-address='0010'] td:nth-of-type(3)"),
+        orders: numberAt(".time output"), counter: textAt(".panel code.large"), trace: textAt(".trace-value code"), hub: numberAt(".hub-clock"), clock: numberAt(".panel dl dd:last-of-type"), sum: textAt("tr[data-address='0010'] td:nth-of-type(3)"),
         drum: document.querySelector(".drum-box").getAttribute("aria-label"), way: textAt(".way"),
     }));
 })()`);
@@ -742,8 +742,8 @@ const noteSaid = (browser) => browser.value(`(() => {
 function areTrue(said) {
     const [last, ...before] = said.toReversed();
     assert.ok(before.length > 3 && before[0].orders > before.at(-1).orders, `${before.length} looks at a fast run`);
-    for (const { orders, counter, hub, clock, sum, drum, way } of said) {
-        assert.deepEqual([counter, hub], [`000${orders % 4}`, clock]);
+    for (const { orders, counter, trace, hub, clock, sum, drum, way } of said) {
+        assert.deepEqual([counter, trace, hub], [`000${orders % 4}`, `000${orders % 4}`, clock]);
         assert.equal(parseInt([...sum].map((digit) => "0123456789fgjkqw".indexOf(digit).toString(16)).join(""), 16), 2 * Math.floor((orders + 1) / 4));
         if (way.startsWith("The machine goes on as fast as it can")) assert.match(drum, /turns too fast for its numbers to be read/);
     }

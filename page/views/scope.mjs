@@ -107,10 +107,9 @@ const brackets = ({ text }) => h("div", { class: "fields", "aria-hidden": "true"
 /** The part of the page with the three traces. While an order is played they show what the registers hold by then. */
 export function makeScope(laboratory, texts, { playing, isFast }) {
     const { text } = texts;
-    let [frames, drawn] = [null, -Infinity];
+    let [frames, drawn, isStale] = [null, -Infinity, false];
     const draw = () => {
-        frames = null;
-        drawn = performance.now();
+        [frames, drawn, isStale] = [null, performance.now(), false];
         const isGlowing = Object.values(traces).map((trace) => trace.draw()).includes(true);
         if (isGlowing) ask();
     };
@@ -123,12 +122,12 @@ export function makeScope(laboratory, texts, { playing, isFast }) {
         counter: "", register: laboratory.accounts.findLast((account) => account.register === register)?.order ?? "", accumulator: accumulator === null ? "" : `= ${wholeOf(accumulator)}`,
     });
     const frame = () => {
-        if (isFast() && performance.now() - drawn < GLOW.apart) return;
         const held = (isFast() ? null : playing()) ?? laboratory.panel;
         const glows = !isFast() && !still.matches;
         const isNew = Object.entries(traces).map(([name, trace]) => trace.set(held[name], glows)).includes(true);
+        isStale ||= isNew;
+        if (isStale && (!isFast() || performance.now() - drawn >= GLOW.apart)) ask();
         if (!isNew) return;
-        ask();
         const told = readings(held);
         for (const [name, { digits, reading }] of Object.entries(values)) {
             tell(digits, held[name] ?? "–");
