@@ -3,7 +3,7 @@
 //
 //     node bench/speed.mjs [--write] [MILLIONS OF ORDERS, 100 where none is said]
 //
-// With --write the numbers become the table of docs/DEVELOPMENT.md, with what they are of the program's.
+// With --write the numbers become the rows of the table of docs/DEVELOPMENT.md that has them, with what they are of the program's.
 // Each but the page is the best of three runs. Times on the wall vary: other work on the machine makes them longer. No part of the check.
 import { spawnSync } from "node:child_process";
 import { existsSync, readFileSync, writeFileSync } from "node:fs";
@@ -71,13 +71,15 @@ function speeds(orders) {
     return found;
 }
 
-/** The table of the document, between its marks. */
+/** The table of the document, by its heading. */
 function write(found) {
     const path = join(top, "docs/DEVELOPMENT.md");
+    const heading = "| | million orders a second | of the program's |\n|---|---|---|\n";
     const [, whole] = found[0];
-    const rows = found.map(([name, speed]) => `| ${name} | ${millions(speed)} | ${(speed / whole).toFixed(2)} |`);
-    const table = ["<!-- speed -->", "", "| | million orders a second | of the program's |", "|---|---|---|", ...rows, "", "<!-- /speed -->"].join("\n");
-    writeFileSync(path, readFileSync(path, "utf8").replace(/<!-- speed -->[^]*<!-- \/speed -->/, () => table));
+    const rows = found.map(([name, speed]) => `| ${name} | ${millions(speed)} | ${(speed / whole).toFixed(2)} |\n`);
+    const [before, after] = readFileSync(path, "utf8").split(heading);
+    if (after === undefined) throw new Error("docs/DEVELOPMENT.md has no table of orders a second");
+    writeFileSync(path, `${before}${heading}${rows.join("")}${after.replace(/^(\|.*\n)*/, "")}`);
 }
 
 function main(words) {
