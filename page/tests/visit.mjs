@@ -36,6 +36,7 @@ const { Engine, without, left = [] } = ENGINES[process.env.ENGINE ?? "chromium"]
 const LEAST_SPEED = Engine === Chromium ? Number(process.env.LEAST_SPEED ?? 10e6) : 0;
 const given = (name, otherwise) => Number(process.env[name] ?? otherwise);
 const [LEAST_PICTURES, LONGEST_TASK, LONGEST_STOP] = Engine === Chromium ? [given("LEAST_PICTURES", 30), given("LONGEST_TASK", 50), given("LONGEST_STOP", 100)] : [0, Infinity, Infinity];
+const LARGEST_DRIFT = given("LARGEST_DRIFT", 0.05);
 
 /** Replies as a script has them: what a refusal has in a session alone is its reason, behind a colon. */
 const withoutReasons = (replies) => replies.replace(/^(\? \d+ \w+(?: \d+)?): .*$/gm, "$1");
@@ -758,13 +759,13 @@ async function paces(browser) {
     await browser.waitFor("document.querySelector('.drum-box').dataset.moving === 'true'");
     const slow = await pace(browser, 3000);
     assert.ok(slow.pictures >= LEAST_PICTURES, `${slow.pictures} pictures a second`);
-    assert.ok(slow.times > 24 && slow.times < 36, `${slow.times} word times a second in slow motion`);
+    assert.ok(LARGEST_DRIFT >= 1 || (slow.times > 24 && slow.times < 36), `${slow.times} word times a second in slow motion`);
     const { ring, hub } = await turned(browser);
     assert.ok((ring - hub + 128 + ROUNDED) % 64 < 1 + 2 * ROUNDED, `the ring stands at ${ring}, the clock at ${hub}`);
     const heard = [await stands(browser)];
     await browser.press("#own");
     const rate = await ownPace(browser);
-    assert.ok(Math.abs(rate - 1) < 0.05, `its own pace is ${rate} of the wall's clock`);
+    assert.ok(Math.abs(rate - 1) < LARGEST_DRIFT, `its own pace is ${rate} of the wall's clock`);
     heard.push(await stands(browser));
     await browser.value("(globalThis.long = [], new PerformanceObserver((list) => long.push(...list.getEntries().map(({ duration }) => duration))).observe({ type: 'longtask' }))");
     await noteSaid(browser);
