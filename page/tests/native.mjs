@@ -11,6 +11,7 @@ export class NativeLink {
     #text = "";
     #arrived = () => {};
     #sourceIsOpen = false;
+    #last = Promise.resolve();
     opened = Promise.resolve();
 
     constructor(program) {
@@ -32,8 +33,20 @@ export class NativeLink {
         return this.#text === MARKED || this.#text.endsWith(`\n${MARKED}`);
     }
 
-    /** The reply to a line. The mark behind it tells where it ends; in an open source there is neither. */
-    async ask(line) {
+    /** What is asked at once is asked one after the other. */
+    #inTurn(deed) {
+        const done = this.#last.then(deed);
+        this.#last = done.catch(() => {});
+        return done;
+    }
+
+    /** The reply to a line. */
+    ask(line) {
+        return this.#inTurn(() => this.#answer(line));
+    }
+
+    /** The same in its turn. The mark after the reply tells where it ends; in an open source there is neither. */
+    async #answer(line) {
         this.#text = "";
         this.#process.stdin.write(`${line}\n`);
         if (this.#sourceIsOpen && line !== ".") return "";
@@ -44,11 +57,13 @@ export class NativeLink {
         return this.#text.slice(0, -MARKED.length);
     }
 
-    /** The replies to several lines, one behind the other. */
-    async askAll(lines) {
-        let text = "";
-        for (const line of lines) text += await this.ask(line);
-        return text;
+    /** The replies to several lines, one after the other. */
+    askAll(lines) {
+        return this.#inTurn(async () => {
+            let text = "";
+            for (const line of lines) text += await this.#answer(line);
+            return text;
+        });
     }
 
     /** Gives the monitor up and starts another one. */
