@@ -1,6 +1,6 @@
 #!/bin/sh
 # Instructions an order, as callgrind counts them, of the program on two loops, by the script commands `orders` and `run`, and of the
-# monitor by `run` and by `profile`, which makes an account of each: 120,001 orders less 20,001, so that starting and ending do not count.
+# monitor by `run`, by `profile` and by `optimum`: 120,001 orders less 20,001, so that starting and ending do not count.
 # Then of the monitor by `trace`, whose lines say where each order came from, behind 5,000 orders, so that the kept steps are 4,096: 2,000
 # orders less 1,000. Where SIMH's LGP-30 is installed (Debian package simh, program lgp), it runs the same loops in the same way. Needs
 # valgrind. Nothing of this is part of the check.
@@ -66,7 +66,7 @@ traced() {
 for loop in small large; do
     eval "words=\$$loop"
     for orders in $short $long; do
-        for command in orders run profile; do
+        for command in orders run profile optimum; do
             script "$words" "$command" "$orders" >"$work/$command-$orders"
         done
         simh_script "$words" "$orders" >"$work/simh-$orders"
@@ -79,6 +79,8 @@ for loop in small large; do
     echo "$loop: $count by run in the monitor"
     count=$(counted lgp30m profile)
     echo "$loop: $count by profile in the monitor"
+    count=$(counted lgp30m optimum)
+    echo "$loop: $count by optimum in the monitor"
     count=$(traced "$words")
     echo "$loop: $count by trace in the monitor, with where each order came from"
     if command -v lgp >/dev/null 2>&1; then

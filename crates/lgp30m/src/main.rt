@@ -1,19 +1,15 @@
 //! The monitor's program: it hands the library the words of the command line, standard input, standard output and standard error.
 #![tactic(auto)]
 
-use lgp_desk::Manner;
+use lgp_desk::{FilesOf, Filing, Manner, obey_session};
 use lgp_lab::{FeedOf, READS, SinkOf, WordFault};
-use lgp_monitor::{Progress, obey_session};
-use lgp_typist::{Board, DeskBell, Filing, Paper, Typist};
+use lgp_monitor::Progress;
 use std::fs::File;
 use std::io::{IsTerminal, Write};
 use std::process::ExitCode;
 use std::{env, fs, io};
 
-/// The status for want of memory.
-const MEMORY: u8 = 3;
-
-/// What stands behind a name in those that are tried for a new file beside it.
+/// What comes after a name in those that are tried for a new file beside it.
 const ENDINGS: [&str; 4] = [".new", ".new1", ".new2", ".new3"];
 
 /// The files of the system, by their paths.
@@ -72,7 +68,7 @@ impl Filing for HostFiling<'_> {
     }
 }
 
-/// So many orders take about a second.
+/// A given number of orders take about a second.
 const PORTION: u64 = 20_000_000;
 
 /// Shows on standard error how far long runs are, where a person sees it.
@@ -133,23 +129,20 @@ fn progress(rt: &HostRuntime) -> ShownProgress<'_> {
 
 /// Does what the words of the command line ask for, with files where they are kept; answers the status.
 fn obey<F: Filing + Drop>(rt: &HostRuntime, filing: F, words: Result<&[String], WordFault>) -> u8 {
-    let board = Board::new(rt.alloc());
-    let keyboard = FeedOf::new(rt.reader(), READS);
-    let mut typist = Typist::new(rt.alloc(), &board, filing, keyboard, READS);
-    let mut paper = Paper::new(&board, SinkOf::new(io::writer(rt)));
+    let mut input = FeedOf::new(rt.reader(), READS);
+    let mut output = SinkOf::new(io::writer(rt));
     let mut messages = SinkOf::new(rt.stderr());
-    let status = obey_session(
+    obey_session(
         rt.alloc(),
         rt.alloc(),
         words,
         manner(rt),
-        DeskBell::new(&board),
+        FilesOf::new(filing),
         progress(rt),
-        &mut typist,
-        &mut paper,
+        &mut input,
+        &mut output,
         &mut messages,
-    );
-    if board.lacks_memory() { MEMORY } else { status }
+    )
 }
 
 fn main(rt: HostRuntime) -> ExitCode {

@@ -19,8 +19,8 @@ first_none (x ∷ xs) ys e = cc
 module _ (source : List ℕ) (count place : ℕ) (ended : Bool) (names : List (List ℕ × ℕ))
     (faults : List Fault) (cells : List (ℕ × ℕ)) (start : Option ℕ) (symbols : List (List ℕ × ℕ))
     (s : Stands count place ended names (all_lines source)) (d : IsDraftOf names faults cells start symbols (all_lines source)) where
-  pub faults_told : faults ++ end_fault ended count ≡ faults_of source
-  faults_told =
+  pub faults_reported : faults ++ end_fault ended count ≡ faults_of source
+  faults_reported =
       let lines = all_lines source in
       ap (λ fs. fs ++ end_fault ended count) d.faults_are
       ∙ ap (λ ns. faults_in ns lines ++ end_fault ended count) s.names_are

@@ -14,7 +14,7 @@ use Rattle.lgp_assembler.specs.Parts.{AreProgramCells, HaveOwnPlaces}
 use Rattle.lgp_assembler.specs.Laws.{HasCellAt, LinesHaveCells, lines_in, place_after, word_total}
 use Rattle.lgp_assembler.proofs.Assembled.{first_none}
 use Rattle.lgp_assembler.proofs.CellWords.{program_cells, start_is, words_in}
-use Rattle.lgp_assembler.proofs.LineCells.{AreFaultless, cell_missing, cell_there, cells_behind, cells_in_order, each_faultless, front_faultless}
+use Rattle.lgp_assembler.proofs.LineCells.{AreFaultless, cell_missing, cell_there, cells_after, cells_in_order, each_faultless, front_faultless}
 use Rattle.lgp_assembler.proofs.OwnPlaces.{own_places}
 use Rattle.lgp_assembler.proofs.PlaceLaws.{passed-append}
 
@@ -39,11 +39,11 @@ module _ (names : List (List ℕ × ℕ)) where
   as_many : (earlier lines : List LineFields) → AreFaultless names earlier lines → length (cells_in names (passed_lines earlier lines)) ≡ length (cells_in names earlier) + word_total lines
   unfolding cells_in
   as_many earlier [] none = omega arith
-  as_many earlier (line ∷ lines) (here, behind) =
+  as_many earlier (line ∷ lines) (here, rest) =
       let cell = line_cell names earlier line in
       let more : length (cells_in names (line ∷ earlier)) ≡ length (cells_in names earlier) + length (option_to_list cell) = length-append (cells_in names earlier) (option_to_list cell) in
       let one = counted earlier line here in
-      let others = as_many (line ∷ earlier) lines behind in
+      let others = as_many (line ∷ earlier) lines rest in
       others ∙ omega (arith, more, one)
 
   as_many_at_all : (lines : List LineFields) → faults_in names (passed_lines [] lines) ≡ [] → length (cells_in names (passed_lines [] lines)) ≡ word_total lines
@@ -51,7 +51,7 @@ module _ (names : List (List ℕ × ℕ)) where
   as_many_at_all lines none = as_many [] lines (each_faultless _ [] _ none) ∙ omega arith
 
   cell_of_line : (earlier after : List LineFields) (line : LineFields) → faults_in names (passed_lines earlier (line ∷ after)) ≡ [] → has_word line ≡ true
-      → (word : ℕ) × (cells_in names (passed_lines earlier (line ∷ after)) ≡ cells_in names earlier ++ (place_of line earlier, word) ∷ cells_behind names (line ∷ earlier) after)
+      → (word : ℕ) × (cells_in names (passed_lines earlier (line ∷ after)) ≡ cells_in names earlier ++ (place_of line earlier, word) ∷ cells_after names (line ∷ earlier) after)
   unfolding cells_in
   cell_of_line earlier after line none has =
       let place = place_of line earlier in
@@ -59,8 +59,8 @@ module _ (names : List (List ℕ × ℕ)) where
       let (word, is) = the_cell _ _ (cell_there names earlier line own has) in (
         word,
         cells_in_order names (line ∷ earlier) after
-            ∙ (ap (λ o. (cells_in names earlier ++ option_to_list o) ++ cells_behind names (line ∷ earlier) after) is
-            ∙ append_assoc (cells_in names earlier) ((place, word) ∷ []) (cells_behind names (line ∷ earlier) after)),
+            ∙ (ap (λ o. (cells_in names earlier ++ option_to_list o) ++ cells_after names (line ∷ earlier) after) is
+            ∙ append_assoc (cells_in names earlier) ((place, word) ∷ []) (cells_after names (line ∷ earlier) after)),
       )
 
 faultless_lines : (source : List ℕ) → faults_of source ≡ [] → faults_in (names_of (all_lines source)) (all_lines source) ≡ []
@@ -77,7 +77,7 @@ each_cell source before after line none parts has =
     let (word, cells) = cell_of_line _ _ after line clear has in (
       word,
       cells_in names earlier,
-      cells_behind names (line ∷ earlier) after,
+      cells_after names (line ∷ earlier) after,
       ap (cells_in names) whole ∙ cells,
       as_many_at_all _ before (front_faultless _ _ (line ∷ after) clear),
     )

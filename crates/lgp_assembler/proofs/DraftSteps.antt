@@ -26,7 +26,7 @@ use Rattle.lgp_assembler.specs.Places.{has_word, word_count, org_address, next_p
 use Rattle.lgp_assembler.specs.Faults.{says_something, is_bad_label, is_label_again, line_meaning, first_kind, numbered_fault, faults_in}
 use Rattle.lgp_assembler.specs.Image.{cell_at, cells_in, start_at, start_in}
 use Rattle.lgp_assembler.specs.ScanInside.{rows, IfCell, Stands, ArePlacesTaken, coming_fault, SymbolFits, symbol_at, IsDraftOf}
-use Rattle.lgp_assembler.proofs.Rows.{kind_here, kind_behind, fault_stands}
+use Rattle.lgp_assembler.proofs.Rows.{kind_here, kind_after, fault_stands}
 
 -- ---- where no row holds
 
@@ -38,7 +38,7 @@ pub none_fails : (all : List (Bool × FaultKind)) → first_kind all ≡ None �
 none_fails [] none = tt
 none_fails (row ∷ more) none = ⊎_elim
     (λ yes. absurd (none-some row.1 (sym none ∙ kind_here _ _ more yes)))
-    (λ fails. (fails, none_fails more (sym (kind_behind _ _ more fails) ∙ none)))
+    (λ fails. (fails, none_fails more (sym (kind_after _ _ more fails) ∙ none)))
     (cases_Bool row.0)
 
 -- the rows that an image needs
@@ -205,13 +205,13 @@ unfolding faults_in cells_in start_in names_of next_place
 draft_step names line lines place ended before taken earlier faults faults' cells cells' start start' symbols symbols' here at s marks d faults_e cells_e start_e symbols_e word_e =
     let here_is : here ≡ place_of line earlier = at ∙ ap (place_reached line) s.place_is in
     let kind = coming_fault line (line_meaning names here line) here ended before taken in
-    let told = numbered_fault line.number in
+    let reported = numbered_fault line.number in
     record {
-      faults_are = faults_e ∙ ap (λ fs. fs ++ option_to_list (option_map told kind)) d.faults_are
-          ∙ ap (λ h. faults_in names earlier ++ option_to_list (option_map told (coming_fault line (line_meaning names h line) h ended before taken))) at
-          ∙ ap (λ k. faults_in names earlier ++ option_to_list (option_map told k)) (fault_stands names line lines place ended before taken earlier s marks);
+      faults_are = faults_e ∙ ap (λ fs. fs ++ option_to_list (option_map reported kind)) d.faults_are
+          ∙ ap (λ h. faults_in names earlier ++ option_to_list (option_map reported (coming_fault line (line_meaning names h line) h ended before taken))) at
+          ∙ ap (λ k. faults_in names earlier ++ option_to_list (option_map reported k)) (fault_stands names line lines place ended before taken earlier s marks);
       image = λ none.
-          let both = append_none faults (option_to_list (option_map told kind)) (sym faults_e ∙ none) in
+          let both = append_none faults (option_to_list (option_map reported kind)) (sym faults_e ∙ none) in
           let clear = clear_rows line (line_meaning names here line) here ended before (slice_index_or taken here false) (list_none line.number kind both.1) in
           let image = d.image both.0 in
           let small : here ≤ 4096 = subst (λ h. h ≤ 4096) (sym at) (place_small line place (subst (λ p. p ≤ 4096) (sym s.place_is) image.within)) in

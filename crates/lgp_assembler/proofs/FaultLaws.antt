@@ -9,7 +9,7 @@ use Rattle.lgp_assembler.specs.Image.{all_lines, image_of, passed_lines}
 use Rattle.lgp_assembler.specs.Laws.{first_faults, lines_in, FaultsFollowLines, HasWordAt}
 use Rattle.lgp_assembler.proofs.PlaceLaws.{has_ended-in_order, length-passed, passed-append}
 
--- ---- a line with a word at a place, among some lines behind others
+-- ---- a line with a word at a place, among some lines after others
 
 record HasWordBehind (earlier lines : List LineFields) (place : ℕ) : Type 0 where
   before : List LineFields
@@ -29,13 +29,13 @@ taken_from place earlier (line ∷ lines) taken = ⊎_elim
     inr (record { before = []; line = line; after = lines; lines_are = refl; makes_word = parts.0; there = eqb-true (place_of line earlier) place parts.1 }))
     (λ before. inl before)
     (or_cases (has_word line && place_of line earlier == place) (is_taken place earlier) so_far))
-    (λ behind. inr (record {
-      before = line ∷ behind.before;
-      line = behind.line;
-      after = behind.after;
-      lines_are = ap (λ more. line ∷ more) behind.lines_are;
-      makes_word = behind.makes_word;
-      there = behind.there;
+    (λ later. inr (record {
+      before = line ∷ later.before;
+      line = later.line;
+      after = later.after;
+      lines_are = ap (λ more. line ∷ more) later.lines_are;
+      makes_word = later.makes_word;
+      there = later.there;
     }))
     (taken_from _ _ _ taken)
 
@@ -50,13 +50,13 @@ word_among : (place : ℕ) (lines : List LineFields) → is_taken place (passed_
 unfolding is_taken
 word_among place lines taken = ⊎_elim
     (λ none. absurd (true≢false (sym none)))
-    (λ behind. record {
-      before = behind.before;
-      line = behind.line;
-      after = behind.after;
-      lines_are = behind.lines_are;
-      makes_word = behind.makes_word;
-      there = behind.there;
+    (λ later. record {
+      before = later.before;
+      line = later.line;
+      after = later.after;
+      lines_are = later.lines_are;
+      makes_word = later.makes_word;
+      there = later.there;
     })
     (taken_from _ [] _ taken)
 
@@ -79,10 +79,10 @@ faults_law source before line = record {
   more = ap (faults_in (image_of source).symbols) (passed-append [] before (line ∷ []));
   all =
       let lines = lines_in source in
-      let told = first_faults source lines in
-      ap (λ ended. told ++ end_fault ended (length (passed_lines [] lines))) (has_ended-in_order _)
-      ∙ ap (λ count. told ++ end_fault (has_ended lines) count) (length-passed [] lines ∙ omega arith);
+      let reported = first_faults source lines in
+      ap (λ ended. reported ++ end_fault ended (length (passed_lines [] lines))) (has_ended-in_order _)
+      ∙ ap (λ count. reported ++ end_fault (has_ended lines) count) (length-passed [] lines ∙ omega arith);
   first_row = refl;
-  behind_end = has_ended-in_order before;
+  past_end = has_ended-in_order before;
   place_taken = (λ taken. word_among _ before taken, λ among. taken_by _ before among);
 }

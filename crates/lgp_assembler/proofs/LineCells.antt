@@ -169,18 +169,18 @@ module _ (names : List (List ℕ × ℕ)) (earlier : List LineFields) (line : Li
   cell_missing none =
       missing _ _ (line_makes_none _ _ line.operation line none)
 
--- ---- the cells of lines behind others, in order of the source
+-- ---- the cells of lines after others, in order of the source
 
-abbrev pub cells_behind : List (List ℕ × ℕ) → List LineFields → List LineFields → List (ℕ × ℕ)
-cells_behind names earlier [] = []
-cells_behind names earlier (line ∷ lines) = option_to_list (line_cell names earlier line) ++ cells_behind names (line ∷ earlier) lines
+abbrev pub cells_after : List (List ℕ × ℕ) → List LineFields → List LineFields → List (ℕ × ℕ)
+cells_after names earlier [] = []
+cells_after names earlier (line ∷ lines) = option_to_list (line_cell names earlier line) ++ cells_after names (line ∷ earlier) lines
 
-pub cells_in_order : (names : List (List ℕ × ℕ)) (earlier lines : List LineFields) → cells_in names (passed_lines earlier lines) ≡ cells_in names earlier ++ cells_behind names earlier lines
+pub cells_in_order : (names : List (List ℕ × ℕ)) (earlier lines : List LineFields) → cells_in names (passed_lines earlier lines) ≡ cells_in names earlier ++ cells_after names earlier lines
 unfolding cells_in
 cells_in_order names earlier [] = sym (append-nil (cells_in names earlier))
 cells_in_order names earlier (line ∷ lines) =
     cells_in_order names (line ∷ earlier) lines
-    ∙ append_assoc (cells_in names earlier) (option_to_list (line_cell names earlier line)) (cells_behind names (line ∷ earlier) lines)
+    ∙ append_assoc (cells_in names earlier) (option_to_list (line_cell names earlier line)) (cells_after names (line ∷ earlier) lines)
 
 -- ---- no line of a source without faults has one
 

@@ -14,18 +14,18 @@ use Rattle.lgp_assembler.specs.Parts.{is_loaders}
 use Rattle.lgp_assembler.specs.Faults.{says_something, is_bad_label, is_label_again, is_misformed, is_unknown, is_out_of_range, line_meaning, first_kind, fault_of}
 use Rattle.lgp_assembler.specs.ScanInside.{rows, Stands, ArePlacesTaken, coming_fault}
 
--- the kind of a row that holds, and of those behind one that does not
+-- the kind of a row that holds, and of those after one that does not
 pub kind_here : (holds : Bool) (kind : FaultKind) (more : List (Bool × FaultKind)) → holds ≡ true → first_kind ((holds, kind) ∷ more) ≡ Some kind
 kind_here holds kind more e = grind (arith, cond-true)
 
-pub kind_behind : (holds : Bool) (kind : FaultKind) (more : List (Bool × FaultKind)) → holds ≡ false → first_kind ((holds, kind) ∷ more) ≡ first_kind more
-kind_behind holds kind more e = grind (arith, cond-false)
+pub kind_after : (holds : Bool) (kind : FaultKind) (more : List (Bool × FaultKind)) → holds ≡ false → first_kind ((holds, kind) ∷ more) ≡ first_kind more
+kind_after holds kind more e = grind (arith, cond-false)
 
 -- what comes after a row that holds does not matter
 cut_at : (front : List (Bool × FaultKind)) (holds : Bool) (kind : FaultKind) (one other : List (Bool × FaultKind)) → holds ≡ true
     → first_kind (front ++ (holds, kind) ∷ one) ≡ first_kind (front ++ (holds, kind) ∷ other)
 cut_at [] holds kind one other e = kind_here _ _ one e ∙ sym (kind_here _ _ other e)
-cut_at ((first, told) ∷ front) holds kind one other e = grind (arith, kind_here, kind_behind, cut_at front holds kind one other e)
+cut_at ((first, reported) ∷ front) holds kind one other e = grind (arith, kind_here, kind_after, cut_at front holds kind one other e)
 
 -- the rows before those on places
 abbrev front_rows : LineFields → Result Meaning OperandFault → Bool → List (List ℕ × ℕ) → List (Bool × FaultKind)

@@ -35,7 +35,7 @@ is_name text =
 abbrev pub is_sign : ℕ → Bool
 is_sign b = b == 43 || b == 45
 
--- what stands behind the base: nothing, or a sign and one to four digits
+-- what comes after the base: nothing, or a sign and one to four digits
 unfoldable pub offset_of : List ℕ → Option Offset
 offset_of text =
     if length text == 0 then Some (record { minus = false; number = 0 })

@@ -59,14 +59,14 @@ line_meaning names place line =
 
 -- ---- the table of faults
 
--- what is known of a line where it stands
+-- what is known of a line where it is
 pub record LineFacts : Type 0 where
   pub line : LineFields
   pub place : ℕ
   -- what its operands stand for there
   pub meaning : MeaningOrFault
-  -- whether the end line stands before it
-  pub is_behind_end : Bool
+  -- whether the end line is before it
+  pub is_after_end : Bool
   -- the names of the lines before it
   pub names : NameList
   -- whether a word of theirs lies at its place
@@ -77,7 +77,7 @@ pub record LineFacts : Type 0 where
 abbrev pub fault_rows : LineFacts → List (Bool × FaultKind)
 fault_rows known =
     (known.line.is_bad, BadByte)
-    ∷ (known.is_behind_end && says_something known.line, AfterEnd)
+    ∷ (known.is_after_end && says_something known.line, AfterEnd)
     ∷ (nat_lt (option_map_or most_operands known.line.operation 2) known.line.count, Extra)
     ∷ (is_bad_label known.line.label, BadLabel)
     ∷ (is_label_again known.line.label known.names, LabelTwice)
@@ -104,7 +104,7 @@ facts_of names line earlier = let place = place_of line earlier in record {
   line = line;
   place = place;
   meaning = line_meaning names place line;
-  is_behind_end = has_ended earlier;
+  is_after_end = has_ended earlier;
   names = names_of earlier;
   is_place_taken = is_taken place earlier;
 }

@@ -57,12 +57,12 @@ pub record NamesAreFirstPlaces (name : List ℕ) (before after : List LineFields
 abbrev pub lines_in : List ℕ → List LineFields
 lines_in source = map fields_of (lines_of source)
 
--- what is known of a line behind some others, with the names of the whole source; and its fault
-abbrev pub facts_behind : List ℕ → List LineFields → LineFields → LineFacts
-facts_behind source before line = facts_of (image_of source).symbols line (passed_lines [] before)
+-- what is known of a line after some others, with the names of the whole source; and its fault
+abbrev pub facts_after : List ℕ → List LineFields → LineFields → LineFacts
+facts_after source before line = facts_of (image_of source).symbols line (passed_lines [] before)
 
-abbrev pub fault_behind : List ℕ → List LineFields → LineFields → Option FaultKind
-fault_behind source before line = fault_of (image_of source).symbols line (passed_lines [] before)
+abbrev pub fault_after : List ℕ → List LineFields → LineFields → Option FaultKind
+fault_after source before line = fault_of (image_of source).symbols line (passed_lines [] before)
 
 -- the faults of the first lines of a source
 abbrev pub first_faults : List ℕ → List LineFields → List Fault
@@ -77,32 +77,32 @@ pub record HasWordAt (lines : List LineFields) (place : ℕ) : Type 0 where
   pub makes_word : has_word line ≡ true
   pub there : place_after before line ≡ place
 
--- the faults of a source, line by line: no lines have none; a line behind some others adds its own
+-- the faults of a source, line by line: no lines have none; a line after some others adds its own
 -- fault to theirs, if it has one; and the faults of the source are those of all its lines, and
--- behind them that of a missing end line. The fault of a line is that of the first row of the table
--- that holds; whether an end line stands before it is asked of the lines before it, and its place
+-- after them that of a missing end line. The fault of a line is that of the first row of the table
+-- that holds; whether an end line is before it is asked of the lines before it, and its place
 -- is taken where one of them has a word there
 pub record FaultsFollowLines (source : List ℕ) (before : List LineFields) (line : LineFields)
     : Type 0 where
   pub none : first_faults source [] ≡ []
   pub more : first_faults source (before ++ line ∷ []) ≡ first_faults source before
-      ++ option_to_list (option_map (numbered_fault line.number) (fault_behind source before line))
+      ++ option_to_list (option_map (numbered_fault line.number) (fault_after source before line))
   pub all : faults_of source
       ≡ first_faults source (lines_in source) ++ missing_end (lines_in source)
-  pub first_row : fault_behind source before line
-      ≡ first_kind (fault_rows (facts_behind source before line))
-  pub behind_end : (facts_behind source before line).is_behind_end ≡ has_ended before
-  pub place_taken : ((facts_behind source before line).is_place_taken ≡ true)
+  pub first_row : fault_after source before line
+      ≡ first_kind (fault_rows (facts_after source before line))
+  pub past_end : (facts_after source before line).is_after_end ≡ has_ended before
+  pub place_taken : ((facts_after source before line).is_place_taken ≡ true)
       ↔ HasWordAt before (place_after before line)
 
--- among some cells, behind so many others, the cell of a place
+-- among some cells, after a given number of others, the cell of a place
 abbrev pub HasCellAt : List (ℕ × ℕ) → ℕ → ℕ → Type 0
 HasCellAt cells place others =
-    (word : ℕ) × (front : List (ℕ × ℕ)) × (behind : List (ℕ × ℕ))
-    × (cells ≡ front ++ (place, word) ∷ behind) × (length front ≡ others)
+    (word : ℕ) × (front : List (ℕ × ℕ)) × (rest : List (ℕ × ℕ))
+    × (cells ≡ front ++ (place, word) ∷ rest) × (length front ≡ others)
 
 -- what holds of a source without faults: each line with a word has its cell, at the line's place and
--- behind the cells of the lines before it; and there are as many cells as such lines
+-- after the cells of the lines before it; and there are as many cells as such lines
 pub record LinesHaveCells (source : List ℕ) : Type 0 where
   pub each : (before after : List LineFields) (line : LineFields)
       → lines_in source ≡ before ++ line ∷ after → has_word line ≡ true

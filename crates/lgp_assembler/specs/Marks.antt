@@ -42,7 +42,7 @@ part_of other line = token_part line.operation
 abbrev pub shown_byte : ℕ → ℕ
 shown_byte b = if is_bad b then byte "?" else b
 
--- what stands below a byte: the mark below one of the part; below any other a tab where it is one,
+-- what is below a byte: the mark below one of the part; below any other a tab where it is one,
 -- else a space
 abbrev pub byte_below : Bool → ℕ → ℕ
 byte_below marked b = if marked then byte "^" else (if b == 9 then 9 else 32)
@@ -50,7 +50,7 @@ byte_below marked b = if marked then byte "^" else (if b == 9 then 9 else 32)
 abbrev pub indent : List ℕ
 indent = codes "        "
 
--- the line, and ` ..` behind it where not all of it is shown
+-- the line, and ` ..` after it where not all of it is shown
 abbrev pub shown_line : List ℕ → List ℕ
 shown_line text =
     indent ++ (map shown_byte (take 200 text)

@@ -17,7 +17,7 @@ pub record ImageParts : Type 0 where
   pub start : Option ℕ
   pub symbols : NameList
 
--- the loader's 22 places, 6300 to 6321: the first of them, and the one behind the last
+-- the loader's 22 places, 6300 to 6321: the first of them, and the one after the last
 abbrev pub loader_base : ℕ
 loader_base = 4032
 

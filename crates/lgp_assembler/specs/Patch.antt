@@ -26,7 +26,7 @@ word_meant (Ok other) = Err Misformed
 word_meant (Err fault) = Err fault
 
 -- the word of an operation, named as in a source, with its operands in a place, where it is one and
--- takes so many
+-- takes that many
 unfoldable pub operation_word : NameList → ℕ → List ℕ → Option (List ℕ) → Option (List ℕ)
     → Result ℕ OperandFault
 operation_word names place name first second =

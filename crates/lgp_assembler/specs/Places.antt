@@ -15,7 +15,7 @@ use Rattle.lgp_assembler.specs.Fields.{LineFields}
 use Rattle.lgp_assembler.specs.Parts.{NameList}
 
 -- whether the operation of a line makes a word, whatever else is wrong with the line. Of a line
--- after the end line that has an operation it is told that it stands there, and nothing else is
+-- after the end line that has an operation it is reported that it is there, and nothing else is
 -- asked of it
 abbrev pub has_word : LineFields → Bool
 has_word line = option_map_or makes_word line.operation false

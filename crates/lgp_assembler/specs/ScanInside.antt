@@ -33,7 +33,7 @@ rows line meaning place ended names taken = fault_rows (record {
   line = line;
   place = place;
   meaning = meaning;
-  is_behind_end = ended;
+  is_after_end = ended;
   names = names;
   is_place_taken = taken;
 })

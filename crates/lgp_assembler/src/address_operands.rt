@@ -9,21 +9,21 @@ use crate::operands::OperandFault;
 use crate::output::{DRUM_SIZE, NAME_LIMIT};
 use lgp_word::{Address, read_decimal};
 
-/// What stands behind the base of an address operand.
+/// What comes after the base of an address operand.
 #[derive(Clone, Copy, Debug)]
 pub struct Offset {
     pub minus: bool,
     pub number: u64,
 }
 
-/// Whether a byte may stand in a name behind its first letter.
+/// Whether a byte may be in a name after its first letter.
 fn is_name_byte(byte: u8) -> bool
     ensures { result ≡ spec.is_name_byte byte }
 {
     byte.is_ascii_lowercase() || byte.is_ascii_digit()
 }
 
-/// Whether all bytes of a text may stand in a name.
+/// Whether all bytes of a text may be in a name.
 fn are_name_bytes(text: &[u8]) -> bool
     ensures { result ≡ list_all spec.is_name_byte text.now }
 {
@@ -48,7 +48,7 @@ fn is_sign(byte: u8) -> bool
     byte == b'+' || byte == b'-'
 }
 
-/// The offset that stands behind a base, if it is in its form.
+/// The offset that comes after a base, if it is in its form.
 #[tactic(auto, unfolding(crate::specs::AddressOperands::offset_of))]
 fn offset_of(text: &[u8]) -> Option<Offset>
     ensures { result ≡ spec.offset_of text.now }
@@ -115,7 +115,7 @@ fn sign_place(text: &[u8]) -> Option<usize>
     text.iter().position(|byte| is_sign(*byte))
 }
 
-/// How many bytes stand before the first sign.
+/// How many bytes come before the first sign.
 #[tactic(auto, using(lgp_source::proofs::Places::run_lengths))]
 fn base_len(text: &[u8]) -> usize
     ensures value { result ≡ position_or_len spec.is_sign text.now }
@@ -125,7 +125,7 @@ fn base_len(text: &[u8]) -> usize
 }
 
 /// The address that an operand stands for in a line's place: a name, an address or `*`, the place
-/// itself, and behind it perhaps a sign and a number. `Misformed` where it is in no such form,
+/// itself, and after it perhaps a sign and a number. `Misformed` where it is in no such form,
 /// `Unknown` where its name has no value, `Outside` where that is no place on the drum.
 #[tactic(auto, unfolding(crate::specs::AddressOperands::address_operand))]
 pub fn address_operand<N: NameValues>(
@@ -135,8 +135,8 @@ pub fn address_operand<N: NameValues>(
 ) -> Result<Address, OperandFault>
     ensures { result ≡ spec.address_operand (N.values names.now) place text.now }
 {
-    let (base, behind) = text.split_at(base_len(text));
-    let Some(offset) = offset_of(behind) else {
+    let (base, rest) = text.split_at(base_len(text));
+    let Some(offset) = offset_of(rest) else {
         return Err(OperandFault::Misformed);
     };
     match base_number(names, place, base) {

@@ -24,7 +24,7 @@ pub fn names_are_first_places()
 {}
 
 /// A law, for readers and proofs: the faults of a source are those of its lines, in their order,
-/// and last that of a missing end line. A line behind some others adds its own fault to theirs, if
+/// and last that of a missing end line. A line after some others adds its own fault to theirs, if
 /// it has one: that of the first row of the table that holds for it. What the rows ask of the lines
 /// before it is whether one of them is an end line, which labels they have, and whether one of them
 /// has a word at its place.
@@ -34,7 +34,7 @@ pub fn faults_follow_lines()
 {}
 
 /// A law, for readers and proofs: in a source without faults each line with a word has its cell, at
-/// the line's place and behind the cells of the lines before it, and there are as many cells as
+/// the line's place and after the cells of the lines before it, and there are as many cells as
 /// such lines.
 pub fn lines_have_cells()
     ensures { (source : List ℕ) → faults_of source ≡ [] → LinesHaveCells source }

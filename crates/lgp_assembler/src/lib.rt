@@ -39,7 +39,7 @@ mod patch;
 mod refusal;
 mod taken_places;
 
-/// Adds the fault of a source of so many lines that has not ended.
+/// Adds the fault of a source of a given number of lines that has not ended.
 fn add_missing_end<A: Allocator>(
     faults: &mut Vec<Fault, A>,
     ended: bool,
@@ -57,7 +57,7 @@ fn add_missing_end<A: Allocator>(
     Ok(())
 }
 
-/// The image of the draft of all lines, so many, or else its faults and that of a missing end line.
+/// The image of the draft of all lines, or else its faults and that of a missing end line.
 fn image_or_faults<A: Allocator>(
     draft: Draft<A>,
     ended: bool,

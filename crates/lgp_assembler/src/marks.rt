@@ -12,7 +12,7 @@ use std::alloc::{AllocError, Allocator};
 /// How many bytes of a line are shown.
 const MOST_SHOWN: usize = 200;
 
-/// What stands in front of a line and of its mark.
+/// What comes before a line and before its mark.
 const INDENT: &[u8] = b"        ";
 
 /// The place and length of a token.
@@ -54,7 +54,7 @@ fn part_of(kind: FaultKind, line: &Line) -> Option<(usize, usize)>
     }
 }
 
-/// The first bytes, so many or all.
+/// The first bytes: a given number, or all.
 fn front_of(bytes: &[u8], count: usize) -> &[u8]
     ensures { result.now ≡ take count bytes.now }
 {
@@ -65,7 +65,7 @@ fn front_of(bytes: &[u8], count: usize) -> &[u8]
     }
 }
 
-/// What stands behind so many bytes.
+/// What comes after a given number of bytes.
 fn rest_of(bytes: &[u8], count: usize) -> &[u8]
     ensures { result.now ≡ drop count bytes.now }
 {
@@ -87,7 +87,7 @@ fn shown_byte(byte: u8) -> u8
     }
 }
 
-/// What stands below a byte that is marked or not.
+/// What is below a byte that is marked or not.
 fn byte_below(marked: bool, byte: u8) -> u8
     ensures { result ≡ byte_below marked byte }
 {
@@ -110,7 +110,7 @@ fn push_shown<A: Allocator>(text: &mut Vec<u8, A>, bytes: &[u8]) -> Result<(), A
     Ok(())
 }
 
-/// Appends what stands below bytes that are marked or not.
+/// Appends what is below bytes that are marked or not.
 fn push_below<A: Allocator>(
     text: &mut Vec<u8, A>,
     marked: bool,

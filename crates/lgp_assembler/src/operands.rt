@@ -11,7 +11,7 @@ use crate::operations::Operation;
 use lgp_flexo::code_of;
 use lgp_word::{Address, Op, Order, Word, encode, read_digits};
 
-/// Why operands stand for nothing. Of several reasons the first in this order is told.
+/// Why operands stand for nothing. Of several reasons the first in this order is reported.
 #[derive(Clone, Copy, Debug, PartialEq, Eq)]
 pub enum OperandFault {
     /// Not in their form.
@@ -48,7 +48,7 @@ fn cell_of_order(
     }
 }
 
-/// The p that prints the sign behind an `=`.
+/// The p that prints the sign after an `=`.
 fn sign_operand(op: Op, text: &[u8]) -> Result<Meaning, OperandFault>
     ensures { result ≡ spec.sign_operand op text.now }
 {

@@ -25,7 +25,7 @@ fn operands_given(first: Option<&[u8]>, second: Option<&[u8]>) -> usize
 }
 
 impl Operation {
-    /// Whether it takes so many operands.
+    /// Whether it takes a given number of operands.
     fn takes(self, count: usize) -> bool
         ensures { result ≡ spec.takes self count }
     {

@@ -8,7 +8,7 @@ use std::fmt;
 use std::marker::Model;
 use thiserror::Error;
 
-/// What is wrong with a line. Of the kinds that a line meets, the first in this order is told.
+/// What is wrong with a line. Of the kinds that a line meets, the first in this order is reported.
 #[derive(Clone, Copy, Debug, PartialEq, Eq)]
 pub enum FaultKind {
     /// A byte that is neither a tab nor one of 32 to 126.

@@ -145,7 +145,7 @@ const BEFORE_LOADER: Wanted = Wanted {
     symbols: &[],
 };
 
-/// The place behind the loader's.
+/// The place after the loader's.
 const BEHIND_LOADER: Wanted = Wanted {
     cells: &[(b"6322", b"00000000")],
     start: None,
@@ -161,7 +161,7 @@ const SOURCES: &[(&[u8], Wanted)] = &[
     (b" org 6322\n z\n end\n", BEHIND_LOADER),
 ];
 
-/// The first of some sources that does not assemble to what stands beside it, and which of its
+/// The first of some sources that does not assemble to what is beside it, and which of its
 /// cells, its start and its names are right.
 fn first_wrong(alloc: Global, sources: &[(&[u8], Wanted)]) -> Option<(usize, [bool; 3])> {
     for (index, (source, wanted)) in sources.iter().enumerate() {

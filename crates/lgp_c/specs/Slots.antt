@@ -10,7 +10,7 @@ use base.Fml.{Fml, ftrue, ffalse}
 use base.Stored.{Coded}
 use denote.RawPtr.{Ptr}
 use denote.RattleType.{RattleType}
-use Rattle.lgp_call.specs.Session.{Sitting}
+use Rattle.lgp_call.specs.Session.{SessionState}
 use Rattle.lgp_call.specs.contracts.session.Session as session
 
 -- a session over memory from malloc
@@ -18,11 +18,11 @@ abbrev pub the_session : RattleType
 the_session = session.the_row heap.the_row ghosts (copied.ghosts heap.the_row)
 
 -- an empty slot owns nothing, and an open one the box of its session
-abbrev pub slot_owns : Global → Bool → Ptr → Option Sitting → Fml
+abbrev pub slot_owns : Global → Bool → Ptr → Option SessionState → Fml
 slot_owns alloc false at None = ftrue
-slot_owns alloc true at (Some sitting) =
-    box_owns (ghosts.dealloc_token alloc) the_session at sitting
+slot_owns alloc true at (Some state) =
+    box_owns (ghosts.dealloc_token alloc) the_session at state
 slot_owns alloc _ at _ = ffalse
 
-abbrev pub held_coded : Coded (Option Sitting)
+abbrev pub held_coded : Coded (Option SessionState)
 held_coded = coded_option the_session.coded

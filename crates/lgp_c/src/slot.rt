@@ -1,7 +1,7 @@
 //! The place of a session in the caller's memory.
 ghost use Rattle.std.specs.Prelude.{◌≡◌, MatchOption, None, Option, Some};
 ghost use Rattle.std.specs.Global.{Global};
-ghost use Rattle.lgp_call.specs.Session.{Sitting};
+ghost use Rattle.lgp_call.specs.Session.{SessionState};
 ghost use Rattle.lgp_c.specs.Slots.{held_coded, slot_owns};
 
 use lgp_call::Session;
@@ -19,7 +19,7 @@ pub struct Slot {
     at: *mut u8,
     alloc: Global,
     /// The session that is open here, if there is one.
-    pub ghost held: { Option Sitting } by { held_coded },
+    pub ghost held: { Option SessionState } by { held_coded },
 }
 
 impl Model for Slot {

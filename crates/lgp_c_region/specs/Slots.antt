@@ -11,7 +11,7 @@ use denote.Builtin.{RefOf}
 use denote.RawPtr.{Ptr}
 use denote.RattleType.{RattleType}
 use denote.Signature.{plain, type_at}
-use Rattle.lgp_call.specs.Session.{Sitting}
+use Rattle.lgp_call.specs.Session.{SessionState}
 use Rattle.lgp_call.specs.contracts.session.Session as session
 use Rattle.lgp_parts.specs.contracts.unfreed.UnfreedAllocator.TheImpl as unfreed
 use Rattle.lgp_region.specs.contracts.region.Region as region
@@ -31,11 +31,11 @@ the_session =
 
 -- an empty slot owns nothing, and an open one the box of its session, whose memory goes back to
 -- nobody
-abbrev pub slot_owns : Bool → Ptr → Option Sitting → Fml
+abbrev pub slot_owns : Bool → Ptr → Option SessionState → Fml
 slot_owns false at None = ftrue
-slot_owns true at (Some sitting) =
-    box_owns (unfreed.ghosts.dealloc_token (record {})) the_session at sitting
+slot_owns true at (Some state) =
+    box_owns (unfreed.ghosts.dealloc_token (record {})) the_session at state
 slot_owns _ at _ = ffalse
 
-abbrev pub held_coded : Coded (Option Sitting)
+abbrev pub held_coded : Coded (Option SessionState)
 held_coded = coded_option the_session.coded

@@ -1,6 +1,6 @@
 //! A session over memory that is handed over.
 ghost use Rattle.std.specs.Prelude.{◌≡◌, IfOk};
-ghost use Rattle.lgp_call.specs.Session.{opening_sitting};
+ghost use Rattle.lgp_call.specs.Session.{opening_session};
 
 use lgp_call::Session;
 use lgp_parts::{BoxParts, Unfreed};
@@ -11,7 +11,7 @@ use std::alloc::AllocError;
 pub(crate) fn begun(
     memory: Memory,
 ) -> Result<BoxParts<Session<&'static Region>, Unfreed>, AllocError>
-    ensures { IfOk result (λ parts. parts.value ≡ opening_sitting) }
+    ensures { IfOk result (λ parts. parts.value ≡ opening_session) }
 {
     let region = Region::lasting(memory)?;
     let whole = Session::boxed(region, region)?;

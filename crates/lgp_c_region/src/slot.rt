@@ -1,7 +1,7 @@
 //! The place of a session in the caller's memory.
 ghost use Rattle.std.specs.Prelude.{◌≡◌, MatchOption, None, Option, Some};
 ghost use Rattle.std.specs.Borrow.{Bor};
-ghost use Rattle.lgp_call.specs.Session.{Sitting};
+ghost use Rattle.lgp_call.specs.Session.{SessionState};
 ghost use Rattle.lgp_c_region.specs.Slots.{held_coded, slot_owns};
 ghost use Rattle.lgp_region.specs.declared.region.Region.{Region};
 
@@ -17,7 +17,7 @@ pub struct Slot {
     is_open: bool,
     at: *mut u8,
     /// The session that is open here, if there is one.
-    pub ghost held: { Option Sitting } by { held_coded },
+    pub ghost held: { Option SessionState } by { held_coded },
 }
 
 impl Model for Slot {

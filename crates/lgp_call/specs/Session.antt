@@ -3,18 +3,18 @@ use Rattle.std.specs.Prelude.{ℕ, Bool, fold, if◌then◌else◌, List, [], co
 use Rattle.std.specs.List.{list_any}
 use Rattle.lgp_stream.specs.Language.{is_line_feed, is_question}
 use Rattle.lgp_stream.specs.Transcript.{Recorded, untouched}
-use Rattle.lgp_lab.specs.Standing.{Standing, opening_standing}
+use Rattle.lgp_lab.specs.LabState.{LabState, opening_state}
 use Rattle.lgp_monitor.specs.Monitor.{monitor_language}
 use Rattle.lgp_call.specs.declared.script.Outcome.{Outcome}
 
--- where the monitor stands, and what it replied last
-pub record Sitting : Type 0 where
-  pub recorded : Recorded Standing
+-- the state of the monitor, and what it replied last
+pub record SessionState : Type 0 where
+  pub recorded : Recorded LabState
   pub reply : List ℕ
 
 -- before the first line
-abbrev pub opening_sitting : Sitting
-opening_sitting = record { recorded = untouched opening_standing; reply = [] }
+abbrev pub opening_session : SessionState
+opening_session = record { recorded = untouched opening_state; reply = [] }
 
 -- bytes with a line feed among them are more than a line: they are refused, and nothing is done
 abbrev pub has_line_feed : List ℕ → Bool
@@ -24,29 +24,29 @@ unfoldable pub more_than_a_line : List ℕ
 more_than_a_line = codes "? 1 Form: these are several lines, give them one by one\n"
 
 -- after a line
-abbrev pub after_line : Sitting → List ℕ → Sitting
-after_line sitting line =
-    if has_line_feed line then record sitting { reply = more_than_a_line }
+abbrev pub after_line : SessionState → List ℕ → SessionState
+after_line session line =
+    if has_line_feed line then record session { reply = more_than_a_line }
     else record {
-      recorded = monitor_language.after sitting.recorded line;
-      reply = monitor_language.reply sitting.recorded line;
+      recorded = monitor_language.after session.recorded line;
+      reply = monitor_language.reply session.recorded line;
     }
 
 -- after lines, one after another
-abbrev pub after_all : Sitting → List (List ℕ) → Sitting
-after_all sitting lines = fold after_line sitting lines
+abbrev pub after_all : SessionState → List (List ℕ) → SessionState
+after_all session lines = fold after_line session lines
 
 -- the reply to the session's end
-abbrev pub closing_reply : Sitting → List ℕ
-closing_reply sitting = monitor_language.closing sitting.recorded
+abbrev pub closing_reply : SessionState → List ℕ
+closing_reply session = monitor_language.closing session.recorded
 
--- what is told of a reply: whether it begins with a question mark, and its length
+-- what is reported of a reply: whether it begins with a question mark, and its length
 abbrev pub questions_in : List ℕ → ℕ
 questions_in reply = if is_question reply then 1 else 0
 
 abbrev pub outcome_of : List ℕ → Outcome
 outcome_of reply = record { questions = questions_in reply; length = length reply }
 
--- what is told where there is no reply
+-- what is reported where there is no reply
 abbrev pub no_outcome : Outcome
 no_outcome = record { questions = 0; length = 0 }

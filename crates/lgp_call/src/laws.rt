@@ -1,15 +1,15 @@
 //! What follows from the definitions, each law as the contract of a function that does nothing.
 
 ghost use Rattle.std.specs.Prelude.{List, ℕ};
-ghost use Rattle.lgp_stream.specs.Transcript.{IsToldByTranscript};
+ghost use Rattle.lgp_stream.specs.Transcript.{IsReportedByTranscript};
 ghost use Rattle.lgp_lab.specs.Script.{script_language};
-ghost use Rattle.lgp_lab.specs.Standing.{opening_standing};
-ghost use Rattle.lgp_call.specs.Session.{after_all, opening_sitting};
+ghost use Rattle.lgp_lab.specs.LabState.{opening_state};
+ghost use Rattle.lgp_call.specs.Session.{after_all, opening_session};
 
-/// Whatever lines a session is given, with line feeds among their bytes or without: the laboratory stands where the script language
+/// Whatever lines a session is given, with line feeds among their bytes or without: the laboratory is where the script language
 /// puts it for the session's transcript, run as a script from its beginning.
-#[tactic(auto, using(crate::proofs::SessionLaws::told_by_session))]
+#[tactic(auto, using(crate::proofs::SessionLaws::reported_by_session))]
 pub fn transcript_of_a_session_is_the_script()
-    ensures { (lines : List (List ℕ)) → IsToldByTranscript script_language opening_standing
-        (after_all opening_sitting lines).recorded }
+    ensures { (lines : List (List ℕ)) → IsReportedByTranscript script_language opening_state
+        (after_all opening_session lines).recorded }
 {}

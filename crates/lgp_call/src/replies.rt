@@ -4,7 +4,7 @@ ghost use Rattle.std.specs.Prelude.{Some};
 use lgp_lab::{Failed, Sink};
 use std::alloc::Allocator;
 
-/// The replies of a script, one behind the other. A write that takes memory may be refused, and then fails.
+/// The replies of a script, one after the other. A write that takes memory may be refused, and then fails.
 #[derive(Drop)]
 pub(crate) struct Replies<A: Allocator> {
     pub(crate) text: Vec<u8, A>,

@@ -2,7 +2,7 @@
 ghost use Rattle.std.specs.Prelude.{◌≡◌};
 ghost use Rattle.lgp_call.specs.Room.{filled};
 
-/// Writes a text into a room, as far as it fits. What lies behind the text stays.
+/// Writes a text into a room, as far as it fits. What lies after the text stays.
 pub(crate) fn fill(room: &mut [u8], text: &[u8])
     ensures { room.new ≡ filled text.now room.old }
 {

@@ -2,7 +2,7 @@
 
 ghost use Rattle.std.specs.Prelude.{◌≡◌, ◌<◌, ◌≤◌, IfOk, OnOk};
 ghost use Rattle.lgp_call.specs.Room.{filled};
-ghost use Rattle.lgp_call.specs.Session.{after_line, closing_reply, has_line_feed, no_outcome, opening_sitting, outcome_of, questions_in};
+ghost use Rattle.lgp_call.specs.Session.{after_line, closing_reply, has_line_feed, no_outcome, opening_session, outcome_of, questions_in};
 ghost use Rattle.lgp_call.specs.Status.{answered_status, memory_status, unread_status};
 
 use crate::room::fill;
@@ -16,7 +16,7 @@ use std::marker::Model;
 /// The refusal of bytes with a line feed among them.
 const MORE_THAN_A_LINE: &[u8] = b"? 1 Form: these are several lines, give them one by one\n";
 
-/// Whether a line feed stands among the bytes of a line.
+/// Whether a line feed is among the bytes of a line.
 fn has_line_feed(line: &[u8]) -> bool
     ensures { result ≡ has_line_feed line.now }
 {
@@ -31,9 +31,9 @@ pub struct Session<A: Allocator + Copy> {
 }
 
 impl<A: Allocator + Copy> Model for Session<A> {
-    ghost use Rattle.lgp_call.specs.Session.{Sitting};
+    ghost use Rattle.lgp_call.specs.Session.{SessionState};
 
-    ghost Value = { Sitting };
+    ghost Value = { SessionState };
 
     ghost view = { λ session. record {
       recorded = session.monitor;
@@ -44,7 +44,7 @@ impl<A: Allocator + Copy> Model for Session<A> {
 impl<A: Allocator + Copy> Session<A> {
     /// A session with a new laboratory, in which no line was answered yet.
     pub fn new(alloc: A) -> Result<Session<A>, AllocError>
-        ensures { IfOk result (λ session. session ≡ opening_sitting) }
+        ensures { IfOk result (λ session. session ≡ opening_session) }
     {
         Ok(Session {
             monitor: Monitor::new(alloc)?,
@@ -54,14 +54,14 @@ impl<A: Allocator + Copy> Session<A> {
 
     /// A new session, in a box of its own.
     pub fn boxed<B: Allocator>(alloc: A, room: B) -> Result<Box<Session<A>, B>, AllocError>
-        ensures { IfOk result (λ whole. whole.value ≡ opening_sitting) }
+        ensures { IfOk result (λ whole. whole.value ≡ opening_session) }
     {
         let session = Session::new(alloc)?;
         Ok(Box::new(room, session)?)
     }
 
-    /// Answers a line. Bytes with a line feed among them are refused, and nothing is done. A refused growth leaves open where the
-    /// session stands.
+    /// Answers a line. Bytes with a line feed among them are refused, and nothing is done. A refused growth leaves open in
+    /// which state the session is.
     #[tactic(auto, unfolding(crate::specs::Session::more_than_a_line))]
     pub fn answer_line(&mut self, line: &[u8]) -> Result<(), AllocError>
         ensures { OnOk result (self.new ≡ after_line self.old line.now) }
@@ -85,7 +85,7 @@ impl<A: Allocator + Copy> Session<A> {
     pub fn give_reply(&self, room: &mut [u8], outcome: &mut Outcome) -> u32
         ensures status { result ≡ answered_status (questions_in self.now.reply) }
         ensures written { room.new ≡ filled self.now.reply room.old }
-        ensures told { outcome.new ≡ outcome_of self.now.reply }
+        ensures reported { outcome.new ≡ outcome_of self.now.reply }
     {
         let reply = self.reply.as_slice();
         let is_question = is_question(reply);
@@ -100,16 +100,16 @@ impl<A: Allocator + Copy> Session<A> {
     /// Answers a line, and gives its reply as `give_reply` does.
     ///
     /// The status is 0, 1, or 3 where there was not enough memory. With 3 nothing is written into the room, both numbers of the outcome
-    /// are 0, and where the session stands is left open: nothing more is to be asked of it.
+    /// are 0, and the session's state is left open: nothing more is to be asked of it.
     pub fn answer_into(&mut self, line: &[u8], room: &mut [u8], outcome: &mut Outcome) -> u32
         ensures status { result < unread_status
             → result ≡ answered_status (questions_in self.new.reply) }
         ensures after { result < unread_status → self.new ≡ after_line self.old line.now }
         ensures written { result < unread_status → room.new ≡ filled self.new.reply room.old }
-        ensures told { result < unread_status → outcome.new ≡ outcome_of self.new.reply }
+        ensures reported { result < unread_status → outcome.new ≡ outcome_of self.new.reply }
         ensures known { unread_status ≤ result → result ≡ memory_status }
         ensures unwritten { unread_status ≤ result → room.new ≡ room.old }
-        ensures untold { unread_status ≤ result → outcome.new ≡ no_outcome }
+        ensures unreported { unread_status ≤ result → outcome.new ≡ no_outcome }
     {
         match self.answer_line(line) {
             Ok(()) => self.give_reply(room, outcome),
@@ -125,10 +125,10 @@ impl<A: Allocator + Copy> Session<A> {
             → result ≡ answered_status (questions_in (closing_reply self)) }
         ensures written { result < unread_status
             → room.new ≡ filled (closing_reply self) room.old }
-        ensures told { result < unread_status → outcome.new ≡ outcome_of (closing_reply self) }
+        ensures reported { result < unread_status → outcome.new ≡ outcome_of (closing_reply self) }
         ensures known { unread_status ≤ result → result ≡ memory_status }
         ensures unwritten { unread_status ≤ result → room.new ≡ room.old }
-        ensures untold { unread_status ≤ result → outcome.new ≡ no_outcome }
+        ensures unreported { unread_status ≤ result → outcome.new ≡ no_outcome }
     {
         match self.end() {
             Ok(()) => self.give_reply(room, outcome),
@@ -140,7 +140,7 @@ impl<A: Allocator + Copy> Session<A> {
 /// Tells of no reply, and passes the status on.
 pub fn refuse(outcome: &mut Outcome, status: u32) -> u32
     ensures status { result ≡ status }
-    ensures untold { outcome.new ≡ no_outcome }
+    ensures unreported { outcome.new ≡ no_outcome }
 {
     *outcome = Outcome {
         questions: 0,

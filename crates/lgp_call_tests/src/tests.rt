@@ -2,7 +2,7 @@
 //! taken from the descriptions of the script language and of the monitor.
 
 use lgp_call::{Outcome, Session};
-use lgp_scarce::Scarce;
+use lgp_limited::Limited;
 use std::alloc::{Allocator, Global};
 use std::process::Abort;
 use std::test::Fail;
@@ -39,10 +39,10 @@ const ROWS: [Row; 12] = [
 ];
 
 /// A status, and what an outcome tells.
-type Told = (u32, u64, u64);
+type Reported = (u32, u64, u64);
 
 /// Answers a line.
-fn ask<A: Allocator + Copy>(session: &mut Session<A>, line: &[u8], room: &mut [u8]) -> Told {
+fn ask<A: Allocator + Copy>(session: &mut Session<A>, line: &[u8], room: &mut [u8]) -> Reported {
     let mut outcome = Outcome {
         questions: 9,
         length: 9,
@@ -52,7 +52,7 @@ fn ask<A: Allocator + Copy>(session: &mut Session<A>, line: &[u8], room: &mut [u
 }
 
 /// Gives the last reply once more.
-fn again<A: Allocator + Copy>(session: &Session<A>, room: &mut [u8]) -> Told {
+fn again<A: Allocator + Copy>(session: &Session<A>, room: &mut [u8]) -> Reported {
     let mut outcome = Outcome {
         questions: 9,
         length: 9,
@@ -62,7 +62,7 @@ fn again<A: Allocator + Copy>(session: &Session<A>, room: &mut [u8]) -> Told {
 }
 
 /// Closes a session.
-fn end<A: Allocator + Copy>(session: Session<A>, room: &mut [u8]) -> Told {
+fn end<A: Allocator + Copy>(session: Session<A>, room: &mut [u8]) -> Reported {
     let mut outcome = Outcome {
         questions: 9,
         length: 9,
@@ -71,18 +71,21 @@ fn end<A: Allocator + Copy>(session: Session<A>, room: &mut [u8]) -> Told {
     (status, outcome.questions, outcome.length)
 }
 
-/// Whether a reply is told and stands at the front of a room.
-fn is_told(told: Told, status: u32, reply: &[u8], room: &[u8]) -> bool {
-    told == (status, u64::from(status), reply.len() as u64) && room.starts_with(reply)
+/// Whether a reply is reported and is at the front of a room.
+fn is_reported(reported: Reported, status: u32, reply: &[u8], room: &[u8]) -> bool {
+    reported == (status, u64::from(status), reply.len() as u64) && room.starts_with(reply)
 }
 
 /// The first line whose reply is another one, in any room that it fits, asked for at once or again.
 fn first_difference<A: Allocator + Copy>(session: &mut Session<A>) -> Option<usize> {
     for (number, (line, status, reply)) in ROWS.iter().enumerate() {
         let (mut room, mut other) = ([b'.'; 64], [b'.'; 64]);
-        let told = ask(session, line, &mut room);
-        let told_again = again(session, &mut other);
-        if !is_told(told, *status, reply, &room) || told_again != told || other != room {
+        let reported = ask(session, line, &mut room);
+        let reported_again = again(session, &mut other);
+        if !is_reported(reported, *status, reply, &room)
+            || reported_again != reported
+            || other != room
+        {
             return Some(number);
         }
     }
@@ -96,8 +99,8 @@ fn a_session_answers_one_line_after_another(rt: HostRuntime) -> Result<(), Fail>
     Ok(())
 }
 
-/// What a line of 5,000 bytes, one of any bytes but a line feed, and any bytes are told.
-fn odd_lines<A: Allocator + Copy>(session: &mut Session<A>) -> [Told; 3] {
+/// What is reported of a line of 5,000 bytes, of one of any bytes but a line feed, and of any bytes.
+fn odd_lines<A: Allocator + Copy>(session: &mut Session<A>) -> [Reported; 3] {
     let mut room = [b'.'; 8];
     let mut bytes = [0; 256];
     for (byte, value) in bytes.iter_mut().zip(0..=255) {
@@ -122,8 +125,8 @@ fn a_line_may_be_long_and_have_any_bytes(rt: HostRuntime) -> Result<(), Fail> {
     Ok(())
 }
 
-/// What the end of a session is told in which a source is open, and of one in which none is.
-fn ends(alloc: Global) -> Option<[Told; 2]> {
+/// What is reported of the end of a session in which a source is open, and of one in which none is.
+fn ends(alloc: Global) -> Option<[Reported; 2]> {
     let (Ok(mut first), Ok(second)) = (Session::new(alloc), Session::new(alloc)) else {
         return None;
     };
@@ -138,7 +141,7 @@ fn an_open_source_is_answered_at_the_end(rt: HostRuntime) -> Result<(), Fail> {
     Ok(())
 }
 
-/// The status of a session's lines and its end: 3 where a growth was refused, and nothing told.
+/// The status of a session's lines and its end: 3 where a growth was refused, and nothing reported.
 fn answered<A: Allocator + Copy>(alloc: A) -> u32 {
     let mut room = [b'.'; 64];
     let Ok(mut session) = Session::new(alloc) else {
@@ -154,12 +157,12 @@ fn answered<A: Allocator + Copy>(alloc: A) -> u32 {
     end(session, &mut room).0
 }
 
-/// How many growths are refused one after another, each told by status 3; none where one is not.
-fn refused_in_turn(scarce: &Scarce<Global>) -> Option<u64> {
+/// How many growths are refused one after another, each reported by status 3; none where one is not.
+fn refused_in_turn(limited: &Limited<Global>) -> Option<u64> {
     for nth in 1..2000 {
-        scarce.refuse(nth);
-        let status = answered(scarce);
-        if !scarce.was_refused() {
+        limited.refuse(nth);
+        let status = answered(limited);
+        if !limited.was_refused() {
             return Some(nth - 1);
         }
         if status != 3 {
@@ -170,9 +173,9 @@ fn refused_in_turn(scarce: &Scarce<Global>) -> Option<u64> {
 }
 
 #[test]
-fn each_growth_refused_is_told(rt: HostRuntime) -> Result<(), Fail> {
-    let scarce = Scarce::new(rt.alloc());
-    let many = refused_in_turn(&scarce).is_some_and(|growths| growths > 20);
-    assert_eq!(rt; (many, scarce.blocks_out()), (true, 0));
+fn each_growth_refused_is_reported(rt: HostRuntime) -> Result<(), Fail> {
+    let limited = Limited::new(rt.alloc());
+    let many = refused_in_turn(&limited).is_some_and(|growths| growths > 20);
+    assert_eq!(rt; (many, limited.blocks_out()), (true, 0));
     Ok(())
 }

@@ -35,7 +35,7 @@ impl Latch {
         }
     }
 
-    /// Keeps an action behind the others; false, and nothing changes, only with 16 kept.
+    /// Keeps an action after the others; false, and nothing changes, only with 16 kept.
     pub fn keep(&mut self, action: Action) -> bool
         ensures room { IsTrue result ↔ (length self.old < latch_limit) }
         ensures kept { IsTrue result → self.new ≡ self.old ++ action ∷ [] }

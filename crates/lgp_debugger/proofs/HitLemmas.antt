@@ -12,11 +12,7 @@ abbrev orders_back : Option (ℕ × ℕ) → ℕ
 orders_back None = 0
 orders_back (Some hit) = hit.0
 
-abbrev is_found : Option (ℕ × ℕ) → Bool
-is_found None = false
-is_found (Some hit) = true
-
--- a later hit stands, else the order itself may be one
+-- a later hit remains, else the order itself may be one
 step_within : (later : Option (ℕ × ℕ)) (order : Bool) (first : Option ℕ) (m n i : ℕ)
     → (later ≡ Some (n, i) → (1 ≤ n) × (n ≤ m))
     → option_or later (if order then option_map (λ number. (m + 1, number)) first else None) ≡ Some (n, i)

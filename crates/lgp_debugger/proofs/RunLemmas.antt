@@ -21,7 +21,7 @@ use Rattle.lgp_debugger.proofs.PerformedLemmas.{performed_more, performed_none}
 abbrev pub rests : State → Bool
 rests s = is_at_rest s.core.panel.status
 
--- so many orders before a run
+-- a given number of orders before a run
 abbrev pub more : ℕ → Result Ran RunFault → Result Ran RunFault
 more done (Ok ran) = Ok (record ran { orders = ran.orders + done })
 more done (Err fault) = Err (record fault { orders = fault.orders + done })
@@ -54,7 +54,7 @@ module _ (rules : List Rule) where
   unfolding run_of
   an_order n s can = rw (can.0, le-ltb clock_end (s.clock + cost s) can.1) refl
 
--- so many orders were done without an end, and from here the run goes on
+-- a given number of orders were done without an end, and from here the run goes on
 pub record HasRun (in_force : List Rule → List Rule) (first now : Debugging) (done : ℕ) : Type 0 where
   pub goes_on : (n : ℕ) → run_of (in_force first.rules) (done + n) first.state ≡ more done (run_of (in_force first.rules) n now.state)
   pub reached : now ≡ performed first done
@@ -75,11 +75,11 @@ module _ (in_force : List Rule → List Rule) (first now new : Debugging) (done 
   abbrev IsOrder : Result (Option ℕ) StepFault → Type 0
   IsOrder answer = IsOrderOfRun (in_force now.rules) now new answer
 
-  by_these : (answer told : Result (Option ℕ) StepFault) → answer ≡ told → IsOrder answer → IsOrderOfRun rules now new told
-  by_these answer told is order =
-      subst (λ (rs : List Rule). IsOrderOfRun (in_force rs) now new told) h.same_rules (subst IsOrder is order)
+  by_these : (answer reported : Result (Option ℕ) StepFault) → answer ≡ reported → IsOrder answer → IsOrderOfRun rules now new reported
+  by_these answer reported is order =
+      subst (λ (rs : List Rule). IsOrderOfRun (in_force rs) now new reported) h.same_rules (subst IsOrder is order)
 
-  -- this run, told by what is left of it
+  -- this run, given by what is left of it
   from_here : (n : ℕ) → limit ≡ done + n → run_of rules limit first.state ≡ more done (run_of rules n now.state)
   from_here n is = ap (λ (k : ℕ). run_of rules k first.state) is ∙ h.goes_on n
 

@@ -1,5 +1,5 @@
 -- The first watch that stops a run is that of the first rule that does.
-use Rattle.std.proofs.Common.{◌≡◌, ◌+◌, ℕ, Bool, List, [], ◌∷◌, ap₂, map, refl, cond}
+use Rattle.std.proofs.Common.{◌≡◌, ℕ, List, [], ◌∷◌, ap₂, map, refl, cond}
 use Rattle.std.specs.Prelude.{not, position, nat_lt, Some, None}
 use Rattle.std.specs.List.{prefix_len}
 use Rattle.std.proofs.lemmas.List.{length-map}

@@ -1,18 +1,16 @@
 -- A watched run in the middle, and how it ends.
-use Rattle.std.proofs.Common.{◌≡◌, ◌∙◌, ◌+◌, ◌≤◌, ◌<◌, ℕ, zero, suc, Bool, true, false, List, Option, None, Some, Ok, Err, ap, refl, sym, subst, arith, rules}
+use Rattle.std.proofs.Common.{◌≡◌, ◌+◌, ◌≤◌, ◌<◌, ℕ, suc, Bool, false, List, Option, Ok, Err, refl, subst, arith}
 use Rattle.std.specs.Prelude.{Result, IsTrue}
-use Rattle.lgp_table.specs.State.{State}
 use Rattle.lgp_history.specs.Step.{Perform}
 use Rattle.lgp_history.specs.Steps.{CanStep}
 use Rattle.lgp_history.specs.declared.rule.Rule.{Rule}
 use Rattle.lgp_debugger.specs.Debugging.{Debugging, after_step, performed}
-use Rattle.lgp_debugger.specs.Run.{IsOrderOfRun, IsRun, UnlessMemory, orders_of}
+use Rattle.lgp_debugger.specs.Run.{IsOrderOfRun, IsRun, UnlessMemory}
 use Rattle.lgp_debugger.specs.declared.fault.StepFault.{StepFault}
 use Rattle.lgp_debugger.specs.Watching.{AreSeen, IsBrokenOff, IsWatchedOrder, IsWatchedRun}
 use Rattle.lgp_debugger.specs.declared.watcher.WatchFault.{WatchFault}
 use Rattle.lgp_debugger.specs.declared.watcher.WatchFault.TheVariants.{Refused, Unseen}
 use Rattle.lgp_debugger.specs.declared.fault.Ran.{Ran}
-use Rattle.lgp_debugger.specs.declared.fault.Reason.TheVariants as reasons
 use Rattle.lgp_debugger.specs.declared.fault.RunFault.{RunFault}
 use Rattle.lgp_debugger.specs.declared.fault.RunRefusal.TheVariants as refusals
 use Rattle.lgp_debugger.proofs.PerformedLemmas.{performed_more}

@@ -28,14 +28,14 @@ after_step d step = record d {
   steps = with_step d.capacity d.steps d.state step;
 }
 
--- so many orders back; the n-th last order and all later steps are forgotten
+-- a given number of orders back; the n-th last order and all later steps are forgotten
 abbrev pub after_back : Debugging → ℕ → Debugging
 after_back d orders = record d {
   state = state_back orders d.steps d.state;
   steps = steps_back orders d.steps;
 }
 
--- after so many orders, each of them kept
+-- after a given number of orders, each of them kept
 unfoldable pub performed : Debugging → ℕ → Debugging
 performed d zero = d
 performed d (suc count) = after_step (performed d count) Perform
@@ -45,6 +45,6 @@ abbrev pub order_origin : Debugging → Option Origin
 order_origin d =
     option_and_then (λ place. latest_change place d.steps) (place_in (begun_order d.state.core))
 
--- where the order came from that begins after so many
+-- where the order came from that begins after a given number of others
 unfoldable pub order_origins : Debugging → ℕ → Option Origin
 order_origins d count = order_origin (performed d count)

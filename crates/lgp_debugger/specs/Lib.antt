@@ -1,6 +1,5 @@
 pub mod Debugging
 pub mod Run
-pub mod RunInside
 pub mod Watching
 pub mod WatchInside
 pub use Rattle.lgp_history.specs.Step

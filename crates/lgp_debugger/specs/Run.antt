@@ -40,14 +40,14 @@ abbrev pub one_order_more : Result Ran RunFault → Result Ran RunFault
 one_order_more (Ok ran) = Ok (record ran { orders = ran.orders + 1 })
 one_order_more (Err fault) = Err (record fault { orders = fault.orders + 1 })
 
--- behind an order: a rule that stops there ends the run
+-- after an order: a rule that stops there ends the run
 abbrev pub unless_stopped : Option ℕ → Result Ran RunFault → Result Ran RunFault
 unless_stopped None rest = rest
 unless_stopped (Some number) rest = ended_for (reasons.Rule number)
 
--- a run of at most so many orders: again and again, at rest it ends; when as many orders as the
--- limit are done it ends; where the next one would pass the clock's end it is broken off; else that
--- one is performed, and then the first rule that stops there ends it
+-- a run of at most a given number of orders: again and again, at rest it ends; when as many orders
+-- as the limit are done it ends; where the next one would pass the clock's end it is broken off;
+-- else that one is performed, and then the first rule that stops there ends it
 unfoldable pub run_of : List Rule → ℕ → State → Result Ran RunFault
 run_of rules zero s =
     if is_at_rest s.core.panel.status then ended_for reasons.Rest else ended_for reasons.Limit
@@ -80,7 +80,7 @@ IsOrderOfRun rules old new (Err ClockEnd) =
 IsOrderOfRun rules old new (Err Memory) = CanStep Perform old.state × (new ≡ old)
 
 -- what a run answers, and where it leaves the debugger: what it comes to, and each order performed
--- is kept. Where an order is refused, those before it stand; it is refused for the clock's end
+-- is kept. Where an order is refused, those before it remain; it is refused for the clock's end
 -- where it would pass that, and else for memory
 pub record IsRun (rules : List Rule) (limit : ℕ) (old new : Debugging)
     (answer : Result Ran RunFault) : Type 0 where

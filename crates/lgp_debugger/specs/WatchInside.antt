@@ -1,4 +1,4 @@
--- Serves proofs only: a rule with the word that stood at its address before an order.
+-- Serves proofs only: a rule with the word that was at its address before an order.
 use Rattle.std.specs.Prelude.{ℕ, ◌==◌, Bool, not}
 use Rattle.lgp_table.specs.State.{State, word_at}
 use Rattle.lgp_history.specs.Hits.{goes_at}

@@ -1,7 +1,7 @@
 -- Part of the public promise: runs that something watches, order by order. A watcher adds to what it
 -- keeps of the orders, as a text or sums, and may be refused memory for that.
-use Rattle.std.specs.Prelude.{◌≡◌, ℕ, zero, suc, ◌+◌, ◌≤◌, Bool, List, Option, Result, Ok, Err, IfErr}
-use Rattle.std.specs.Prelude.{IsTrue}
+use Rattle.std.specs.Prelude.{◌≡◌, ℕ, zero, suc, ◌+◌, ◌≤◌, Bool, if◌then◌else◌, List, [], Option}
+use Rattle.std.specs.Prelude.{Result, Ok, Err, IfErr, IsTrue}
 use Rattle.lgp_table.specs.State.{State}
 use Rattle.lgp_history.specs.Step.{Perform}
 use Rattle.lgp_history.specs.Steps.{CanStep}
@@ -15,6 +15,10 @@ use Rattle.lgp_debugger.specs.declared.fault.StepFault.{StepFault}
 use Rattle.lgp_debugger.specs.declared.watcher.WatchFault.{WatchFault}
 use Rattle.lgp_debugger.specs.declared.watcher.WatchFault.TheVariants.{Refused, Unseen}
 
+-- the rules that may stop a run: all of them, or none
+abbrev pub rules_in_force : Bool → List Rule → List Rule
+rules_in_force by_rules rules = if by_rules then rules else []
+
 -- what one order of a watched run answers, and where it leaves the debugger: as an order of a run, or
 -- it was performed and the watcher could not keep what it saw
 abbrev pub IsWatchedOrder : List Rule → Debugging → Debugging → Result (Option ℕ) WatchFault
@@ -24,7 +28,8 @@ IsWatchedOrder rules old new (Err (Refused fault)) = IsOrderOfRun rules old new 
 IsWatchedOrder rules old new (Err Unseen) =
     CanStep Perform old.state × (new ≡ after_step old Perform)
 
--- what a watcher keeps after so many orders, by what it keeps before and after each of them
+-- what a watcher keeps after a given number of orders, by what it keeps before and after each of
+-- them
 unfoldable pub AreSeen : {Kept : Type 0} → (Debugging → Kept → Kept → Type 0) → Debugging → Kept → ℕ
     → Kept → Type 0
 AreSeen {Kept = Kept} Sees d first zero kept = kept ≡ first

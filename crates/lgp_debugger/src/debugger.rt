@@ -14,8 +14,7 @@ ghost use Rattle.lgp_flexo.specs.TapeText.{tape_limit};
 ghost use Rattle.lgp_debugger.specs.WatchInside.{watch_of};
 ghost use Rattle.lgp_debugger.specs.Debugging.{after_back, after_step, rule_limit};
 ghost use Rattle.lgp_debugger.specs.Run.{IsOrderOfRun, IsRun, orders_of};
-ghost use Rattle.lgp_debugger.specs.Watching.{AreSeen, IsWatchedRun};
-ghost use Rattle.lgp_debugger.specs.RunInside.{rules_in_force};
+ghost use Rattle.lgp_debugger.specs.Watching.{AreSeen, IsWatchedRun, rules_in_force};
 ghost use Rattle.lgp_loader.specs.BlockLoading.{longest_load};
 ghost use Rattle.lgp_loader.specs.LoadedOver.{IsLoadedOver};
 ghost use Rattle.lgp_loader.specs.Loading.{loaded, loading_cost, loading_stopped};
@@ -45,7 +44,7 @@ const RULE_LIMIT: usize = 64;
 /// No order takes more word times.
 const LONGEST_ORDER: u64 = 1 << 32;
 
-/// Whether so many word times from a clock on would pass the clock's end.
+/// Whether a given number of word times from a clock on would pass the clock's end.
 fn passes_end(clock: u64, times: u64) -> bool
     ensures { IsTrue result ↔ (clock_end < clock + times) }
 {
@@ -131,7 +130,8 @@ impl<H: History<A>, A: Allocator> Debugger<H, A> {
     #[tactic(auto, using(lgp_phases::proofs::Bounds::cost_at_short, crate::proofs::ClockLemmas::left_few))]
     fn goes_freely(&self) -> bool
         ensures at_work { IsTrue result → is_at_rest self.now.state.core.panel.status ≡ false }
-        ensures within { IsTrue result → self.now.state.clock + cost self.now.state ≤ clock_end }
+        ensures within { IsTrue result
+            → self.now.state.clock + cost self.now.state ≤ clock_end }
     {
         let Some(_) = self.machine.tape_passed() else {
             unreachable!()
@@ -220,6 +220,16 @@ impl<H: History<A>, A: Allocator> Debugger<H, A> {
         !self.rules.is_empty()
     }
 
+    /// What watches a run that looks at nothing, by the rules there are now.
+    #[inline(always)]
+    pub fn quiet(&self) -> Quiet
+        ensures { rules_in_force result.by_rules self.now.rules ≡ self.now.rules }
+    {
+        Quiet {
+            by_rules: self.has_rules(),
+        }
+    }
+
     /// One order of a run that no rule stops.
     #[inline(always)]
     fn go_on_freely(&mut self) -> Result<Option<u8>, StepFault>
@@ -229,7 +239,7 @@ impl<H: History<A>, A: Allocator> Debugger<H, A> {
         Ok(None)
     }
 
-    /// The same in a loop: what is no order that can be performed at once stands apart from it.
+    /// The same in a loop: what is no order that can be performed at once is kept out of it.
     #[inline(always)]
     fn run_on_freely(&mut self) -> Result<Option<u8>, StepFault>
         ensures { IsOrderOfRun [] self.old self.new result }
@@ -273,14 +283,14 @@ impl<H: History<A>, A: Allocator> Debugger<H, A> {
     }
 
     /// Performs orders until the machine is at rest, a rule stops it or as many orders as the limit allows are done. Where an order
-    /// is refused, those before it stand: for the clock's end where that order would pass it, and else for memory. Each order that is
+    /// is refused, those before it remain: for the clock's end where that order would pass it, and else for memory. Each order that is
     /// performed is kept, and ends within the clock's end.
     pub fn run(&mut self, limit: u64) -> Result<Ran, RunFault>
         ensures run { IsRun self.old.rules limit self.old self.new result }
         ensures within_clock { self.new.state.clock ≤ clock_end }
     {
-        let by_rules = self.has_rules();
-        self.run_so(limit, by_rules)
+        let quiet = self.quiet();
+        self.run_so(limit, quiet)
     }
 
     /// The same, but no rule stops it.
@@ -288,17 +298,18 @@ impl<H: History<A>, A: Allocator> Debugger<H, A> {
         ensures run { IsRun [] limit self.old self.new result }
         ensures within_clock { self.new.state.clock ≤ clock_end }
     {
-        self.run_so(limit, false)
+        self.run_so(limit, Quiet { by_rules: false })
     }
 
     /// A run by the rules or without them, apart from its caller: so its loop has the processor's registers for itself.
     #[inline(never)]
-    fn run_so(&mut self, limit: u64, by_rules: bool) -> Result<Ran, RunFault>
-        ensures run { IsRun (rules_in_force by_rules self.old.rules) limit self.old self.new
-            result }
+    fn run_so(&mut self, limit: u64, quiet: Quiet) -> Result<Ran, RunFault>
+        ensures run { IsRun (rules_in_force quiet.by_rules self.old.rules) limit self.old
+            self.new result }
         ensures within_clock { self.new.state.clock ≤ clock_end }
     {
-        let outcome = self.run_watched(limit, &mut Quiet { by_rules }, &mut ());
+        let mut quiet = quiet;
+        let outcome = self.run_watched(limit, &mut quiet, &mut ());
         // That the clock is within its end is what the mark's clause says.
         let Some(_) = self.machine.mark() else {
             unreachable!()
@@ -307,7 +318,7 @@ impl<H: History<A>, A: Allocator> Debugger<H, A> {
     }
 
     /// Runs as `run` does, by the rules that the watcher lets stop it; the watcher has each order performed. Where it is refused
-    /// memory for what it sees, that order stands as the last one, and what it keeps is not said.
+    /// memory for what it sees, that order remains as the last one, and what it keeps is not said.
     #[inline(always)]
     pub fn run_watched<K, W: Watcher<H, A, K>>(
         &mut self,
@@ -496,7 +507,7 @@ impl<H: History<A>, A: Allocator> Debugger<H, A> {
         Ok(())
     }
 
-    /// Goes back to the state in which the last but so many order began; that order and all later steps are forgotten. No order
+    /// Goes back to the state in which the first of the last `orders` orders began; that order and all later steps are forgotten. No order
     /// back changes nothing.
     pub fn back(&mut self, orders: u64) -> Result<(), BackFault>
         ensures back { OnOk result (self.new ≡ (if orders == 0
@@ -536,7 +547,7 @@ impl<H: History<A>, A: Allocator> Debugger<H, A> {
         self.rules.as_slice()
     }
 
-    /// Adds a rule behind the others, and answers its number.
+    /// Adds a rule after the others, and answers its number.
     pub fn add_rule(&mut self, rule: Rule) -> Result<u8, RuleFault>
         ensures added { OnOk result (self.new
             ≡ record self.old { rules = self.old.rules ++ rule ∷ [] }) }
@@ -595,7 +606,7 @@ impl<H: History<A>, A: Allocator + Copy> Debugger<H, A> {
     /// Loads a program by the keyed-in loader, and answers how many orders it performed: the program's words then lie over what was
     /// on the drum, and the clock has gone on by what all of it cost. No step is kept afterwards, unless nothing
     /// was done: where there is no memory for the tape (`Memory`), all is as before. Where the clock would pass its end (`ClockEnd`),
-    /// the machine stands at the first boundary of the loading whose activity would pass it. `Moving` and `BadCut` are never
+    /// the machine is at the first boundary of the loading whose activity would pass it. `Moving` and `BadCut` are never
     /// answered.
     pub fn load<B: Allocator>(&mut self, alloc: A, image: &Image<B>) -> Result<u64, LoadFault>
         ensures loaded { OnOk result (self.new ≡ record self.old {

@@ -87,7 +87,7 @@ pub enum RunRefusal {
     Memory,
 }
 
-/// Why a run was broken off; the orders before stand.
+/// Why a run was broken off; the orders before it remain.
 #[derive(Clone, Copy, Debug, PartialEq, Eq, Error)]
 #[error("after {orders} orders: {fault}")]
 pub struct RunFault {

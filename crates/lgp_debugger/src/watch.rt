@@ -1,4 +1,4 @@
-//! What stood at the addresses of the rules before an order.
+//! What was at the addresses of the rules before an order.
 
 ghost use Rattle.std.specs.Prelude.{◌≡◌, ◌<◌, ◌≤◌, IfSome, IsTrue, length, position};
 ghost use Rattle.lgp_table.specs.Interleaving.{is_boundary};
@@ -12,7 +12,7 @@ use lgp_table::Status;
 use lgp_word::{Address, Word};
 use std::alloc::Allocator;
 
-/// A rule, and the word that stood at its address before an order.
+/// A rule, and the word that was at its address before an order.
 #[derive(Clone, Copy, Default)]
 pub struct Watch {
     pub rule: Rule,

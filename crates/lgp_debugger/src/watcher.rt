@@ -3,8 +3,7 @@
 ghost use Rattle.std.specs.Prelude.{◌≡◌, ◌≢◌, Bool, IfErr, IsTrue, List, OnErr, OnOk, true, Err};
 ghost use Rattle.lgp_history.specs.declared.rule.Rule.{Rule};
 ghost use Rattle.lgp_debugger.specs.Debugging.{Debugging};
-ghost use Rattle.lgp_debugger.specs.RunInside.{rules_in_force};
-ghost use Rattle.lgp_debugger.specs.Watching.{IsWatchedOrder};
+ghost use Rattle.lgp_debugger.specs.Watching.{IsWatchedOrder, rules_in_force};
 
 use crate::debugger::Debugger;
 use crate::fault::StepFault;
@@ -42,9 +41,11 @@ pub trait Watcher<H: History<A>, A: Allocator, K> {
         kept: &mut K,
     ) -> Result<Option<u8>, WatchFault>
         requires ready { ready self.old debugger.old kept.old }
-        ensures order { IsWatchedOrder (in_force self.old debugger.old.rules) debugger.old debugger.new result }
+        ensures order { IsWatchedOrder (in_force self.old debugger.old.rules) debugger.old
+            debugger.new result }
         ensures seen { OnOk result (Sees self.old debugger.old kept.old kept.new) }
-        ensures refused { OnErr result (result ≢ Err WatchFault.Unseen → kept.new ≡ kept.old) }
+        ensures refused { OnErr result (result ≢ Err WatchFault.Unseen
+            → kept.new ≡ kept.old) }
         ensures ready { OnOk result (ready self.new debugger.new kept.new) }
         ensures never { IsTrue never_refused → result ≢ Err WatchFault.Unseen }
         ensures same_rules { in_force self.new ≡ in_force self.old }
@@ -52,7 +53,7 @@ pub trait Watcher<H: History<A>, A: Allocator, K> {
             → Sees self.old d before after };
 }
 
-/// Looks at nothing.
+/// Looks at nothing. Whether rules stop the run is found out once, before it (`Debugger::quiet`), and not at each order.
 #[derive(Clone, Copy, Debug, Drop)]
 pub struct Quiet {
     /// Whether rules stop the run.

@@ -1,1 +1,5 @@
-pub mod SeatLemmas
+pub mod SaidLemmas
+pub mod SomeTexts
+pub mod FormLemmas
+pub mod SessionLemmas
+pub mod TranscriptLaws

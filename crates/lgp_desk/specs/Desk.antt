@@ -1,173 +1,353 @@
--- Part of the public promise: a desk, at which lines of a language are typed until `quit`: bare,
--- behind prompts, or each shown above its reply. A line that begins with `#` may be the desk's own,
--- for a program that types what stands in files.
-use Rattle.std.specs.Prelude.{ℕ, Bool, false, true, if◌then◌else◌, Option, None, Some, is_some}
-use Rattle.std.specs.Prelude.{option_map, option_to_list, List, [], ◌∷◌, ◌++◌, codes, drop}
-use Rattle.std.specs.List.{concat}
+-- Part of the public promise: the monitor at a desk, where lines are typed until `quit`: bare, after
+-- prompts, or each shown above its reply. A line may name a file. The lines of a file count as if
+-- they were typed there, and they may name files in turn, up to 16 within one another.
+use Rattle.std.specs.Prelude.{ℕ, zero, suc, ◌+◌, ◌==◌, not, ◌&&◌, Bool, true, false}
+use Rattle.std.specs.Prelude.{if◌then◌else◌, is_none, is_some, nat_le, nat_lt, Option, Some, None}
+use Rattle.std.specs.Prelude.{option_map, List, [], ◌∷◌, ◌++◌, codes, count_by, length, take}
+use Rattle.std.specs.Prelude.{Result, Ok, Err}
+use Rattle.std.specs.List.{list_any}
 use Rattle.std.specs.Option.{option_map_or}
+use Rattle.std.specs.Str.{bytes_eq}
+use Rattle.std.specs.Str.Lines.{lines}
+use Rattle.lgp_word.specs.Digits.{address_digits}
+use Rattle.lgp_flexo.specs.Archive.{codes_of_archive}
+use Rattle.lgp_flexo.specs.TapeText.{codes_of_text, tape_limit, written_tape}
+use Rattle.lgp_listing.specs.Dump.{dump_of}
 use Rattle.lgp_stream.specs.KeptLine.{Kept, kept_of}
-use Rattle.lgp_stream.specs.Language.{Language, is_question, question_count, text_replies}
-use Rattle.lgp_desk.specs.Roles.{Block, block_role, command_role, opened_by}
-use Rattle.lgp_desk.specs.Roles.{with_line}
-use Rattle.lgp_desk.specs.declared.desk.Manner.{Manner}
-use Rattle.lgp_desk.specs.declared.desk.Manner.TheVariants.{Prompting, PromptingBehindFirst}
-use Rattle.lgp_desk.specs.declared.desk.Manner.TheVariants.{Echoing}
-use Rattle.lgp_desk.specs.declared.role.Role.{Role}
-use Rattle.lgp_desk.specs.declared.role.Role.TheVariants.{Unheard, Leaving, Note, NoteEnd, Given}
-use Rattle.lgp_desk.specs.declared.role.Role.TheVariants.{Opening, Within, Closing, Plain}
+use Rattle.lgp_stream.specs.Language.{is_line_feed, is_question}
+use Rattle.lgp_stream.specs.Speech.{Speech, after_said, text_said}
+use Rattle.lgp_stream.specs.Transcript.{Recorded, after_lines, untouched}
+use Rattle.lgp_text.specs.PanelWords.{status_text}
+use Rattle.lgp_lab.specs.Script.{script_language}
+use Rattle.lgp_lab.specs.LabState.{LabState, opening_state}
+use Rattle.lgp_monitor.specs.FileTexts.{after_tape, restore_lines, restore_reply, tape_reply}
+use Rattle.lgp_monitor.specs.Monitor.{monitor_language, panel_at}
+use Rattle.lgp_desk.specs.Files.{Drawer, takes, text_in, with_file}
+use Rattle.lgp_desk.specs.Requests.{is_quit, request_of}
+use Rattle.lgp_desk.specs.Troubles.{kept_text, line_note, trouble_text}
+use Rattle.lgp_desk.specs.declared.files.FileTrouble.{FileTrouble}
+use Rattle.lgp_desk.specs.declared.files.FileTrouble.TheVariants as troubles
+use Rattle.lgp_desk.specs.declared.request.Work.{Work}
+use Rattle.lgp_desk.specs.declared.request.Work.TheVariants as works
+use Rattle.lgp_desk.specs.declared.writing.Manner.{Manner}
+use Rattle.lgp_desk.specs.declared.writing.Manner.TheVariants.{Prompting, Echoing}
 
--- where the language stands, how its replies are written, where the lines come from if not from the
--- keyboard, the block that is open, and whether `quit` was typed
-pub record Seat (S : Type 0) : Type 0 where
-  pub standing : S
+-- the state of the monitor, how replies are written, the files, where they are known, and whether
+-- `quit` was typed
+pub record Seat : Type 0 where
+  pub recorded : Recorded LabState
   pub manner : Manner
-  pub note : Option (List ℕ)
-  pub block : Option Block
+  pub drawer : Option Drawer
   pub has_left : Bool
 
--- before the first line
-abbrev pub taken_seat : {S : Type 0} → Manner → S → Seat S
-taken_seat manner standing =
-    record { standing = standing; manner = manner; note = None; block = None; has_left = false }
-
--- what is handed to what answers: a line, or a block
+-- what the monitor is handed: a line, a dump, or the name and the text of a tape
 pub data Handed : Type 0 where
   Line : List ℕ → Handed
-  Whole : Block → Handed
+  Dump : List ℕ → Handed
+  Tape : List ℕ → List ℕ → Handed
 
--- the reply to a block, and where the language stands behind it
-pub record BlockAnswers (S : Type 0) : Type 0 where
-  pub reply : S → Block → List ℕ
-  pub after : S → Block → S
+-- texts that are written one after another, what the monitor was handed for them, and the
+-- state of the desk after them
+pub record Said : Type 0 where
+  pub texts : List (List ℕ)
+  pub handed : List Handed
+  pub seat : Seat
 
--- a line above its reply, behind a question mark where the reply begins with one; of a longer line
+abbrev pub nothing : Seat → Said
+nothing seat = record { texts = []; handed = []; seat = seat }
+
+abbrev pub and_then : Said → (Seat → Said) → Said
+and_then first more = record {
+  texts = first.texts ++ (more first.seat).texts;
+  handed = first.handed ++ (more first.seat).handed;
+  seat = (more first.seat).seat;
+}
+
+-- ---- what is written for a reply
+
+-- a line above its reply, after a question mark where the reply begins with one; of a longer line
 -- its front, and two points
 unfoldable pub echo_of : List ℕ → Bool → List ℕ → List ℕ
 echo_of front longer reply =
     (if is_question reply then codes "? " else codes "> ")
     ++ (front ++ (if longer then codes " ..\n" else codes "\n"))
 
--- what is shown above replies: a line, or what a block is for
 abbrev pub echo_in : Manner → List ℕ → List ℕ
 echo_in Echoing echo = echo
 echo_in manner echo = []
 
-abbrev pub line_echo : Manner → Kept → List ℕ → List ℕ
-line_echo manner kept reply = echo_in manner (echo_of kept.front kept.longer reply)
+-- after a reply that begins with a question mark, where its line comes from
+unfoldable pub note_line : List ℕ → List ℕ → List ℕ
+note_line note reply =
+    if is_question reply && not (length note == 0)
+    then codes "        " ++ (note ++ codes "\n") else []
 
-abbrev pub block_echo_in : Manner → Option Block → List ℕ → List ℕ
-block_echo_in manner block reply =
-    option_map_or (λ it. echo_in manner (echo_of it.kind false reply)) block []
+abbrev pub written : List ℕ → List ℕ → List ℕ → List ℕ
+written echo note reply = echo ++ (reply ++ note_line note reply)
 
--- behind a reply that begins with a question mark, the note
-abbrev pub note_line : Option (List ℕ) → List ℕ → List ℕ
-note_line None reply = []
-note_line (Some note) reply =
-    if is_question reply then codes "        " ++ (note ++ codes "\n") else []
+-- the prompt: that the line is a source's, or the counter, and the machine's state
+unfoldable pub prompt_at : Recorded LabState → List ℕ
+prompt_at recorded =
+    let panel = panel_at recorded.state in
+    if is_some recorded.state.opened then codes "source> "
+    else address_digits panel.counter ++ (codes " " ++ (status_text panel.status ++ codes "> "))
 
--- the prompt, for lines from the keyboard
-abbrev pub prompt_in : Manner → Option (List ℕ) → List ℕ → List ℕ
-prompt_in Prompting None prompt = prompt
-prompt_in PromptingBehindFirst None prompt = prompt
-prompt_in manner source prompt = []
+abbrev pub prompt_in : Manner → List ℕ → List ℕ
+prompt_in Prompting prompt = prompt
+prompt_in manner prompt = []
 
--- what is written in front of the first line
-abbrev pub opening_text : Manner → List ℕ → List ℕ
-opening_text Prompting prompt = prompt
-opening_text manner prompt = []
+-- where lines come from that a line names which comes from there itself
+unfoldable pub within : List ℕ → List ℕ → List ℕ
+within name note = if length note == 0 then name else name ++ (codes ", " ++ note)
 
--- what a line is; behind `quit` none is heard
-unfoldable pub role_at : {S : Type 0} → (S → Bool) → Seat S → Kept → Role
-role_at takes_commands seat kept =
-    if seat.has_left then Unheard
-    else (if is_some seat.block then block_role kept
-    else (if takes_commands seat.standing then command_role kept else Plain))
+-- ---- what is done, with the note that says where the line comes from
 
--- a reply with what stands behind it, where the desk then stands
-abbrev pub answer_text : {S : Type 0} → (S → List ℕ) → Seat S → List ℕ → List ℕ
-answer_text prompt seat reply =
-    reply ++ (note_line seat.note reply ++ prompt_in seat.manner seat.note (prompt seat.standing))
+-- a line that the monitor answers, and several
+abbrev pub answered : List ℕ → Seat → List ℕ → Said
+answered note seat line =
+    let reply = monitor_language.reply seat.recorded line in
+    record {
+      texts = written
+          (echo_in seat.manner (echo_of (kept_of line).front (kept_of line).longer reply)) note
+          reply ∷ [];
+      handed = Line line ∷ [];
+      seat = record seat { recorded = monitor_language.after seat.recorded line };
+    }
 
--- the language at a desk, with where lines are commands, with the prompts, and with what answers
--- blocks
-module _ {S : Type 0} (language : Language S) (takes_commands : S → Bool)
-    (prompt : S → List ℕ) (blocks : BlockAnswers S) where
-  -- where the desk stands behind a line
-  abbrev pub seat_behind : Role → Seat S → List ℕ → Seat S
-  seat_behind Leaving seat line = record seat { has_left = true }
-  seat_behind Note seat line = record seat { note = Some (drop 2 (kept_of line).front) }
-  seat_behind NoteEnd seat line = record seat { note = None }
-  seat_behind Opening seat line = record seat { block = Some (opened_by (kept_of line)) }
-  seat_behind Within seat line =
-      record seat { block = option_map (λ block. with_line block (kept_of line)) seat.block }
-  seat_behind Closing seat line =
-      record seat {
-        standing = option_map_or (blocks.after seat.standing) seat.block seat.standing;
-        block = None;
-      }
-  seat_behind Plain seat line = record seat { standing = language.after seat.standing line }
-  seat_behind role seat line = seat
+abbrev pub all_answered : List ℕ → Seat → List (List ℕ) → Said
+all_answered note seat [] = nothing seat
+all_answered note seat (line ∷ more) =
+    and_then (answered note seat line) (λ next. all_answered note next more)
 
-  unfoldable pub seat_after : Seat S → List ℕ → Seat S
-  seat_after seat line = seat_behind (role_at takes_commands seat (kept_of line)) seat line
+-- a reply of the desk itself
+abbrev pub own : List ℕ → Seat → List ℕ → Said
+own note seat reply =
+    record { texts = written [] note reply ∷ []; handed = []; seat = seat }
 
-  -- what is written for a line
-  abbrev pub line_text : Role → Seat S → List ℕ → List ℕ
-  line_text Leaving seat line = line_echo seat.manner (kept_of line) []
-  line_text NoteEnd seat line = prompt_in seat.manner None (prompt seat.standing)
-  line_text Given seat line = answer_text prompt seat (drop 3 (kept_of line).front ++ codes "\n")
-  line_text Closing seat line =
-      let reply = option_map_or (blocks.reply seat.standing) seat.block [] in
-      block_echo_in seat.manner seat.block reply
-      ++ answer_text prompt (seat_behind Closing seat line) reply
-  line_text Plain seat line =
-      let reply = language.reply seat.standing line in
-      line_echo seat.manner (kept_of line) reply
-      ++ answer_text prompt (seat_behind Plain seat line) reply
-  line_text role seat line = []
+abbrev pub refused : List ℕ → Seat → List ℕ → FileTrouble → Said
+refused note seat name trouble = own note seat (trouble_text name trouble)
 
-  unfoldable pub reply_at : Seat S → List ℕ → List ℕ
-  reply_at seat line = line_text (role_at takes_commands seat (kept_of line)) seat line
+-- the lines of a file as a dump has them: of a longer line than is kept its front, and a byte 0,
+-- which no dump has
+unfoldable pub dump_line : Kept → List ℕ
+dump_line kept = kept.front ++ (if kept.longer then 0 ∷ codes "\n" else codes "\n")
 
-  -- what is written at the end, with a line feed in the place of a prompt; nothing of an open block
-  -- is handed over
-  unfoldable pub closing_at : Seat S → List ℕ
-  closing_at seat =
-      if seat.has_left then []
-      else (if is_some seat.block then codes "? 1 Form: no line #. ends the block\n" else [])
-      ++ (language.closing seat.standing ++ prompt_in seat.manner seat.note (codes "\n"))
+unfoldable pub dump_lines : List (List ℕ) → List ℕ
+dump_lines [] = []
+dump_lines (line ∷ more) = dump_line (kept_of line) ++ dump_lines more
 
-  abbrev pub desk_language : Language (Seat S)
-  desk_language = record { reply = reply_at; after = seat_after; closing = closing_at }
+-- the words of a dump are put on the drum
+unfoldable pub restored : List ℕ → Seat → List ℕ → List ℕ → Said
+restored note seat name dump =
+    let reply = restore_reply seat.recorded dump in
+    record {
+      texts = written (echo_in seat.manner (echo_of (codes "restore " ++ name) false reply))
+          (within name note) reply ∷ [];
+      handed = Dump dump ∷ [];
+      seat = record seat {
+        recorded = after_lines script_language seat.recorded (restore_lines seat.recorded dump);
+      };
+    }
 
-  -- the replies to a typed text, and all that is written for it
-  abbrev pub desk_replies : Manner → S → List ℕ → List (List ℕ)
-  desk_replies manner standing typed =
-      text_replies desk_language (taken_seat manner standing) typed
+-- how many bytes of a tape's text a line has room for, after `mount` and its space
+abbrev pub mount_limit : ℕ
+mount_limit = 4090
 
-  abbrev pub desk_text : Manner → S → List ℕ → List ℕ
-  desk_text manner standing typed =
-      opening_text manner (prompt standing) ++ concat (desk_replies manner standing typed)
+-- a tape is mounted by a line, where one has room for its text
+unfoldable pub long_tape : List ℕ → Seat → List ℕ → List ℕ → Said
+long_tape note seat name text =
+    let reply = tape_reply seat.recorded text in
+    record {
+      texts = written (echo_in seat.manner (echo_of (codes "tape " ++ name) false reply))
+          (within name note) reply ∷ [];
+      handed = Tape name text ∷ [];
+      seat = record seat { recorded = after_tape seat.recorded name text };
+    }
 
-  abbrev pub desk_faults : Manner → S → List ℕ → ℕ
-  desk_faults manner standing typed = question_count (desk_replies manner standing typed)
+unfoldable pub mounted : List ℕ → Seat → List ℕ → List ℕ → Said
+mounted note seat name text =
+    if nat_le (length text) mount_limit
+    then answered (within name note) seat (codes "mount " ++ text)
+    else long_tape note seat name text
 
-  -- what a line hands over, in front of what the lines behind it do; behind `quit` nothing is
-  -- handed over
-  abbrev pub handed_by : Role → Seat S → List ℕ → List Handed → List Handed
-  handed_by Leaving seat line more = []
-  handed_by Closing seat line more = option_to_list (option_map Whole seat.block) ++ more
-  handed_by Plain seat line more = Line line ∷ more
-  handed_by role seat line more = more
+-- the codes of a file's text, or why it is no tape: the first bad place, with its line counted
+-- from 1
+unfoldable pub tape_in : Result (List ℕ) ℕ → List ℕ → Result (List ℕ) FileTrouble
+tape_in (Ok tape) text =
+    if nat_lt tape_limit (length tape) then Err troubles.LongTape else Ok tape
+tape_in (Err place) text =
+    Err (troubles.BadSign place (count_by is_line_feed (take place text) + 1))
 
-  abbrev pub handed : Seat S → List (List ℕ) → List Handed
-  handed seat [] = []
-  handed seat (line ∷ more) =
-      handed_by (role_at takes_commands seat (kept_of line)) seat line
-      (handed (seat_after seat line) more)
+abbrev pub tape_or_refused : List ℕ → Seat → List ℕ → Result (List ℕ) FileTrouble → Said
+tape_or_refused note seat name (Ok tape) = mounted note seat name (written_tape tape)
+tape_or_refused note seat name (Err trouble) = refused note seat name trouble
 
-  -- where the language stands behind what it was handed
-  abbrev pub behind_handed : S → List Handed → S
-  behind_handed standing [] = standing
-  behind_handed standing (Line line ∷ more) = behind_handed (language.after standing line) more
-  behind_handed standing (Whole block ∷ more) = behind_handed (blocks.after standing block) more
+-- a source is taken line by line, where none of its lines would end it
+unfoldable pub source_said : List ℕ → Seat → List ℕ → List ℕ → Said
+source_said note seat name text =
+    if list_any (λ line. bytes_eq line (codes ".")) (lines text) then refused note seat name troubles.HasPoint
+    else all_answered (within name note) seat (codes "source" ∷ (lines text ++ codes "." ∷ []))
+
+-- the drum's dump is kept under a name
+unfoldable pub saved : List ℕ → Seat → List ℕ → Said
+saved note seat name =
+    let dump = dump_of seat.recorded.state.debugger.state.core.words in
+    if option_map_or (λ drawer. takes drawer name) seat.drawer false
+    then own note
+    (record seat { drawer = option_map (λ drawer. with_file drawer name dump) seat.drawer })
+    (kept_text name)
+    else refused note seat name troubles.NotWritten
+
+-- what a file holds, or why it is refused
+abbrev pub text_at : Seat → List ℕ → Result (List ℕ) FileTrouble
+text_at seat name = option_map_or (λ drawer. text_in drawer name) seat.drawer (Err troubles.NotOpened)
+
+-- a text of a file, used as its work says
+abbrev pub used : Work → List ℕ → Seat → List ℕ → List ℕ → Said
+used works.Source note seat name text = source_said note seat name text
+used works.Tape note seat name text =
+    tape_or_refused note seat name (tape_in (codes_of_text text) text)
+used works.Archive note seat name text =
+    tape_or_refused note seat name (tape_in (codes_of_archive text) text)
+used works.Restore note seat name text = restored note seat name (dump_lines (lines text))
+used work note seat name text = nothing seat
+
+abbrev pub used_or_refused : Work → List ℕ → Seat → List ℕ → Result (List ℕ) FileTrouble → Said
+used_or_refused work note seat name (Ok text) = used work note seat name text
+used_or_refused work note seat name (Err trouble) = refused note seat name trouble
+
+-- a line that names a file; the lines of a file are typed as the first argument says
+abbrev pub worked : (List ℕ → Said) → List ℕ → Seat → Work → List ℕ → Said
+worked typed note seat works.Lines name = typed name
+worked typed note seat works.Save name = saved note seat name
+worked typed note seat work name = used_or_refused work note seat name (text_at seat name)
+
+-- a line leaves the desk
+abbrev pub left_by : Seat → List ℕ → Said
+left_by seat line = record {
+  texts = echo_in seat.manner (echo_of (kept_of line).front (kept_of line).longer []) ∷ [];
+  handed = [];
+  seat = record seat { has_left = true };
+}
+
+-- a line where no source is open
+abbrev pub command_said : (List ℕ → Said) → List ℕ → Seat → List ℕ → Said
+command_said typed note seat line =
+    if is_quit (kept_of line) then left_by seat line
+    else (if (kept_of line).longer then answered note seat line
+    else option_map_or (λ request. worked typed note seat request.0 request.1)
+    (request_of (kept_of line).front) (answered note seat line))
+
+-- a line; after `quit` none is heard, and in an open source each is the source's
+abbrev pub line_said : (List ℕ → Said) → List ℕ → Seat → List ℕ → Said
+line_said typed note seat line =
+    if seat.has_left then nothing seat
+    else (if is_none seat.recorded.state.opened then command_said typed note seat line
+    else answered note seat line)
+
+-- nothing more of a file: an empty text
+abbrev pub file_ended : Seat → Said
+file_ended seat = record { texts = [] ∷ []; handed = []; seat = seat }
+
+-- the lines of a file, from the one of a number on, each as the first argument says
+abbrev pub lines_said : (List ℕ → Seat → List ℕ → Said) → List ℕ → ℕ → Seat → List (List ℕ) → Said
+lines_said say name number seat [] = file_ended seat
+lines_said say name number seat (line ∷ more) =
+    and_then (say (line_note number name) seat line)
+    (λ next. lines_said say name (number + 1) next more)
+
+abbrev pub file_said : (List ℕ → Seat → List ℕ → Said) → List ℕ → Seat → List ℕ
+    → Result (List ℕ) FileTrouble → Said
+file_said say note seat name (Ok text) = lines_said say name 1 seat (lines text)
+file_said say note seat name (Err trouble) = refused note seat name trouble
+
+-- a file is typed line by line as the first argument says; where there is none, too many are open
+abbrev pub typed_by : Option (List ℕ → Seat → List ℕ → Said) → List ℕ → Seat → List ℕ → Said
+typed_by None note seat name = refused note seat name troubles.TooDeep
+typed_by (Some say) note seat name = file_said say note seat name (text_at seat name)
+
+-- a line, where this many files more may be opened within one another
+abbrev pub said : ℕ → List ℕ → Seat → List ℕ → Said
+said zero note seat line = line_said (typed_by None note seat) note seat line
+said (suc depth) note seat line = line_said (typed_by (Some (said depth)) note seat) note seat line
+
+-- files whose lines come before those that are typed
+abbrev pub first_said : Seat → List (List ℕ) → Said
+first_said seat [] = nothing seat
+first_said seat (name ∷ more) =
+    and_then
+    (file_said (said 15) (codes "named on the command line") seat name (text_at seat name))
+    (λ next. first_said next more)
+
+-- ---- the desk
+
+-- the prompt in front of the next line
+abbrev pub prompt_texts : Seat → List (List ℕ)
+prompt_texts seat =
+    if seat.has_left then [] else prompt_in seat.manner (prompt_at seat.recorded) ∷ []
+
+-- what is said to a typed line, and to the end, with a line feed in the place of a prompt
+abbrev pub typed_said : Seat → List ℕ → List (List ℕ)
+typed_said seat line =
+    if seat.has_left then [] else (said 16 [] seat line).texts
+    ++ prompt_texts (said 16 [] seat line).seat
+
+abbrev pub end_said : Seat → List (List ℕ)
+end_said seat =
+    if seat.has_left then []
+    else (monitor_language.closing seat.recorded ++ prompt_in seat.manner (codes "\n")) ∷ []
+
+unfoldable pub desk_speech : Speech Seat
+desk_speech = record {
+  said = typed_said;
+  after = λ seat line. (said 16 [] seat line).seat;
+  closing = end_said;
+  known = λ seat. is_some seat.drawer;
+  ended = λ seat. seat.has_left;
+}
+
+-- a desk at which nothing was typed, with these files
+abbrev pub taken_seat : Manner → Option Drawer → Seat
+taken_seat manner drawer = record {
+  recorded = untouched opening_state;
+  manner = manner;
+  drawer = drawer;
+  has_left = false;
+}
+
+-- what is said before the first typed line: the lines of files, and the prompt
+abbrev pub begun : Seat → List (List ℕ) → Said
+begun seat names =
+    let first = first_said seat names in
+    record first { texts = first.texts ++ prompt_texts first.seat }
+
+-- with these names of files and these files, all that is said to a typed text
+abbrev pub session_texts : Manner → List (List ℕ) → Drawer → List ℕ → List (List ℕ)
+session_texts manner names drawer typed =
+    let first = begun (taken_seat manner (Some drawer)) names in
+    first.texts ++ text_said desk_speech first.seat typed
+
+-- ---- what the monitor is handed in a session
+
+-- for typed lines
+abbrev pub handed_to : Seat → List (List ℕ) → List Handed
+handed_to seat [] = []
+handed_to seat (line ∷ more) =
+    (said 16 [] seat line).handed ++ handed_to (said 16 [] seat line).seat more
+
+-- in a whole session, and where it leaves the desk
+abbrev pub session_handed : Manner → List (List ℕ) → Drawer → List ℕ → List Handed
+session_handed manner names drawer typed =
+    let first = begun (taken_seat manner (Some drawer)) names in
+    first.handed ++ handed_to first.seat (lines typed)
+
+abbrev pub session_end : Manner → List (List ℕ) → Drawer → List ℕ → Seat
+session_end manner names drawer typed =
+    after_said desk_speech (begun (taken_seat manner (Some drawer)) names).seat (lines typed)
+
+-- what a script can say: each line, and each dump; of a tape for whose text no line has room, the
+-- transcript has the name alone
+abbrev pub IsSayable : Handed → Type 0
+IsSayable (Line line) = Unit {0}
+IsSayable (Dump dump) = Unit {0}
+IsSayable (Tape name text) = ⊥

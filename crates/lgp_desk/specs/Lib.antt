@@ -1,2 +1,6 @@
-pub mod Roles
+pub mod Files
+pub mod Requests
+pub mod Troubles
 pub mod Desk
+pub mod DeskInside
+pub mod Sessions

@@ -1,331 +1,512 @@
-//! What answers lines that are typed at a desk.
+//! The monitor at a desk, where lines are typed until `quit`.
 
-ghost use Rattle.std.specs.Prelude.{◌≡◌, ◌++◌, [], Bool, List, None, OnOk, Some, codes, drop, if◌then◌else◌, is_some, option_map, true, ℕ};
-ghost use Rattle.std.specs.Option.{option_map_or};
+ghost use Rattle.std.specs.Prelude.{◌≡◌, ◌++◌, ◌∷◌, [], IfErr, IfOk, IsTrue, List, OnOk, ℕ, codes, false, is_none, is_some};
+ghost use Rattle.std.specs.Str.Lines.{lines};
 ghost use Rattle.lgp_stream.specs.KeptLine.{kept_of};
-ghost use Rattle.lgp_desk.specs.Desk.{BlockAnswers, Seat, answer_text, block_echo_in, desk_language, line_echo, prompt_in, role_at, taken_seat};
-ghost use Rattle.lgp_desk.specs.Roles.{opened_by, with_line};
+ghost use Rattle.lgp_stream.specs.Language.{HasCause};
+ghost use Rattle.lgp_stream.specs.Speech.{IsSaying};
+ghost use Rattle.lgp_monitor.specs.Monitor.{monitor_language};
+ghost use Rattle.lgp_desk.specs.Desk.{all_answered, answered, begun, desk_speech, file_said, first_said, left_by, lines_said, own, prompt_at, prompt_in, prompt_texts, refused, said, taken_seat, text_at, typed_by, worked};
+ghost use Rattle.lgp_desk.specs.DeskInside.{HasSaid, inner};
+ghost use Rattle.lgp_desk.specs.Troubles.{line_note};
+ghost use Rattle.lgp_desk.specs.declared.files.FileTrouble.{FileTrouble};
 
-use crate::role::{Role, behind_mark, block_role, command_role};
-use crate::texts::{Block, Source, copy_of};
-use crate::writing::{push_note_line, push_shown, push_shown_kind};
-use lgp_stream::{Answers, LineBytes, is_question};
+use crate::files::{FileTrouble, Files};
+use crate::request::{Work, is_quit, request_in};
+use crate::trouble::{line_note, push_trouble};
+use crate::writing::{Manner, push_shown, push_written};
+use lgp_lab::{FileName, Laboratory};
+use lgp_monitor::{Monitor, Progress};
+use lgp_stream::{Answers, LineBytes, Sink, Speaks, StreamFault, Tally, first_line};
+use lgp_text::{Piece, push_pieces, status_text};
 use std::alloc::{AllocError, Allocator};
 use std::marker::Model;
 
-/// How replies are written.
-#[derive(Clone, Copy, Debug, PartialEq, Eq)]
-pub enum Manner {
-    /// The replies alone.
-    Bare,
-    /// A prompt in front of each line.
-    Prompting,
-    /// A prompt in front of each line but the first.
-    PromptingBehindFirst,
-    /// Each line above its reply, and of a block what it is for.
-    Echoing,
-}
+mod work;
 
-/// What is told how the lines at a desk go.
-pub trait Bell: Drop {
-    /// The desk was left: no line is answered any more.
-    fn ring(&self);
+/// How many files may be open within one another.
+const DEPTH: u64 = 16;
 
-    /// The reply to a line was made, or the desk was opened: whether the next line is a command, and whether the reply is a refusal,
-    /// which begins with a question mark. Of the line that leaves `ring` alone tells.
-    fn heard(&self, takes_commands: bool, was_refused: bool);
-}
-
-/// What answers lines of which some are commands, and has a prompt in front of each; and blocks of lines, each under the name of
-/// what it is for.
-pub trait Attended {
-    /// Whether the next line is a command, so that `quit` leaves.
-    ghost takes_commands: { Self → Bool };
-
-    /// The prompt in front of the next line.
-    ghost prompt: { Self → List ℕ };
-
-    /// How blocks are answered.
-    ghost blocks: { BlockAnswers Self };
-
-    /// Whether the next line is a command.
-    fn takes_commands(&self) -> bool
-        ensures { result ≡ takes_commands self.now };
-
-    /// Appends the prompt.
-    fn push_prompt<A: Allocator>(&self, text: &mut Vec<u8, A>) -> Result<(), AllocError>
-        ensures { OnOk result (text.new.items ≡ text.old.items ++ prompt self.now) };
-
-    /// Answers a block, of which each line has a line feed behind it: the reply's bytes are put behind `reply`. Of a longer line than
-    /// is kept, the text has the front and a byte 0.
-    fn answer_block<A: Allocator>(
-        &mut self,
-        kind: &[u8],
-        text: &[u8],
-        reply: &mut Vec<u8, A>,
-    ) -> Result<(), AllocError>
-        ensures reply { OnOk result (reply.new.items ≡ reply.old.items
-            ++ blocks.reply self.old (record { kind = kind.now; text = text.now })) }
-        ensures after { OnOk result (self.new
-            ≡ blocks.after self.old (record { kind = kind.now; text = text.now })) };
-}
-
-/// Appends what is written for a block that is open at the end.
-fn push_lost<A: Allocator, B: Allocator>(
-    block: &Option<Block<A>>,
-    text: &mut Vec<u8, B>,
-) -> Result<(), AllocError>
-    ensures { OnOk result (text.new.items ≡ text.old.items
-        ++ (if is_some block.now then codes "? 1 Form: no line #. ends the block\n" else [])) }
-{
-    if block.is_some() {
-        return text.extend_from_slice(b"? 1 Form: no line #. ends the block\n");
-    }
-    Ok(())
-}
-
-/// What answers lines at a desk. Clauses see where it stands, how replies are written, the note, the open block, and whether it was
-/// left.
+/// The monitor at a desk. Clauses see its state, how replies are written, the files, where they are known, and whether the desk
+/// was left.
 #[derive(Drop)]
-pub struct Desk<A: Allocator, L: Answers<A>, B: Bell> {
+pub struct Desk<A: Allocator + Copy, P: Progress, F: Files> {
     alloc: A,
-    answers: L,
+    monitor: Monitor<Laboratory<A>, A, P>,
+    files: F,
     manner: Manner,
-    source: Option<Source<A>>,
-    block: Option<Block<A>>,
     has_left: bool,
-    bell: B,
 }
 
-impl<A: Allocator, L: Answers<A>, B: Bell> Model for Desk<A, L, B> {
+impl<A: Allocator + Copy, P: Progress, F: Files> Model for Desk<A, P, F> {
     ghost use Rattle.lgp_desk.specs.Desk.{Seat};
 
-    ghost Value = { Seat L };
+    ghost Value = { Seat };
 
     ghost view = { λ desk. record {
-      standing = desk.answers;
+      recorded = desk.monitor;
       manner = desk.manner;
-      note = desk.source;
-      block = desk.block;
+      drawer = F.drawer desk.files;
       has_left = desk.has_left;
     } };
 }
 
-impl<A: Allocator + Copy, L: Answers<A> + Attended, B: Bell> Desk<A, L, B> {
-    /// A desk at which no line was typed yet.
-    pub fn new(alloc: A, answers: L, manner: Manner, bell: B) -> Desk<A, L, B>
-        ensures { result ≡ taken_seat manner answers }
+impl<A: Allocator + Copy, P: Progress, F: Files> Desk<A, P, F> {
+    /// A desk at which nothing was typed yet.
+    pub fn new(alloc: A, manner: Manner, files: F, progress: P) -> Result<Desk<A, P, F>, AllocError>
+        ensures { IfOk result (λ desk. desk ≡ taken_seat manner (F.drawer files)) }
     {
-        Desk {
+        let monitor = Monitor::telling(alloc, progress)?;
+        Ok(Desk {
             alloc,
-            answers,
+            monitor,
+            files,
             manner,
-            source: None,
-            block: None,
             has_left: false,
-            bell,
-        }
+        })
     }
 
-    /// What a line is.
-    #[tactic(auto, unfolding(crate::specs::Desk::role_at))]
-    fn role(&self, line: &LineBytes) -> Role
-        ensures { result ≡ role_at L.takes_commands self.now line.now }
+    /// Whether the next line is a command.
+    fn takes_commands(&self) -> bool
+        ensures { result ≡ is_none self.now.recorded.state.opened }
+    {
+        !self.monitor.laboratory().has_open_source()
+    }
+
+    /// Appends the prompt that shows the state of the monitor.
+    #[tactic(auto, unfolding(crate::specs::Desk::prompt_at))]
+    fn push_stand(&self, text: &mut Vec<u8, A>) -> Result<(), AllocError>
+        ensures { OnOk result (text.new.items
+            ≡ text.old.items ++ prompt_at self.now.recorded) }
+    {
+        let laboratory = self.monitor.laboratory();
+        if laboratory.has_open_source() {
+            return text.extend_from_slice(b"source> ");
+        }
+        let look = laboratory.debugger().look();
+        push_pieces(
+            text,
+            &[
+                Piece::Place(look.counter),
+                Piece::Text(b" "),
+                Piece::Text(status_text(look.status)),
+                Piece::Text(b"> "),
+            ],
+        )
+    }
+
+    /// The prompt, where one is due.
+    fn prompt(&self) -> Result<Vec<u8, A>, AllocError>
+        ensures { IfOk result (λ text. text.items
+            ≡ prompt_in self.now.manner (prompt_at self.now.recorded)) }
+    {
+        let mut text = Vec::new(self.alloc);
+        match self.manner {
+            Manner::Bare | Manner::Echoing => {}
+            Manner::Prompting => self.push_stand(&mut text)?,
+        }
+        Ok(text)
+    }
+
+    /// The text for the end, with a line feed in the place of a prompt.
+    fn end_text(&mut self) -> Result<Vec<u8, A>, AllocError>
+        ensures { IfOk result (λ text. text.items ≡ monitor_language.closing self.old.recorded
+            ++ prompt_in self.old.manner (codes "\n")) }
+    {
+        let mut text = Vec::new(self.alloc);
+        self.monitor.close(&mut text)?;
+        match self.manner {
+            Manner::Bare | Manner::Echoing => {}
+            Manner::Prompting => text.push(b'\n')?,
+        }
+        Ok(text)
+    }
+
+    /// Writes the prompt, where one is due.
+    pub(crate) fn give_prompt<W: Sink>(
+        &self,
+        writer: &mut W,
+        tally: &mut Tally,
+    ) -> Result<(), StreamFault>
+        ensures said { IsSaying (W.contents writer.old) (W.contents writer.new) tally.old tally.new
+            result (prompt_texts self.now) }
+        ensures cause { IfErr result (λ fault. HasCause fault false (W.failed writer.new)) }
     {
         if self.has_left {
-            return Role::Unheard;
-        }
-        if self.block.is_some() {
-            return block_role(line);
-        }
-        if self.answers.takes_commands() {
-            return command_role(line);
-        }
-        Role::Plain
-    }
-
-    /// Tells that a line was answered.
-    fn tell(&self, was_refused: bool) {
-        let takes_commands = self.block.is_none() && self.answers.takes_commands();
-        self.bell.heard(takes_commands, was_refused);
-    }
-
-    /// Appends the prompt, where one is due.
-    fn push_prompt(&self, text: &mut Vec<u8, A>) -> Result<(), AllocError>
-        ensures { OnOk result (text.new.items ≡ text.old.items
-            ++ prompt_in self.now.manner self.now.note (L.prompt self.now.standing)) }
-    {
-        if self.source.is_some() {
             return Ok(());
         }
-        match self.manner {
-            Manner::Bare | Manner::Echoing => Ok(()),
-            Manner::Prompting | Manner::PromptingBehindFirst => self.answers.push_prompt(text),
-        }
-    }
-
-    /// Appends a line feed where a prompt would be due.
-    fn push_in_place_of_prompt(&self, text: &mut Vec<u8, A>) -> Result<(), AllocError>
-        ensures { OnOk result (text.new.items ≡ text.old.items
-            ++ prompt_in self.now.manner self.now.note (codes "\n")) }
-    {
-        if self.source.is_some() {
-            return Ok(());
-        }
-        match self.manner {
-            Manner::Bare | Manner::Echoing => Ok(()),
-            Manner::Prompting | Manner::PromptingBehindFirst => text.extend_from_slice(b"\n"),
-        }
-    }
-
-    /// Appends a reply with what stands behind it, and tells of it.
-    fn push_answer(&self, own: &[u8], text: &mut Vec<u8, A>) -> Result<(), AllocError>
-        ensures { OnOk result (text.new.items
-            ≡ text.old.items ++ answer_text L.prompt self.now own.now) }
-    {
-        self.tell(is_question(own));
-        text.extend_from_slice(own)?;
-        push_note_line(text, &self.source, own)?;
-        self.push_prompt(text)
-    }
-
-    /// Leaves the desk by a line.
-    fn leave(&mut self, line: &LineBytes, reply: &mut Vec<u8, A>) -> Result<(), AllocError>
-        ensures reply { OnOk result (reply.new.items
-            ≡ reply.old.items ++ line_echo self.old.manner line.now []) }
-        ensures after { self.new ≡ record self.old { has_left = true } }
-    {
-        self.has_left = true;
-        self.bell.ring();
-        push_shown(reply, self.manner, line, b"")
-    }
-
-    /// Takes a note.
-    fn take_note(&mut self, line: &LineBytes) -> Result<(), AllocError>
-        ensures { OnOk result (self.new ≡ record self.old { note = Some (drop 2 line.now.front) }) }
-    {
-        let source = Source::of(self.alloc, line)?;
-        self.source = Some(source);
-        self.tell(false);
-        Ok(())
-    }
-
-    /// Ends a note.
-    fn end_note(&mut self, reply: &mut Vec<u8, A>) -> Result<(), AllocError>
-        ensures reply { OnOk result (reply.new.items ≡ reply.old.items
-            ++ prompt_in self.old.manner None (L.prompt self.old.standing)) }
-        ensures after { self.new ≡ record self.old { note = None } }
-    {
-        self.source = None;
-        self.tell(false);
-        self.push_prompt(reply)
-    }
-
-    /// Gives the reply that a line has.
-    fn give(&self, line: &LineBytes, reply: &mut Vec<u8, A>) -> Result<(), AllocError>
-        ensures { OnOk result (reply.new.items ≡ reply.old.items
-            ++ answer_text L.prompt self.now (drop 3 line.now.front ++ codes "\n")) }
-    {
-        let mut own = copy_of(self.alloc, behind_mark(line, 3))?;
-        own.extend_from_slice(b"\n")?;
-        self.push_answer(&own, reply)
-    }
-
-    /// Opens a block.
-    fn open_block(&mut self, line: &LineBytes) -> Result<(), AllocError>
-        ensures { OnOk result (self.new ≡ record self.old { block = Some (opened_by line.now) }) }
-    {
-        let block = Block::of(self.alloc, line)?;
-        self.block = Some(block);
-        self.tell(false);
-        Ok(())
-    }
-
-    /// Puts a line into the open block.
-    fn keep_line(&mut self, line: &LineBytes) -> Result<(), AllocError>
-        ensures { OnOk result (self.new ≡ record self.old {
-          block = option_map (λ block. with_line block line.now) self.old.block;
-        }) }
-    {
-        let Some(mut block) = self.block.take() else {
-            return Ok(());
+        let Ok(text) = self.prompt() else {
+            return Err(StreamFault::Memory);
         };
-        block.push(line)?;
-        self.block = Some(block);
-        self.tell(false);
-        Ok(())
+        tally.deliver(writer, &text)
     }
 
-    /// Hands the open block over.
-    fn close_block(&mut self, reply: &mut Vec<u8, A>) -> Result<(), AllocError>
-        ensures reply { OnOk result (reply.new.items ≡ reply.old.items
-            ++ (block_echo_in self.old.manner self.old.block
-            (option_map_or (L.blocks.reply self.old.standing) self.old.block [])
-            ++ answer_text L.prompt
-            (record self.old {
-              standing = option_map_or (L.blocks.after self.old.standing) self.old.block
-                  self.old.standing;
-              block = None;
-            })
-            (option_map_or (L.blocks.reply self.old.standing) self.old.block []))) }
-        ensures after { OnOk result (self.new ≡ record self.old {
-          standing = option_map_or (L.blocks.after self.old.standing) self.old.block
-              self.old.standing;
-          block = None;
-        }) }
+    /// The text for a line that the monitor answers.
+    fn answer_text(&mut self, note: &[u8], line: &LineBytes) -> Result<Vec<u8, A>, AllocError>
+        ensures text { (text : List ℕ) → line.now ≡ kept_of text → IfOk result (λ made.
+            made.items ∷ [] ≡ (answered note.now self.old text).texts) }
+        ensures after { (text : List ℕ) → line.now ≡ kept_of text
+            → OnOk result (self.new ≡ (answered note.now self.old text).seat) }
     {
-        let mut own = Vec::new(self.alloc);
-        if let Some(block) = self.block.take() {
-            self.answers
-                .answer_block(block.kind(), block.text(), &mut own)?;
-            push_shown_kind(reply, self.manner, block.kind(), &own)?;
+        let mut reply = Vec::new(self.alloc);
+        self.monitor.answer(line, &mut reply)?;
+        let mut text = Vec::new(self.alloc);
+        push_shown(&mut text, self.manner, line, &reply)?;
+        push_written(&mut text, note, &reply)?;
+        Ok(text)
+    }
+
+    /// Has the monitor answer a line.
+    fn answer_line<W: Sink>(
+        &mut self,
+        note: &[u8],
+        line: &LineBytes,
+        writer: &mut W,
+        tally: &mut Tally,
+    ) -> Result<(), StreamFault>
+        ensures said { (text : List ℕ) → IsTrue (is_some self.old.drawer) → line.now ≡ kept_of text
+            → HasSaid self.new (W.contents writer.old) (W.contents writer.new) tally.old tally.new
+            result (answered note.now self.old text) }
+        ensures cause { IfErr result (λ fault. HasCause fault false (W.failed writer.new)) }
+    {
+        let Ok(text) = self.answer_text(note, line) else {
+            return Err(StreamFault::Memory);
+        };
+        tally.deliver(writer, &text)
+    }
+
+    /// Has the monitor answer a line of the desk's own.
+    fn answer_bytes<W: Sink>(
+        &mut self,
+        note: &[u8],
+        line: &[u8],
+        writer: &mut W,
+        tally: &mut Tally,
+    ) -> Result<(), StreamFault>
+        ensures said { IsTrue (is_some self.old.drawer)
+            → HasSaid self.new (W.contents writer.old) (W.contents writer.new) tally.old tally.new
+            result (answered note.now self.old line.now) }
+        ensures cause { IfErr result (λ fault. HasCause fault false (W.failed writer.new)) }
+    {
+        self.answer_line(note, &LineBytes::of(line), writer, tally)
+    }
+
+    /// Has the monitor answer the lines of a text.
+    fn answer_all<W: Sink>(
+        &mut self,
+        note: &[u8],
+        text: &[u8],
+        writer: &mut W,
+        tally: &mut Tally,
+    ) -> Result<(), StreamFault>
+        ensures said { IsTrue (is_some self.old.drawer)
+            → HasSaid self.new (W.contents writer.old) (W.contents writer.new) tally.old tally.new
+            result (all_answered note.now self.old (lines text.now)) }
+        ensures cause { IfErr result (λ fault. HasCause fault false (W.failed writer.new)) }
+    {
+        let mut rest = text;
+        while !rest.is_empty() {
+            let first = first_line(rest);
+            self.answer_line(note, &first.line, writer, tally)?;
+            rest = first.rest;
         }
-        self.push_answer(&own, reply)
-    }
-
-    /// Answers a line of the language.
-    fn answer_line(&mut self, line: &LineBytes, reply: &mut Vec<u8, A>) -> Result<(), AllocError>
-        ensures reply { (text : List ℕ) → line.now ≡ kept_of text
-            → OnOk result (reply.new.items ≡ reply.old.items
-            ++ (line_echo self.old.manner line.now (L.language.reply self.old.standing text)
-            ++ answer_text L.prompt
-            (record self.old { standing = L.language.after self.old.standing text })
-            (L.language.reply self.old.standing text))) }
-        ensures after { (text : List ℕ) → line.now ≡ kept_of text → OnOk result (self.new
-            ≡ record self.old { standing = L.language.after self.old.standing text }) }
-    {
-        let mut own = Vec::new(self.alloc);
-        self.answers.answer(line, &mut own)?;
-        push_shown(reply, self.manner, line, &own)?;
-        self.push_answer(&own, reply)
+        Ok(())
     }
 }
 
-impl<A: Allocator + Copy, L: Answers<A> + Attended, B: Bell> Answers<A> for Desk<A, L, B> {
-    ghost language = { desk_language L.language L.takes_commands L.prompt L.blocks };
-
-    #[tactic(auto, unfolding(crate::specs::Desk::reply_at, crate::specs::Desk::seat_after))]
-    fn answer(&mut self, line: &LineBytes, reply: &mut Vec<u8, A>) -> Result<(), AllocError> {
-        match self.role(line) {
-            Role::Unheard => Ok(()),
-            Role::Leaving => self.leave(line, reply),
-            Role::Note => self.take_note(line),
-            Role::NoteEnd => self.end_note(reply),
-            Role::Given => self.give(line, reply),
-            Role::Opening => self.open_block(line),
-            Role::Within => self.keep_line(line),
-            Role::Closing => self.close_block(reply),
-            Role::Plain => self.answer_line(line, reply),
-        }
+impl<A: Allocator + Copy, P: Progress, F: Files> Desk<A, P, F> {
+    /// Writes a reply of the desk itself.
+    fn give<W: Sink>(
+        &self,
+        note: &[u8],
+        reply: &[u8],
+        writer: &mut W,
+        tally: &mut Tally,
+    ) -> Result<(), StreamFault>
+        ensures said { IsTrue (is_some self.now.drawer)
+            → HasSaid self.now (W.contents writer.old) (W.contents writer.new) tally.old tally.new
+            result (own note.now self.now reply.now) }
+        ensures cause { IfErr result (λ fault. HasCause fault false (W.failed writer.new)) }
+    {
+        let mut text = Vec::new(self.alloc);
+        let Ok(()) = push_written(&mut text, note, reply) else {
+            return Err(StreamFault::Memory);
+        };
+        tally.deliver(writer, &text)
     }
 
-    #[tactic(auto, unfolding(crate::specs::Desk::closing_at))]
-    fn close(&mut self, reply: &mut Vec<u8, A>) -> Result<(), AllocError> {
+    /// Refuses a file.
+    fn refuse<W: Sink>(
+        &self,
+        note: &[u8],
+        name: &[u8],
+        trouble: FileTrouble,
+        writer: &mut W,
+        tally: &mut Tally,
+    ) -> Result<(), StreamFault>
+        ensures said { IsTrue (is_some self.now.drawer)
+            → HasSaid self.now (W.contents writer.old) (W.contents writer.new) tally.old tally.new
+            result (refused note.now self.now name.now trouble) }
+        ensures cause { IfErr result (λ fault. HasCause fault false (W.failed writer.new)) }
+    {
+        let mut reply = Vec::new(self.alloc);
+        let Ok(()) = push_trouble(&mut reply, name, trouble) else {
+            return Err(StreamFault::Memory);
+        };
+        self.give(note, &reply, writer, tally)
+    }
+
+    /// The text for a line that leaves the desk.
+    fn leaving_text(&mut self, line: &LineBytes) -> Result<Vec<u8, A>, AllocError>
+        ensures text { (text : List ℕ) → line.now ≡ kept_of text → IfOk result (λ made.
+            made.items ∷ [] ≡ (left_by self.old text).texts) }
+        ensures after { (text : List ℕ) → line.now ≡ kept_of text
+            → OnOk result (self.new ≡ (left_by self.old text).seat) }
+    {
+        self.has_left = true;
+        let mut text = Vec::new(self.alloc);
+        push_shown(&mut text, self.manner, line, b"")?;
+        Ok(text)
+    }
+
+    /// Leaves the desk by a line.
+    fn leave<W: Sink>(
+        &mut self,
+        line: &LineBytes,
+        writer: &mut W,
+        tally: &mut Tally,
+    ) -> Result<(), StreamFault>
+        ensures said { (text : List ℕ) → IsTrue (is_some self.old.drawer) → line.now ≡ kept_of text
+            → HasSaid self.new (W.contents writer.old) (W.contents writer.new) tally.old tally.new
+            result (left_by self.old text) }
+        ensures cause { IfErr result (λ fault. HasCause fault false (W.failed writer.new)) }
+    {
+        let Ok(text) = self.leaving_text(line) else {
+            return Err(StreamFault::Memory);
+        };
+        tally.deliver(writer, &text)
+    }
+}
+
+impl<A: Allocator + Copy, P: Progress, F: Files> Desk<A, P, F> {
+    /// Answers a line; this many files more may be opened within one another.
+    #[cycle(lines)]
+    fn say<W: Sink>(
+        &mut self,
+        depth: u64,
+        note: &[u8],
+        line: &LineBytes,
+        writer: &mut W,
+        tally: &mut Tally,
+    ) -> Result<(), StreamFault>
+        ensures said { (text : List ℕ) → IsTrue (is_some self.old.drawer) → line.now ≡ kept_of text
+            → HasSaid self.new (W.contents writer.old) (W.contents writer.new) tally.old tally.new
+            result (said depth note.now self.old text) }
+        ensures cause { IfErr result (λ fault. HasCause fault false (W.failed writer.new)) }
+    {
         if self.has_left {
             return Ok(());
         }
-        push_lost(&self.block, reply)?;
-        self.answers.close(reply)?;
-        self.push_in_place_of_prompt(reply)
+        if !self.takes_commands() {
+            return self.answer_line(note, line, writer, tally);
+        }
+        if is_quit(line) {
+            return self.leave(line, writer, tally);
+        }
+        if line.is_longer() {
+            return self.answer_line(note, line, writer, tally);
+        }
+        match request_in(line.front()) {
+            Some(request) => self.work_on(depth, note, request.work, request.name, writer, tally),
+            None => self.answer_line(note, line, writer, tally),
+        }
+    }
+
+    /// Does what a line asks for that names a file.
+    #[cycle(lines)]
+    fn work_on<W: Sink>(
+        &mut self,
+        depth: u64,
+        note: &[u8],
+        work: Work,
+        name: &[u8],
+        writer: &mut W,
+        tally: &mut Tally,
+    ) -> Result<(), StreamFault>
+        ensures said { IsTrue (is_some self.old.drawer)
+            → HasSaid self.new (W.contents writer.old) (W.contents writer.new) tally.old tally.new
+            result (worked (typed_by (inner depth) note.now self.old) note.now self.old work
+            name.now) }
+        ensures cause { IfErr result (λ fault. HasCause fault false (W.failed writer.new)) }
+    {
+        match work {
+            Work::Lines => self.type_file(depth, note, name, writer, tally),
+            Work::Save => self.save(note, name, writer, tally),
+            Work::Source | Work::Tape | Work::Archive | Work::Restore => {
+                self.use_file(work, note, name, writer, tally)
+            }
+        }
+    }
+
+    /// Types the lines of a file, or refuses it.
+    #[cycle(lines)]
+    fn type_file<W: Sink>(
+        &mut self,
+        depth: u64,
+        note: &[u8],
+        name: &[u8],
+        writer: &mut W,
+        tally: &mut Tally,
+    ) -> Result<(), StreamFault>
+        ensures said { IsTrue (is_some self.old.drawer)
+            → HasSaid self.new (W.contents writer.old) (W.contents writer.new) tally.old tally.new
+            result (typed_by (inner depth) note.now self.old name.now) }
+        ensures cause { IfErr result (λ fault. HasCause fault false (W.failed writer.new)) }
+    {
+        if depth == 0 {
+            return self.refuse(note, name, FileTrouble::TooDeep, writer, tally);
+        }
+        match self.files.read(self.alloc, name) {
+            Ok(Ok(text)) => self.type_lines(depth - 1, name, &text, writer, tally),
+            Ok(Err(trouble)) => self.refuse(note, name, trouble, writer, tally),
+            Err(_) => Err(StreamFault::Memory),
+        }
+    }
+
+    /// Types a line of a file by its number.
+    #[cycle(lines)]
+    fn type_line<W: Sink>(
+        &mut self,
+        depth: u64,
+        name: &[u8],
+        number: u64,
+        line: &LineBytes,
+        writer: &mut W,
+        tally: &mut Tally,
+    ) -> Result<(), StreamFault>
+        ensures said { (text : List ℕ) → IsTrue (is_some self.old.drawer) → line.now ≡ kept_of text
+            → HasSaid self.new (W.contents writer.old) (W.contents writer.new) tally.old tally.new
+            result (said depth (line_note number name.now) self.old text) }
+        ensures cause { IfErr result (λ fault. HasCause fault false (W.failed writer.new)) }
+    {
+        if self.has_left {
+            return Ok(());
+        }
+        let Ok(note) = line_note(self.alloc, number, name) else {
+            return Err(StreamFault::Memory);
+        };
+        self.say(depth, &note, line, writer, tally)
+    }
+
+    /// Types the lines of a file.
+    #[cycle(lines)]
+    fn type_lines<W: Sink>(
+        &mut self,
+        depth: u64,
+        name: &[u8],
+        text: &[u8],
+        writer: &mut W,
+        tally: &mut Tally,
+    ) -> Result<(), StreamFault>
+        ensures said { IsTrue (is_some self.old.drawer)
+            → HasSaid self.new (W.contents writer.old) (W.contents writer.new) tally.old tally.new
+            result (lines_said (said depth) name.now 1 self.old (lines text.now)) }
+        ensures cause { IfErr result (λ fault. HasCause fault false (W.failed writer.new)) }
+    {
+        let mut rest = text;
+        let mut number = 1;
+        while !rest.is_empty() {
+            let first = first_line(rest);
+            self.type_line(depth, name, number, &first.line, writer, tally)?;
+            rest = first.rest;
+            number += 1;
+        }
+        tally.deliver(writer, b"")
+    }
+}
+
+impl<A: Allocator + Copy, P: Progress, F: Files> Desk<A, P, F> {
+    /// Types the lines of a file that comes before what is typed.
+    pub(crate) fn type_first<W: Sink>(
+        &mut self,
+        name: &[u8],
+        writer: &mut W,
+        tally: &mut Tally,
+    ) -> Result<(), StreamFault>
+        ensures said { IsTrue (is_some self.old.drawer)
+            → HasSaid self.new (W.contents writer.old) (W.contents writer.new) tally.old tally.new
+            result (file_said (said 15) (codes "named on the command line") self.old name.now
+            (text_at self.old name.now)) }
+        ensures cause { IfErr result (λ fault. HasCause fault false (W.failed writer.new)) }
+    {
+        self.type_file(DEPTH, b"named on the command line", name, writer, tally)
+    }
+
+    /// Types the lines of files that come before what is typed.
+    fn type_all_first<B: Allocator, W: Sink>(
+        &mut self,
+        names: &[FileName<B>],
+        writer: &mut W,
+        tally: &mut Tally,
+    ) -> Result<(), StreamFault>
+        ensures said { IsTrue (is_some self.old.drawer)
+            → HasSaid self.new (W.contents writer.old) (W.contents writer.new) tally.old tally.new
+            result (first_said self.old names.now) }
+        ensures cause { IfErr result (λ fault. HasCause fault false (W.failed writer.new)) }
+    {
+        for name in names {
+            self.type_first(name.text().as_bytes(), writer, tally)?;
+        }
+        Ok(())
+    }
+
+    /// Types the lines of files that come before what is typed, and gives the prompt.
+    pub(crate) fn begin<B: Allocator, W: Sink>(
+        &mut self,
+        names: &[FileName<B>],
+        writer: &mut W,
+        tally: &mut Tally,
+    ) -> Result<(), StreamFault>
+        ensures said { IsTrue (is_some self.old.drawer)
+            → HasSaid self.new (W.contents writer.old) (W.contents writer.new) tally.old tally.new
+            result (begun self.old names.now) }
+        ensures cause { IfErr result (λ fault. HasCause fault false (W.failed writer.new)) }
+    {
+        self.type_all_first(names, writer, tally)?;
+        self.give_prompt(writer, tally)
+    }
+}
+
+impl<A: Allocator + Copy, P: Progress, F: Files> Speaks for Desk<A, P, F> {
+    ghost speech = { desk_speech };
+
+    #[tactic(auto, unfolding(crate::specs::Desk::desk_speech))]
+    fn speak<W: Sink>(
+        &mut self,
+        line: &LineBytes,
+        writer: &mut W,
+        tally: &mut Tally,
+    ) -> Result<(), StreamFault> {
+        if self.has_left {
+            return Ok(());
+        }
+        self.say(DEPTH, b"", line, writer, tally)?;
+        self.give_prompt(writer, tally)
+    }
+
+    #[tactic(auto, unfolding(crate::specs::Desk::desk_speech))]
+    fn conclude<W: Sink>(&mut self, writer: &mut W, tally: &mut Tally) -> Result<(), StreamFault> {
+        if self.has_left {
+            return Ok(());
+        }
+        let Ok(text) = self.end_text() else {
+            return Err(StreamFault::Memory);
+        };
+        tally.deliver(writer, &text)
+    }
+
+    #[tactic(auto, unfolding(crate::specs::Desk::desk_speech))]
+    fn has_ended(&self) -> bool {
+        self.has_left
     }
 }

@@ -1,13 +1,20 @@
-//! A desk, at which lines of a language are typed until `quit`: bare, behind prompts, or each shown above its reply. A line that begins
-//! with `#` may be the desk's own, for a program that types what stands in files.
+//! The monitor at a desk: lines that are typed until `quit`, and the lines of files that they name, each answered and written at once;
+//! and what the monitor's program does with the words of its command line.
 #![tactic(auto)]
 
-pub use desk::{Attended, Bell, Manner};
-pub use sitting::sit;
+pub use answering::attend;
+pub use desk::Desk;
+pub use files::{FILE_LIMIT, FileTrouble, Files, FilesOf, Filing};
+pub use request::Work;
+pub use session::{hold_session, obey_session};
+pub use writing::Manner;
 
+mod answering;
 mod desk;
+mod file_forms;
+mod files;
 pub mod laws;
-mod role;
-mod sitting;
-mod texts;
+mod request;
+mod session;
+mod trouble;
 mod writing;

@@ -1,551 +1,390 @@
-//! A door is worked at a desk: each line and each block opens or shuts it, and while it is open no line is a command. A test is a
-//! table of texts with what is written for each.
+//! Lines typed at a desk, and the lines of files that a test makes: a test is a table of texts with what is written for each.
 
-ghost use Rattle.std.specs.Prelude.{if◌then◌else◌, codes, not, ◌++◌};
+mod growths;
+mod known;
+mod progress;
+mod sessions;
 
-use lgp_desk::{Attended, Bell, Manner, sit};
-use lgp_scarce::Scarce;
-use lgp_stream::{Answers, FeedOf, LineBytes, SinkOf, StreamFault};
-use std::alloc::{AllocError, Allocator, Global};
+use lgp_desk::{FileTrouble, FilesOf, Filing, Manner, attend};
+use lgp_lab::{FeedOf, FileNames, READS, SinkOf};
+use lgp_monitor::{Progress, Silence};
+use lgp_stream::StreamFault;
+use std::alloc::{Allocator, Global};
 use std::cell::Cell;
 use std::process::Abort;
 
-/// A door, which begins shut.
-#[derive(Drop)]
-struct Door {
-    is_open: bool,
+/// A few files, of which `kept` may be written; how many bytes were to be kept at last.
+#[derive(Clone, Copy, Drop)]
+pub(crate) struct Made<'a> {
+    pub(crate) kept: &'a Cell<usize>,
 }
 
-impl<A: Allocator> Answers<A> for Door {
-    ghost language = { record {
-      reply = λ door line. if door.is_open then codes "? open\n" else codes "shut\n";
-      after = λ door line. record { is_open = not door.is_open };
-      closing = λ door. codes "dark\n";
-    } };
+/// A tape as long as a line has room for, one that is longer by a code, and one of carriage returns.
+const FITTING: [u8; 4090] = [b'f'; 4090];
 
-    fn answer(&mut self, _line: &LineBytes, reply: &mut Vec<u8, A>) -> Result<(), AllocError> {
-        reply.extend_from_slice(if self.is_open {
-            b"? open\n".as_slice()
-        } else {
-            b"shut\n".as_slice()
-        })?;
-        self.is_open = !self.is_open;
-        Ok(())
-    }
+const LONGER: [u8; 4091] = [b'f'; 4091];
 
-    fn close(&mut self, reply: &mut Vec<u8, A>) -> Result<(), AllocError> {
-        reply.extend_from_slice(b"dark\n")
+const RETURNS: [u8; 1023] = [b'\r'; 1023];
+
+/// The bytes of a file of lines.
+fn lines_of(name: &str) -> Option<&'static [u8]> {
+    if name == "two lines" {
+        return Some(b"put 0000 = 1\nwords 0000 1");
     }
+    if name == "outer" {
+        return Some(b"put 0001 = 1\r\ndo two lines\nwords 0001 1\nfoo\n");
+    }
+    if name == "itself" {
+        return Some(b"do itself\n");
+    }
+    if name == "naming" {
+        return Some(
+            b"foo\nsource program\nrestore torn\ntape torn\narchive torn\nsource faulty\nbar\n",
+        );
+    }
+    if name == "leaving" {
+        return Some(b"do quitting\nwords 0000 1\n");
+    }
+    if name == "quitting" {
+        return Some(b"quit\nwords 0000 1\n");
+    }
+    if name == "opening" {
+        return Some(b"source\n start z\n");
+    }
+    None
 }
 
-impl Attended for Door {
-    ghost takes_commands = { λ door. not door.is_open };
-
-    ghost prompt = { λ door. if door.is_open then codes "in> " else codes "out> " };
-
-    ghost blocks = { record {
-      reply = λ door block. block.kind ++ (codes ": " ++ block.text);
-      after = λ door block. record { is_open = not door.is_open };
-    } };
-
-    fn takes_commands(&self) -> bool {
-        !self.is_open
+/// The bytes of a file of another kind.
+fn text_of(name: &str) -> Option<&'static [u8]> {
+    if name == "empty" {
+        return Some(b"");
     }
-
-    fn push_prompt<A: Allocator>(&self, text: &mut Vec<u8, A>) -> Result<(), AllocError> {
-        text.extend_from_slice(if self.is_open {
-            b"in> ".as_slice()
-        } else {
-            b"out> ".as_slice()
-        })
+    if name == "program" {
+        return Some(b"start z\n end start");
     }
-
-    fn answer_block<A: Allocator>(
-        &mut self,
-        kind: &[u8],
-        text: &[u8],
-        reply: &mut Vec<u8, A>,
-    ) -> Result<(), AllocError> {
-        self.is_open = !self.is_open;
-        reply.extend_from_slice(kind)?;
-        reply.extend_from_slice(b": ")?;
-        reply.extend_from_slice(text)
+    if name == "faulty" {
+        return Some(b" foo\n");
     }
+    if name == "pointed" {
+        return Some(b" z\n.\n z\n");
+    }
+    if name == "tape" {
+        return Some(b"12[16]\n3'");
+    }
+    if name == "torn" {
+        return Some(b"12A");
+    }
+    if name == "later" {
+        return Some(b"12\n[16]\n3A");
+    }
+    if name == "strange" {
+        return Some(b"12@");
+    }
+    if name == "drum" {
+        return Some(b"0100 00000004\r\n0101 00000008");
+    }
+    None
 }
 
-/// What a bell was told: whether the desk was left, how often it heard of a line, and what it heard last.
-#[derive(Clone, Copy, Debug, PartialEq, Eq)]
-struct Heard {
-    rang: bool,
-    count: u64,
-    takes_commands: bool,
-    was_refused: bool,
+/// The bytes of a long file.
+fn long_text_of(name: &str) -> Option<&'static [u8]> {
+    if name == "fitting" {
+        return Some(&FITTING);
+    }
+    if name == "longer" {
+        return Some(&LONGER);
+    }
+    if name == "returns" {
+        return Some(&RETURNS);
+    }
+    None
 }
 
-/// Nothing heard yet.
-fn nothing_heard() -> Cell<Heard> {
-    Cell::new(Heard {
-        rang: false,
-        count: 0,
-        takes_commands: false,
-        was_refused: false,
-    })
-}
+impl Filing for Made<'_> {
+    type Reader = FeedOf<&'static [u8]>;
 
-/// A bell that remembers what it was told.
-#[derive(Drop)]
-struct Remembering<'a> {
-    heard: &'a Cell<Heard>,
-}
-
-impl Bell for Remembering<'_> {
-    fn ring(&self) {
-        let heard = self.heard.get();
-        self.heard.set(Heard {
-            rang: true,
-            ..heard
-        });
+    fn open(&self, name: &str) -> Option<FeedOf<&'static [u8]>> {
+        let text = match (lines_of(name), text_of(name)) {
+            (Some(text), _) | (None, Some(text)) => text,
+            (None, None) => long_text_of(name)?,
+        };
+        Some(FeedOf::new(text, READS))
     }
 
-    fn heard(&self, takes_commands: bool, was_refused: bool) {
-        let heard = self.heard.get();
-        self.heard.set(Heard {
-            rang: heard.rang,
-            count: heard.count.saturating_add(1),
-            takes_commands,
-            was_refused,
-        });
+    fn keep(&self, name: &str, text: &[u8]) -> bool {
+        self.kept.set(text.len());
+        name == "kept"
     }
 }
 
-/// Typed lines, what is written for them, how many replies begin with a question mark, and whether the bell rang.
-type Row = (Manner, &'static [u8], &'static [u8], u64, bool);
-
-const ROWS: [Row; 11] = [
-    (
-        Manner::Bare,
-        b"push\npull\n",
-        b"shut\n? open\ndark\n",
-        1,
-        false,
-    ),
-    // Behind quit nothing is answered, the end included.
-    (
-        Manner::Bare,
-        b"push\npull\n quit  \npush\n",
-        b"shut\n? open\n",
-        1,
-        true,
-    ),
-    // Where no line is a command, quit is a line as others; and with more words it is none that leaves.
-    (
-        Manner::Bare,
-        b"push\nquit\nquit now\n",
-        b"shut\n? open\nshut\ndark\n",
-        1,
-        false,
-    ),
-    (
-        Manner::Prompting,
-        b"push\npull\n",
-        b"out> shut\nin> ? open\nout> dark\n\n",
-        1,
-        false,
-    ),
-    (Manner::Prompting, b"quit", b"out> ", 0, true),
-    (Manner::Prompting, b"", b"out> dark\n\n", 0, false),
-    (
-        Manner::PromptingBehindFirst,
-        b"push\npull\n",
-        b"shut\nin> ? open\nout> dark\n\n",
-        1,
-        false,
-    ),
-    (Manner::PromptingBehindFirst, b"quit", b"", 0, true),
-    (Manner::PromptingBehindFirst, b"", b"dark\n\n", 0, false),
-    (
-        Manner::Echoing,
-        b"push\n pull \r\n\nend",
-        b"> push\nshut\n?  pull \n? open\n> \nshut\n? end\n? open\ndark\n",
-        2,
-        false,
-    ),
-    (Manner::Echoing, b"quit\npush\n", b"> quit\n", 0, true),
-];
-
-/// Lines that come from a file, and behind them one that was typed.
-const NOTED: &[u8] = b"# line 58 of demo.txt\npush\npull\n#\npush\n";
-
-const NOTE_ROWS: [Row; 11] = [
-    (
-        Manner::Bare,
-        NOTED,
-        b"shut\n? open\n        line 58 of demo.txt\nshut\ndark\n",
-        1,
-        false,
-    ),
-    (
-        Manner::Prompting,
-        NOTED,
-        b"out> shut\n? open\n        line 58 of demo.txt\nout> shut\nin> dark\n\n",
-        1,
-        false,
-    ),
-    (
-        Manner::Echoing,
-        NOTED,
-        b"> push\nshut\n? pull\n? open\n        line 58 of demo.txt\n> push\nshut\ndark\n",
-        1,
-        false,
-    ),
-    // In front of the first reply no prompt stands, and one where the note ends.
-    (
-        Manner::PromptingBehindFirst,
-        NOTED,
-        b"shut\n? open\n        line 58 of demo.txt\nout> shut\nin> dark\n\n",
-        1,
-        false,
-    ),
-    (
-        Manner::PromptingBehindFirst,
-        b"#\n",
-        b"out> dark\n\n",
-        0,
-        false,
-    ),
-    // At the end no line feed stands where no prompt does.
-    (
-        Manner::Prompting,
-        b"# a\npush\n",
-        b"out> shut\ndark\n",
-        0,
-        false,
-    ),
-    // Blanks behind it make no note.
-    (
-        Manner::Prompting,
-        b"# a\n#   \n#\n",
-        b"out> out> out> dark\n\n",
-        0,
-        false,
-    ),
-    // The last note counts.
-    (
-        Manner::Bare,
-        b"# a\n#  b \npush\npull\n# \npush\npull\n",
-        b"shut\n? open\n         b \nshut\n? open\ndark\n",
-        2,
-        false,
-    ),
-    // These are lines of the language where lines are commands.
-    (
-        Manner::Bare,
-        b"#x\npull\n#<\npull\n#>\npull\n#.\npull\n # a\n",
-        b"shut\n? open\nshut\n? open\nshut\n? open\nshut\n? open\nshut\ndark\n",
-        4,
-        false,
-    ),
-    // And these where none is.
-    (
-        Manner::Bare,
-        b"push\n# a\npush\n#> a\npush\n#< a\npush\n#\n",
-        b"shut\n? open\nshut\n? open\nshut\n? open\nshut\n? open\ndark\n",
-        4,
-        false,
-    ),
-    (
-        Manner::Prompting,
-        b"quit\n# a\n#> b\n#< c\n#.\n#\n",
-        b"out> ",
-        0,
-        true,
-    ),
-];
-
-/// Replies that lines have.
-const GIVEN: &[u8] = b"#> well\n#> ? no\n# a\n#> \n#>  ? so\n#> ? 13 NoFile demo.txt\n";
-
-const GIVEN_ROWS: [Row; 3] = [
-    (
-        Manner::Bare,
-        GIVEN,
-        b"well\n? no\n\n ? so\n? 13 NoFile demo.txt\n        a\ndark\n",
-        2,
-        false,
-    ),
-    (
-        Manner::Prompting,
-        GIVEN,
-        b"out> well\nout> ? no\nout> \n ? so\n? 13 NoFile demo.txt\n        a\ndark\n",
-        2,
-        false,
-    ),
-    (
-        Manner::Echoing,
-        GIVEN,
-        b"well\n? no\n\n ? so\n? 13 NoFile demo.txt\n        a\ndark\n",
-        2,
-        false,
-    ),
-];
-
-/// A block that has lines of every kind, and a line behind it.
-const BLOCK: &[u8] = b"#< paint\nred\nquit\n# a\n#> b\n#< c\n\n#. \n#.\npull\n";
-
-const BLOCK_ROWS: [Row; 9] = [
-    (
-        Manner::Bare,
-        BLOCK,
-        b"paint: red\nquit\n# a\n#> b\n#< c\n\n#. \n? open\ndark\n",
-        1,
-        false,
-    ),
-    (
-        Manner::Prompting,
-        BLOCK,
-        b"out> paint: red\nquit\n# a\n#> b\n#< c\n\n#. \nin> ? open\nout> dark\n\n",
-        1,
-        false,
-    ),
-    (
-        Manner::Echoing,
-        BLOCK,
-        b"> paint\npaint: red\nquit\n# a\n#> b\n#< c\n\n#. \n? pull\n? open\ndark\n",
-        1,
-        false,
-    ),
-    // A note stands behind the reply to a block.
-    (
-        Manner::Prompting,
-        b"# a\n#< ?\nx\n#.\npull\n#\n",
-        b"out> ?: x\n        a\n? open\n        a\nout> dark\n\n",
-        2,
-        false,
-    ),
-    // What a block is for stands above its reply where lines do, behind the mark that the reply asks for.
-    (
-        Manner::Echoing,
-        b"# a\n#< ? b\nx\n#.\n",
-        b"? ? b\n? b: x\n        a\ndark\n",
-        1,
-        false,
-    ),
-    // A kind has exactly the bytes behind the space, and a block may have no lines.
-    (Manner::Bare, b"#<  a \n#.\n", b" a : dark\n", 0, false),
-    // A block is not handed over at the end.
-    (
-        Manner::Bare,
-        b"#< paint\nred\n",
-        b"? 1 Form: no line #. ends the block\ndark\n",
-        1,
-        false,
-    ),
-    (
-        Manner::Prompting,
-        b"#< paint\nquit\n",
-        b"out> ? 1 Form: no line #. ends the block\ndark\n\n",
-        1,
-        false,
-    ),
-    (
-        Manner::Echoing,
-        b"# a\n#< paint",
-        b"? 1 Form: no line #. ends the block\ndark\n",
-        1,
-        false,
-    ),
-];
-
-/// Answers typed lines; what is written stands behind `written`.
-fn run<A: Allocator + Copy>(
+/// Answers typed lines at a desk with these files; what is written comes after `written`.
+pub(crate) fn answer<A: Allocator + Copy, F: Filing + Drop, P: Progress>(
     alloc: A,
     manner: Manner,
-    heard: &Cell<Heard>,
+    filing: F,
+    progress: P,
     typed: &[u8],
     written: &mut Vec<u8>,
 ) -> Result<u64, StreamFault> {
-    let mut feed = FeedOf::new(typed, 100);
-    let mut sink = SinkOf::new(written);
-    sit(
+    let mut feed = FeedOf::new(typed, READS);
+    let mut sink = SinkOf::new(&mut *written);
+    let names = FileNames::new(alloc);
+    attend(
         alloc,
-        Door { is_open: false },
         manner,
-        Remembering { heard },
+        names.names(),
+        FilesOf::new(filing),
+        progress,
         &mut feed,
         &mut sink,
     )
 }
 
+/// The same with a few files.
+pub(crate) fn run<A: Allocator + Copy>(
+    alloc: A,
+    manner: Manner,
+    typed: &[u8],
+    written: &mut Vec<u8>,
+) -> Result<u64, StreamFault> {
+    let kept = Cell::new(0);
+    answer(alloc, manner, Made { kept: &kept }, Silence, typed, written)
+}
+
+/// Typed lines, how they are written, what is written, and how many replies begin with a question mark.
+type Row = (Manner, &'static [u8], &'static [u8], u64);
+
 /// Expects what is written for typed lines.
 fn expect(rt: &impl Abort, alloc: Global, row: &Row) {
     let mut written = Vec::new(alloc);
-    let heard = nothing_heard();
-    let answer = run(alloc, row.0, &heard, row.1, &mut written);
-    assert_eq!(rt;
-        (answer, heard.get().rang, written.as_slice()),
-        (Ok(row.3), row.4, row.2)
-    );
+    let answer = run(alloc, row.0, row.1, &mut written);
+    assert_eq!(rt; (answer, written.as_slice()), (Ok(row.3), row.2));
 }
 
-#[test]
-fn lines_are_answered_until_quit(rt: HostRuntime) {
-    for row in &ROWS {
-        expect(&rt, rt.alloc(), row);
-    }
-}
-
-#[test]
-fn a_note_stands_behind_refusals(rt: HostRuntime) {
-    for row in &NOTE_ROWS {
-        expect(&rt, rt.alloc(), row);
-    }
-}
-
-#[test]
-fn a_line_gives_its_reply(rt: HostRuntime) {
-    for row in &GIVEN_ROWS {
-        expect(&rt, rt.alloc(), row);
-    }
-}
-
-#[test]
-fn a_block_is_handed_over(rt: HostRuntime) {
-    for row in &BLOCK_ROWS {
-        expect(&rt, rt.alloc(), row);
-    }
-}
-
-/// Typed lines, how often a bell hears of them, and what it hears last: whether a command comes next, and whether the reply is a
-/// refusal.
-const HEARD_ROWS: [(&[u8], u64, bool, bool); 11] = [
-    (b"", 1, true, false),
-    (b"push\n", 2, false, false),
-    (b"push\npull\n", 3, true, true),
-    (b"#> ? a\n", 2, true, true),
-    (b"#> ? a\n# b\n", 3, true, false),
-    (b"#> ? a\n# b\n#\n", 4, true, false),
-    (b"#> ? a\n#< ?\n", 3, false, false),
-    (b"#< ?\nb\n", 3, false, false),
-    (b"push\npull\n#< ?\nb\n#.\n", 6, false, true),
-    (b"#< a\n#.\n", 3, false, false),
-    (b"#> ? a\nquit\npush\n", 2, true, true),
+const LINES: [Row; 11] = [
+    // Counter and status come before each line but those of a source, in which quit is a line as others.
+    (
+        Manner::Prompting,
+        b"put 0003 u 0102\ngo 0003\nrun 1\nsource\nquit z\n end\n.\nlabels\nquit\nlabels\n",
+        b"0000 halted operator> ok\n0000 halted operator> live\nlive 8 dead 0\nlive\nlive\nlive\norders 1 halted step\nlive\nlive\n0003 going> ran 1 limit\n0102 going> source> source> source> cells 1 start none\n0102 going> quit 0000\n0102 going> ",
+        0,
+    ),
+    // Which rest it is: after an overflow, an input without a tape, one operation and a stop, and an order at the register.
+    (
+        Manner::Prompting,
+        b"put 0000 d 0010\nput 0001 i\npress start\nrun 9\npress start\nrun 9\npress oneop\npress compute\npress start\nrun 9\npress execute\nquit\n",
+        b"0000 halted operator> ok\n0000 halted operator> ok\n0000 halted operator> live\n0000 going> ran 1 rest\n0001 halted overflow> live\n0001 going> ran 1 rest\n0002 waiting> live\n0002 waiting> live\n0002 halted step> live\n0002 going> ran 1 rest\n0003 halted stop> live\n0003 executing> ",
+        0,
+    ),
+    // After a rule the machine is still going; a reader that was started.
+    (
+        Manner::Prompting,
+        b"put 0000 u 0001\nput 0001 i\nbreak 0001\npress start\nrun 9\nrun 1\npress read\nquit\n",
+        b"0000 halted operator> ok\n0000 halted operator> ok\n0000 halted operator> rule 0\n0000 halted operator> live\n0000 going> ran 1 rule 0\n0001 going> ran 1 rest\n0002 waiting> live\n0002 reading> ",
+        0,
+    ),
+    (
+        Manner::Prompting,
+        b"panels\n",
+        b"0000 halted operator> ? 1 Form: there is no such command, help lists them\n0000 halted operator> \n",
+        1,
+    ),
+    (Manner::Prompting, b"quit", b"0000 halted operator> ", 0),
+    (Manner::Prompting, b"", b"0000 halted operator> \n", 0),
+    (
+        Manner::Echoing,
+        b"put 0000 = 1\npanels\n quit \nlabels\n",
+        b"> put 0000 = 1\nok\n? panels\n? 1 Form: there is no such command, help lists them\n>  quit \n",
+        1,
+    ),
+    // It stands for no line, and with more words it is none that leaves.
+    (
+        Manner::Bare,
+        b"quit now\ntranscript\n quit\ntranscript\n",
+        b"? 1 Form: quit, which ends the program lgp_monitor\nquit now\n",
+        1,
+    ),
+    // A line that begins with a number sign is no command.
+    (
+        Manner::Bare,
+        b"# a\ntranscript\n",
+        b"? 1 Form: there is no such command, help lists them\n# a\n",
+        1,
+    ),
+    // In a source these are the source's.
+    (
+        Manner::Bare,
+        b"source\ndo two lines\n end\n.\n",
+        b"? 9 Faults\nline 1 UnknownOrder\n        do two lines\n           ^^^\n",
+        1,
+    ),
+    (
+        Manner::Bare,
+        b"\n; do two lines\ndo\n",
+        b"? 1 Form: do FILE, in the program lgp_monitor\n",
+        1,
+    ),
 ];
 
-/// Whether a bell hears so of typed lines.
-fn is_heard_so(alloc: Global, row: &(&[u8], u64, bool, bool)) -> bool {
-    let mut written = Vec::new(alloc);
-    let heard = nothing_heard();
-    let answer = run(alloc, Manner::Bare, &heard, row.0, &mut written);
-    let heard = heard.get();
-    answer.is_ok()
-        && heard.count == row.1
-        && heard.takes_commands == row.2
-        && heard.was_refused == row.3
+#[test]
+fn lines_at_a_desk_are_answered(rt: HostRuntime) {
+    for row in &LINES {
+        expect(&rt, rt.alloc(), row);
+    }
 }
 
+const NAMING: [Row; 15] = [
+    (
+        Manner::Bare,
+        b"do two lines\ntranscript\n",
+        b"ok\n0000 00000002\nput 0000 00000002\nwords 0000 1\n",
+        0,
+    ),
+    (
+        Manner::Prompting,
+        b"  do   two lines  \r\nquit",
+        b"0000 halted operator> ok\n0000 00000002\n0000 halted operator> ",
+        0,
+    ),
+    (
+        Manner::Echoing,
+        b"do outer\nfoo\n",
+        b"> put 0001 = 1\nok\n> put 0000 = 1\nok\n> words 0000 1\n0000 00000002\n> words 0001 1\n0001 00000002\n? foo\n? 1 Form: there is no such command, help lists them\n        line 4 of outer\n? foo\n? 1 Form: there is no such command, help lists them\n",
+        2,
+    ),
+    (
+        Manner::Prompting,
+        b"do empty\n",
+        b"0000 halted operator> 0000 halted operator> \n",
+        0,
+    ),
+    (
+        Manner::Bare,
+        b"do none\ndo \xff\nlist\n",
+        b"? 13 File none: it cannot be opened\n? 13 File \xff: this is no name of a file\n? 10 NoImage: no source has assembled yet\n",
+        3,
+    ),
+    (
+        Manner::Bare,
+        b"do itself\n",
+        b"? 13 File itself: 16 files are open within one another\n        line 1 of itself\n",
+        1,
+    ),
+    // What leaves in a file leaves all.
+    (
+        Manner::Prompting,
+        b"do leaving\nlabels\n",
+        b"0000 halted operator> ",
+        0,
+    ),
+    // A source may begin in a file and end at the keyboard.
+    (
+        Manner::Prompting,
+        b"do opening\n end start\n.\n",
+        b"0000 halted operator> source> source> ? 9 Faults\nline 1 UnknownOrder\n         start z\n         ^^^^^\nline 2 UnknownName\n         end start\n             ^^^^^\n0000 halted operator> \n",
+        1,
+    ),
+    (
+        Manner::Bare,
+        b"source program\ntranscript\nsource pointed\nsource empty\n",
+        b"cells 1 start 0000\nsource\nstart z\n end start\n.\n? 13 File pointed: a line that is a point alone would end the source\n? 9 Faults\nline 1 NoEnd\n        empty\n",
+        2,
+    ),
+    // A refusal says where its line comes from.
+    (
+        Manner::Bare,
+        b"do naming\nsource faulty\n",
+        b"? 1 Form: there is no such command, help lists them\n        line 1 of naming\ncells 1 start 0000\n? 1 Form: line 1 is no line of a dump\n        torn, line 3 of naming\n? 13 File torn: the byte at place 2, counted from 0, in line 1, begins no sign of a tape\n        line 4 of naming\nok 3\n? 9 Faults\nline 1 UnknownOrder\n         foo\n         ^^^\nline 2 NoEnd\n        faulty, line 6 of naming\n? 1 Form: there is no such command, help lists them\n        line 7 of naming\n? 9 Faults\nline 1 UnknownOrder\n         foo\n         ^^^\nline 2 NoEnd\n        faulty\n",
+        6,
+    ),
+    (
+        Manner::Bare,
+        b"tape tape\ntape torn\ntape later\narchive torn\narchive strange\ntranscript\n",
+        b"ok 5\n? 13 File torn: the byte at place 2, counted from 0, in line 1, begins no sign of a tape\n? 13 File later: the byte at place 9, counted from 0, in line 3, begins no sign of a tape\nok 3\n? 13 File strange: the byte at place 2, counted from 0, in line 1, begins no sign of a tape\nmount 12[16]3'\nmount 12a\n",
+        3,
+    ),
+    (
+        Manner::Echoing,
+        b"put 0100 = 1\nrestore drum\nwords 0100 2\nrestore two lines\ntranscript\n",
+        b"> put 0100 = 1\nok\n> restore drum\nrestored 2\n> words 0100 2\n0100 00000004\n0101 00000008\n? restore two lines\n? 1 Form: line 1 is no line of a dump\n        two lines\n> transcript\nput 0100 00000002\nput 0100 00000004\nput 0101 00000008\nwords 0100 2\n",
+        1,
+    ),
+    (
+        Manner::Bare,
+        b"put 0000 = 1\nrestore empty\nwords 0000 1\nrestore none\n",
+        b"ok\nrestored 1\n0000 00000000\n? 13 File none: it cannot be opened\n",
+        1,
+    ),
+    // At work neither the drum is restored nor a tape is mounted.
+    (
+        Manner::Bare,
+        b"press start\nrestore drum\ntape tape\ntape longer\n",
+        b"live\n? 2 Moving: the machine is at work, press manual halts it\n        drum\n? 2 Moving: the machine is at work, press manual halts it\n        tape\n? 2 Moving: the machine is at work, press manual halts it\n        longer\n",
+        3,
+    ),
+    // A tape for which a line has room, one that is longer, and one whose text is: their names are in the transcript.
+    (
+        Manner::Echoing,
+        b"tape longer\narchive returns\nnew\ntape  longer \ntranscript\n",
+        b"> tape longer\nok 4091\n> tape returns\nok 1023\n> new\nnew\n> tape longer\nok 4091\n> transcript\ntape longer\n",
+        0,
+    ),
+];
+
 #[test]
-fn the_bell_hears_of_each_line(rt: HostRuntime) {
-    let wrong = HEARD_ROWS
-        .iter()
-        .position(|row| !is_heard_so(rt.alloc(), row));
-    assert_eq!(rt; wrong, None);
+fn files_are_named(rt: HostRuntime) {
+    for row in &NAMING {
+        expect(&rt, rt.alloc(), row);
+    }
 }
 
-/// Of a line of 4,098 bytes what is shown ends in two points.
+/// How many codes are mounted by a line, as its reply says.
 #[test]
-fn a_long_line_is_shown_by_its_front(rt: HostRuntime) {
-    let heard = nothing_heard();
+fn a_tape_that_fits_is_mounted_by_its_line(rt: HostRuntime) {
     let mut written = Vec::new(rt.alloc());
     let answer = run(
         rt.alloc(),
-        Manner::Echoing,
-        &heard,
-        &[b'x'; 4098],
+        Manner::Bare,
+        b"tape fitting\ntranscript\n",
         &mut written,
     );
-    let text = written.as_slice();
+    let is_line = written.as_slice().starts_with(b"ok 4090\nmount ffff");
     assert_eq!(rt;
-        (
-            answer,
-            text.len(),
-            text.starts_with(b"> xx"),
-            text.ends_with(b"xx ..\nshut\ndark\n")
-        ),
-        (Ok(0), 4112, true, true)
+        (answer, is_line, written.len()),
+        (Ok(0), true, 8 + 6 + 4090 + 1)
     );
 }
 
-/// Of a line of a block of 4,098 bytes the front is handed over, and a byte 0.
+/// What is written where a name is kept, and how many bytes are.
+fn saved(alloc: Global, typed: &'static [u8], written: &mut Vec<u8>) -> usize {
+    let kept = Cell::new(0);
+    let _ = answer(
+        alloc,
+        Manner::Bare,
+        Made { kept: &kept },
+        Silence,
+        typed,
+        written,
+    );
+    kept.get()
+}
+
 #[test]
-fn a_long_line_is_marked_in_a_block(rt: HostRuntime) {
-    let mut typed = Vec::new(rt.alloc());
+fn the_drum_is_kept(rt: HostRuntime) {
     let mut written = Vec::new(rt.alloc());
-    let heard = nothing_heard();
-    let made = push_long_block(&mut typed);
-    let answer = run(rt.alloc(), Manner::Bare, &heard, &typed, &mut written);
-    let text = written.as_slice();
-    assert_eq!(rt;
-        (
-            made.is_ok(),
-            answer,
-            text.len(),
-            text.starts_with(b"a: xx"),
-            text.ends_with(b"xx\0\nb\ndark\n")
-        ),
-        (true, Ok(0), 4108, true, true)
+    let kept = saved(
+        rt.alloc(),
+        b"put 0100 00000004\nsave kept\npress start\nsave locked\ntranscript\n",
+        &mut written,
     );
+    let wanted =
+        b"ok\nsaved kept\nlive\n? 13 File locked: it cannot be written, and is as it was\nput 0100 00000004\npress start\n";
+    assert_eq!(rt; (kept, written.as_slice()), (14, wanted.as_slice()));
 }
 
-/// A block with a line of 4,098 bytes and one behind it.
-fn push_long_block(typed: &mut Vec<u8>) -> Result<(), AllocError> {
-    typed.extend_from_slice(b"#< a\n")?;
-    typed.extend_from_slice(&[b'x'; 4098])?;
-    typed.extend_from_slice(b"\nb\n#.\n")
-}
-
-/// Lines of every kind.
-const ALL_LINES: &[u8] = b"# a\npush\npull\n#> ? b\n#< c\nd\n#.\npull\n#\n";
-
-/// More growths than they take.
-const MOST: u64 = 200;
-
-/// Answers lines with the nth growth refused: whether it was, and whether the end was that of a refused or of a whole run.
-fn ended(scarce: &Scarce<Global>, global: Global, manner: Manner, nth: u64) -> (bool, bool) {
-    let mut written = Vec::new(global);
-    let heard = nothing_heard();
-    scarce.refuse(nth);
-    let outcome = run(scarce, manner, &heard, ALL_LINES, &mut written);
-    let refused = scarce.was_refused();
-    let wanted = if refused {
-        Err(StreamFault::Memory)
-    } else {
-        Ok(3)
-    };
-    (refused, outcome == wanted)
-}
-
-/// How many growths there are, where each that is refused in turn ends the lines for want of memory.
-fn refusals(scarce: &Scarce<Global>, global: Global, manner: Manner) -> Option<u64> {
-    for nth in 1..MOST {
-        match ended(scarce, global, manner, nth) {
-            (true, true) => {}
-            (false, true) => return Some(nth - 1),
-            _ => return None,
-        }
-    }
-    None
-}
-
+/// What a file is refused for has a name of its own.
 #[test]
-fn each_growth_is_refused_in_turn(rt: HostRuntime) {
-    let scarce = Scarce::new(rt.alloc());
-    let refused = [
-        refusals(&scarce, rt.alloc(), Manner::Bare),
-        refusals(&scarce, rt.alloc(), Manner::Prompting),
-        refusals(&scarce, rt.alloc(), Manner::Echoing),
-    ];
-    let all = refused
-        .iter()
-        .all(|count| count.is_some_and(|count| count > 2));
-    assert!(rt; all && scarce.blocks_out() == 0, "{refused:?}");
+fn troubles_are_distinguished(rt: HostRuntime) {
+    let bad = FileTrouble::BadSign(2, 1);
+    assert!(rt; bad != FileTrouble::BadSign(1, 2) && FileTrouble::NotRead != FileTrouble::TooLong);
 }

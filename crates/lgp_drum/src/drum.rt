@@ -29,7 +29,7 @@ impl<A: Allocator> Model for Drum<A> {
     ghost invariant = { λ drum. vec_len drum.cells ≡ 4096 };
 }
 
-/// Where the cell of an address stands.
+/// Where the cell of an address is.
 fn place(address: Address) -> usize
     ensures place { result ≡ place_of address }
     ensures within { result < 4096 }

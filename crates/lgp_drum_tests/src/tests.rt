@@ -1,7 +1,7 @@
 //! The drum by addresses, by tracks and under its heads.
 
 use lgp_drum::Drum;
-use lgp_scarce::Scarce;
+use lgp_limited::Limited;
 use lgp_word::{Address, Word};
 use std::alloc::Allocator;
 use std::test::Fail;
@@ -221,16 +221,16 @@ fn word_of_new<A: Allocator + Copy>(alloc: A) -> Option<u32> {
 }
 
 /// Makes a drum with the nth growth refused: its word at 0050, and whether a growth was refused.
-fn made<B: Allocator>(scarce: &Scarce<B>, nth: u64) -> (Option<u32>, bool) {
-    scarce.refuse(nth);
-    (word_of_new(scarce), scarce.was_refused())
+fn made<B: Allocator>(limited: &Limited<B>, nth: u64) -> (Option<u32>, bool) {
+    limited.refuse(nth);
+    (word_of_new(limited), limited.was_refused())
 }
 
 #[test]
 fn a_drum_without_room_is_refused(rt: HostRuntime) -> Result<(), Fail> {
-    let scarce = Scarce::new(rt.alloc());
+    let limited = Limited::new(rt.alloc());
     assert_eq!(rt;
-        ([made(&scarce, 1), made(&scarce, 2)], scarce.blocks_out()),
+        ([made(&limited, 1), made(&limited, 2)], limited.blocks_out()),
         ([(None, true), (Some(0), false)], 0)
     );
     Ok(())
@@ -244,34 +244,34 @@ fn word_of_copy<A: Allocator + Clone>(drum: &Drum<A>) -> Option<u32> {
 
 /// Copies a drum with the nth growth refused: the copy's word at 0050, whether a growth was refused, and the drum's own word.
 fn copied<B: Allocator>(
-    scarce: &Scarce<B>,
-    drum: &Drum<&Scarce<B>>,
+    limited: &Limited<B>,
+    drum: &Drum<&Limited<B>>,
     nth: u64,
 ) -> (Option<u32>, bool, Option<u32>) {
-    scarce.refuse(nth);
+    limited.refuse(nth);
     (
         word_of_copy(drum),
-        scarce.was_refused(),
+        limited.was_refused(),
         bits_at(drum, b"0050"),
     )
 }
 
 /// Copies a drum with its first growth refused, and then with none.
 fn copied_twice<B: Allocator>(
-    scarce: &Scarce<B>,
-    drum: &mut Drum<&Scarce<B>>,
+    limited: &Limited<B>,
+    drum: &mut Drum<&Limited<B>>,
 ) -> [(Option<u32>, bool, Option<u32>); 2] {
     put(drum, b"0050", 6);
-    [copied(scarce, drum, 1), copied(scarce, drum, 2)]
+    [copied(limited, drum, 1), copied(limited, drum, 2)]
 }
 
 #[test]
 fn a_copy_without_room_is_refused(rt: HostRuntime) -> Result<(), Fail> {
-    let scarce = Scarce::new(rt.alloc());
-    let mut drum = Drum::new(&scarce)?;
-    let before = scarce.blocks_out();
+    let limited = Limited::new(rt.alloc());
+    let mut drum = Drum::new(&limited)?;
+    let before = limited.blocks_out();
     assert_eq!(rt;
-        (copied_twice(&scarce, &mut drum), scarce.blocks_out()),
+        (copied_twice(&limited, &mut drum), limited.blocks_out()),
         ([(None, true, Some(6)), (Some(6), false, Some(6))], before)
     );
     Ok(())

@@ -33,12 +33,12 @@ joined-short place (Some codes) (Ok more) n one short = omega (arith, length-app
 joined-short place (Some codes) (Err bad) n one short = tt
 
 -- a group, or a sign by itself
-either-short : (t : Bool) (place n : ℕ) (group sign : Option (List ℕ)) (behind_group behind_sign : Result (List ℕ) ℕ)
-    → One group → One sign → IsShort behind_group n → IsShort behind_sign (suc (suc (suc n)))
-    → IsShort (cond t (joined place group behind_group) (joined place sign behind_sign)) (suc (suc (suc (suc n))))
-either-short true place n group sign behind_group behind_sign one_group one_sign short_group short_sign =
-    longer (joined place group behind_group) (suc n) (suc (suc (suc (suc n)))) (omega arith) (joined-short _ _ _ n one_group short_group)
-either-short false place n group sign behind_group behind_sign one_group one_sign short_group short_sign =
+either-short : (t : Bool) (place n : ℕ) (group sign : Option (List ℕ)) (after_group after_sign : Result (List ℕ) ℕ)
+    → One group → One sign → IsShort after_group n → IsShort after_sign (suc (suc (suc n)))
+    → IsShort (cond t (joined place group after_group) (joined place sign after_sign)) (suc (suc (suc (suc n))))
+either-short true place n group sign after_group after_sign one_group one_sign short_group short_sign =
+    longer (joined place group after_group) (suc n) (suc (suc (suc (suc n)))) (omega arith) (joined-short _ _ _ n one_group short_group)
+either-short false place n group sign after_group after_sign one_group one_sign short_group short_sign =
     joined-short _ _ _ _ one_sign short_sign
 
 text_from-short : (place : ℕ) (text : List ℕ) → IsShort (text_from place text) (length text)

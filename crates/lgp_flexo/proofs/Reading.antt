@@ -54,7 +54,7 @@ read_from-piece : (form : Form) (place : ℕ) (text : List ℕ) → 0 < length t
 read_from-piece Own place text some = text_from-piece place text some
 read_from-piece Archived place text some = archived_from-piece place text some
 
--- behind its end a text stands for nothing
+-- after its end a text stands for nothing
 pub rest_from_end : (form : Form) (text : List ℕ) (place : ℕ) → length text ≤ place → rest_from form text place ≡ Ok []
 rest_from_end form text place past = ap (read_from form place) (drop_of_length-le text past) ∙ read_from-nothing form place
 

@@ -22,7 +22,7 @@ digit_not_skipped value =
 pub digit_enters : (value : ℕ) → enters (digit_code value) ≡ true
 digit_enters value = rw (digit_not_skipped _, digit_is_no_stop _) refl
 
--- a digit entered at the right-hand end: only the last 32 bits of what stood before matter
+-- a digit entered at the right-hand end: only the last 32 bits of what was there before matter
 digit_entered : (value accumulator before : ℕ) → accumulator % 2 ^ 32 ≡ before % 2 ^ 32
     → accumulator_after false accumulator (digit_code value) % 2 ^ 32 ≡ (16 * before + value) % 2 ^ 32
 digit_entered value accumulator before is = omega arith

@@ -68,7 +68,7 @@ text_from-sign place sign (a ∷ b ∷ c ∷ rest) no_bracket = rw no_bracket re
 codes_of_sign-written : (code sign : ℕ) → ((eqb sign 10) || (eqb sign 13)) ≡ false → is_piece code (code_at sign) ≡ true → codes_of_sign sign ≡ Some (code ∷ [])
 codes_of_sign-written code sign no_line one = rw no_line (ap (option_map single) (found-code code (code_at sign) one))
 
--- a text reads back: with more behind it, it stands for these codes in front of what that stands for
+-- a text reads back: with more after it, it stands for these codes in front of what that stands for
 abbrev pub ReadsBack : List ℕ → List ℕ → Type 0
 ReadsBack text codes = (following : List ℕ) (place : ℕ) → text_from place (text ++ following) ≡ before codes (text_from (place + length text) following)
 
@@ -90,17 +90,17 @@ ReadsBack-code code small =
     let below : code < 64 = omega arith in
     ReadsBack-piece code (sign_at code) below (all_below-at (λ c. reads_back c (sign_at c)) 64 _ all_read_back below)
 
--- two texts that read back, one behind the other
-pub ReadsBack-append : (text more codes behind : List ℕ) → ReadsBack text codes → ReadsBack more behind → ReadsBack (text ++ more) (codes ++ behind)
-ReadsBack-append text more codes behind first second = λ following place.
+-- two texts that read back, one after the other
+pub ReadsBack-append : (text more codes later : List ℕ) → ReadsBack text codes → ReadsBack more later → ReadsBack (text ++ more) (codes ++ later)
+ReadsBack-append text more codes later first second = λ following place.
     let e : (place + length text) + length more ≡ place + length (text ++ more) = omega (arith, length-append text more) in
     ap (text_from place) (append_assoc text more following)
     ∙ first (more ++ following) place
     ∙ ap (before codes) (second following (place + length text))
     ∙ before-before _ _ _
-    ∙ ap (λ n. before (codes ++ behind) (text_from n following)) e
+    ∙ ap (λ n. before (codes ++ later) (text_from n following)) e
 
--- with nothing behind it
+-- with nothing after it
 pub ReadsBack-whole : (text codes : List ℕ) → ReadsBack text codes → codes_of_text text ≡ Ok codes
 unfolding text_from
 ReadsBack-whole text codes h =

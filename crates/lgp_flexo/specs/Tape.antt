@@ -10,7 +10,7 @@ pub record Tape : Type 0 where
   pub passed : List ℕ
   pub left : List ℕ
 
--- a tape of which so many codes have passed
+-- a tape of which a given number of codes have passed
 abbrev pub tape_at : Bool → List ℕ → ℕ → Tape
 tape_at on codes count = record { on = on; passed = take count codes; left = drop count codes }
 

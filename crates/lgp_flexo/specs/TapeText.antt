@@ -53,7 +53,7 @@ abbrev pub before : List ℕ → Result (List ℕ) ℕ → Result (List ℕ) ℕ
 before codes (Ok following) = Ok (codes ++ following)
 before codes (Err bad) = Err bad
 
--- what stands at a place, in front of what follows; a place where nothing stands for codes is bad
+-- what is at a place, in front of what follows; a place where nothing stands for codes is bad
 abbrev pub joined : ℕ → Option (List ℕ) → Result (List ℕ) ℕ → Result (List ℕ) ℕ
 joined place None following = Err place
 joined place (Some codes) following = before codes following

@@ -16,7 +16,7 @@ pub const TAPE_LIMIT: usize = 1_048_576;
 /// Why a text was not read as a tape.
 #[derive(Debug, Drop, Error)]
 pub enum TextFault {
-    /// At this place, counted in bytes from 0, stands neither a sign nor a group.
+    /// At this place, counted in bytes from 0, is neither a sign nor a group.
     #[error("neither a sign nor a group at byte {0}")]
     BadSign(usize),
     /// The text stands for more codes than a tape takes.

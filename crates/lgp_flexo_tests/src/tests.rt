@@ -73,7 +73,7 @@ fn has_sign(number: u8) -> bool {
     }
 }
 
-/// Whether a number stands in the table.
+/// Whether a number is in the table.
 fn is_in_table(number: u8) -> bool {
     SIGNS.iter().any(|entry| entry.0 == number)
 }
@@ -212,7 +212,7 @@ fn bad_texts_are_refused(rt: HostRuntime) {
     }
 }
 
-/// Whether a tape of so many codes without a sign is written by groups, and its text is read as that tape.
+/// Whether a tape of a given number of codes without a sign is written by groups, and its text is read as that tape.
 fn is_written_and_read(global: Global, count: usize) -> Option<bool> {
     let codes = vec![in global; Code::new(16)?; count].ok()?;
     let text = write_tape_text(global, codes.as_slice()).ok()?;
@@ -304,7 +304,7 @@ fn each_growth_may_be_refused(rt: HostRuntime) -> Result<(), Fail> {
 }
 
 #[test]
-fn a_bad_sign_is_told_without_room(rt: HostRuntime) -> Result<(), Fail> {
+fn a_bad_sign_is_reported_without_room(rt: HostRuntime) -> Result<(), Fail> {
     let heap = LocalHeap::new(rt.alloc(), 1024)?;
     let _filler: Vec<u8, &LocalHeap> = Vec::with_capacity(&heap, 1024)?;
     assert!(rt; matches!(read_tape_text(&heap, b"1A"), Err(TextFault::BadSign(1))));

@@ -25,27 +25,27 @@ abbrev pub without : ℕ → ℕ → List ℕ → List ℕ
 without one other text =
     if (slice_index text 0 == one) || (slice_index text 0 == other) then drop 1 text else text
 
--- what is left of a text behind its sign
-abbrev pub behind_sign : List ℕ → List ℕ
-behind_sign text = without (byte "-") (byte " ") text
+-- what is left of a text after its sign
+abbrev pub after_sign : List ℕ → List ℕ
+after_sign text = without (byte "-") (byte " ") text
 
--- and behind the digit before the point
-abbrev pub behind_whole : List ℕ → List ℕ
-behind_whole text = without (byte "0") (byte "1") (behind_sign text)
+-- and after the digit before the point
+abbrev pub after_whole : List ℕ → List ℕ
+after_whole text = without (byte "0") (byte "1") (after_sign text)
 
 -- the digits past the point
 abbrev pub places : List ℕ → List ℕ
-places text = drop 1 (behind_whole text)
+places text = drop 1 (after_whole text)
 
 -- a text has the form of a fraction
 abbrev pub is_fraction_text : List ℕ → Bool
 is_fraction_text text =
-    (slice_index (behind_whole text) 0 == byte ".") && is_decimal most_places (places text)
+    (slice_index (after_whole text) 0 == byte ".") && is_decimal most_places (places text)
 
 -- what a text stands for in units of its last place, without its sign
 abbrev pub units_of : List ℕ → ℕ
 units_of text =
-    (if slice_index (behind_sign text) 0 == byte "1" then 10 ^ length (places text) else 0)
+    (if slice_index (after_sign text) 0 == byte "1" then 10 ^ length (places text) else 0)
     + decimal_of (places text)
 
 -- the number of steps nearest to what a text stands for

@@ -173,11 +173,11 @@ fn steps_of_text(text: &[u8]) -> Option<i64>
         ≡ (if is_fraction_text text.now then Some (steps_of_text text.now) else None) }
 {
     let unsigned = without(text, b'-', b' ');
-    let behind_whole = without(unsigned, b'0', b'1');
-    if !begins(behind_whole, b'.') {
+    let after_whole = without(unsigned, b'0', b'1');
+    if !begins(after_whole, b'.') {
         return None;
     }
-    let places = behind_first(behind_whole);
+    let places = after_first_byte(after_whole);
     let past_point = read_decimal(places, MOST_PLACES)?;
     let unit = power_of_ten(places.len());
     let whole = if begins(unsigned, b'1') { unit } else { 0 };
@@ -217,7 +217,7 @@ fn begins(text: &[u8], byte: u8) -> bool
 }
 
 /// The text without its first byte.
-fn behind_first(text: &[u8]) -> &[u8]
+fn after_first_byte(text: &[u8]) -> &[u8]
     requires { 0 < length text.now }
     ensures { result.now ≡ drop 1 text.now }
 {
@@ -231,7 +231,7 @@ fn without(text: &[u8], one: u8, other: u8) -> &[u8]
     ensures { result.now ≡ without one other text.now }
 {
     if begins(text, one) || begins(text, other) {
-        behind_first(text)
+        after_first_byte(text)
     } else {
         text
     }

@@ -1,4 +1,4 @@
--- What the latest change says of the word that stands, and of going back.
+-- What the latest change says of the word that is there now, and of going back.
 use Rattle.std.proofs.Common.{◌≡◌, ℕ, Bool, true, false, not, cond, List, [], ◌∷◌, ◌++◌, Option, Some, None, All, IsTrue, refl, sym, ◌∙◌, ap, eqb-true}
 use Rattle.std.specs.Option.{option_or}
 use Rattle.std.proofs.lemmas.List.Elements.{All-cons, All-nil}

@@ -5,7 +5,7 @@ use Rattle.lgp_word.specs.declared.order.Op.{Op}
 use Rattle.lgp_word.specs.declared.order.Op.TheVariants.{Z, B, Y, R, I, D, N, M, P, E, U, T, H, C, A, S}
 use Rattle.lgp_table.specs.State.{Core, State, word_at}
 use Rattle.lgp_table.specs.Rows.{row}
-use Rattle.lgp_table.specs.Activity.{begun_in, begun_order, core_after, core_behind, next, place_in}
+use Rattle.lgp_table.specs.Activity.{begun_in, begun_order, core_after, core_after_begun, next, place_in}
 use Rattle.lgp_table.specs.declared.panel.Status.{Status}
 use Rattle.lgp_table.specs.declared.panel.Status.TheVariants.{Halted, Going, Executing, Waiting, Reading}
 use Rattle.lgp_machine.specs.Marks.{words_with}
@@ -38,7 +38,7 @@ row_register A minus m core = refl
 row_register S minus m core = refl
 
 register_by : (status : Status) (core : Core)
-    → (core_behind (begun_in status core) status core).panel.register ≡ word_or_register (begun_in status core) core
+    → (core_after_begun (begun_in status core) status core).panel.register ≡ word_or_register (begun_in status core) core
 register_by (Halted cause) core = refl
 register_by Going core =
     grind (arith, row_register)
@@ -47,7 +47,7 @@ register_by Executing core =
 register_by Waiting core = refl
 register_by Reading core = refl
 
--- so after an activity its order stands there
+-- so after an activity its order is there
 register_after : (s : State) → (next s).core.panel.register ≡ word_or_register (begun_order s.core) s.core
 unfolding core_after
 register_after s = register_by s.core.panel.status s.core

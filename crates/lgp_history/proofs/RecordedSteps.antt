@@ -45,7 +45,7 @@ lost_differs : (words : List ℕ) (lost : Option (ℕ × ℕ)) (a : ℕ) → can
 lost_differs words None a ok = same_not_different _
 lost_differs words (Some (b, w)) a ok = put_differs _ b w a (ltb-true b (length words) (and_left _ _ ok)) (and_right _ _ ok)
 
--- an order with so many orders after it, and the number of a rule
+-- an order with a given number of orders after it, and the number of a rule
 abbrev pub found_at : ℕ → ℕ → ℕ × ℕ
 found_at later number = (later + 1, number)
 
@@ -77,7 +77,7 @@ pub orders_recorded-more : (rs : List Recorded) (r : Recorded) → orders_record
 orders_recorded-more [] r = omega arith
 orders_recorded-more (x ∷ xs) r = omega (arith, orders_recorded-more xs r)
 
--- the record at an index, and those behind it
+-- the record at an index, and those after it
 pub drop-next : (rs : List Recorded) (i : ℕ) (r : Recorded) → slice_get rs i ≡ Some r → drop i rs ≡ r ∷ drop (i + 1) rs
 drop-next [] i r is = cc
 drop-next (x ∷ xs) zero r is = cc

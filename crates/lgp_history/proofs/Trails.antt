@@ -190,7 +190,7 @@ pub orders_to-next : (s : State) (es : List Noted) (passed k : ℕ) (e : Noted) 
 orders_to-next s es passed k e h is =
     ap (λ (ks : List KeptStep). orders_in ks) (kept_to-next s es _ k e h is) ∙ orders_in-more _ _
 
--- where an order is kept, the place is behind those that do not count
+-- where an order is kept, the place is after those that do not count
 pub some_kept : (s : State) (es : List Noted) (passed k : ℕ) → 1 ≤ orders_in (kept_to s es passed k) → passed < k
 some_kept s es passed k h =
     let few = orders_in-within (kept_to s es passed k) in
@@ -237,7 +237,7 @@ start-take (suc k) (x ∷ xs) h = refl
 pub empty_trail : (capacity : ℕ) → IsTrail [] 0 capacity
 empty_trail capacity = grind arith
 
--- a trail cut behind one of its kept steps
+-- a trail cut after one of its kept steps
 pub trail-take : (es : List Noted) (passed capacity place : ℕ) → IsTrail es passed capacity → passed < place → place < length es → IsTrail (take place es) passed capacity
 trail-take es passed capacity place trail some within =
     let cut : length (take place es) ≡ place = omega (arith, length-take place es) in
@@ -432,7 +432,7 @@ pub shown_length : (es : List Noted) (passed capacity : ℕ) (v : Trail) → sho
 shown_length es passed capacity v shows h =
     ap (λ (t : Trail). t.passed + length t.steps) (sym shows) ∙ omega (arith, length-drop passed (played (start_of es) es), length-played (start_of es) es)
 
--- what is noted behind a trail
+-- what is noted after a trail
 pub noted_here : (es : List Noted) (passed capacity long : ℕ) (v : Trail) (note : Noted) (before : State) (step : Step) → shown_trail es passed capacity ≡ v → IsTrail es passed capacity → long ≡ length es
     → note ≡ record { step = step; copy = copy_at long before } → note ≡ noted_after v before step
 noted_here es passed capacity long v note before step shows trail long_is note_is =

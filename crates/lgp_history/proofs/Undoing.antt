@@ -9,7 +9,7 @@ use Rattle.lgp_flexo.specs.Input.{left_after, passed_codes}
 use Rattle.lgp_flexo.specs.Tape.{Tape, all_codes, passing, tape_after_input}
 use Rattle.lgp_table.specs.State.{Core, State, word_at}
 use Rattle.lgp_table.specs.Rows.{row}
-use Rattle.lgp_table.specs.Activity.{after_fetch, begun_in, core_after, core_behind, print_of}
+use Rattle.lgp_table.specs.Activity.{after_fetch, begun_in, core_after, core_after_begun, print_of}
 use Rattle.lgp_table.specs.Console.{desk_after, effect_on}
 use Rattle.lgp_table.specs.Interleaving.{desk_of}
 use Rattle.lgp_table.specs.declared.action.Action.{Action}
@@ -72,7 +72,7 @@ row_words T minus m core = same_words _
 row_words A minus m core = same_words _
 row_words S minus m core = same_words _
 
-words_after : (status : Status) (core : Core) → AreAfter core.words (core_behind (begun_in status core) status core).words (lost_in (begun_in status core))
+words_after : (status : Status) (core : Core) → AreAfter core.words (core_after_begun (begun_in status core) status core).words (lost_in (begun_in status core))
 words_after (Halted cause) core = same_words _
 words_after Going core =
     row_words _ _ _ _
@@ -119,7 +119,7 @@ row_tape C minus m core = same_tape _ _
 row_tape A minus m core = same_tape _ _
 row_tape S minus m core = same_tape _ _
 
-tape_after : (status : Status) (core : Core) → IsLaterTape core.tape (core_behind (begun_in status core) status core).tape
+tape_after : (status : Status) (core : Core) → IsLaterTape core.tape (core_after_begun (begun_in status core) status core).tape
 tape_after (Halted cause) core = same_tape _ _
 tape_after Going core =
     let word = word_at core core.panel.counter in

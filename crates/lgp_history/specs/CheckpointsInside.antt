@@ -60,7 +60,7 @@ pub record Trail : Type 0 where
   pub passed : ℕ
   pub capacity : ℕ
 
--- what is noted of a step behind a trail
+-- what is noted of a step after a trail
 abbrev pub noted_after : Trail → State → Step → Noted
 noted_after trail before step = record {
   step = step;

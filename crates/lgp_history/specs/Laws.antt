@@ -17,7 +17,8 @@ performed_again s (k ∷ later) = performed_again (next s) later
 abbrev pub PassesRules : List Rule → KeptStep → Type 0
 PassesRules rules k = IsTrue (is_order k.step) → All (λ rule. is_hit k.before rule ≡ false) rules
 
--- a hit: it is so many orders back, the rule of its number hits it, and no rule hits a later order
+-- a hit: it is a given number of orders back, the rule of its number hits it, and no rule hits a
+-- later order
 pub record IsLastHit (rules : List Rule) (kept : List KeptStep) (hit : ℕ × ℕ) : Type 0 where
   pub earlier : List KeptStep
   pub order : KeptStep

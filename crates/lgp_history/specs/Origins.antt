@@ -12,13 +12,13 @@ use Rattle.lgp_history.specs.declared.origin.Origin.{Origin}
 use Rattle.lgp_history.specs.declared.origin.PastOrder.{PastOrder}
 use Rattle.lgp_history.specs.Step.{KeptStep}
 
--- the word of an activity's order; where the operator has the tape read, what stands in the
+-- the word of an activity's order; where the operator has the tape read, what is in the
 -- register
 abbrev pub word_or_register : Option BegunOrder → Core → ℕ
 word_or_register None core = core.panel.register
 word_or_register (Some order) core = order.word
 
--- the order that began in a state, so many orders back
+-- the order that began in a state, a given number of orders back
 abbrev pub past_order : State → ℕ → PastOrder
 past_order s orders_back = record {
   place = place_in (begun_order s.core);
@@ -32,7 +32,7 @@ abbrev pub changed_at : ℕ → KeptStep → Bool
 changed_at address k =
     not (word_at k.before.core address == word_at (stepped k.step k.before).core address)
 
--- what did a kept step: an order, so many orders back, or a hand
+-- what did a kept step: an order, a given number of orders back, or a hand
 abbrev pub changer_of : KeptStep → ℕ → Changer
 changer_of k orders_back =
     if is_order k.step then Order (past_order k.before orders_back) else Hand k.before.clock
@@ -52,7 +52,7 @@ latest_change address (k ∷ later) =
     option_or (latest_change address later)
     (if changed_at address k then Some (origin_of address k (orders_in (k ∷ later))) else None)
 
--- an origin: the step that it names left the word as it stands now, and no later step changed it
+-- an origin: the step that it names left the word as it is now, and no later step changed it
 pub record IsOrigin (address : ℕ) (kept : List KeptStep) (now : State) (origin : Origin)
     : Type 0 where
   pub earlier : List KeptStep

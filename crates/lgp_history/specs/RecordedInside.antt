@@ -122,7 +122,8 @@ abbrev pub orders_recorded : List Recorded → ℕ
 orders_recorded [] = 0
 orders_recorded (r ∷ later) = (if is_order r.step then 1 else 0) + orders_recorded later
 
--- where and when the recorded order began which stood in the register after it, so many orders back
+-- where and when the recorded order began which was in the register after it, a given number of
+-- orders back
 abbrev pub recorded_order : Recorded → ℕ → ℕ → PastOrder
 recorded_order r register orders_back = record {
   place = if is_going r.mark.panel.status then Some r.mark.panel.counter else None;

@@ -34,7 +34,7 @@ pub struct Record<A: Allocator> {
     other: Option<Box<Other<A>, A>>,
 }
 
-/// The word that stood at an address before another was stored there, or the same. Clauses see the lost word with its address, and
+/// The word that was at an address before another was stored there, or the same. Clauses see the lost word with its address, and
 /// nothing where it was the same.
 #[derive(Drop)]
 struct Lost {
@@ -246,7 +246,7 @@ impl<A: Allocator> Record<A> {
         self.panel.register
     }
 
-    /// The order, which is in the instruction register after it, so many orders back.
+    /// The order, which is in the instruction register after it, a given number of orders back.
     fn past_order(&self, register: Word, orders_back: u64) -> PastOrder
         ensures { result ≡ recorded_order self.now register orders_back }
     {
@@ -260,7 +260,7 @@ impl<A: Allocator> Record<A> {
         }
     }
 
-    /// What did the step, with the instruction register after it, so many orders back.
+    /// What did the step, with the instruction register after it, a given number of orders back.
     pub fn changer(&self, register: Word, orders_back: u64) -> Changer
         ensures { result ≡ recorded_changer self.now register orders_back }
     {
@@ -307,7 +307,7 @@ fn taken_tape<A: Allocator>(other: Option<Box<Other<A>, A>>) -> Option<Tape<A>>
     tape
 }
 
-/// Puts a tape back of which so many codes have passed, if there is one.
+/// Puts a tape back of which a given number of codes have passed, if there is one.
 fn put_tape<A: Allocator>(machine: &mut Machine<A>, tape: Option<Tape<A>>, passed: usize)
     requires boundary { machine.old ≡ at_boundary machine.old.state }
     requires within { (codes : List ℕ) → tape ≡ Some codes

@@ -185,7 +185,7 @@ fn replayed<A: Allocator + Clone>(
     Ok(machine)
 }
 
-/// The place of the last but so many order of a trail, of those from the place `passed` on.
+/// The place of the first of the last `orders` orders of a trail, of those from the place `passed` on.
 fn place_of<A: Allocator>(
     trail: &HeapCircularBuffer<Checkpoint<A>, A>,
     passed: usize,
@@ -344,7 +344,7 @@ impl<A: Allocator + Clone> Checkpoints<A> {
     }
 }
 
-/// Puts a step behind a trail. Answers how many steps in front do not count then: one more where as many count as there is room for.
+/// Puts a step after a trail. Answers how many steps in front do not count then: one more where as many count as there is room for.
 fn push<A: Allocator>(
     trail: &mut HeapCircularBuffer<Checkpoint<A>, A>,
     passed: usize,

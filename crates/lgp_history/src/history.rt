@@ -61,7 +61,7 @@ pub trait History<A: Allocator>: Drop {
             → Leads (steps self.new (stepped step before)) (stepped step before) }
         ensures capacity { capacity self.new ≡ capacity self.old };
 
-    /// Goes back `orders` orders: to the state in which the last but so many order began. That order and all later steps are forgotten.
+    /// Goes back `orders` orders: to the state in which the first of these orders began. That order and all later steps are forgotten.
     fn back(&mut self, orders: u64, machine: &mut Machine<A>) -> Result<(), BackFault>
         requires boundary { machine.old ≡ at_boundary machine.old.state }
         requires some { 1 ≤ orders }

@@ -27,7 +27,7 @@ pub fn last_hits()
         → last_hit rules kept ≡ None → All (PassesRules rules) kept }
 {}
 
-/// A word stands as the step that is its origin left it, and no later step changed it. Where it has no origin, no kept step changed it, and it
+/// A word is as the step that is its origin left it, and no later step changed it. Where it has no origin, no kept step changed it, and it
 /// is the one with which the kept steps begin.
 #[tactic(auto, using(crate::proofs::OriginLaws::word_came, crate::proofs::OriginLaws::none_changed, crate::proofs::OriginLaws::word_kept))]
 pub fn words_come()

@@ -13,7 +13,7 @@ use std::alloc::Allocator;
 /// An order that was performed.
 #[derive(Clone, Copy, Debug, PartialEq, Eq)]
 pub struct PastOrder {
-    /// Where it stood; none where it stood in the instruction register alone.
+    /// Where it was; none where it was in the instruction register alone.
     pub place: Option<Address>,
     pub word: Word,
     /// The clock at which it began, in word times.
@@ -34,13 +34,13 @@ pub enum Changer {
 #[derive(Clone, Copy, Debug, PartialEq, Eq)]
 pub struct Origin {
     pub changer: Changer,
-    /// The word that stood there before.
+    /// The word that was there before.
     pub lost: Word,
 }
 
 /// A history that tells where words came from. It takes no memory for that.
 pub trait Origins<A: Allocator>: History<A> {
-    /// The latest kept step that changed the word at an address. `None` where no kept step did: there stands the word with which
+    /// The latest kept step that changed the word at an address. `None` where no kept step did: there is the word with which
     /// the kept steps begin. A step that stored the very same word did not change it.
     fn origin(&self, now: &Machine<A>, address: Address) -> Option<Origin>
         requires boundary { now.now ≡ at_boundary now.now.state }

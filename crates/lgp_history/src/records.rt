@@ -42,7 +42,7 @@ impl<A: Allocator + Clone> Records<A> {
 }
 
 impl<A: Allocator> Records<A> {
-    /// Undoes steps up to the beginning of the last but so many order, of those that are recorded.
+    /// Undoes steps up to the beginning of the first of the last `orders` orders, of those that are recorded.
     fn undo_orders(&mut self, orders: u64, machine: &mut Machine<A>)
         requires boundary { machine.old ≡ at_boundary machine.old.state }
         requires some { 1 ≤ orders }

@@ -161,7 +161,7 @@ fn back<A: Allocator, H: History<A>>(
     session.history.back(orders, &mut session.machine)
 }
 
-/// Performs so many orders; `None` where one is refused.
+/// Performs a given number of orders; `None` where one is refused.
 fn orders<A: Allocator + Clone, H: History<A>>(
     session: &mut Session<A, H>,
     count: u64,

@@ -13,7 +13,7 @@ use Rattle.lgp_keyin.specs.KeyIn.{about_to_store, keyed, store_order, with_four_
 use Rattle.lgp_keyin.specs.Keyed.{PassesClockEnd, before_store}
 use Rattle.lgp_keyin.proofs.ByHand.{shows_store}
 
--- so many words are keyed in
+-- a given number of words are keyed in
 pub record IsKeyedSo (now : Configuration) (s : State) (base : ℕ) (words : List ℕ) (done address : ℕ) : Type 0 where
   pub at : now ≡ at_boundary (keyed s base (take done words))
   pub up : now.state.core.panel.switches.six_bit ≡ false

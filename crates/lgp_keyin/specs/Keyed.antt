@@ -42,7 +42,7 @@ state_after_words s base words clock = record {
   clock = clock;
 }
 
--- about to store the word that comes after so many others
+-- about to store the word that comes after a given number of others
 abbrev pub before_store : State → ℕ → List ℕ → ℕ → State
 before_store s base words done =
     about_to_store (keyed s base (take done words)) (base + done) (slice_index words done)
@@ -51,8 +51,8 @@ before_store s base words done =
 abbrev pub PassesClockEnd : State → ℕ → List ℕ → Type 0
 PassesClockEnd s base words = (0 < length words) × (clock_end < (keyed s base words).clock)
 
--- where key-in meets the end of the clock: so many words are stored, and the next store would pass
--- it
+-- where key-in meets the end of the clock: a given number of words are stored, and the next store
+-- would pass it
 abbrev pub EndsBeforeStore : Configuration → State → ℕ → List ℕ → Type 0
 EndsBeforeStore now s base words =
     (done : ℕ) × (done < length words) × (now ≡ at_boundary (before_store s base words done))

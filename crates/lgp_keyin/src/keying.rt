@@ -56,7 +56,7 @@ fn store<M: Operate>(machine: &mut M, address: Address, word: Word) -> bool
 ///
 /// Refused, in this order: within an activity (`Moving`), and where the words would go past 6363 (`PastEnd`), both before
 /// anything is pressed; where the clock would pass its end (`ClockEnd`): the words so far are stored, and the order to store the
-/// next one stands in the instruction register, about to be executed.
+/// next one is in the instruction register, about to be executed.
 pub fn key_in<M: Operate>(machine: &mut M, base: Address, words: &[Word]) -> Result<(), KeyFault>
     ensures keyed { OnOk result (M.configuration machine.new
         ≡ at_boundary (keyed (M.configuration machine.old).state base words.now)) }

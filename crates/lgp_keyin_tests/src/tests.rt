@@ -2,8 +2,8 @@
 
 use lgp_flexo::{Code, code_of};
 use lgp_keyin::{KeyFault, actions_to_start, actions_to_store, key_in};
+use lgp_limited::Limited;
 use lgp_machine::{Look, Machine, Pressed};
-use lgp_scarce::Scarce;
 use lgp_table::{Action, Cause, Mode, Status, Switches};
 use lgp_word::{Address, Word, read_digits};
 use std::alloc::Allocator;
@@ -76,7 +76,7 @@ fn look<A: Allocator>(machine: &Machine<A>) -> Option<Look> {
     machine.look()
 }
 
-/// The word there and the two behind it.
+/// The word there and the two after it.
 fn words_from<A: Allocator>(machine: &Machine<A>, address: Address) -> [Word; 3] {
     let second = address.next();
     [
@@ -119,14 +119,14 @@ fn keyed<A: Allocator>(
 
 /// That with the first growth refused, and whether it was.
 fn keyed_without_memory<B: Allocator, A: Allocator>(
-    scarce: &Scarce<B>,
+    limited: &Limited<B>,
     machine: &mut Machine<A>,
     base: Address,
     words: &[Word],
 ) -> ((Result<(), KeyFault>, Option<Look>, [Word; 3]), bool) {
-    scarce.refuse(1);
+    limited.refuse(1);
     let keyed = keyed(machine, base, words);
-    (keyed, scarce.was_refused())
+    (keyed, limited.was_refused())
 }
 
 /// No memory is asked for.
@@ -135,15 +135,15 @@ fn words_are_keyed_in(rt: HostRuntime) -> Result<(), Fail> {
     let (base, words) = (at(b"0100")?, [word(b"00000004")?, word(b"80000000")?]);
     // The first store waits 64 word times for sector 00, the second 8 for sector 01; each acts for one.
     let after = shown(b"80000000", b"000j0104", Status::Halted(Cause::Step), 74)?;
-    let scarce = Scarce::new(rt.alloc());
-    let mut machine = machine_at(&scarce, 0)?;
+    let limited = Limited::new(rt.alloc());
+    let mut machine = machine_at(&limited, 0)?;
     let stored = [
         Word::of_bits(4),
         Word::of_bits(0x8000_0000),
         Word::default(),
     ];
     assert_eq!(rt;
-        keyed_without_memory(&scarce, &mut machine, base, &words),
+        keyed_without_memory(&limited, &mut machine, base, &words),
         ((Ok(()), Some(after), stored), false)
     );
     Ok(())

@@ -11,10 +11,10 @@ use Rattle.lgp_debugger.proofs.PerformedLemmas.{performed_state}
 use Rattle.lgp_lab.specs.Files.{answer_left, load_of_source, loaded_new, run_to}
 
 -- it begins where loading has left the machine, and leaves it as many orders later
-pub run_behind_load : (limit : ℕ) (source : List ℕ) (begun left : Debugging) (ran : Ran)
+pub run_after_load : (limit : ℕ) (source : List ℕ) (begun left : Debugging) (ran : Ran)
     → begun.state ≡ loaded_new source → loading_stopped (opening blank_words) (load_of_source source) ≡ None
     → run_of [] limit begun.state ≡ Ok ran → left ≡ performed begun ran.orders → run_to limit source ≡ answer_left (Some left.state)
-run_behind_load limit source begun left ran at whole run behind =
+run_after_load limit source begun left ran at whole run later =
     let state : left.state ≡ after begun.state ran.orders =
-    ap (λ (d : Debugging). d.state) behind ∙ performed_state _ _ in
+    ap (λ (d : Debugging). d.state) later ∙ performed_state _ _ in
     rw (whole, ← at, run, ← state) refl

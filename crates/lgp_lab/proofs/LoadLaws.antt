@@ -11,20 +11,20 @@ use Rattle.lgp_loader.proofs.Program.{loading_clock}
 use Rattle.lgp_loader.proofs.SourceLoaded.{longest_source}
 use Rattle.lgp_lab.specs.Files.{loaded_new}
 use Rattle.lgp_lab.specs.LoadCommand.{answer_to_load}
-use Rattle.lgp_lab.specs.Standing.{Standing}
+use Rattle.lgp_lab.specs.LabState.{LabState}
 
-pub load_words : (standing : Standing) (source : List ℕ) → standing.source ≡ Some source → faults_of source ≡ []
-    → length standing.debugger.state.core.words ≡ 4096 → loading_stopped standing.debugger.state (longest_load (image_of source)) ≡ None
-    → IsLoadedOver standing.debugger.state.core.words (answer_to_load standing).after.debugger.state.core.words (image_of source).cells
+pub load_words : (lab : LabState) (source : List ℕ) → lab.source ≡ Some source → faults_of source ≡ []
+    → length lab.debugger.state.core.words ≡ 4096 → loading_stopped lab.debugger.state (longest_load (image_of source)) ≡ None
+    → IsLoadedOver lab.debugger.state.core.words (answer_to_load lab).after.debugger.state.core.words (image_of source).cells
 unfolding answer_to_load
-load_words standing source at_hand none long within =
-    rw (at_hand, within) (longest_source standing.debugger.state _ long none)
+load_words lab source at_hand none long within =
+    rw (at_hand, within) (longest_source lab.debugger.state _ long none)
 
-pub load_time : (standing : Standing) (source : List ℕ) → standing.source ≡ Some source
-    → loading_stopped standing.debugger.state (longest_load (image_of source)) ≡ None
-    → (answer_to_load standing).after.debugger.state.clock ≡ standing.debugger.state.clock + loading_cost standing.debugger.state (longest_load (image_of source))
+pub load_time : (lab : LabState) (source : List ℕ) → lab.source ≡ Some source
+    → loading_stopped lab.debugger.state (longest_load (image_of source)) ≡ None
+    → (answer_to_load lab).after.debugger.state.clock ≡ lab.debugger.state.clock + loading_cost lab.debugger.state (longest_load (image_of source))
 unfolding answer_to_load
-load_time standing source at_hand within =
+load_time lab source at_hand within =
     rw (at_hand, within) (loading_clock _ _)
 
 pub ruleset load_laws = (load_words, load_time)

@@ -4,7 +4,7 @@ use Rattle.std.specs.Option.{option_and_then, option_zip}
 use Rattle.lgp_word.specs.Decimal.{decimal_number}
 use Rattle.lgp_word.specs.Digits.{address_text, word_of_digits}
 use Rattle.lgp_lab.specs.Limits.{digit_limit}
-use Rattle.lgp_stream.specs.LineWords.{behind_word, first_word, has_no_word}
+use Rattle.lgp_stream.specs.LineWords.{after_word, first_word, has_no_word}
 use Rattle.lgp_text.specs.NamedValues.{named}
 use Rattle.lgp_lab.specs.Names.{button_names, position_names, switch_names, verb_names}
 use Rattle.lgp_lab.specs.Span.{WordRange, range_of}
@@ -32,15 +32,15 @@ switch_action down switches.SixBit = actions.SixBit down
 -- what the only operand stands for, as it is read
 abbrev pub lone_operand : {T : Type 0} → (List ℕ → Option T) → List ℕ → Option T
 lone_operand read operands =
-    if has_no_word (behind_word operands) then read (first_word operands) else None
+    if has_no_word (after_word operands) then read (first_word operands) else None
 
 -- what two operands stand for, as they are read, where there is no third one
 abbrev pub operand_pair : {S T : Type 0} → (List ℕ → Option S) → (List ℕ → Option T) → List ℕ
     → Option (S × T)
 operand_pair read_first read_second operands =
-    if has_no_word (behind_word (behind_word operands))
+    if has_no_word (after_word (after_word operands))
     then option_zip (read_first (first_word operands))
-    (read_second (first_word (behind_word operands))) else None
+    (read_second (first_word (after_word operands))) else None
 
 unfoldable pub put_command : List ℕ → Option Command
 put_command operands =
@@ -49,7 +49,7 @@ put_command operands =
 
 unfoldable pub press_command : List ℕ → Option Command
 press_command operands =
-    if has_no_word (behind_word operands)
+    if has_no_word (after_word operands)
     then option_map commands.Press (named button_names (first_word operands))
     else option_map (λ pair. commands.Press (switch_action pair.1 pair.0))
     (operand_pair (named switch_names) (named position_names) operands)
@@ -93,9 +93,9 @@ command_by verbs.Last operands = lone commands.Last operands
 -- what a line asks for; None where it is in no command's form
 unfoldable pub command_of : List ℕ → Option Command
 command_of line =
-    option_and_then (λ verb. command_by verb (behind_word line))
+    option_and_then (λ verb. command_by verb (after_word line))
     (named verb_names (first_word line))
 
--- the text that mount and type take: all that follows the one space behind the command's word
-unfoldable pub text_behind : List ℕ → List ℕ
-text_behind line = drop 1 (behind_word line)
+-- the text that mount and type take: all that follows the one space after the command's word
+unfoldable pub text_after_word : List ℕ → List ℕ
+text_after_word line = drop 1 (after_word line)

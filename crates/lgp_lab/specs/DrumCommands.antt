@@ -6,7 +6,7 @@ use Rattle.lgp_listing.specs.Disassembly.{disassembly}
 use Rattle.lgp_listing.specs.Dump.{dump_of, is_used}
 use Rattle.lgp_table.specs.State.{State, word_at}
 use Rattle.lgp_lab.specs.Span.{WordRange}
-use Rattle.lgp_lab.specs.Standing.{Answer, Standing, answer_showing}
+use Rattle.lgp_lab.specs.LabState.{Answer, LabState, answer_showing}
 
 -- ---- words, show
 
@@ -14,16 +14,16 @@ use Rattle.lgp_lab.specs.Standing.{Answer, Standing, answer_showing}
 unfoldable pub order_line : ℕ → ℕ → List ℕ
 order_line address word = address_digits address ++ (codes " " ++ (disassembly word ++ codes "\n"))
 
--- the lines of so many words from an address on
+-- the lines of a given number of words from an address on
 abbrev pub lines_text : (ℕ → ℕ → List ℕ) → State → ℕ → ℕ → List ℕ
 lines_text line s address zero = []
 lines_text line s address (suc count) =
     lines_text line s address count ++ line (address + count) (word_at s.core (address + count))
 
 -- by their digits, or by their disassembly
-abbrev pub answer_to_words : (ℕ → ℕ → List ℕ) → Standing → WordRange → Answer
-answer_to_words line standing range =
-    answer_showing (lines_text line standing.debugger.state range.first range.count) standing
+abbrev pub answer_to_words : (ℕ → ℕ → List ℕ) → LabState → WordRange → Answer
+answer_to_words line lab range =
+    answer_showing (lines_text line lab.debugger.state range.first range.count) lab
 
 -- ---- dump
 

@@ -32,7 +32,7 @@ pub record FileAnswer : Type 0 where
   pub text : List ℕ
   pub status : ℕ
 
--- A file's text before it is read and behind, whether reading or writing has failed, what stands
+-- A file's text before it is read and after, whether reading or writing has failed, what is
 -- written before and after, and the answer: the status, or why not all is written.
 pub record IsFileAnswer (answer : List ℕ → FileAnswer) (source left : Option (List ℕ))
     (unread unwritten : Bool) (before after : Option (List ℕ)) (result : Result ℕ StreamFault)
@@ -42,7 +42,7 @@ pub record IsFileAnswer (answer : List ℕ → FileAnswer) (source left : Option
     pub read : OnOk result (IsAtEnd left)
     pub text : OnOk result (IfSome source (λ bytes. Appends before after (answer bytes).text))
     pub status : IfOk result (λ status. IfSome source (λ bytes. status ≡ (answer bytes).status))
-    -- whose failure it was, and what of the text stands written
+    -- whose failure it was, and what of the text is written
     pub cause : IfErr result (λ fault. HasCause fault unread unwritten)
     pub stands : IfErr result (λ fault. IfSome source (λ bytes.
         StandsOf (answer bytes).text fault before after))
@@ -78,9 +78,9 @@ taped source = record {
 unfoldable pub tape_answer : List ℕ → FileAnswer
 tape_answer source = answer_of taped (source_of source)
 
--- run: the source is loaded into a new machine, and a run that no rule stops follows, of at most so
--- many orders; then what is printed is shown, and the panel. Where the clock's end is met, that
--- alone is told
+-- run: the source is loaded into a new machine, and a run that no rule stops follows, of at most a
+-- given number of orders; then what is printed is shown, and the panel. Where the clock's end is
+-- met, that alone is reported
 abbrev pub answer_left : Option State → FileAnswer
 answer_left None = record { text = refusal_text ClockEnd; status = 1 }
 answer_left (Some s) = record { text = printed_text s.printed ++ panel_text s; status = 0 }

@@ -12,7 +12,7 @@ use Rattle.lgp_debugger.specs.declared.fault.Ran.{Ran}
 use Rattle.lgp_debugger.specs.declared.fault.Reason.{Reason}
 use Rattle.lgp_debugger.specs.declared.fault.Reason.TheVariants.{Rest, Limit, Rule as ByRule}
 use Rattle.lgp_lab.specs.Refusal.{counted_text, outcome_text, refusal_text}
-use Rattle.lgp_lab.specs.Standing.{Answer, Standing, answer_leaving, refused}
+use Rattle.lgp_lab.specs.LabState.{Answer, LabState, answer_leaving, refused}
 use Rattle.lgp_lab.specs.declared.refusal.Refusal.TheVariants as refusals
 
 abbrev pub hit_text : ℕ × ℕ → List ℕ
@@ -29,50 +29,50 @@ ran_text ran = codes "ran " ++ (decimal ran.orders ++ reason_text ran.reason)
 
 -- ---- break, watch: one rule more, which has the next number
 
-unfoldable pub answer_to_rule : Standing → Rule → Answer
-answer_to_rule standing rule =
-    let rules = standing.debugger.rules in
-    if length rules == rule_limit then refused refusals.Full standing
-    else answer_leaving (counted_text (codes "rule ") (length rules)) standing
-    (record standing.debugger { rules = rules ++ rule ∷ [] })
+unfoldable pub answer_to_rule : LabState → Rule → Answer
+answer_to_rule lab rule =
+    let rules = lab.debugger.rules in
+    if length rules == rule_limit then refused refusals.Full lab
+    else answer_leaving (counted_text (codes "rule ") (length rules)) lab
+    (record lab.debugger { rules = rules ++ rule ∷ [] })
 
 -- ---- drop: the rule of a number goes, and later ones move down
 
-unfoldable pub answer_to_drop : Standing → ℕ → Answer
-answer_to_drop standing number =
-    let rules = standing.debugger.rules in
+unfoldable pub answer_to_drop : LabState → ℕ → Answer
+answer_to_drop lab number =
+    let rules = lab.debugger.rules in
     if nat_lt number rule_limit
     then answer_leaving
     (if is_some (slice_get rules number) then codes "ok\n" else refusal_text refusals.NoRule)
-    standing (record standing.debugger { rules = remove rules number })
-    else refused refusals.NoRule standing
+    lab (record lab.debugger { rules = remove rules number })
+    else refused refusals.NoRule lab
 
 -- ---- run: a run of the debugger; where its next order would pass the clock's end it is broken
--- off, and the orders before stand
+-- off, and the orders before it remain
 
-unfoldable pub answer_to_run : Standing → ℕ → Answer
-answer_to_run standing limit =
-    let d = standing.debugger in
+unfoldable pub answer_to_run : LabState → ℕ → Answer
+answer_to_run lab limit =
+    let d = lab.debugger in
     let outcome = run_of d.rules limit d.state in
-    answer_leaving (outcome_text ran_text outcome) standing (performed d (orders_of outcome))
+    answer_leaving (outcome_text ran_text outcome) lab (performed d (orders_of outcome))
 
 -- how many orders it performs, broken off or not
 unfoldable pub orders_run : ℕ → Debugging → ℕ
 orders_run limit d = orders_of (run_of d.rules limit d.state)
 
--- ---- back: so many orders
+-- ---- back: a given number of orders
 
-unfoldable pub answer_to_back : Standing → ℕ → Answer
-answer_to_back standing orders =
-    let d = standing.debugger in
+unfoldable pub answer_to_back : LabState → ℕ → Answer
+answer_to_back lab orders =
+    let d = lab.debugger in
     let after = if orders == 0 then d else after_back d orders in
-    if nat_lt (orders_in d.steps) orders then refused (refusals.TooFar (orders_in d.steps)) standing
-    else answer_leaving (counted_text (codes "clock ") after.state.clock) standing after
+    if nat_lt (orders_in d.steps) orders then refused (refusals.TooFar (orders_in d.steps)) lab
+    else answer_leaving (counted_text (codes "clock ") after.state.clock) lab after
 
 -- ---- last: back to the latest kept order that a rule hits
 
-unfoldable pub answer_to_last : Standing → Answer
-answer_to_last standing =
-    let d = standing.debugger in
-    option_map_or (λ hit. answer_leaving (hit_text hit) standing (after_back d hit.0))
-    (last_hit d.rules d.steps) (refused (refusals.NoHit (orders_in d.steps)) standing)
+unfoldable pub answer_to_last : LabState → Answer
+answer_to_last lab =
+    let d = lab.debugger in
+    option_map_or (λ hit. answer_leaving (hit_text hit) lab (after_back d hit.0))
+    (last_hit d.rules d.steps) (refused (refusals.NoHit (orders_in d.steps)) lab)

@@ -4,7 +4,7 @@ pub mod Names
 pub mod Command
 pub mod Refusal
 pub mod SourceText
-pub mod Standing
+pub mod LabState
 pub mod MachineCommands
 pub mod TapeCommands
 pub mod DrumCommands

@@ -6,21 +6,21 @@ use Rattle.lgp_assembler.specs.Image.{image_of}
 use Rattle.lgp_loader.specs.BlockLoading.{longest_load}
 use Rattle.lgp_loader.specs.Loading.{TapeLoad, loaded, loading_stopped}
 use Rattle.lgp_lab.specs.Refusal.{counted_text, refusal_text}
-use Rattle.lgp_lab.specs.Standing.{Answer, Standing, answer_leaving, refused}
+use Rattle.lgp_lab.specs.LabState.{Answer, LabState, answer_leaving, refused}
 use Rattle.lgp_lab.specs.declared.refusal.Refusal.TheVariants as refusals
 
--- how many orders the loader performed; where loading meets the clock's end, the machine stands
+-- how many orders the loader performed; where loading meets the clock's end, the machine is
 -- there, else as loading leaves it, and no step is kept
-abbrev pub answer_to_tape_load : Standing → TapeLoad → Answer
-answer_to_tape_load standing load =
-    let d = standing.debugger in
+abbrev pub answer_to_tape_load : LabState → TapeLoad → Answer
+answer_to_tape_load lab load =
+    let d = lab.debugger in
     let stopped = loading_stopped d.state load in
     answer_leaving
     (if is_some stopped then refusal_text refusals.ClockEnd
     else counted_text (codes "loaded ") load.orders)
-    standing (record d { state = unwrap_or stopped (loaded d.state load); steps = [] })
+    lab (record d { state = unwrap_or stopped (loaded d.state load); steps = [] })
 
-unfoldable pub answer_to_load : Standing → Answer
-answer_to_load standing =
-    option_map_or (λ source. answer_to_tape_load standing (longest_load (image_of source)))
-    standing.source (refused refusals.NoImage standing)
+unfoldable pub answer_to_load : LabState → Answer
+answer_to_load lab =
+    option_map_or (λ source. answer_to_tape_load lab (longest_load (image_of source)))
+    lab.source (refused refusals.NoImage lab)

@@ -16,7 +16,7 @@ use Rattle.lgp_debugger.specs.Debugging.{Debugging, after_step, performed}
 use Rattle.lgp_debugger.specs.Run.{orders_of, run_of}
 use Rattle.lgp_text.specs.PanelWords.{mode_text, on_text, status_text, switches_text}
 use Rattle.lgp_lab.specs.Refusal.{counted_text, outcome_text}
-use Rattle.lgp_lab.specs.Standing.{Answer, Standing, answer_leaving, refused}
+use Rattle.lgp_lab.specs.LabState.{Answer, LabState, answer_leaving, refused}
 use Rattle.lgp_lab.specs.declared.refusal.Refusal.TheVariants as refusals
 
 -- ---- press, type, turn and orders, each of which is one step or several
@@ -30,7 +30,7 @@ orders_text done status =
     codes "orders " ++ (decimal done ++ (codes " " ++ (status_text status ++ codes "\n")))
 
 -- keys struck one after another: how many were live and dead, and the debugger after them
-pub record Typed : Type 0 where
+pub record StruckKeys : Type 0 where
   pub live : ℕ
   pub dead : ℕ
   pub after : Debugging
@@ -40,13 +40,13 @@ abbrev pub after_pressing : Debugging → Action → Debugging
 after_pressing d action =
     if is_live d.state.core.panel action then after_step d (Press action) else d
 
-abbrev pub answer_to_press : Standing → Action → Answer
-answer_to_press standing action =
+abbrev pub answer_to_press : LabState → Action → Answer
+answer_to_press lab action =
     answer_leaving
-    (if is_live standing.debugger.state.core.panel action then codes "live\n" else codes "dead\n")
-    standing (after_pressing standing.debugger action)
+    (if is_live lab.debugger.state.core.panel action then codes "live\n" else codes "dead\n")
+    lab (after_pressing lab.debugger action)
 
-abbrev pub key_struck : Typed → ℕ → Typed
+abbrev pub key_struck : StruckKeys → ℕ → StruckKeys
 key_struck so_far code =
     let live = is_live so_far.after.state.core.panel (actions.Key code) in
     record {
@@ -55,33 +55,33 @@ key_struck so_far code =
       after = after_pressing so_far.after (actions.Key code);
     }
 
-unfoldable pub typed : Debugging → List ℕ → Typed
+unfoldable pub typed : Debugging → List ℕ → StruckKeys
 typed d keys = fold key_struck (record { live = 0; dead = 0; after = d }) keys
 
-abbrev pub answer_to_keys : Standing → Result (List ℕ) ℕ → Answer
-answer_to_keys standing (Err place) = refused (refusals.BadSign place) standing
-answer_to_keys standing (Ok keys) =
-    let struck = typed standing.debugger keys in
-    answer_leaving (typed_text struck.live struck.dead) standing struck.after
+abbrev pub answer_to_keys : LabState → Result (List ℕ) ℕ → Answer
+answer_to_keys lab (Err place) = refused (refusals.BadSign place) lab
+answer_to_keys lab (Ok keys) =
+    let struck = typed lab.debugger keys in
+    answer_leaving (typed_text struck.live struck.dead) lab struck.after
 
 -- word times at rest are one step, none of them is none
-unfoldable pub answer_to_turn : Standing → ℕ → Answer
-answer_to_turn standing times =
-    let d = standing.debugger in
-    if not (is_at_rest d.state.core.panel.status) then refused refusals.AtWork standing
-    else (if nat_lt clock_end (d.state.clock + times) then refused refusals.ClockEnd standing
-    else answer_leaving (counted_text (codes "clock ") (d.state.clock + times)) standing
+unfoldable pub answer_to_turn : LabState → ℕ → Answer
+answer_to_turn lab times =
+    let d = lab.debugger in
+    if not (is_at_rest d.state.core.panel.status) then refused refusals.AtWork lab
+    else (if nat_lt clock_end (d.state.clock + times) then refused refusals.ClockEnd lab
+    else answer_leaving (counted_text (codes "clock ") (d.state.clock + times)) lab
     (if times == 0 then d else after_step d (Idle times)))
 
--- orders: a run that no rule stops, and the status behind it; broken off where the next order would
+-- orders: a run that no rule stops, and the status after it; broken off where the next order would
 -- pass the clock's end
-unfoldable pub answer_to_orders : Standing → ℕ → Answer
-answer_to_orders standing limit =
-    let outcome = run_of [] limit standing.debugger.state in
-    let after = performed standing.debugger (orders_of outcome) in
+unfoldable pub answer_to_orders : LabState → ℕ → Answer
+answer_to_orders lab limit =
+    let outcome = run_of [] limit lab.debugger.state in
+    let after = performed lab.debugger (orders_of outcome) in
     answer_leaving
     (outcome_text (λ ran. orders_text ran.orders after.state.core.panel.status) outcome)
-    standing after
+    lab after
 
 -- ---- panel
 

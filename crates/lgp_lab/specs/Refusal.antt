@@ -24,7 +24,7 @@ refusal_text refusals.NoImage = codes "? 10 NoImage\n"
 refusal_text refusals.TooLong = codes "? 11 TooLong\n"
 refusal_text (refusals.BadSign place) = counted_text (codes "? 12 BadSign ") place
 
--- a run as it is told, or refused where the clock's end broke it off
+-- a run as it is reported, or refused where the clock's end broke it off
 abbrev pub outcome_text : (Ran → List ℕ) → Result Ran RunFault → List ℕ
-outcome_text told outcome =
-    option_map_or told (result_ok outcome) (refusal_text refusals.ClockEnd)
+outcome_text reported outcome =
+    option_map_or reported (result_ok outcome) (refusal_text refusals.ClockEnd)

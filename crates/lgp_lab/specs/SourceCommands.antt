@@ -12,7 +12,7 @@ use Rattle.lgp_assembler.specs.declared.refusal.Fault.{Fault}
 use Rattle.lgp_listing.specs.Listing.{listing_of}
 use Rattle.lgp_lab.specs.Refusal.{refusal_text}
 use Rattle.lgp_lab.specs.SourceText.{SourceText, with_line}
-use Rattle.lgp_lab.specs.Standing.{Answer, Standing, answer_showing, refused, silent}
+use Rattle.lgp_lab.specs.LabState.{Answer, LabState, answer_showing, refused, silent}
 use Rattle.lgp_lab.specs.declared.refusal.Refusal.TheVariants as refusals
 
 -- ---- source
@@ -37,30 +37,30 @@ cells_text image =
     codes "cells " ++ (decimal (length image.cells) ++ (codes " start " ++ start_text image.start))
 
 -- the answer to a source by its faults; with faults the source from before stays
-abbrev pub assembled : Standing → List ℕ → List Fault → Answer
-assembled standing text [] = record {
+abbrev pub assembled : LabState → List ℕ → List Fault → Answer
+assembled lab text [] = record {
   reply = cells_text (image_of text);
-  after = record standing { source = Some text };
+  after = record lab { source = Some text };
 }
-assembled standing text (fault ∷ more) =
-    answer_showing (codes "? 9 Faults\n" ++ faults_text (fault ∷ more)) standing
+assembled lab text (fault ∷ more) =
+    answer_showing (codes "? 9 Faults\n" ++ faults_text (fault ∷ more)) lab
 
 -- the answer to a source at its end, which closes it
-abbrev pub answer_to_end : Standing → SourceText → Answer
-answer_to_end standing source =
-    let after : Standing = record standing { opened = None } in
+abbrev pub answer_to_end : LabState → SourceText → Answer
+answer_to_end lab source =
+    let after : LabState = record lab { opened = None } in
     if source.too_long then refused refusals.TooLong after
     else assembled after source.text (faults_of source.text)
 
 -- the open source is closed, if there is one
-unfoldable pub closed : Standing → Answer
-closed standing = option_map_or (answer_to_end standing) standing.opened (silent standing)
+unfoldable pub closed : LabState → Answer
+closed lab = option_map_or (answer_to_end lab) lab.opened (silent lab)
 
 -- a line of an open source: a point alone closes it
-abbrev pub answer_in_source : Standing → SourceText → List ℕ → Answer
-answer_in_source standing source line =
-    if bytes_eq line (codes ".") then answer_to_end standing source
-    else silent (record standing { opened = Some (with_line source line) })
+abbrev pub answer_in_source : LabState → SourceText → List ℕ → Answer
+answer_in_source lab source line =
+    if bytes_eq line (codes ".") then answer_to_end lab source
+    else silent (record lab { opened = Some (with_line source line) })
 
 -- ---- list
 

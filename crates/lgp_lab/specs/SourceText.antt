@@ -16,7 +16,7 @@ source_of bytes =
     let too_long = nat_lt source_limit (length bytes) in
     record { text = if too_long then [] else bytes; too_long = too_long }
 
--- a source with more bytes behind it
+-- a source with more bytes after it
 abbrev pub with_bytes : SourceText → List ℕ → SourceText
 with_bytes source bytes =
     let too_long = source.too_long || nat_lt source_limit (length source.text + length bytes) in

@@ -8,7 +8,7 @@ pub record WordRange : Type 0 where
   pub first : ℕ
   pub count : ℕ
 
--- so many words from an address on: 1 to 64, none past 6363
+-- a given number of words from an address on: 1 to 64, none past 6363
 unfoldable pub range_of : ℕ → ℕ → Option WordRange
 range_of first count =
     if nat_lt 0 count && nat_le count shown_limit && nat_le (first + count) drum_size

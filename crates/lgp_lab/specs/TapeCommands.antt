@@ -6,21 +6,21 @@ use Rattle.std.specs.Result.{result_unwrap_or}
 use Rattle.lgp_flexo.specs.TapeText.{codes_of_text, tape_limit, written_tape}
 use Rattle.lgp_history.specs.Step.{Mount}
 use Rattle.lgp_lab.specs.Refusal.{counted_text}
-use Rattle.lgp_lab.specs.Standing.{Answer, Standing, answer_to_step, refused}
+use Rattle.lgp_lab.specs.LabState.{Answer, LabState, answer_to_step, refused}
 use Rattle.lgp_lab.specs.declared.refusal.Refusal.TheVariants as refusals
 
 -- ---- mount
 
-abbrev pub answer_to_tape : Standing → Result (List ℕ) ℕ → Answer
-answer_to_tape standing (Err place) = refused (refusals.BadSign place) standing
-answer_to_tape standing (Ok tape) =
-    answer_to_step (counted_text (codes "ok ") (length tape)) standing (Mount tape)
+abbrev pub answer_to_tape : LabState → Result (List ℕ) ℕ → Answer
+answer_to_tape lab (Err place) = refused (refusals.BadSign place) lab
+answer_to_tape lab (Ok tape) =
+    answer_to_step (counted_text (codes "ok ") (length tape)) lab (Mount tape)
 
 -- the same with a text of any length, which may have more codes than a tape can have
-abbrev pub answer_to_tape_text : Standing → List ℕ → Answer
-answer_to_tape_text standing text =
+abbrev pub answer_to_tape_text : LabState → List ℕ → Answer
+answer_to_tape_text lab text =
     if nat_lt tape_limit (length (result_unwrap_or (codes_of_text text) []))
-    then refused refusals.TooLong standing else answer_to_tape standing (codes_of_text text)
+    then refused refusals.TooLong lab else answer_to_tape lab (codes_of_text text)
 
 -- ---- printed
 

@@ -14,7 +14,7 @@ use Rattle.lgp_task.specs.declared.task.TaskFault.TheVariants as faults
 use Rattle.lgp_lab.specs.Files.{FileAnswer, asm_answer, heading, run_answer, tape_answer}
 use Rattle.lgp_stream.specs.Language.{HasCause, StandsOf, StandsWritten}
 use Rattle.lgp_lab.specs.Script.{script_faults, script_language, script_replies}
-use Rattle.lgp_lab.specs.Standing.{opening_standing}
+use Rattle.lgp_lab.specs.LabState.{opening_state}
 use Rattle.lgp_stream.specs.declared.stream.StreamFault.{StreamFault}
 use Rattle.lgp_stream.specs.declared.stream.StreamFault.TheVariants.{Memory}
 use Rattle.lgp_lab.specs.declared.tasks.FileFault.{FileFault}
@@ -60,7 +60,7 @@ was_opened (Err NotOpened) = false
 was_opened _ = true
 
 -- work on a text: what is written for it, with its status, of a script how many replies begin with
--- a question mark; and what stands written where a fault breaks the work off
+-- a question mark; and what is written where a fault breaks the work off
 pub record Work : Type 1 where
   pub answer : List ℕ → FileAnswer
   pub Stands : List ℕ → StreamFault → Option (List ℕ) → Option (List ℕ) → Type 0
@@ -70,7 +70,7 @@ abbrev pub source_work : (List ℕ → FileAnswer) → Work
 source_work answer =
     record { answer = answer; Stands = λ text fault. StandsOf (answer text).text fault }
 
--- a script, behind what is in front of it; how much was read is not told
+-- a script, after what is in front of it; how much was read is not reported
 abbrev pub script_work : List (List ℕ) → Work
 script_work front = record {
   answer = λ text. record {
@@ -78,7 +78,7 @@ script_work front = record {
     status = script_faults text;
   };
   Stands = λ text fault w₀ w. (left : Option (List ℕ))
-      × StandsWritten front (script_language) opening_standing fault text left w₀ w;
+      × StandsWritten front (script_language) opening_state fault text left w₀ w;
 }
 
 abbrev pub work_for : Job → Work
@@ -124,7 +124,7 @@ IsWorked work opens known failures status w₀ w =
     (outcome : Result ℕ FileFault) × IsOpenedAs opens outcome
     × HasDone work known failures outcome w₀ w × (status ≡ status_for outcome)
 
--- the scripts of a batch, one after another: each is answered behind the line that names it; behind
+-- the scripts of a batch, one after another: each is answered after the line that names it; after
 -- a status below 2 the next one follows, and 2 or 3 ends the batch. The status is the greatest, of
 -- `worst` before these scripts and of theirs
 unfoldable pub IsBatch : (List ℕ → Option Bool) → (List ℕ → Option (List ℕ)) → Failures → ℕ
@@ -153,10 +153,10 @@ IsPerformed opens contents (Script name) input failures =
 IsPerformed opens contents (Batch names) input failures =
     IsBatch opens contents (unseen_reads failures.write) 0 names
 
--- a text told: whole, with the status that goes with it; or in part, since a write has failed, with
--- the status of that
-abbrev pub IsTold : ℕ → List ℕ → Bool → ℕ → Option (List ℕ) → Option (List ℕ) → Type 0
-IsTold wanted text failed status w₀ w =
+-- a text reported: whole, with the status that goes with it; or in part, since a write has failed,
+-- with the status of that
+abbrev pub IsReported : ℕ → List ℕ → Bool → ℕ → Option (List ℕ) → Option (List ℕ) → Type 0
+IsReported wanted text failed status w₀ w =
     ((status ≡ wanted) × Appends w₀ w text)
     ⊎ ((status ≡ failed_status) × (failed ≡ true)
     × ((fault : StreamFault) × StandsOf text fault w₀ w))
@@ -167,22 +167,22 @@ IsTold wanted text failed status w₀ w =
 abbrev pub IsRefused : {A : Type 0} → TaskFault A → Bool → Bool → ℕ → Option (List ℕ)
     → Option (List ℕ) → Option (List ℕ) → Option (List ℕ) → Type 0
 IsRefused (faults.Usage text) w_failed m_failed status w₀ w m₀ m =
-    IsTold usage_status (string_bytes text) m_failed status m₀ m × (w ≡ w₀)
+    IsReported usage_status (string_bytes text) m_failed status m₀ m × (w ≡ w₀)
 IsRefused (faults.Help text) w_failed m_failed status w₀ w m₀ m =
-    IsTold 0 (string_bytes text) w_failed status w₀ w × (m ≡ m₀)
+    IsReported 0 (string_bytes text) w_failed status w₀ w × (m ≡ m₀)
 IsRefused faults.Memory w_failed m_failed status w₀ w m₀ m =
     (status ≡ memory_status) × ((w ≡ w₀) × (m ≡ m₀))
 
--- what is told of words on the command line that cannot be read as text
+-- what is reported of words on the command line that cannot be read as text
 abbrev pub unread_text : List ℕ
 unread_text = codes "error: the words of the command line are not UTF-8 text\n"
 
--- what is told of words on the command line that cannot be read at all, by why: nothing for want of
--- memory
+-- what is reported of words on the command line that cannot be read at all, by why: nothing for
+-- want of memory
 abbrev pub IsUnread : WordFault → Bool → ℕ → Option (List ℕ) → Option (List ℕ) → Option (List ℕ)
     → Option (List ℕ) → Type 0
 IsUnread words.NotText m_failed status w₀ w m₀ m =
-    IsTold usage_status unread_text m_failed status m₀ m × (w ≡ w₀)
+    IsReported usage_status unread_text m_failed status m₀ m × (w ≡ w₀)
 IsUnread words.Memory m_failed status w₀ w m₀ m =
     (status ≡ memory_status) × ((w ≡ w₀) × (m ≡ m₀))
 

@@ -3,7 +3,7 @@
 ghost use Rattle.std.specs.Prelude.{◌≡◌, ◌==◌, ◌≤◌, drop, is_some, length, slice_index};
 ghost use Rattle.std.specs.Str.{byte};
 ghost use Rattle.lgp_word.specs.Digits.{address_text};
-ghost use Rattle.lgp_lab.specs.Command.{command_by, command_of, lone, lone_number, lone_operand, number_at, press_command, put_command, span_at, text_behind};
+ghost use Rattle.lgp_lab.specs.Command.{command_by, command_of, lone, lone_number, lone_operand, number_at, press_command, put_command, span_at, text_after_word};
 
 use crate::limits::DIGIT_LIMIT;
 use crate::names::{Verb, button_named, position_named, switch_action, switch_named, verb_named};
@@ -19,9 +19,9 @@ pub enum Command {
     Mount,
     Press(Action),
     Type,
-    /// So many word times at rest.
+    /// A given number of word times at rest.
     Turn(u64),
-    /// At most so many orders.
+    /// At most a given number of orders.
     Orders(u64),
     Panel,
     Words(Span),
@@ -42,9 +42,9 @@ pub enum Command {
     Watch(Address),
     /// The rule of a number goes.
     Drop(u64),
-    /// At most so many orders, until a rule stops them.
+    /// At most a given number of orders, until a rule stops them.
     Run(u64),
-    /// So many orders back.
+    /// A given number of orders back.
     Back(u64),
     /// Back to the latest order that a rule hits.
     Last,
@@ -64,8 +64,8 @@ fn put_command(operands: &[u8]) -> Option<Command>
     ensures { result ≡ put_command operands.now }
 {
     let first = split_word(operands);
-    let second = split_word(first.behind);
-    if !has_no_word(second.behind) {
+    let second = split_word(first.rest);
+    if !has_no_word(second.rest) {
         return None;
     }
     match (Address::parse(first.word), read_digits(second.word)) {
@@ -80,14 +80,14 @@ fn press_command(operands: &[u8]) -> Option<Command>
     ensures { result ≡ press_command operands.now }
 {
     let name = split_word(operands);
-    if has_no_word(name.behind) {
+    if has_no_word(name.rest) {
         return match button_named(name.word) {
             Some(action) => Some(Command::Press(action)),
             None => None,
         };
     }
-    let position = split_word(name.behind);
-    if !has_no_word(position.behind) {
+    let position = split_word(name.rest);
+    if !has_no_word(position.rest) {
         return None;
     }
     match (switch_named(name.word), position_named(position.word)) {
@@ -102,7 +102,7 @@ pub fn lone_number(operands: &[u8]) -> Option<u64>
     ensures { result ≡ lone_number operands.now }
 {
     let number = split_word(operands);
-    if has_no_word(number.behind) {
+    if has_no_word(number.rest) {
         number_at(number.word)
     } else {
         None
@@ -114,7 +114,7 @@ fn lone_address(operands: &[u8]) -> Option<Address>
     ensures { result ≡ lone_operand address_text operands.now }
 {
     let address = split_word(operands);
-    if has_no_word(address.behind) {
+    if has_no_word(address.rest) {
         Address::parse(address.word)
     } else {
         None
@@ -127,8 +127,8 @@ fn span_at(operands: &[u8]) -> Option<Span>
     ensures { result ≡ span_at operands.now }
 {
     let first = split_word(operands);
-    let second = split_word(first.behind);
-    if !has_no_word(second.behind) {
+    let second = split_word(first.rest);
+    if !has_no_word(second.rest) {
         return None;
     }
     match (Address::parse(first.word), number_at(second.word)) {
@@ -183,32 +183,32 @@ pub struct Asked<'a> {
     pub text: &'a [u8],
 }
 
-/// All that follows the one space behind the command's word.
-fn behind_space(behind: &[u8]) -> &[u8]
-    ensures text { result.now ≡ drop 1 behind.now }
-    ensures shorter { length result.now ≤ length behind.now }
+/// All that follows the one space after the command's word.
+fn after_space(rest: &[u8]) -> &[u8]
+    ensures text { result.now ≡ drop 1 rest.now }
+    ensures shorter { length result.now ≤ length rest.now }
 {
-    match behind {
+    match rest {
         [_, text @ ..] => text,
         [] => &[],
     }
 }
 
 /// What a line asks for; no command where it is in no command's form.
-#[tactic(auto, unfolding(crate::specs::Command::command_of, crate::specs::Command::text_behind))]
+#[tactic(auto, unfolding(crate::specs::Command::command_of, crate::specs::Command::text_after_word))]
 pub fn asked_in(line: &[u8]) -> Asked<'_>
     ensures command { result.command ≡ command_of line.now }
-    ensures text { result.text.now ≡ text_behind line.now }
+    ensures text { result.text.now ≡ text_after_word line.now }
     ensures within { length result.text.now ≤ length line.now }
 {
-    let Split { word, behind } = split_word(line);
+    let Split { word, rest } = split_word(line);
     let command = match verb_named(word) {
-        Some(verb) => command_by(verb, behind),
+        Some(verb) => command_by(verb, rest),
         None => None,
     };
     Asked {
         command,
-        text: behind_space(behind),
+        text: after_space(rest),
     }
 }
 

@@ -108,7 +108,7 @@ fn tape_text<A: Allocator + Copy>(alloc: A, program: &Program<A>) -> Result<Vec<
     Ok(text)
 }
 
-/// Loads a program into a new machine and performs at most so many orders more; `None` where the clock's end stops it.
+/// Loads a program into a new machine and performs at most a given number of orders more; `None` where the clock's end stops it.
 fn run_program<A: Allocator + Copy>(
     alloc: A,
     program: &Program<A>,
@@ -260,7 +260,7 @@ pub fn tape_file<A: Allocator + Copy, R: Feed, W: Sink>(
     Ok(status)
 }
 
-/// Reads a source to its end, loads it into a new machine, performs at most so many orders more, and writes what is printed and
+/// Reads a source to its end, loads it into a new machine, performs at most a given number of orders more, and writes what is printed and
 /// the panel; or its faults. Answers 0, or 1 where there is a fault or the clock's end is met.
 #[tactic(auto, unfolding(crate::specs::Files::run_answer))]
 pub fn run_file<A: Allocator + Copy, R: Feed, W: Sink>(

@@ -4,7 +4,7 @@ ghost use Rattle.std.specs.Prelude.{◌≡◌, ◌++◌, ◌≤◌, List, ℕ, I
 ghost use Rattle.lgp_stream.specs.KeptLine.{line_limit};
 ghost use Rattle.lgp_stream.specs.KeptLine.{kept_of};
 ghost use Rattle.lgp_lab.specs.Script.{answer_to, answer_to_command, is_passed_over, script_language};
-ghost use Rattle.lgp_lab.specs.Standing.{labels_of, opened_text, opening_standing};
+ghost use Rattle.lgp_lab.specs.LabState.{labels_of, opened_text, opening_state};
 
 use crate::command::{Asked, Command, asked_in, is_comment};
 use crate::limits::KEPT_LIMIT;
@@ -31,7 +31,7 @@ pub use source_commands::{push_fault_line, push_faults};
 pub use tape_commands::push_printed;
 
 /// A machine with its history and its rules, on which a script's commands are performed, with the last source that assembled and
-/// the one that is open. It is seen as where it stands.
+/// the one that is open. It is seen as its state.
 #[derive(Drop)]
 pub struct Laboratory<A: Allocator + Clone> {
     alloc: A,
@@ -41,9 +41,9 @@ pub struct Laboratory<A: Allocator + Clone> {
 }
 
 impl<A: Allocator + Clone> Model for Laboratory<A> {
-    ghost use Rattle.lgp_lab.specs.Standing.{Standing};
+    ghost use Rattle.lgp_lab.specs.LabState.{LabState};
 
-    ghost Value = { Standing };
+    ghost Value = { LabState };
 
     ghost view = { λ laboratory. record {
       debugger = laboratory.debugger;
@@ -54,9 +54,9 @@ impl<A: Allocator + Clone> Model for Laboratory<A> {
 
 impl<A: Allocator + Copy> Laboratory<A> {
     /// A laboratory with a new machine.
-    #[tactic(auto, unfolding(crate::specs::Standing::opening_standing))]
+    #[tactic(auto, unfolding(crate::specs::LabState::opening_state))]
     pub fn new(alloc: A) -> Result<Laboratory<A>, AllocError>
-        ensures { IfOk result (λ laboratory. laboratory ≡ opening_standing) }
+        ensures { IfOk result (λ laboratory. laboratory ≡ opening_state) }
     {
         let machine = Machine::new(alloc)?;
         let history = Records::new(alloc, KEPT_LIMIT)?;
@@ -76,7 +76,7 @@ impl<A: Allocator + Copy> Laboratory<A> {
     }
 
     /// The bytes of the open source so far; none where no source is open, and where it is too long.
-    #[tactic(auto, unfolding(crate::specs::Standing::opened_text))]
+    #[tactic(auto, unfolding(crate::specs::LabState::opened_text))]
     pub fn source_so_far(&self) -> &[u8]
         ensures { result.now ≡ opened_text self.now.opened }
     {
@@ -142,7 +142,7 @@ impl<A: Allocator + Copy> Laboratory<A> {
 }
 
 /// The names of a program with their values.
-#[tactic(auto, unfolding(crate::specs::Standing::labels_of))]
+#[tactic(auto, unfolding(crate::specs::LabState::labels_of))]
 fn labels_in<A: Allocator + Copy>(program: &Option<Program<A>>) -> &[(Name, u16)]
     ensures { result.now ≡ labels_of program.now }
 {
@@ -152,7 +152,7 @@ fn labels_in<A: Allocator + Copy>(program: &Option<Program<A>>) -> &[(Name, u16)
     }
 }
 
-/// Whether a line has no reply: no word stands on it, or it begins with a semicolon.
+/// Whether a line has no reply: there is no word on it, or it begins with a semicolon.
 fn is_passed_over(line: &LineBytes) -> bool
     ensures { (text : List ℕ) → line.now ≡ kept_of text → result ≡ is_passed_over text }
 {

@@ -11,26 +11,26 @@ ghost use Rattle.lgp_lab.specs.Files.{loaded_new};
 ghost use Rattle.lgp_lab.specs.Command.{command_of};
 ghost use Rattle.lgp_lab.specs.LoadCommand.{answer_to_load};
 ghost use Rattle.lgp_lab.specs.Script.{only_asks, script_language};
-ghost use Rattle.lgp_lab.specs.Standing.{Standing};
+ghost use Rattle.lgp_lab.specs.LabState.{LabState};
 
 use std::alloc::Allocator;
 
 /// A script's `load` leaves exactly the words of the last source that assembled over what was there, and the clock has gone on by
-/// what all activities of loading cost; where it would pass its end, that is told instead.
+/// what all activities of loading cost; where it would pass its end, that is reported instead.
 #[tactic(auto, using(crate::proofs::LoadLaws::load_laws))]
 pub fn load_leaves_the_source<A: Allocator>()
-    ensures words { (standing : Standing) → (source : List ℕ)
-        → standing.source ≡ Some source → faults_of source ≡ []
-        → length standing.debugger.state.core.words ≡ 4096
-        → loading_stopped standing.debugger.state (longest_load (image_of source)) ≡ None
-        → IsLoadedOver standing.debugger.state.core.words
-        (answer_to_load standing).after.debugger.state.core.words (image_of source).cells }
-    ensures time { (standing : Standing) → (source : List ℕ)
-        → standing.source ≡ Some source
-        → loading_stopped standing.debugger.state (longest_load (image_of source)) ≡ None
-        → (answer_to_load standing).after.debugger.state.clock
-        ≡ standing.debugger.state.clock
-        + loading_cost standing.debugger.state (longest_load (image_of source)) }
+    ensures words { (lab : LabState) → (source : List ℕ)
+        → lab.source ≡ Some source → faults_of source ≡ []
+        → length lab.debugger.state.core.words ≡ 4096
+        → loading_stopped lab.debugger.state (longest_load (image_of source)) ≡ None
+        → IsLoadedOver lab.debugger.state.core.words
+        (answer_to_load lab).after.debugger.state.core.words (image_of source).cells }
+    ensures time { (lab : LabState) → (source : List ℕ)
+        → lab.source ≡ Some source
+        → loading_stopped lab.debugger.state (longest_load (image_of source)) ≡ None
+        → (answer_to_load lab).after.debugger.state.clock
+        ≡ lab.debugger.state.clock
+        + loading_cost lab.debugger.state (longest_load (image_of source)) }
 {}
 
 /// What the program's `run` has loaded before the first order of a source without faults: exactly the source's words on a drum
@@ -43,10 +43,11 @@ pub fn run_begins_with_the_source()
         ≡ loading_cost (opening blank_words) (longest_load (image_of source)) }
 {}
 
-/// A line of a script that only asks leaves the laboratory where it stood. So a script leads to the same place without such lines.
+/// A line of a script that only asks leaves the laboratory in the state in which it was. So a script leads to the same place without such
+/// lines.
 #[tactic(auto, using(crate::proofs::AskingLaws::unmoved))]
 pub fn questions_change_nothing<A: Allocator>()
-    ensures { (standing : Standing) → (line : List ℕ) → standing.opened ≡ None
+    ensures { (lab : LabState) → (line : List ℕ) → lab.opened ≡ None
         → IsTrue (only_asks (command_of line))
-        → script_language.after standing line ≡ standing }
+        → script_language.after lab line ≡ lab }
 {}

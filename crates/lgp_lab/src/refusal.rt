@@ -21,9 +21,9 @@ pub enum Refusal {
     Full,
     /// There is no rule of that number.
     NoRule,
-    /// Only so many orders are kept.
+    /// Only a given number of orders are kept.
     TooFar(u64),
-    /// No rule hits any of the orders that are kept, which are so many.
+    /// No rule hits any of the orders that are kept, with their number.
     NoHit(u64),
     /// No source has assembled yet.
     NoImage,

@@ -5,7 +5,7 @@ ghost use Rattle.std.specs.Io.KnownBytes.{Appends, IsAtEnd};
 ghost use Rattle.lgp_lab.specs.Files.{heading};
 ghost use Rattle.lgp_stream.specs.Language.{HasCause, StandsWritten};
 ghost use Rattle.lgp_lab.specs.Script.{script_faults, script_language, script_text};
-ghost use Rattle.lgp_lab.specs.Standing.{opening_standing};
+ghost use Rattle.lgp_lab.specs.LabState.{opening_state};
 
 use crate::laboratory::Laboratory;
 use lgp_stream::{Feed, Sink, StreamFault, run_text, write_whole};
@@ -27,7 +27,7 @@ pub fn run_script<A: Allocator + Copy, R: Feed, W: Sink>(
     ensures cause { IfErr result (λ fault.
         HasCause fault (R.failed reader.new) (W.failed writer.new)) }
     ensures stands { IfErr result (λ fault. IfSome (R.remaining reader.old) (λ script.
-        StandsWritten [] (script_language) opening_standing fault script
+        StandsWritten [] (script_language) opening_state fault script
         (R.remaining reader.new) (W.contents writer.old) (W.contents writer.new))) }
 {
     let Ok(laboratory) = Laboratory::new(alloc) else {
@@ -66,7 +66,7 @@ pub fn batch_part<A: Allocator + Copy, R: Feed, W: Sink>(
     ensures cause { IfErr result (λ fault.
         HasCause fault (R.failed reader.new) (W.failed writer.new)) }
     ensures stands { IfErr result (λ fault. IfSome (R.remaining reader.old) (λ script.
-        StandsWritten (heading name.now ∷ []) (script_language) opening_standing fault
+        StandsWritten (heading name.now ∷ []) (script_language) opening_state fault
         script (R.remaining reader.new) (W.contents writer.old) (W.contents writer.new))) }
 {
     let Ok(heading) = heading(alloc, name) else {
@@ -75,6 +75,6 @@ pub fn batch_part<A: Allocator + Copy, R: Feed, W: Sink>(
     write_whole(writer, &heading)?;
     match run_script(alloc, reader, writer) {
         Ok(faults) => Ok(faults),
-        Err(fault) => Err(fault.behind(heading.len() as u64)),
+        Err(fault) => Err(fault.after_bytes(heading.len() as u64)),
     }
 }

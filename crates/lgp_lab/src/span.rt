@@ -30,7 +30,7 @@ impl Model for Span {
 }
 
 impl Span {
-    /// So many words from an address on; `None` where these are none, more than 64, or pass the drum's end.
+    /// A given number of words from an address on; `None` where these are none, more than 64, or pass the drum's end.
     #[tactic(auto, unfolding(crate::specs::Span::range_of))]
     pub fn new(first: Address, count: u64) -> Option<Span>
         ensures { result ≡ range_of first count }

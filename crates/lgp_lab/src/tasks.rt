@@ -4,7 +4,7 @@ ghost use Rattle.std.specs.Prelude.{◌≡◌, [], List, Option, Some, ℕ, Bool
 ghost use Rattle.std.specs.String.{string_bytes};
 ghost use Rattle.std.specs.Io.KnownBytes.{Appends};
 ghost use Rattle.lgp_stream.specs.Language.{HasCause};
-ghost use Rattle.lgp_lab.specs.Tasks.{HasDone, IsBatch, IsObeyed, IsOpenedAs, IsPerformed, IsRefused, IsTold, IsUnread, IsWorked, part_work, read_limit, script_work, status_for, unread_text, unseen_reads, usage_status, work_for};
+ghost use Rattle.lgp_lab.specs.Tasks.{HasDone, IsBatch, IsObeyed, IsOpenedAs, IsPerformed, IsRefused, IsReported, IsUnread, IsWorked, part_work, read_limit, script_work, status_for, unread_text, unseen_reads, usage_status, work_for};
 
 use crate::files::{asm_file, run_file, tape_file};
 use crate::script::{batch_part, run_script};
@@ -61,7 +61,7 @@ pub enum Job {
     Listing,
     /// It is a source: its tape is written.
     Taping,
-    /// It is a source: it is loaded and run for at most so many orders.
+    /// It is a source: it is loaded and run for at most a given number of orders.
     Running(u64),
     /// It is a script: it is answered.
     Answering,
@@ -265,7 +265,7 @@ pub fn perform<A: Allocator + Copy, F: Folder, R: Feed, W: Sink>(
 
 /// Writes a text; answers the status that goes with it, or that of a write that failed.
 fn tell<W: Sink>(writer: &mut W, text: &[u8], status: u8) -> u8
-    ensures { IsTold status text.now (W.failed writer.new) result
+    ensures { IsReported status text.now (W.failed writer.new) result
         (W.contents writer.old) (W.contents writer.new) }
 {
     match write_whole(writer, text) {
@@ -297,7 +297,7 @@ pub fn refuse<A: Allocator, W: Sink, M: Sink>(
 /// Tells on the messages that the words of the command line cannot be read as text; answers the program's status.
 pub fn refuse_unread<M: Sink>(messages: &mut M) -> u8
     requires messages { M.failed messages.old ≡ false }
-    ensures { IsTold usage_status unread_text (M.failed messages.new) result
+    ensures { IsReported usage_status unread_text (M.failed messages.new) result
         (M.contents messages.old) (M.contents messages.new) }
 {
     tell(

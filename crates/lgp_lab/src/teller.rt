@@ -1,4 +1,4 @@
-//! Runs that are told.
+//! Runs that are reported.
 
 ghost use Rattle.std.specs.Prelude.{◌≡◌, ◌++◌, ℕ, List, Option};
 ghost use Rattle.lgp_table.specs.State.{State};
@@ -13,11 +13,11 @@ use std::alloc::Allocator;
 
 /// What runs a debugger as `Debugger::run` does, and writes something about the orders.
 pub trait Teller {
-    /// What is written about so many orders from a state on, where names have these values and the orders came from there.
-    ghost told: { Self → List (List ℕ × ℕ) → State → (ℕ → Option Origin) → ℕ → List ℕ };
+    /// What is written about a given number of orders from a state on, where names have these values and the orders came from there.
+    ghost reported: { Self → List (List ℕ × ℕ) → State → (ℕ → Option Origin) → ℕ → List ℕ };
 
-    /// Runs a debugger, and appends what is written about its orders. Where the clock's end refuses an order, those before it stand
-    /// and are told. Where memory is refused, what stands is not said.
+    /// Runs a debugger, and appends what is written about its orders. Where the clock's end refuses an order, those before it remain
+    /// and are reported. Where memory is refused, what remains is not said.
     fn run<A: Allocator + Copy>(
         &self,
         alloc: A,
@@ -30,7 +30,7 @@ pub trait Teller {
             (run_of debugger.old.rules limit debugger.old.state ≡ result) }
         ensures performed { UnlessMemory result
             (debugger.new ≡ performed debugger.old (orders_of result)) }
-        ensures told { UnlessMemory result (text.new.items ≡ text.old.items
-            ++ told self.now names.now debugger.old.state (order_origins debugger.old)
+        ensures reported { UnlessMemory result (text.new.items ≡ text.old.items
+            ++ reported self.now names.now debugger.old.state (order_origins debugger.old)
             (orders_of result)) };
 }

@@ -1,4 +1,4 @@
-//! Scripts and files by what is written for them. A helper without clauses stands around each call, and a test is a table of texts
+//! Scripts and files by what is written for them. Each call is made by a helper without clauses, and a test is a table of texts
 //! with what is written for each.
 
 mod files;
@@ -35,7 +35,7 @@ fn run_between<A: Allocator + Copy, R: Read + Drop, W: Write + Drop>(
     (answer, feed.has_failed(), sink.has_failed())
 }
 
-/// Runs a script; its replies are written behind `written`.
+/// Runs a script; its replies are written after `written`.
 fn run<A: Allocator + Copy>(
     alloc: A,
     script: &[u8],
@@ -56,7 +56,7 @@ fn expect(rt: &impl Abort, alloc: Global, script: &[u8], replies: &[u8], faults:
     );
 }
 
-/// A text of pieces, each as many times as told.
+/// A text of pieces, each as many times as its number says.
 fn built(alloc: Global, pieces: &[(&[u8], usize)]) -> Result<Vec<u8>, AllocError> {
     let mut text = Vec::new(alloc);
     for (piece, times) in pieces {
@@ -65,7 +65,7 @@ fn built(alloc: Global, pieces: &[(&[u8], usize)]) -> Result<Vec<u8>, AllocError
     Ok(text)
 }
 
-/// Appends a piece as many times as told.
+/// Appends a piece a given number of times.
 fn push_times(text: &mut Vec<u8>, piece: &[u8], times: usize) -> Result<(), AllocError> {
     for _ in 0..times {
         text.extend_from_slice(piece)?;

@@ -41,8 +41,8 @@ line_parts line size =
     let left : drop 14 line ≡ [] = drop_all 14 line (omega arith) in
     let last : drop 13 line ≡ get_or line 13 0 ∷ [] = drop_more line 13 0 (omega arith) ∙ ap (λ t. get_or line 13 0 ∷ t) left in
     let digits : drop 5 line ≡ eight ++ get_or line 13 0 ∷ [] = sym (take-append-drop 8 (drop 5 line)) ∙ ap (λ t. eight ++ t) (drop-drop 8 5 line ∙ last) in
-    let behind : drop 4 line ≡ get_or line 4 0 ∷ (eight ++ get_or line 13 0 ∷ []) = drop_more line 4 0 (omega arith) ∙ ap (λ t. get_or line 4 0 ∷ t) digits in
-    sym (take-append-drop 4 line) ∙ ap (λ t. take 4 line ++ t) behind
+    let after : drop 4 line ≡ get_or line 4 0 ∷ (eight ++ get_or line 13 0 ∷ []) = drop_more line 4 0 (omega arith) ∙ ap (λ t. get_or line 4 0 ∷ t) digits in
+    sym (take-append-drop 4 line) ∙ ap (λ t. take 4 line ++ t) after
     ∙ sym (append_assoc (take 4 line ++ get_or line 4 0 ∷ []) eight (get_or line 13 0 ∷ []) ∙ append_assoc (take 4 line) (get_or line 4 0 ∷ []) (eight ++ get_or line 13 0 ∷ []))
 
 kept : (b : Bool) (o : Option (ℕ × ℕ)) (cell : ℕ × ℕ) → cond b o None ≡ Some cell → (b ≡ true) × (o ≡ Some cell)

@@ -25,33 +25,33 @@ sound_from number least (line ∷ rest) e = ⊎_elim
 
 -- ---- a fault of form
 
-record IsFormFrom (number least : ℕ) (lines : List (List ℕ)) (told : ℕ) : Type 0 where
+record IsFormFrom (number least : ℕ) (lines : List (List ℕ)) (reported : ℕ) : Type 0 where
   before : List (List ℕ)
   line : List ℕ
-  behind : List (List ℕ)
-  lines_are : lines ≡ before ++ line ∷ behind
-  told_is : told ≡ number + length before
+  after : List (List ℕ)
+  lines_are : lines ≡ before ++ line ∷ after
+  reported_is : reported ≡ number + length before
   sound : AreSound least before
   misformed : cell_in line ≡ None
 
-form_from : (number least : ℕ) (lines : List (List ℕ)) (told : ℕ) → fault_from number least lines ≡ Some (Form told) → IsFormFrom number least lines told
+form_from : (number least : ℕ) (lines : List (List ℕ)) (reported : ℕ) → fault_from number least lines ≡ Some (Form reported) → IsFormFrom number least lines reported
 unfolding fault_from
-form_from number least [] told e = absurd (none-some (Form told) e)
-form_from number least (line ∷ rest) told e = ⊎_elim
+form_from number least [] reported e = absurd (none-some (Form reported) e)
+form_from number least (line ∷ rest) reported e = ⊎_elim
     (λ none.
-    let same : Some (Form told) ≡ Some (Form number) = sym e ∙ at_form line rest number least none in
-    let is : told ≡ number = cc (same) in
-    record { before = []; line = line; behind = rest; lines_are = refl; told_is = omega arith; sound = tt; misformed = none })
+    let same : Some (Form reported) ≡ Some (Form number) = sym e ∙ at_form line rest number least none in
+    let is : reported ≡ number = cc (same) in
+    record { before = []; line = line; after = rest; lines_are = refl; reported_is = omega arith; sound = tt; misformed = none })
     (⊎_elim
-    (λ low. (let same : Some (Form told) ≡ Some (Order number) = sym e ∙ at_order line rest number least low.cell low.read low.below in cc (same)))
+    (λ low. (let same : Some (Form reported) ≡ Some (Order number) = sym e ∙ at_order line rest number least low.cell low.read low.below in cc (same)))
     (λ high.
-    let more = form_from (number + 1) (high.cell.0 + 1) rest told (sym (onward line rest number least high.cell high.read high.above) ∙ e) in
+    let more = form_from (number + 1) (high.cell.0 + 1) rest reported (sym (onward line rest number least high.cell high.read high.above) ∙ e) in
     record {
       before = line ∷ more.before;
       line = more.line;
-      behind = more.behind;
+      after = more.after;
       lines_are = ap (λ t. line ∷ t) more.lines_are;
-      told_is = omega (arith, more.told_is);
+      reported_is = omega (arith, more.reported_is);
       sound = (high.cell, cell_line-cell_in line high.cell high.read, high.above, more.sound);
       misformed = more.misformed;
     }))
@@ -60,44 +60,44 @@ form_from number least (line ∷ rest) told e = ⊎_elim
 -- ---- a fault of order
 
 -- the first line's address is too low
-record IsLowAtOnce (number least : ℕ) (lines : List (List ℕ)) (told : ℕ) : Type 0 where
+record IsLowAtOnce (number least : ℕ) (lines : List (List ℕ)) (reported : ℕ) : Type 0 where
   line : List ℕ
-  behind : List (List ℕ)
-  lines_are : lines ≡ line ∷ behind
-  told_is : told ≡ number
+  after : List (List ℕ)
+  lines_are : lines ≡ line ∷ after
+  reported_is : reported ≡ number
   low : IsBelow line least
 
 -- or that of a later one is
-record IsLowLater (number least : ℕ) (lines : List (List ℕ)) (told : ℕ) : Type 0 where
+record IsLowLater (number least : ℕ) (lines : List (List ℕ)) (reported : ℕ) : Type 0 where
   before : List (List ℕ)
   last : List ℕ
   line : List ℕ
-  behind : List (List ℕ)
-  lines_are : lines ≡ before ++ last ∷ line ∷ behind
-  told_is : told ≡ number + length before + 1
+  after : List (List ℕ)
+  lines_are : lines ≡ before ++ last ∷ line ∷ after
+  reported_is : reported ≡ number + length before + 1
   sound : AreSound least (before ++ last ∷ [])
   cell : ℕ × ℕ
   last_is : cell_in last ≡ Some cell
   low : IsBelow line (cell.0 + 1)
 
-order_from : (number least : ℕ) (lines : List (List ℕ)) (told : ℕ) → fault_from number least lines ≡ Some (Order told)
-    → IsLowAtOnce number least lines told ⊎ IsLowLater number least lines told
+order_from : (number least : ℕ) (lines : List (List ℕ)) (reported : ℕ) → fault_from number least lines ≡ Some (Order reported)
+    → IsLowAtOnce number least lines reported ⊎ IsLowLater number least lines reported
 unfolding fault_from
-order_from number least [] told e = absurd (none-some (Order told) e)
-order_from number least (line ∷ rest) told e = ⊎_elim
-    (λ none. (let same : Some (Order told) ≡ Some (Form number) = sym e ∙ at_form line rest number least none in cc (same)))
+order_from number least [] reported e = absurd (none-some (Order reported) e)
+order_from number least (line ∷ rest) reported e = ⊎_elim
+    (λ none. (let same : Some (Order reported) ≡ Some (Form number) = sym e ∙ at_form line rest number least none in cc (same)))
     (⊎_elim
     (λ low.
-    let same : Some (Order told) ≡ Some (Order number) = sym e ∙ at_order _ rest number least low.cell low.read low.below in
-    inl (record { line = line; behind = rest; lines_are = refl; told_is = cc (same); low = low }))
+    let same : Some (Order reported) ≡ Some (Order number) = sym e ∙ at_order _ rest number least low.cell low.read low.below in
+    inl (record { line = line; after = rest; lines_are = refl; reported_is = cc (same); low = low }))
     (λ high. ⊎_elim
     (λ once. inr (record {
       before = [];
       last = line;
       line = once.line;
-      behind = once.behind;
+      after = once.after;
       lines_are = ap (λ t. line ∷ t) once.lines_are;
-      told_is = omega (arith, once.told_is);
+      reported_is = omega (arith, once.reported_is);
       sound = (high.cell, cell_line-cell_in line high.cell high.read, high.above, tt);
       cell = high.cell;
       last_is = high.read;
@@ -107,15 +107,15 @@ order_from number least (line ∷ rest) told e = ⊎_elim
       before = line ∷ later.before;
       last = later.last;
       line = later.line;
-      behind = later.behind;
+      after = later.after;
       lines_are = ap (λ t. line ∷ t) later.lines_are;
-      told_is = omega (arith, later.told_is);
+      reported_is = omega (arith, later.reported_is);
       sound = (high.cell, cell_line-cell_in line high.cell high.read, high.above, later.sound);
       cell = later.cell;
       last_is = later.last_is;
       low = later.low;
     }))
-    (order_from (number + 1) (high.cell.0 + 1) rest told (sym (onward line rest number least high.cell high.read high.above) ∙ e))))
+    (order_from (number + 1) (high.cell.0 + 1) rest reported (sym (onward line rest number least high.cell high.read high.above) ∙ e))))
     (cases_line _ _)
 
 -- a line that is not read is no line of a word
@@ -129,9 +129,9 @@ form_law text number e =
     record {
       before = at.before;
       line = at.line;
-      behind = at.behind;
+      after = at.after;
       lines_are = at.lines_are;
-      number_is = omega (arith, at.told_is);
+      number_is = omega (arith, at.reported_is);
       sound = at.sound;
       misformed = no_line at.line at.misformed;
     }
@@ -146,9 +146,9 @@ order_law text number e = ⊎_elim
       before = at.before;
       last = at.last;
       line = at.line;
-      behind = at.behind;
+      after = at.after;
       lines_are = at.lines_are;
-      number_is = omega (arith, at.told_is);
+      number_is = omega (arith, at.reported_is);
       sound = at.sound;
       last_cell = at.cell;
       last_is = last;

@@ -147,12 +147,12 @@ module _ (n o : ℕ) (name operand : List ℕ) (operation : Operation) (named : 
 abbrev given : List LineFields → ImageParts
 given lines = record { cells = cells_in (names_of lines) lines; start = start_in (names_of lines) lines; symbols = names_of lines }
 
-abbrev told : List LineFields → List Fault
-told lines = faults_in (names_of lines) lines ++ missing_end lines
+abbrev reported : List LineFields → List Fault
+reported lines = faults_in (names_of lines) lines ++ missing_end lines
 
 -- the two lines have no fault and one cell
 pub record GivesOne (operation : Operation) (operand : List ℕ) (word : ℕ) : Type 0 where
-  faultless : told (end_fields ∷ line_fields operation operand ∷ []) ≡ []
+  faultless : reported (end_fields ∷ line_fields operation operand ∷ []) ≡ []
   image : given (end_fields ∷ line_fields operation operand ∷ []) ≡ record { cells = (0, word) ∷ []; start = None; symbols = [] }
 
 -- an order takes one operand
@@ -197,7 +197,7 @@ word_gives operand word means = record {
 
 assembles : (source : List ℕ) (operation : Operation) (operand : List ℕ) (word : ℕ) → all_lines source ≡ end_fields ∷ line_fields operation operand ∷ [] → GivesOne operation operand word → AssemblesTo source word
 assembles source operation operand word lines gives = record {
-  faultless = ap told lines ∙ gives.faultless;
+  faultless = ap reported lines ∙ gives.faultless;
   image = ap given lines ∙ gives.image;
 }
 
@@ -217,11 +217,11 @@ digits_assemble word is_word =
     let high = word / 65536 in
     let low = word % 65536 in
     let first = digit_byte (high / 4096 % 16) in
-    let behind = digit_byte (high / 256 % 16) ∷ digit_byte (high / 16 % 16) ∷ digit_byte (high % 16) ∷ four_digits low in
+    let after = digit_byte (high / 256 % 16) ∷ digit_byte (high / 16 % 16) ∷ digit_byte (high % 16) ∷ four_digits low in
     let name = codes "ord" in
     let named : AreVisible (119 ∷ name) = (visible _ refl, (visible _ refl, (visible _ refl, (visible _ refl, tt)))) in
     assembles (one_line (codes "word " ++ digits_of word)) Word (digits_of word) word
-    (both_lines 119 first name behind Word (word_named) named (digits_visible word))
+    (both_lines 119 first name after Word (word_named) named (digits_visible word))
     (word_gives (digits_of word) word (word_means [] 0 word is_word))
 
 minus_assembles : (address : ℕ) → IsAddress address
@@ -229,9 +229,9 @@ minus_assembles : (address : ℕ) → IsAddress address
 unfolding op_letter
 minus_assembles address is_address =
     let first = 48 + address / 64 / 10 in
-    let behind = (48 + address / 64 % 10) ∷ (48 + address % 64 / 10) ∷ (48 + address % 64 % 10) ∷ [] in
+    let after = (48 + address / 64 % 10) ∷ (48 + address % 64 / 10) ∷ (48 + address % 64 % 10) ∷ [] in
     assembles _ _ _ _
-    (both_lines 45 first (116 ∷ []) behind MinusT minus_named (visible _ refl, (visible _ refl, tt)) (address_visible _ is_address))
+    (both_lines 45 first (116 ∷ []) after MinusT minus_named (visible _ refl, (visible _ refl, tt)) (address_visible _ is_address))
     (minus_gives _ _ (minus_means [] 0 address is_address))
 
 order_assembles : (minus : Bool) (op : Op) (address : ℕ) → IsAddress address → (takes_minus op || not minus) ≡ true
@@ -239,9 +239,9 @@ order_assembles : (minus : Bool) (op : Op) (address : ℕ) → IsAddress address
 order_assembles false op address is_address allowed =
     let order : OrderParts = record { minus = false; op = op; address = address } in
     let first = 48 + address / 64 / 10 in
-    let behind = (48 + address / 64 % 10) ∷ (48 + address % 64 / 10) ∷ (48 + address % 64 % 10) ∷ [] in
+    let after = (48 + address / 64 % 10) ∷ (48 + address % 64 / 10) ∷ (48 + address % 64 % 10) ∷ [] in
     assembles _ _ _ _
-    (both_lines (op_letter op) first [] behind (Order op) (order_named op) (letter_visible op, tt) (address_visible _ is_address))
+    (both_lines (op_letter op) first [] after (Order op) (order_named op) (letter_visible op, tt) (address_visible _ is_address))
     (order_gives op (address_digits address) (order_word order) (order_means [] 0 address is_address op))
 order_assembles true T address is_address allowed = minus_assembles _ is_address
 order_assembles true Z address is_address allowed = absurd (true≢false (sym allowed))

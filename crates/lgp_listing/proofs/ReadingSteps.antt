@@ -38,7 +38,7 @@ zeros_dump from [] zeros = refl
 zeros_dump from (word ∷ words) zeros =
     ap (λ w. word_line from w ++ dump_from (from + 1) words) (zeros 0) ∙ zeros_dump (from + 1) words (λ k. zeros (suc k))
 
--- a word put behind all others that are not zero adds its line
+-- a word put after all others that are not zero adds its line
 dump_set : (from k word : ℕ) (words : List ℕ) → k < length words → ((j : ℕ) → k ≤ j → get_or words j 0 ≡ 0)
     → dump_from from (set words k word) ≡ dump_from from words ++ word_line (from + k) word
 dump_set from k word [] within zeros = absurd (omega arith)

@@ -5,7 +5,7 @@ use Rattle.std.specs.Option.{option_map_or}
 use Rattle.lgp_word.specs.Digits.{digits_of, address_digits}
 use Rattle.lgp_word.specs.Order.{OrderParts, decoded, op_letter}
 
--- an order: its letter, behind a minus where it has one, a space and its address
+-- an order: its letter, after a minus where it has one, a space and its address
 abbrev pub order_text : OrderParts → List ℕ
 order_text order =
     (if order.minus then codes "-" else [])

@@ -60,7 +60,7 @@ line_fault number least None = Some (Form number)
 line_fault number least (Some cell) = if nat_lt cell.0 least then Some (Order number) else None
 
 -- the first fault of some lines, from a number and a least address on; the least address that may
--- stand behind a line is the one after its own
+-- come after a line is the one after its own
 unfoldable pub fault_from : ℕ → ℕ → List (List ℕ) → Option DumpFault
 fault_from number least [] = None
 fault_from number least (line ∷ lines) =

@@ -36,8 +36,8 @@ AreSound least (line ∷ lines) =
 pub record IsFormFault (text : List ℕ) (number : ℕ) : Type 0 where
   pub before : List (List ℕ)
   pub line : List ℕ
-  pub behind : List (List ℕ)
-  pub lines_are : lines_of text ≡ before ++ line ∷ behind
+  pub after : List (List ℕ)
+  pub lines_are : lines_of text ≡ before ++ line ∷ after
   pub number_is : number ≡ length before + 1
   pub sound : AreSound 0 before
   pub misformed : (cell : ℕ × ℕ) → ¬ (IsLineOf cell line)
@@ -48,8 +48,8 @@ pub record IsOrderFault (text : List ℕ) (number : ℕ) : Type 0 where
   pub before : List (List ℕ)
   pub last : List ℕ
   pub line : List ℕ
-  pub behind : List (List ℕ)
-  pub lines_are : lines_of text ≡ before ++ last ∷ line ∷ behind
+  pub after : List (List ℕ)
+  pub lines_are : lines_of text ≡ before ++ last ∷ line ∷ after
   pub number_is : number ≡ length before + 2
   pub sound : AreSound 0 (before ++ last ∷ [])
   pub last_cell : ℕ × ℕ

@@ -8,7 +8,7 @@ use Rattle.lgp_assembler.specs.Parts.{NameList}
 use Rattle.lgp_assembler.specs.Places.{names_of}
 use Rattle.lgp_assembler.specs.Image.{line_cell, all_lines}
 
--- what stands before a line's text: the place and the digits of its word, each with a space behind
+-- what comes before a line's text: the place and the digits of its word, each with a space after
 -- it, or else 14 spaces
 abbrev pub margin : Option (ℕ × ℕ) → List ℕ
 margin (Some cell) = address_digits cell.0 ++ codes " " ++ digits_of cell.1 ++ codes " "
@@ -18,7 +18,7 @@ margin None = replicate 14 32
 abbrev pub listed_line : Option (ℕ × ℕ) → List ℕ → List ℕ
 listed_line cell text = margin cell ++ text ++ codes "\n"
 
--- the lines of a listing that some lines of a source have behind those before them, the nearest
+-- the lines of a listing that some lines of a source have after those before them, the nearest
 -- first
 unfoldable pub listing_from : NameList → List LineFields → List SourceLine → List ℕ
 listing_from names earlier [] = []

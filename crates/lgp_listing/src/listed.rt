@@ -11,7 +11,7 @@ use lgp_source::Lines;
 use lgp_word::{Address, Word, write_digits};
 use std::alloc::{AllocError, Allocator};
 
-/// Adds what stands before a line's text.
+/// Adds what comes before a line's text.
 fn add_margin<A: Allocator>(
     text: &mut Vec<u8, A>,
     cell: Option<(Address, Word)>,
@@ -42,8 +42,8 @@ fn add_line<A: Allocator>(
     Ok(())
 }
 
-/// The listing of a source by the image that it assembles to: before each line that makes a word
-/// stand its place and the word's digits, before any other 14 spaces.
+/// The listing of a source by the image that it assembles to: the place and the word's digits come
+/// before each line that makes a word, and 14 spaces before any other.
 pub fn listing_from_image<A: Allocator, B: Allocator>(
     alloc: A,
     source: &[u8],
@@ -62,8 +62,8 @@ pub fn listing_from_image<A: Allocator, B: Allocator>(
     Ok(text)
 }
 
-/// The listing of a source that has no fault: before each line that makes a word stand its place
-/// and the word's digits, before any other 14 spaces. The refusals are those of `assemble`.
+/// The listing of a source that has no fault: its place and the word's digits come before each line
+/// that makes a word, and 14 spaces before any other. The refusals are those of `assemble`.
 pub fn listing<A: Allocator + Copy>(alloc: A, source: &[u8]) -> Result<Vec<u8, A>, AssembleError<A>>
     ensures text { IfOk result (λ text. text.items ≡ spec.listing_of source.now) }
     ensures faultless { OnOk result (faults_of source.now ≡ []) }

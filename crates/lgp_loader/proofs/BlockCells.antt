@@ -137,7 +137,7 @@ fetch_store words place count long within = record {
 pub one_up_there : (words : List ℕ) → HasBlockLoader words → slice_index words one_up_place ≡ one_up
 one_up_there words has = (fetches _ 20 has refl).here
 
--- the count that is left: it is zero behind the last word
+-- the count that is left: it is zero after the last word
 unfoldable pub count_left : ℕ → ℕ
 count_left zero = 0
 count_left (suc more) = count_word (suc more)

@@ -28,15 +28,15 @@ store_apart place free same = grind (arith, nat_tests)
 count_apart : (place : ℕ) → is_loaders place ≡ false → count_cell ≢ place
 count_apart place free same = grind (arith, nat_tests)
 
--- where the test behind a word leads: to the next word, or out of the block
-unfoldable pub behind_word : ℕ → ℕ
-behind_word zero = loader_base + 17
-behind_word (suc more) = next_word
+-- where the test after a word leads: to the next word, or out of the block
+unfoldable pub after_word : ℕ → ℕ
+after_word zero = loader_base + 17
+after_word (suc more) = next_word
 
 tested : (switches : Switches) (words passed rest : List ℕ) (more : ℕ) → HasBlockLoader words → more < 4096
-    → (count : ℕ) (last : Core) → Runs count (core_at switches (behind_word more) (count_left more) (plain_order T next_word) words (off passed rest)) last
+    → (count : ℕ) (last : Core) → Runs count (core_at switches (after_word more) (count_left more) (plain_order T next_word) words (off passed rest)) last
     → Runs (suc count) (core_at switches (loader_base + 16) (count_left more) (plain_order H count_cell) words (off passed rest)) last
-unfolding op_of behind_word count_left
+unfolding op_of after_word count_left
 tested switches words passed rest zero has few count last runs =
     one_then _ _ _ _
     (goes_on switches (loader_base + 16) 0 (plain_order H count_cell) words (off passed rest) (plain_order T next_word) next_word
@@ -49,7 +49,7 @@ tested switches words passed rest (suc more) has few count last runs =
 -- the count goes up, and is tested
 counted : (switches : Switches) (register : ℕ) (words passed rest : List ℕ) (store more : ℕ) → HasBlockLoader words → more < 4096
     → (count : ℕ) (last : Core)
-    → Runs count (core_at switches (behind_word more) (count_left more) (plain_order T next_word) (with_cells words store (count_left more)) (off passed rest)) last
+    → Runs count (core_at switches (after_word more) (count_left more) (plain_order T next_word) (with_cells words store (count_left more)) (off passed rest)) last
     → (accumulator : ℕ)
     → Runs (suc (suc (suc (suc count)))) (core_at switches (loader_base + 13) accumulator register (with_cells words store (count_word (suc more))) (off passed rest)) last
 unfolding op_of
@@ -101,7 +101,7 @@ moved_up switches register words passed rest place count_now has within count la
 pub one_word : (switches : Switches) (accumulator register : ℕ) (words passed rest : List ℕ) (place word more : ℕ)
     → HasBlockLoader words → place < 4096 → is_loaders place ≡ false → IsWord word → more < 4096
     → (count : ℕ) (last : Core)
-    → Runs count (core_at switches (behind_word more) (count_left more) (plain_order T next_word) (with_cells (slice_set words place word) (control_word (place + 1)) (count_left more))
+    → Runs count (core_at switches (after_word more) (count_left more) (plain_order T next_word) (with_cells (slice_set words place word) (control_word (place + 1)) (count_left more))
     (off (passed ++ read_codes [] word) rest)) last
     → Runs (suc (suc (suc (suc (suc (suc (suc (suc (suc (suc count)))))))))) (core_at switches next_word accumulator register (with_cells words (control_word place) (count_word (suc more)))
     (off passed (word_codes word ++ stop_code ∷ rest))) last
@@ -114,8 +114,8 @@ one_word switches accumulator register words passed rest place word more has wit
     let passed1 = passed ++ read_codes [] word in
     let has0 = has_with_cells _ _ _ has in
     let has1 = block_loader_stays _ _ _ has (program_elsewhere _ free) in
-    let behind = counted switches (plain_order H block_store_cell) words1 passed1 rest (control_word (place + 1)) more has1 few count last runs (control_word (place + 1)) in
-    let up = moved_up switches _ _ _ _ _ old has1 within (suc (suc (suc (suc count)))) last behind in
+    let after = counted switches (plain_order H block_store_cell) words1 passed1 rest (control_word (place + 1)) more has1 few count last runs (control_word (place + 1)) in
+    let up = moved_up switches _ _ _ _ _ old has1 within (suc (suc (suc (suc count)))) last after in
     let stored_there = cleared switches _ _ (plain_order I 0) ws (off passed1 rest) _ _ (fetch_store words place old has.drum within) is in
     let third = one_then (suc (suc (suc (suc (suc (suc (suc count))))))) _ _ last stored_there
     (subst (λ w. Runs (suc (suc (suc (suc (suc (suc (suc count))))))) (core_at switches (loader_base + 10) 0 control w (off passed1 rest)) last)
@@ -133,18 +133,18 @@ abbrev pub words_codes : List (ℕ × ℕ) → List ℕ
 words_codes cells = concat (map word_of_cell cells)
 
 -- all words of a block
-pub block_words : (switches : Switches) (accumulator register : ℕ) (words passed rest : List ℕ) (place word : ℕ) (cells : List (ℕ × ℕ)) (behind : ℕ)
+pub block_words : (switches : Switches) (accumulator register : ℕ) (words passed rest : List ℕ) (place word : ℕ) (cells : List (ℕ × ℕ)) (after : ℕ)
     → HasBlockLoader words → AreProgramCells ((place, word) ∷ cells) → FollowFrom (place + 1) cells → length cells < 4096
-    → place + suc (length cells) ≡ behind
+    → place + suc (length cells) ≡ after
     → (count : ℕ) (last : Core)
-    → Runs count (core_at switches (loader_base + 17) 0 (plain_order T next_word) (with_cells (overlay words ((place, word) ∷ cells)) (control_word behind) 0)
+    → Runs count (core_at switches (loader_base + 17) 0 (plain_order T next_word) (with_cells (overlay words ((place, word) ∷ cells)) (control_word after) 0)
     (off (passed ++ words_codes ((place, word) ∷ cells)) rest)) last
     → Runs (10 * length ((place, word) ∷ cells) + count) (core_at switches next_word accumulator register (with_cells words (control_word place) (count_word (suc (length cells))))
     (off passed (words_codes ((place, word) ∷ cells) ++ rest))) last
-unfolding behind_word count_left
-block_words switches accumulator register words passed rest place word [] behind has ((within, free, is), others) follow few same count last runs =
+unfolding after_word count_left
+block_words switches accumulator register words passed rest place word [] after has ((within, free, is), others) follow few same count last runs =
     let words1 = slice_set words place word in
-    let at_end : place + 1 ≡ behind = omega (arith, same) in
+    let at_end : place + 1 ≡ after = omega (arith, same) in
     let here = subst (λ n. Runs count (core_at switches (loader_base + 17) 0 (plain_order T next_word) (with_cells words1 (control_word n) 0) (off (passed ++ words_codes ((place, word) ∷ [])) rest)) last)
     (sym at_end) runs in
     let passed_is : passed ++ words_codes ((place, word) ∷ []) ≡ passed ++ read_codes [] word = ap (λ codes. passed ++ codes) (append-nil (stopped_word word)) in
@@ -155,15 +155,15 @@ block_words switches accumulator register words passed rest place word [] behind
     let counted_all = subst (λ n. Runs n (core_at switches next_word accumulator register (with_cells words (control_word place) (count_word 1)) (off passed (word_codes word ++ stop_code ∷ rest))) last) orders all in
     subst (λ codes. Runs (10 * length block + count) (core_at switches next_word accumulator register (with_cells words (control_word place) (count_word 1)) (off passed codes)) last)
     (sym (word_shape _ [] _)) counted_all
-block_words switches accumulator register words passed rest place word ((p, w) ∷ cells) behind has ((within, free, is), others) (next, follow) few same count last runs =
+block_words switches accumulator register words passed rest place word ((p, w) ∷ cells) after has ((within, free, is), others) (next, follow) few same count last runs =
     let words1 = slice_set words place word in
     let passed1 = passed ++ read_codes [] word in
     let more = suc (length cells) in
     let later_codes = words_codes ((p, w) ∷ cells) in
     let shape : passed1 ++ later_codes ≡ passed ++ words_codes ((place, word) ∷ (p, w) ∷ cells) = append_assoc passed (read_codes [] word) later_codes in
-    let here = subst (λ codes. Runs count (core_at switches (loader_base + 17) 0 (plain_order T next_word) (with_cells (overlay words1 ((p, w) ∷ cells)) (control_word behind) 0) (off codes rest)) last)
+    let here = subst (λ codes. Runs count (core_at switches (loader_base + 17) 0 (plain_order T next_word) (with_cells (overlay words1 ((p, w) ∷ cells)) (control_word after) 0) (off codes rest)) last)
     (sym shape) runs in
-    let later = block_words switches (count_word more) (plain_order T next_word) words1 passed1 rest p w cells behind
+    let later = block_words switches (count_word more) (plain_order T next_word) words1 passed1 rest p w cells after
     (block_loader_stays _ _ _ has (program_elsewhere _ free)) others (subst (λ n. FollowFrom (n + 1) cells) (sym next) follow) (omega (arith, few)) (omega (arith, same, next)) count last here in
     let from_place = subst (λ n. Runs (10 * more + count) (core_at switches next_word (count_word more) (plain_order T next_word) (with_cells words1 (control_word n) (count_word more)) (off passed1 (later_codes ++ rest))) last)
     next later in

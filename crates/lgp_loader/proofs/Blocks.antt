@@ -28,24 +28,24 @@ use Rattle.lgp_loader.proofs.Through.{core_at_end, end_read}
 use Rattle.lgp_loader.proofs.BlockCells.{HasBlockLoader, block_loader_stays, program_elsewhere, count_set, fetches, has_with_cells, store_set, with_cells}
 use Rattle.lgp_loader.proofs.BlockWords.{block_words, words_codes}
 
--- a block's codes, behind some that are skipped, and all that follow
+-- a block's codes, after some that are skipped, and all that follow
 abbrev pub block_left : List ℕ → ℕ → ℕ → List ℕ → List ℕ → List ℕ
 block_left skipped control count codes rest = (skipped ++ word_codes control) ++ stop_code ∷ (word_codes count ++ stop_code ∷ (codes ++ (carriage_return ∷ rest)))
 
 block_count_is_word : (more : ℕ) → more < 4096 → IsWord (count_word (suc more))
 block_count_is_word more few = (omega (arith, few), omega (arith, few))
 
-pub one_block : (switches : Switches) (accumulator register : ℕ) (words passed skipped rest : List ℕ) (store0 count0 : ℕ) (place word : ℕ) (cells : List (ℕ × ℕ)) (behind : ℕ)
+pub one_block : (switches : Switches) (accumulator register : ℕ) (words passed skipped rest : List ℕ) (store0 count0 : ℕ) (place word : ℕ) (cells : List (ℕ × ℕ)) (after : ℕ)
     → HasBlockLoader words → AreSkipped skipped → place < 4096 → AreProgramCells ((place, word) ∷ cells) → FollowFrom (place + 1) cells → length cells < 4096
-    → place + suc (length cells) ≡ behind
+    → place + suc (length cells) ≡ after
     → (count : ℕ) (last : Core)
-    → Runs count (core_at switches loader_base 0 (plain_order U loader_base) (with_cells (overlay words ((place, word) ∷ cells)) (control_word behind) 0)
+    → Runs count (core_at switches loader_base 0 (plain_order U loader_base) (with_cells (overlay words ((place, word) ∷ cells)) (control_word after) 0)
     (off (((passed ++ read_codes skipped (control_word place)) ++ read_codes [] (count_word (suc (length cells)))) ++ words_codes ((place, word) ∷ cells)) (carriage_return ∷ rest))) last
     → HasBlockLoader (overlay words ((place, word) ∷ cells))
     → Runs (8 + 10 * length ((place, word) ∷ cells) + count) (core_at switches loader_base accumulator register (with_cells words store0 count0)
     (off passed (block_left skipped (control_word place) (count_word (suc (length cells))) (words_codes ((place, word) ∷ cells)) rest))) last
 unfolding op_of
-one_block switches accumulator register words passed skipped rest store0 count0 place word cells behind has are within program follow few same count last runs has_after =
+one_block switches accumulator register words passed skipped rest store0 count0 place word cells after has are within program follow few same count last runs has_after =
     let control = control_word place in
     let n = suc (length cells) in
     let number = count_word n in
@@ -111,7 +111,7 @@ overlay_stays words ((place, word) ∷ cells) has ((within, free, is), others) =
 
 program_parts : (cells more : List (ℕ × ℕ)) → AreProgramCells (cells ++ more) → AreProgramCells cells × AreProgramCells more
 program_parts [] more are = (tt, are)
-program_parts (cell ∷ cells) more (is, are) = let (front, behind) = program_parts cells more are in ((is, front), behind)
+program_parts (cell ∷ cells) more (is, are) = let (front, after) = program_parts cells more are in ((is, front), after)
 
 abbrev pub blocks_left : List ℕ → List (List (ℕ × ℕ)) → Option ℕ → List ℕ
 blocks_left skipped blocks start = skipped ++ (concat (map block_codes blocks) ++ stopped_word (end_word start))
@@ -155,22 +155,22 @@ through_blocks switches accumulator register words passed skipped store (((place
     let (first, later) = program_parts whole (cells_of blocks) cells in
     let words1 = overlay words whole in
     let has1 = overlay_stays words whole has first in
-    let behind = place + suc (length block) in
+    let after = place + suc (length block) in
     let parts = length-append whole (cells_of blocks) in
     let rest = concat (map block_codes blocks) ++ stopped_word (end_word start) in
     let passed1 = ((passed ++ read_codes skipped control) ++ read_codes [] number) ++ codes in
-    let onward = through_blocks switches 0 (plain_order U loader_base) words1 passed1 (carriage_return ∷ []) (control_word behind) blocks start has1 return_skipped others later (omega (arith, few, parts)) is in
-    let words_last = slice_set (with_cells (overlay words1 (cells_of blocks)) (store_after (control_word behind) blocks) 0) block_end_cell (end_word start) in
+    let onward = through_blocks switches 0 (plain_order U loader_base) words1 passed1 (carriage_return ∷ []) (control_word after) blocks start has1 return_skipped others later (omega (arith, few, parts)) is in
+    let words_last = slice_set (with_cells (overlay words1 (cells_of blocks)) (store_after (control_word after) blocks) 0) block_end_cell (end_word start) in
     let left = block_shape skipped (word_codes control) (word_codes number) codes (concat (map block_codes blocks)) (stopped_word (end_word start)) in
     let all_passed : passed1 ++ (carriage_return ∷ rest) ≡ passed ++ blocks_left skipped (whole ∷ blocks) start =
     block_passed passed skipped (word_codes control) (word_codes number) codes rest ∙ ap (λ codes. passed ++ codes) (sym left) in
     let last = block_final_core switches start words_last (passed ++ blocks_left skipped (whole ∷ blocks) start) in
-    let next = subst (λ codes. Runs (orders_for_blocks blocks) (core_at switches loader_base 0 (plain_order U loader_base) (with_cells words1 (control_word behind) 0) (off passed1 (carriage_return ∷ rest))) (block_final_core switches start words_last codes)) all_passed onward in
+    let next = subst (λ codes. Runs (orders_for_blocks blocks) (core_at switches loader_base 0 (plain_order U loader_base) (with_cells words1 (control_word after) 0) (off passed1 (carriage_return ∷ rest))) (block_final_core switches start words_last codes)) all_passed onward in
     let (within, free, word_is) = first.0 in
-    let all = one_block switches accumulator register words passed skipped rest store 0 place word block behind has are within first follow (omega (arith, few, parts)) refl (orders_for_blocks blocks) last next has1 in
+    let all = one_block switches accumulator register words passed skipped rest store 0 place word block after has are within first follow (omega (arith, few, parts)) refl (orders_for_blocks blocks) last next has1 in
     let orders : 8 + 10 * length whole + orders_for_blocks blocks ≡ orders_for_blocks (whole ∷ blocks) = omega (arith, parts) in
     let counted_all = subst (λ n. Runs n (core_at switches loader_base accumulator register (with_cells words store 0) (off passed (block_left skipped control number codes rest))) last) orders all in
     let to_last = subst (λ codes. Runs (orders_for_blocks (whole ∷ blocks)) (core_at switches loader_base accumulator register (with_cells words store 0) (off passed codes)) last) (sym left) counted_all in
     subst (λ ws. Runs (orders_for_blocks (whole ∷ blocks)) (core_at switches loader_base accumulator register (with_cells words store 0) (off passed (blocks_left skipped (whole ∷ blocks) start)))
-    (block_final_core switches start (slice_set (with_cells ws (store_after (control_word behind) blocks) 0) block_end_cell (end_word start)) (passed ++ blocks_left skipped (whole ∷ blocks) start)))
+    (block_final_core switches start (slice_set (with_cells ws (store_after (control_word after) blocks) 0) block_end_cell (end_word start)) (passed ++ blocks_left skipped (whole ∷ blocks) start)))
     (sym (fold-append (λ words cell. slice_set words cell.0 cell.1) words whole (cells_of blocks))) to_last

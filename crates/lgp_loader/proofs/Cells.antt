@@ -93,7 +93,7 @@ control_is_word place within = (omega arith, omega arith)
 pub control_is_positive : (place : ℕ) → place < 4096 → sign_of (control_word place) ≡ false
 control_is_positive place within = grind (arith, nat_tests)
 
--- codes that are skipped, as the carriage return behind a cell is
+-- codes that are skipped, as the carriage return after a cell is
 pub record AreSkipped (codes : List ℕ) : Type 0 where
   pub no_stop : list_any is_stop codes ≡ false
   pub none_enters : filter enters codes ≡ []

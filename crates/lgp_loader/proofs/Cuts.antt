@@ -116,18 +116,18 @@ longest_have_cells (cell ∷ cells) = with_block_cells _ _ ∙ ap (λ more. cell
 -- the first of the longest blocks begins with the first cell
 record Begins (cell : ℕ × ℕ) (blocks : List (List (ℕ × ℕ))) : Type 0 where
   block : List (ℕ × ℕ)
-  behind : List (List (ℕ × ℕ))
-  same : blocks ≡ (cell ∷ block) ∷ behind
+  after : List (List (ℕ × ℕ))
+  same : blocks ≡ (cell ∷ block) ∷ after
 
 with_block_begins : (cell : ℕ × ℕ) (blocks : List (List (ℕ × ℕ))) → Begins cell (with_block cell blocks)
-with_block_begins cell [] = record { block = []; behind = []; same = refl }
-with_block_begins cell ([] ∷ blocks) = record { block = []; behind = [] ∷ blocks; same = refl }
+with_block_begins cell [] = record { block = []; after = []; same = refl }
+with_block_begins cell ([] ∷ blocks) = record { block = []; after = [] ∷ blocks; same = refl }
 with_block_begins cell ((next ∷ block) ∷ blocks) = by_test (follows cell next) refl where
   by_test : (joins : Bool) → follows cell next ≡ joins → Begins cell (with_block cell ((next ∷ block) ∷ blocks))
-  by_test true same = record { block = next ∷ block; behind = blocks; same = with_block_is _ _ _ _ _ same }
+  by_test true same = record { block = next ∷ block; after = blocks; same = with_block_is _ _ _ _ _ same }
   by_test false same = grind (arith, with_block_is)
 
--- cells that follow one another, and behind which the next cell does not, are the first of the longest blocks
+-- cells that follow one another, and after which the next cell does not, are the first of the longest blocks
 pub first_longest : (block rest : List (ℕ × ℕ)) → 0 < length block → IsChunkByPrefix follows (block ++ rest) (length block)
     → longest_blocks (block ++ rest) ≡ block ∷ longest_blocks rest
 first_longest [] rest some is = absurd (let wrong : ⊥ = omega (arith, some) in wrong)
@@ -149,16 +149,16 @@ first_longest (cell ∷ (next ∷ block)) rest some (all, ends) =
     let joins : follows cell next ≡ true = all 0 cell (omega arith) in
     ap (λ blocks. with_block cell blocks) on ∙ with_block_is _ _ _ _ _ joins
 
-pub first_chunk : (cells chunks block behind front back : List (ℕ × ℕ)) → chunks ≡ cells → chunks ≡ block ++ behind → 0 < length block
+pub first_chunk : (cells chunks block after front back : List (ℕ × ℕ)) → chunks ≡ cells → chunks ≡ block ++ after → 0 < length block
     → IsChunkByPrefix follows chunks (length block) → front ≡ take (length block) cells → back ≡ drop (length block) cells
     → longest_blocks cells ≡ front ∷ longest_blocks back
-first_chunk cells chunks block behind front back same parts some is front_is back_is =
-    let whole : cells ≡ block ++ behind = sym same ∙ parts in
-    let front_block : front ≡ block = front_is ∙ (ap (λ cells. take (length block) cells) whole ∙ take_at block behind (length block) refl) in
-    let back_behind : back ≡ behind = back_is ∙ (ap (λ cells. drop (length block) cells) whole ∙ drop_at block behind (length block) refl) in
+first_chunk cells chunks block after front back same parts some is front_is back_is =
+    let whole : cells ≡ block ++ after = sym same ∙ parts in
+    let front_block : front ≡ block = front_is ∙ (ap (λ cells. take (length block) cells) whole ∙ take_at block after (length block) refl) in
+    let back_after : back ≡ after = back_is ∙ (ap (λ cells. drop (length block) cells) whole ∙ drop_at block after (length block) refl) in
     ap longest_blocks whole
     ∙ (first_longest _ _ some (subst (λ cells. IsChunkByPrefix follows cells (length block)) parts is)
-    ∙ (ap (λ b. b ∷ longest_blocks behind) (sym front_block) ∙ ap (λ b. front ∷ longest_blocks b) (sym back_behind)))
+    ∙ (ap (λ b. b ∷ longest_blocks after) (sym front_block) ∙ ap (λ b. front ∷ longest_blocks b) (sym back_after)))
 
 no_longest : (cells : List (ℕ × ℕ)) → length cells ≡ 0 → length (longest_blocks cells) ≡ 0
 no_longest [] none = refl
@@ -203,9 +203,9 @@ pub one_piece_more : (count : ℕ) (more counts : List ℕ) (left front back : L
 one_piece_more count more counts left front back codes new whole same all is within front_is back_is new_is =
     let cuts : is_block (take count left) && is_cutting more (drop count left) ≡ true =
     sym (cutting_more _ more _ within) ∙ (ap (λ counts. is_cutting counts left) (sym same) ∙ is) in
-    let behind = concat (map block_codes (pieces_of more back)) in
-    let punched : new ++ behind ≡ codes ++ (block_codes (take count left) ++ behind) =
-    ap (λ new. new ++ behind) (new_is ∙ ap (λ front. codes ++ block_codes front) front_is) ∙ append_assoc codes (block_codes (take count left)) behind in (
+    let after = concat (map block_codes (pieces_of more back)) in
+    let punched : new ++ after ≡ codes ++ (block_codes (take count left) ++ after) =
+    ap (λ new. new ++ after) (new_is ∙ ap (λ front. codes ++ block_codes front) front_is) ∙ append_assoc codes (block_codes (take count left)) after in (
       punched ∙ (ap (λ back. codes ++ (block_codes (take count left) ++ concat (map block_codes (pieces_of more back)))) back_is
           ∙ (ap (λ counts. codes ++ concat (map block_codes (pieces_of counts left))) (sym same) ∙ all)),
       ap (is_cutting more) back_is ∙ (and_parts (is_block (take count left)) (is_cutting more (drop count left)) cuts).1,

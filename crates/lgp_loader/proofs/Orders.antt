@@ -114,7 +114,7 @@ meets_stop : (codes rest : List ℕ) → met_stop (codes ++ stop_code ∷ rest) 
 meets_stop [] rest = refl
 meets_stop (code ∷ codes) rest = ap (λ met. is_stop code || met) (meets_stop codes rest) ∙ or_true _
 
--- codes that enter as a word, and the conditional stop behind them
+-- codes that enter as a word, and the conditional stop after them
 enters_word : (codes : List ℕ) (word accumulator : ℕ) → filter enters codes ≡ word_codes word → IsWord word
     → accumulator_after_all false accumulator (codes ++ stop_code ∷ []) ≡ word
 enters_word codes word accumulator same is =

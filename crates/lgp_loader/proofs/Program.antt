@@ -159,11 +159,11 @@ loading_clock s load =
     let jump = about_to_jump (prepared s load) loader_base in
     let orders = order_states (begun s load) load.orders in
     let whole : sum_by cost (stores ++ jump ∷ orders) ≡ sum_by cost stores + sum_by cost (jump ∷ orders) = sum_by-append cost stores (jump ∷ orders) in
-    let behind : sum_by cost (jump ∷ orders) ≡ cost jump + sum_by cost orders = sum_by-cons _ jump orders in
+    let rest : sum_by cost (jump ∷ orders) ≡ cost jump + sum_by cost orders = sum_by-cons _ jump orders in
     let storing = stores_cost s loader_base load.loader in
     let jumping : (keyed s loader_base load.loader).clock + cost jump ≡ (begun s load).clock = refl in
     let performing = orders_cost (begun s load) load.orders in
-    omega (arith, whole, behind, storing, jumping, performing)
+    omega (arith, whole, rest, storing, jumping, performing)
 
 -- the same of the machine that has loaded
 pub time_loaded : (now : Configuration) (s : State) (load : TapeLoad) → now ≡ at_boundary (loaded s load) → now.state.clock ≡ s.clock + loading_cost s load
@@ -173,7 +173,7 @@ pub program_loaded : (now : Configuration) (s : State) (load : TapeLoad) (cells 
     → LeavesProgram load cells → IsLoadedOver s.core.words now.state.core.words cells
 program_loaded now s load cells at long leaves = grind arith
 
--- the same behind a load
+-- the same after a load
 pub program_read : (load : TapeLoad) (cells : List (ℕ × ℕ)) (before after : Configuration) (answer : Result ℕ LoadFault)
     → IsLoad load before after answer → length before.state.core.words ≡ 4096 → LeavesProgram load cells
     → OnOk answer (IsLoadedOver before.state.core.words after.state.core.words cells)

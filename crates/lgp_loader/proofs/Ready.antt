@@ -30,7 +30,7 @@ begun_later s load = omega arith
 pub loading_time : (s : State) (load : TapeLoad) → (loaded s load).clock ≡ (begun s load).clock + total_cost (begun s load) load.orders
 loading_time s load = clock_after _ _
 
--- so many orders are performed
+-- a given number of orders are performed
 pub record HasPerformed (now : Configuration) (s : State) (done : ℕ) : Type 0 where
   pub at : now ≡ at_boundary (after s done)
   pub clock : 0 < done → now.state.clock ≤ clock_end

@@ -6,7 +6,7 @@ use Rattle.lgp_table.specs.After.{after}
 use Rattle.lgp_table.proofs.After.{after_first, after_none}
 use Rattle.lgp_loader.proofs.Orders.{IsCalm, Leads}
 
--- so many calm activities lead from a core to this one
+-- a given number of calm activities lead from a core to this one
 abbrev pub Runs : ℕ → Core → Core → Type 0
 Runs zero core last = core ≡ last
 Runs (suc count) core last = IsCalm core × Runs count (core_after core) last

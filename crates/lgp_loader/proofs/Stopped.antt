@@ -23,7 +23,7 @@ fits s within = grind (arith, nat_tests)
 passes : (s : State) → clock_end < s.clock + cost s → passes_clock_end s ≡ true
 passes s past = grind (arith, nat_tests)
 
--- the first of states that are told by their number
+-- the first of states that are given by their number
 module _ (f : ℕ → State) where
   none_of : (first count : ℕ) → ((k : ℕ) → k < count → passes_clock_end (f (first + k)) ≡ false)
       → find passes_clock_end (map f (range_with_len first count)) ≡ None
@@ -125,18 +125,18 @@ jump_fits : (s : State) (load : TapeLoad) → (begun s load).clock ≤ clock_end
 jump_fits s load clock = fits (about_to_jump (prepared s load) loader_base) clock
 
 -- the first of all states of loading, by the parts
-behind_stores : (s : State) (load : TapeLoad) → (keyed s loader_base load.loader).clock ≤ clock_end
+after_stores : (s : State) (load : TapeLoad) → (keyed s loader_base load.loader).clock ≤ clock_end
     → loading_stopped s load
     ≡ find passes_clock_end (about_to_jump (prepared s load) loader_base ∷ order_states (begun s load) load.orders)
 unfolding loading_stopped
-behind_stores s load clock =
+after_stores s load clock =
     let others = about_to_jump (prepared s load) loader_base ∷ order_states (begun s load) load.orders in
     find-append passes_clock_end (store_states s loader_base load.loader) others ∙ ap (λ o. option_or o (find passes_clock_end others)) (stores_fit s load clock)
 
-behind_jump : (s : State) (load : TapeLoad) → (begun s load).clock ≤ clock_end
+after_jump : (s : State) (load : TapeLoad) → (begun s load).clock ≤ clock_end
     → loading_stopped s load ≡ find passes_clock_end (order_states (begun s load) load.orders)
-behind_jump s load clock =
-    grind (arith, begun_later, behind_stores, jump_fits)
+after_jump s load clock =
+    grind (arith, begun_later, after_stores, jump_fits)
 
 stopped_in_store : (s : State) (load : TapeLoad) (done : ℕ) → done < length load.loader
     → (before_store s loader_base load.loader done).clock ≤ clock_end → passes_clock_end (before_store s loader_base load.loader done) ≡ true
@@ -151,7 +151,7 @@ stopped_in_jump : (s : State) (load : TapeLoad)
     → (about_to_jump (prepared s load) loader_base).clock ≤ clock_end → passes_clock_end (about_to_jump (prepared s load) loader_base) ≡ true
     → loading_stopped s load ≡ Some (about_to_jump (prepared s load) loader_base)
 stopped_in_jump s load clock past =
-    grind (arith, behind_stores)
+    grind (arith, after_stores)
 
 stopped_in_order : (s : State) (load : TapeLoad) (done : ℕ) → done < load.orders
     → (after (begun s load) done).clock ≤ clock_end → passes_clock_end (after (begun s load) done) ≡ true
@@ -159,7 +159,7 @@ stopped_in_order : (s : State) (load : TapeLoad) (done : ℕ) → done < load.or
 stopped_in_order s load done less clock past =
     let none : (after (begun s load) 0).clock ≡ (begun s load).clock = ap (λ (t : State). t.clock) (after_none (begun s load)) in
     let later = clock_later (begun s load) 0 done (omega arith) in
-    behind_jump s load (omega (arith, none, later, clock))
+    after_jump s load (omega (arith, none, later, clock))
     ∙ first_order (begun s load) load.orders done less (λ k below. order_fits (begun s load) k done below clock) past
 
 -- a boundary of some state, and what is known of it there
@@ -168,7 +168,7 @@ found_at : (now : Configuration) (t : State) (found : Option State) → now ≡ 
 found_at now t found at within past is =
     grind arith
 
--- where a machine stands whose next activity would pass the end, about to store a word, to start the loader or to perform one of
+-- where a machine is whose next activity would pass the end, about to store a word, to start the loader or to perform one of
 -- its orders, loading stops there: the clock goes on by what the activities cost, so none before it would
 pub stops_in_store : (s : State) (load : TapeLoad) (now : Configuration)
     → (done : ℕ) × (done < length load.loader) × (now ≡ at_boundary (before_store s loader_base load.loader done))
@@ -196,7 +196,7 @@ own_boundary now s e = e ∙ ap at_boundary (sym (ap (λ (c : Configuration). c.
 pub stopped_nowhere : (s : State) (load : TapeLoad) → (loaded s load).clock ≤ clock_end → loading_stopped s load ≡ None
 stopped_nowhere s load clock =
     let time = loading_time s load in
-    behind_jump s load (omega (arith, time, clock))
+    after_jump s load (omega (arith, time, clock))
     ∙ no_order (begun s load) load.orders (λ k less. order_fits _ k _ less clock)
 
 pub ruleset loading_stops = (stopped_nowhere)

@@ -27,7 +27,7 @@ use Rattle.lgp_loader.proofs.Cells.{AreSkipped, HasLoader, control_is_positive, 
 abbrev pub words_after_cell : List ℕ → ℕ → ℕ → List ℕ
 words_after_cell words place word = slice_set (slice_set words single_store_cell (control_word place)) place word
 
--- the codes of a cell, behind some that are skipped, and all that follow
+-- the codes of a cell, after some that are skipped, and all that follow
 abbrev cell_left : List ℕ → ℕ → ℕ → List ℕ → List ℕ
 cell_left skipped place word rest = (skipped ++ word_codes (control_word place)) ++ stop_code ∷ (word_codes word ++ stop_code ∷ (carriage_return ∷ rest))
 
@@ -60,7 +60,7 @@ end_is_negative : (start : Option ℕ) → sign_of (end_word start) ≡ true
 end_is_negative None = refl
 end_is_negative (Some address) = grind (arith, nat_tests)
 
--- the core at the end, where a machine that has stopped stands at this counter
+-- the core at the end, where a machine has stopped with this counter
 abbrev pub core_at_end : ℕ → Switches → Option ℕ → List ℕ → List ℕ → Core
 core_at_end stopped switches start words passed = core_of (record {
   counter = unwrap_or start stopped;

@@ -25,14 +25,14 @@ block_load blocks start = record {
   orders = orders_for (length (cells_of blocks)) (length blocks);
 }
 
--- an image in the longest blocks, and in blocks of so many cells each
+-- an image in the longest blocks, and in blocks of a given number of cells each
 abbrev pub longest_load : ImageParts → TapeLoad
 longest_load image = block_load (longest_blocks image.cells) image.start
 
 abbrev pub cut_load : ImageParts → List ℕ → TapeLoad
 cut_load image counts = block_load (pieces_of counts image.cells) image.start
 
--- what lies in the store cell at last: the order that would store a word behind the last block
+-- what lies in the store cell at last: the order that would store a word after the last block
 unfoldable pub store_after : ℕ → List (List (ℕ × ℕ)) → ℕ
 store_after store [] = store
 store_after store (block ∷ blocks) =

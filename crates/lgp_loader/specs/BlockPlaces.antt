@@ -1,6 +1,6 @@
 -- Part of the public promise. The loader of 22 words (this project's own), for tapes of blocks. It
--- stores so many words at places one after another, and counts the address up inside the order that
--- stores them.
+-- stores a given number of words at places one after another, and counts the address up inside the
+-- order that stores them.
 use Rattle.std.specs.Prelude.{ℕ, ◌+◌, List, [], ◌∷◌}
 use Rattle.lgp_word.specs.declared.order.Op.TheVariants.{B, I, P, U, T, H, A}
 use Rattle.lgp_word.specs.Order.{plain_order}

@@ -1,6 +1,6 @@
 -- Part of the public promise. A tape of blocks: for each block the order that stores its first
--- word, its count, and its words; then the end word. A count is negative, so many times one as the
--- block has words, and reaches zero behind the last of them.
+-- word, its count, and its words; then the end word. A count is negative: minus one for each
+-- word of the block. It reaches zero after the last of them.
 use Rattle.std.specs.Prelude.{ℕ, ◌-◌, ◌*◌, ◌^◌, List, [], ◌∷◌, ◌++◌, Option, length, map}
 use Rattle.std.specs.List.{concat}
 use Rattle.lgp_loader.specs.BlockPlaces.{one_up}
@@ -11,7 +11,7 @@ abbrev pub first_place : List (ℕ × ℕ) → ℕ
 first_place [] = 0
 first_place (cell ∷ _) = cell.0
 
--- the count of so many words that are left
+-- the count of a given number of words that are left
 abbrev pub count_word : ℕ → ℕ
 count_word words = 2 ^ 32 - one_up * words
 

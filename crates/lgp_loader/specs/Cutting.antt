@@ -3,11 +3,11 @@ use Rattle.std.specs.Prelude.{◌≡◌, ℕ, ◌+◌, ◌==◌, ◌&&◌, if◌
 use Rattle.std.specs.Prelude.{◌∷◌, ◌++◌, drop, length, sum, take}
 use Rattle.std.specs.List.{list_all}
 
--- whether a cell lies one place behind another
+-- whether a cell lies one place after another
 abbrev pub follows : ℕ × ℕ → ℕ × ℕ → Bool
 follows cell next = next.0 == cell.0 + 1
 
--- a block: one cell or more, each one place behind the one before it
+-- a block: one cell or more, each one place after the one before it
 abbrev pub is_block : List (ℕ × ℕ) → Bool
 is_block [] = false
 is_block (cell ∷ []) = true
@@ -21,7 +21,7 @@ abbrev pub cells_of : List (List (ℕ × ℕ)) → List (ℕ × ℕ)
 cells_of [] = []
 cells_of (block ∷ blocks) = block ++ cells_of blocks
 
--- the longest blocks: a cell belongs to the block behind it where that begins one place on, and
+-- the longest blocks: a cell belongs to the block after it where that begins one place on, and
 -- else is a block of its own
 abbrev pub with_block : ℕ × ℕ → List (List (ℕ × ℕ)) → List (List (ℕ × ℕ))
 with_block cell ((next ∷ block) ∷ blocks) =
@@ -40,7 +40,7 @@ StandApart (block ∷ []) = Unit {0}
 StandApart (block ∷ (next ∷ blocks)) =
     (is_block (block ++ next) ≡ false) × StandApart (next ∷ blocks)
 
--- pieces of so many cells each, one after another
+-- pieces of a given number of cells each, one after another
 abbrev pub pieces_of : List ℕ → List (ℕ × ℕ) → List (List (ℕ × ℕ))
 pieces_of [] cells = []
 pieces_of (count ∷ counts) cells = take count cells ∷ pieces_of counts (drop count cells)

@@ -19,6 +19,6 @@ abbrev pub end_word : Option ℕ → ℕ
 end_word None = 2 ^ 31
 end_word (Some start) = 2 ^ 31 + plain_order U start
 
--- a word and the conditional stop behind it
+-- a word and the conditional stop after it
 abbrev pub stopped_word : ℕ → List ℕ
 stopped_word word = word_codes word ++ stop_code ∷ []

@@ -1,5 +1,5 @@
 -- Part of the public promise. Loading: a loader is keyed in, a tape mounted, the loader started,
--- and so many orders performed.
+-- and a given number of orders performed.
 use Rattle.std.specs.Prelude.{ℕ, ◌+◌, ◌<◌, ◌≤◌, ◌++◌, false, List, ◌∷◌, [], Option, None, Some}
 use Rattle.std.specs.Prelude.{find, fold, length, map, slice_set, sum_by, unwrap_or}
 use Rattle.std.specs.List.{All, range_with_len}
@@ -74,8 +74,8 @@ panel_after_load panel end_cell start = record {
 abbrev pub read_tape : List ℕ → Tape
 read_tape codes = record { on = false; passed = codes; left = [] }
 
--- the states in which words are about to be stored, and those in which so many activities begin,
--- one after another
+-- the states in which words are about to be stored, and those in which a given number of activities
+-- begin, one after another
 unfoldable pub store_states : State → ℕ → List ℕ → List State
 store_states s base words = map (before_store s base words) (range_with_len 0 (length words))
 

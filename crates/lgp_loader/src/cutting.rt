@@ -8,21 +8,21 @@ use lgp_word::{Address, Word};
 /// A word and its place.
 pub(crate) type Cell = (Address, Word);
 
-/// Whether a cell lies one place behind another.
+/// Whether a cell lies one place after another.
 pub(crate) fn follows(cell: &Cell, next: &Cell) -> bool
     ensures { result ≡ follows cell.now next.now }
 {
     next.0.number() == cell.0.number() + 1
 }
 
-/// Whether cells are a block: one or more, each one place behind the one before it.
+/// Whether cells are a block: one or more, each one place after the one before it.
 fn is_block(cells: &[Cell]) -> bool
     ensures { result ≡ is_block cells.now }
 {
     !cells.is_empty() && cells.is_sorted_by(follows)
 }
 
-/// The first of the longest blocks, and the cells behind it; none where there are no cells.
+/// The first of the longest blocks, and the cells after it; none where there are no cells.
 pub(crate) fn first_block(cells: &[Cell]) -> Option<(&[Cell], &[Cell])>
     ensures parts { MatchOption result (cells.now ≡ [])
         (λ parts. longest_blocks cells.now ≡ parts.0.now ∷ longest_blocks parts.1.now) }
@@ -51,11 +51,11 @@ pub(crate) fn is_cutting(counts: &[usize], cells: &[Cell]) -> bool
         if *count > left.len() {
             return false;
         }
-        let (block, behind) = left.split_at(*count);
+        let (block, rest) = left.split_at(*count);
         if !is_block(block) {
             return false;
         }
-        left = behind;
+        left = rest;
     }
     left.is_empty()
 }

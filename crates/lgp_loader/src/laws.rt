@@ -34,7 +34,7 @@ pub fn cuttings()
 {}
 
 /// What loading leaves, in whatever blocks: the words of all blocks over what was on the drum, and the loader at its 22 places,
-/// with the order that would store a word behind the last block in its store cell, no count left, and the end word in its end
+/// with the order that would store a word after the last block in its store cell, no count left, and the end word in its end
 /// cell. The accumulator and the instruction register hold the end word; the tape is read to its end and the reader is off;
 /// nothing has been printed. Without a start the machine has stopped, with one it goes there. Since the loader was started, the
 /// clock has gone on by the sum of what its orders cost.
@@ -114,7 +114,7 @@ pub fn blind_to_switches()
 {}
 
 /// From the moment a loader has been started nobody's hand on BREAK POINT and TRANSFER CONTROL disturbs it: after as many word
-/// times as its orders take, with presses of those switches anywhere between, the machine stands as after an undisturbed loading,
+/// times as its orders take, with presses of those switches anywhere between, the machine is as after an undisturbed loading,
 /// but for these switches.
 #[tactic(auto, using(crate::proofs::Undisturbed::undisturbed_laws))]
 pub fn undisturbed()

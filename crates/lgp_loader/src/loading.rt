@@ -36,7 +36,7 @@ pub enum LoadFault {
     /// Nothing was pressed.
     #[error("an activity has been begun")]
     Moving,
-    /// The machine stands at the boundary whose activity would pass the clock's end.
+    /// The machine is at the boundary whose activity would pass the clock's end.
     #[error("the clock would pass its end")]
     ClockEnd,
     /// Nothing was pressed.
@@ -141,7 +141,7 @@ fn perform_one<M: Operate>(machine: &mut M) -> bool
     machine.next_order().is_ok()
 }
 
-/// Performs so many orders that are at work and print nothing. Answers false where one of them would pass the end of the clock.
+/// Performs a given number of orders that are at work and print nothing. Answers false where one of them would pass the end of the clock.
 fn perform<M: Operate>(machine: &mut M, orders: u64) -> bool
     requires boundary { M.configuration machine.old
         ≡ at_boundary (M.configuration machine.old).state }
@@ -168,7 +168,7 @@ fn perform<M: Operate>(machine: &mut M, orders: u64) -> bool
     true
 }
 
-/// Keys a loader in, mounts a tape, starts the loader and performs so many orders, which are at work and print nothing. Answers
+/// Keys a loader in, mounts a tape, starts the loader and performs a given number of orders, which are at work and print nothing. Answers
 /// false where the clock would pass its end.
 #[tactic(auto, using(crate::proofs::Program::tape_loaded))]
 fn load_tape<A: Allocator, M: Operate<Tape = Vec<Code, A>>>(
@@ -234,7 +234,7 @@ fn read<A: Allocator, M: Operate<Tape = Vec<Code, A>>>(
 /// loader performed, 10 for each word, 8 for each block, and 5.
 ///
 /// Refused, in this order: within an activity (`Moving`), where there is no memory for the tape (`Memory`), both before anything
-/// is pressed; where the clock would pass its end (`ClockEnd`): the machine then stands at the first boundary of the loading whose
+/// is pressed; where the clock would pass its end (`ClockEnd`): the machine then is at the first boundary of the loading whose
 /// activity would pass it.
 pub fn load<A: Allocator + Copy, B: Allocator, M: Operate<Tape = Vec<Code, A>>>(
     alloc: A,
@@ -257,7 +257,7 @@ pub fn load<A: Allocator + Copy, B: Allocator, M: Operate<Tape = Vec<Code, A>>>(
     read(machine, &LOADER, reading)
 }
 
-/// Loads a program as `load` does, from the tape in blocks of so many words each.
+/// Loads a program as `load` does, from the tape in blocks of a given number of words each.
 ///
 /// Refused, in this order: within an activity (`Moving`), where the numbers do not cut the program's words into blocks (`BadCut`),
 /// where there is no memory for the tape (`Memory`), all before anything is pressed; where the clock would pass its end

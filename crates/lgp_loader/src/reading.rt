@@ -37,7 +37,7 @@ fn program_cells<A: Allocator>(image: &Image<A>) -> &[Cell]
     image.cells()
 }
 
-/// How many orders the loader performs for so many words in so many blocks.
+/// How many orders the loader performs for a given number of words in a given number of blocks.
 fn orders_for(words: usize, blocks: usize) -> u64
     requires few { words ≤ 4096 }
     requires fewer { blocks ≤ 4096 }
@@ -64,7 +64,7 @@ pub(crate) fn in_longest<A: Allocator + Copy, B: Allocator>(
     Ok(Reading { tape, orders })
 }
 
-/// The tape of an image in blocks of so many words each.
+/// The tape of an image in blocks of a given number of words each.
 #[tactic(auto, using(crate::proofs::Loads::few_counts))]
 pub(crate) fn in_cut<A: Allocator + Copy, B: Allocator>(
     alloc: A,

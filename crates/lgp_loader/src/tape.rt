@@ -45,7 +45,7 @@ fn end_word(start: Option<Address>) -> Word
     }
 }
 
-/// The count of so many words that are left: the negative of four times as much.
+/// The count of a given number of words that are left: the negative of four times as much.
 fn count_word(words: usize) -> Word
     requires some { 0 < words }
     requires few { words ≤ 4096 }
@@ -87,9 +87,9 @@ fn push_longest<A: Allocator>(codes: &mut Vec<Code, A>, cells: &[Cell]) -> Resul
         ≡ codes.old.items ++ concat (map block_codes (longest_blocks cells.now))) }
 {
     let mut left = cells;
-    while let Some((block, behind)) = first_block(left) {
+    while let Some((block, rest)) = first_block(left) {
         push_block(codes, block)?;
-        left = behind;
+        left = rest;
     }
     Ok(())
 }
@@ -109,8 +109,8 @@ fn punch_longest<A: Allocator, B: Allocator>(
 }
 
 /// The tape of an image in the longest blocks: for each block the digits of the order that stores its first word, those of its
-/// count and of each word, a conditional stop behind each, and a carriage return; then the end word's digits and the conditional
-/// stop. A block goes on while the next cell lies one place behind the last.
+/// count and of each word, a conditional stop after each, and a carriage return; then the end word's digits and the conditional
+/// stop. A block goes on while the next cell lies one place after the last.
 pub fn tape_of<A: Allocator + Copy, B: Allocator>(
     alloc: A,
     image: &Image<B>,
@@ -122,7 +122,7 @@ pub fn tape_of<A: Allocator + Copy, B: Allocator>(
     Ok(codes)
 }
 
-/// Punches cells in blocks of so many each.
+/// Punches cells in blocks of a given length.
 fn push_blocks<A: Allocator>(
     codes: &mut Vec<Code, A>,
     counts: &[usize],
@@ -135,14 +135,14 @@ fn push_blocks<A: Allocator>(
 {
     let mut left = cells;
     for count in counts {
-        let (block, behind) = left.split_at(*count);
+        let (block, rest) = left.split_at(*count);
         push_block(codes, block)?;
-        left = behind;
+        left = rest;
     }
     Ok(())
 }
 
-/// Punches an image in blocks of so many cells each, on an empty tape.
+/// Punches an image in blocks of a given number of cells each, on an empty tape.
 #[tactic(auto, unfolding(crate::specs::BlockTape::block_tape_codes))]
 fn punch_cut<A: Allocator, B: Allocator>(
     codes: &mut Vec<Code, A>,
@@ -158,7 +158,7 @@ fn punch_cut<A: Allocator, B: Allocator>(
     Ok(())
 }
 
-/// The tape of an image in blocks of so many cells each.
+/// The tape of an image in blocks of a given number of cells each.
 ///
 /// Refused, in this order: where the numbers do not cut the cells into blocks (`BadCut`), that is where one is 0, where they are
 /// not as many as there are cells, or where the places of a block do not follow one another; where there is no memory for the tape

@@ -94,7 +94,7 @@ fn turn<A: Allocator>(machine: &mut Machine<A>) -> Result<bool, Fail> {
     Ok(machine.turn()?)
 }
 
-/// A new machine after so many word times at rest.
+/// A new machine after a given number of word times at rest.
 fn machine_at<A: Allocator + Copy>(alloc: A, clock: u64) -> Result<Machine<A>, Fail> {
     let mut machine = Machine::new(alloc)?;
     machine.rest(clock)?;

@@ -35,7 +35,7 @@ state_at_mark s mark change = record {
   clock = mark.clock;
 }
 
--- the state with another tape in the reader, of which so many codes have passed
+-- the state with another tape in the reader, of which a given number of codes have passed
 abbrev pub with_tape_at : State → List ℕ → ℕ → State
 with_tape_at s codes passed =
     record s { core = record s.core { tape = tape_at s.core.tape.on codes passed } }

@@ -29,7 +29,7 @@ pub enum TurnFault {
     Memory,
 }
 
-/// Why a list of events stopped, and how many of them stand.
+/// Why a list of events stopped, and how many of them remain.
 #[derive(Clone, Copy, Debug, PartialEq, Eq, Error)]
 #[error("event {done}: {fault}")]
 pub struct PlayFault {

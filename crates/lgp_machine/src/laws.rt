@@ -8,7 +8,7 @@ ghost use Rattle.lgp_table.specs.Interleaving.{after_events, at_boundary};
 use lgp_table::Event;
 
 /// The word times of an activity, with nothing pressed between them: before the last one none ends at a boundary, and the state
-/// in which the activity began still stands; the last one ends in the next state.
+/// in which the activity began is still there; the last one ends in the next state.
 #[tactic(auto, using(crate::proofs::Turns::turned_within, crate::proofs::Turns::turned_whole))]
 pub fn an_activity()
     ensures within { (s : State) → (times : ℕ) → times < cost s

@@ -63,7 +63,7 @@ fn put<A: Allocator>(machine: &mut Machine<A>, at: u16, bits: u32) -> Result<(),
     machine.put(address(at), Word::of_bits(bits))
 }
 
-/// Mounts a tape; a refused one is told by the number of codes handed back.
+/// Mounts a tape; a refused one is reported by the number of codes handed back.
 fn mount<A: Allocator>(
     machine: &mut Machine<A>,
     codes: Vec<Code, A>,
@@ -139,7 +139,7 @@ fn shown(
     })
 }
 
-/// What shows behind the order that switches the reader on.
+/// What shows after the order that switches the reader on.
 fn shown_at_input() -> Option<Look> {
     let mut look = shown(1, 0, 0x0008_0000, Status::Going, 67)?;
     look.reader_on = true;

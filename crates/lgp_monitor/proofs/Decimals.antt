@@ -1,4 +1,4 @@
--- The digits behind a point.
+-- The digits after a point.
 use Rattle.std.proofs.Common.{◌≡◌, ℕ, zero, suc, ◌+◌, ◌-◌, ◌*◌, ◌/◌, ◌%◌, ◌^◌, ◌<◌, List, [], ◌∷◌, ◌++◌, arith, ap, sym, ◌∙◌, append-nil, append_assoc}
 use Rattle.lgp_monitor.specs.Scaled.{decimals}
 
@@ -9,7 +9,7 @@ first-digit (suc more) zero some left = absurd (omega (arith, left))
 first-digit (suc more) (suc rest) some left =
     grind arith
 
--- a text with one digit more behind it
+-- a text with one digit more after it
 pub next-digit : (text whole : List ℕ) (more rest : ℕ) → 0 < more → 0 < rest → text ++ decimals more rest ≡ whole → (text ++ (48 + rest / 10 ^ 9) ∷ []) ++ decimals (more - 1) (rest % 10 ^ 9 * 10) ≡ whole
 next-digit text whole more rest some left is =
     append_assoc text ((48 + rest / 10 ^ 9) ∷ []) (decimals (more - 1) (rest % 10 ^ 9 * 10)) ∙ (ap (λ (digits : List ℕ). text ++ digits) (sym (first-digit _ _ some left)) ∙ is)

@@ -2,10 +2,10 @@
 use Rattle.std.proofs.Common.{◌≡◌, ◌<◌, ◌-◌, ◌==◌, ℕ, zero, suc, true, false, List, slice_index, refl, arith}
 use Rattle.lgp_monitor.specs.Reasons.{line_start}
 
-pub behind_line_feed : (text : List ℕ) (start : ℕ) → 0 < start → (slice_index text (start - 1) == 10) ≡ true → line_start text start ≡ start
+pub after_line_feed : (text : List ℕ) (start : ℕ) → 0 < start → (slice_index text (start - 1) == 10) ≡ true → line_start text start ≡ start
 unfolding line_start
-behind_line_feed text zero above feed = refl
-behind_line_feed text (suc n) above feed =
+after_line_feed text zero above feed = refl
+after_line_feed text (suc n) above feed =
     grind arith
 
 pub within_line : (text : List ℕ) (start : ℕ) → 0 < start → (slice_index text (start - 1) == 10) ≡ false → line_start text (start - 1) ≡ line_start text start

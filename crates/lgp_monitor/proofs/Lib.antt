@@ -4,7 +4,6 @@ pub mod RunLine
 pub mod ScriptRun
 pub mod Pictures
 pub mod LastLine
-pub mod Unbegun
-pub mod BlockLemmas
+pub mod RestoreLemmas
 pub mod Decimals
 pub mod ScaleLaws

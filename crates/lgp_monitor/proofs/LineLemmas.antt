@@ -1,19 +1,19 @@
 -- What typed lines stand for are lines, so that a transcript's lines are those.
 use Rattle.std.proofs.Common.{◌≡◌, ℕ, zero, suc, ◌+◌, ◌&&◌, not, Bool, true, false, cond, List, [], ◌∷◌, ◌++◌, take, drop, get_or, refl, codes, arith}
 use Rattle.std.proofs.lemmas.Bool.Decides.{nat_tests}
-use Rattle.std.specs.List.{AllByRecursion, list_all, position_or_len}
+use Rattle.std.specs.List.{AllByRecursion, list_all}
 use Rattle.std.specs.Str.Lines.{lines}
 use Rattle.lgp_word.specs.Digits.{address_digits, digit_byte, digits, digits_of, four_digits}
 use Rattle.lgp_stream.specs.KeptLine.{kept_of, line_limit}
 use Rattle.lgp_stream.specs.Language.{is_line_feed, state_after}
-use Rattle.lgp_stream.specs.LineWords.{behind_word, first_word, is_space, is_visible, without_spaces}
-use Rattle.lgp_stream.specs.Transcript.{AreLines, IsLine, IsToldByTranscript, Recorded, stand_in, untouched}
-use Rattle.lgp_stream.proofs.LineLaws.{told_by_transcript}
+use Rattle.lgp_stream.specs.LineWords.{after_word, first_word, has_no_word, without_spaces}
+use Rattle.lgp_stream.specs.Transcript.{AreLines, IsLine, IsReportedByTranscript, Recorded, stand_in, untouched}
+use Rattle.lgp_stream.proofs.LineLaws.{reported_by_transcript}
 use Rattle.lgp_lab.specs.Script.{script_language}
-use Rattle.lgp_lab.specs.Standing.{Standing, opening_standing}
-use Rattle.lgp_monitor.specs.Monitor.{go_lines, jump_line, meaning_at, meaning_of, monitor_language, placed_line, put_line, run_line}
-use Rattle.lgp_monitor.specs.declared.typed.Typed.{Typed}
-use Rattle.lgp_monitor.specs.declared.typed.Typed.TheVariants as typed
+use Rattle.lgp_lab.specs.LabState.{LabState, opening_state}
+use Rattle.lgp_monitor.specs.Monitor.{go_lines, jump_line, meaning_at, meaning_of, monitor_language, placed_line, put_line, run_line, run_operands}
+use Rattle.lgp_monitor.specs.declared.entry.Entry.{Entry}
+use Rattle.lgp_monitor.specs.declared.entry.Entry.TheVariants as entry
 
 free-append : (xs ys : List ℕ) → IsLine xs → IsLine ys → IsLine (xs ++ ys)
 free-append [] ys free more = more
@@ -86,20 +86,6 @@ free-stand_in line free = by_longer _ _ where
   by_longer true false = free-append _ _ (free-take line_limit line free) (refl, tt)
   by_longer false blank = free-take line_limit _ free
 
-free-run : (line : List ℕ) → IsLine line → IsLine (run_line (kept_of line).front)
-unfolding run_line behind_word without_spaces kept_of
-free-run line free = (
-  refl,
-  (
-    refl,
-    (
-      refl,
-      free-drop (position_or_len is_space (drop (position_or_len is_visible (take line_limit line)) (take line_limit line))) (drop (position_or_len is_visible (take line_limit line)) (take line_limit line))
-          (free-drop (position_or_len is_visible (take line_limit line)) (take line_limit line) (free-take line_limit _ free)),
-    ),
-  ),
-)
-
 free-without : (line : List ℕ) → IsLine line → IsLine (without_spaces line)
 unfolding without_spaces
 free-without line free = free-drop _ _ free
@@ -108,35 +94,45 @@ free-first : (line : List ℕ) → IsLine line → IsLine (first_word line)
 unfolding first_word
 free-first line free = grind (arith, free-take, free-without)
 
-free-behind : (line : List ℕ) → IsLine line → IsLine (behind_word line)
-unfolding behind_word
-free-behind line free = grind (arith, free-drop, free-without)
+free-after : (line : List ℕ) → IsLine line → IsLine (after_word line)
+unfolding after_word
+free-after line free = grind (arith, free-drop, free-without)
 
 free-front : (line : List ℕ) → IsLine line → IsLine (kept_of line).front
 unfolding kept_of
 free-front line free = free-take line_limit _ free
 
+free-operands : (operands : List ℕ) → IsLine operands → IsLine (run_operands operands)
+free-operands operands free = by_test (has_no_word (after_word operands)) where
+  by_test : (test : Bool) → IsLine (cond test operands (codes " " ++ first_word operands))
+  by_test true = free
+  by_test false = (refl, free-first operands free)
+
+free-run : (line : List ℕ) → IsLine line → IsLine (run_line (kept_of line).front)
+unfolding run_line
+free-run line free = (refl, (refl, (refl, free-operands _ (free-after _ (free-front line free)))))
+
 free-placed : (address : ℕ) (line : List ℕ) → IsLine line → IsLine (placed_line address (kept_of line).front)
 unfolding placed_line
 free-placed address line free =
-    grind (arith, free-front, free-append, free-first, free-address, free-behind)
+    grind (arith, free-front, free-append, free-first, free-address, free-after)
 
-free-meaning : (asked : Typed) (line : List ℕ) → IsLine line → AreLines (meaning_of asked (kept_of line))
-free-meaning typed.Itself line free = (free-stand_in _ free, tt)
-free-meaning typed.Misformed line free = (free-stand_in _ free, tt)
-free-meaning (typed.Placed address) line free = (free-placed _ _ free, tt)
-free-meaning (typed.Go address) line free = free-go _
-free-meaning (typed.Put address word) line free = (free-put _ _, tt)
-free-meaning (typed.Told telling limit) line free = (free-run _ free, tt)
-free-meaning (typed.Asked question) line free = tt
-free-meaning typed.Transcript line free = tt
-free-meaning typed.New line free = tt
-free-meaning typed.Help line free = tt
-free-meaning (typed.HelpOf verb) line free = tt
+free-meaning : (asked : Entry) (line : List ℕ) → IsLine line → AreLines (meaning_of asked (kept_of line))
+free-meaning entry.Itself line free = (free-stand_in _ free, tt)
+free-meaning entry.Misformed line free = (free-stand_in _ free, tt)
+free-meaning (entry.Placed address) line free = (free-placed _ _ free, tt)
+free-meaning (entry.Go address) line free = free-go _
+free-meaning (entry.Put address word) line free = (free-put _ _, tt)
+free-meaning (entry.Reported telling limit) line free = (free-run _ free, tt)
+free-meaning (entry.Asked question) line free = tt
+free-meaning entry.Transcript line free = tt
+free-meaning entry.New line free = tt
+free-meaning entry.Help line free = tt
+free-meaning (entry.HelpOf verb) line free = tt
 
-pub free-at : (recorded : Recorded Standing) (line : List ℕ) → IsLine line → AreLines (meaning_at recorded line)
+pub free-at : (recorded : Recorded LabState) (line : List ℕ) → IsLine line → AreLines (meaning_at recorded line)
 unfolding meaning_at
 free-at recorded line free = free-meaning _ _ free
 
-pub told_by_script : (text : List ℕ) → IsToldByTranscript script_language opening_standing (state_after monitor_language (untouched opening_standing) (lines text))
-told_by_script text = told_by_transcript script_language opening_standing meaning_at monitor_language (λ recorded line. refl) (λ recorded line free. free-at recorded _ free) text
+pub reported_by_script : (text : List ℕ) → IsReportedByTranscript script_language opening_state (state_after monitor_language (untouched opening_state) (lines text))
+reported_by_script text = reported_by_transcript script_language opening_state meaning_at monitor_language (λ recorded line. refl) (λ recorded line free. free-at recorded _ free) text

@@ -1,4 +1,4 @@
--- Numbers with their point behind place 30, and those for which ten decimals are enough.
+-- Numbers with their point after place 30, and those for which ten decimals are enough.
 use Rattle.std.proofs.Common.{◌≡◌, ℕ, ◌+◌, ◌-◌, ◌*◌, ◌/◌, ◌%◌, ◌^◌, ◌≤◌, Bool, true, false, if◌then◌else◌, List, ◌++◌, refl, arith, ap, sym, ◌∙◌, pow-add, mul_assoc, append-nil, codes, decimal}
 use Rattle.std.proofs.Math.Nat.{div-eq_of_lt-le, one-le-pow}
 use Rattle.lgp_trace.specs.AccountLines.{minus_text, number_text}
@@ -22,9 +22,9 @@ text-by : (minus : Bool) (word : ℕ) → minus_text minus ++ decimal (if minus 
 text-by true word = refl
 text-by false word = refl
 
-pub text-behind_place_30 : (word : ℕ) → scaled_text 30 word ≡ number_text word
+pub text-after_place_30 : (word : ℕ) → scaled_text 30 word ≡ number_text word
 unfolding scaled_text
-text-behind_place_30 word =
+text-after_place_30 word =
     rw (units-whole _, text-whole _) (text-by _ _)
 
 pub units-exact : (point size units : ℕ) → size * 10 ^ 10 ≡ units * 2 ^ (30 - point) → units_at point size ≡ units

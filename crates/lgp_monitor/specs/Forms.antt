@@ -1,7 +1,7 @@
 -- Part of the public promise: the forms of commands, and why a line is in no command's form: which
 -- word of it is wrong, and what would be right.
-use Rattle.std.specs.Prelude.{ℕ, ◌==◌, ◌&&◌, ◌||◌, nat_lt, not, Bool, true, false, if◌then◌else◌}
-use Rattle.std.specs.Prelude.{Option, Some, None, is_some, Result, Ok, Err}
+use Rattle.std.specs.Prelude.{ℕ, ◌==◌, ◌&&◌, ◌||◌, nat_lt, not, Bool, false, if◌then◌else◌}
+use Rattle.std.specs.Prelude.{is_some, Result, Ok, Err}
 use Rattle.std.specs.Prelude.{List, ◌++◌, codes, drop, flat_map, length, slice_get, take}
 use Rattle.std.specs.Prelude.{slice_index}
 use Rattle.std.specs.Char.{is_ascii_uppercase}
@@ -14,8 +14,9 @@ use Rattle.lgp_assembler.specs.AddressOperands.{address_operand}
 use Rattle.lgp_assembler.specs.declared.operands.OperandFault.{OperandFault}
 use Rattle.lgp_assembler.specs.declared.operands.OperandFault.TheVariants.{Misformed, Unknown}
 use Rattle.lgp_assembler.specs.declared.operands.OperandFault.TheVariants.{Outside}
-use Rattle.lgp_stream.specs.LineWords.{behind_word, first_word, has_no_word}
+use Rattle.lgp_stream.specs.LineWords.{after_word, first_word, has_no_word}
 use Rattle.lgp_text.specs.NamedValues.{named}
+use Rattle.lgp_lab.specs.Command.{lone_number}
 use Rattle.lgp_monitor.specs.Verbs.{only_asks, operands_form, operands_kind, takes_address}
 use Rattle.lgp_monitor.specs.Verbs.{verb_names}
 use Rattle.lgp_monitor.specs.declared.verb.Verb.{Verb}
@@ -132,20 +133,29 @@ module _ (names : List (List ℕ × ℕ)) (form : List ℕ) where
   value_reason value place =
       if has_no_word value then form
       else (if takes_place (first_word value)
-      then operand_reason place (behind_word value) (λ address. form)
+      then operand_reason place (after_word value) (λ address. form)
       else (if takes_numbers (first_word value) then form
       else first_word value ++ mistake_text (value_mistake (first_word value))))
+
+  -- of an address that comes after a number
+  abbrev pub second_reason : ℕ → List ℕ → List ℕ
+  second_reason place operands =
+      if is_some (lone_number (first_word operands))
+      then operand_reason place (after_word operands) (λ address. form) else form
 
 -- what is said of a line whose command is known: the first word that is wrong, or else the form
 abbrev pub verb_reason : List (List ℕ × ℕ) → ℕ → List ℕ → Verb → List ℕ
 verb_reason names counter line verbs.Word =
     let form = first_word line ++ operands_form verbs.Word in
-    operand_reason names form counter (behind_word line)
-    (value_reason names form (behind_word (behind_word line)))
+    operand_reason names form counter (after_word line)
+    (value_reason names form (after_word (after_word line)))
+verb_reason names counter line verbs.NumberAddress =
+    let form = first_word line ++ operands_form verbs.NumberAddress in
+    second_reason names form counter (after_word line)
 verb_reason names counter line verb =
     let form = first_word line ++ operands_form verb in
     if takes_address verb
-    then operand_reason names form counter (behind_word line) (λ address. form) else form
+    then operand_reason names form counter (after_word line) (λ address. form) else form
 
 -- and of one whose command is not known
 abbrev pub no_command_reason : List ℕ → List ℕ

@@ -4,12 +4,11 @@ pub mod Reasons
 pub mod Telling
 pub mod Scaled
 pub mod Forms
+pub mod PanelData
 pub mod Questions
-pub mod Typed
+pub mod Entry
 pub mod Closing
 pub mod ClosingInside
 pub mod Monitor
 pub mod Running
-pub mod Blocks
-pub mod Attending
-pub mod Sessions
+pub mod FileTexts

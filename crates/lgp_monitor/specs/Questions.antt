@@ -1,7 +1,7 @@
 -- Part of the public promise: what is shown and changes nothing: words as numbers, where a word
--- came from, the names of the last source, the rules, what is live, the commands.
-use Rattle.std.specs.Prelude.{ℕ, ◌+◌, ◌++◌, if◌then◌else◌, nat_lt, List, [], ◌∷◌, codes, decimal}
-use Rattle.std.specs.Prelude.{flat_map}
+-- came from, the names of the last source, the rules, what is live, the commands, the panel.
+use Rattle.std.specs.Prelude.{ℕ, ◌+◌, ◌++◌, if◌then◌else◌, nat_lt, not, List, [], ◌∷◌, codes}
+use Rattle.std.specs.Prelude.{decimal, flat_map}
 use Rattle.lgp_word.specs.Digits.{address_digits, digits_of}
 use Rattle.lgp_fraction.specs.Arithmetic.{half}
 use Rattle.lgp_fraction.specs.Decimal.{decimal_text}
@@ -9,27 +9,28 @@ use Rattle.lgp_history.specs.declared.rule.Rule.{Rule}
 use Rattle.lgp_history.specs.declared.rule.Rule.TheVariants.{At, Changed}
 use Rattle.lgp_lab.specs.DrumCommands.{lines_text}
 use Rattle.lgp_lab.specs.Names.{button_names}
-use Rattle.lgp_lab.specs.Standing.{Standing, labels_of}
-use Rattle.lgp_table.specs.Console.{is_live, is_waiting, takes_codes}
+use Rattle.lgp_lab.specs.LabState.{LabState, labels_of}
+use Rattle.lgp_table.specs.Console.{is_halted, is_live, is_manual, is_waiting, takes_codes}
 use Rattle.lgp_table.specs.declared.action.Action.{Action}
 use Rattle.lgp_table.specs.declared.panel.Mode.{Mode}
 use Rattle.lgp_table.specs.declared.panel.Panel.{Panel}
 use Rattle.lgp_table.specs.declared.panel.Status.{Status}
 use Rattle.lgp_trace.specs.OriginLines.{why_text}
 use Rattle.lgp_monitor.specs.Forms.{commands_text}
+use Rattle.lgp_monitor.specs.PanelData.{panel_data}
 use Rattle.lgp_monitor.specs.Scaled.{scaled_text}
 use Rattle.lgp_monitor.specs.Telling.{label_of}
 use Rattle.lgp_monitor.specs.declared.question.Question.{Question}
 use Rattle.lgp_monitor.specs.declared.question.Question.TheVariants as questions
 
--- a word by its digits, as a fraction, and as the number whose point is behind a place
+-- a word by its digits, as a fraction, and as the number whose point is after a place
 unfoldable pub number_line : ℕ → ℕ → ℕ → List ℕ
 number_line point address word =
     address_digits address
     ++ (codes " " ++ (digits_of word ++ (codes "  " ++ (decimal_text (half word) ++ (codes "  "
     ++ (scaled_text point word ++ codes "\n"))))))
 
--- a name and its value: an address, or the place behind the drum's last
+-- a name and its value: an address, or the place after the drum's last
 unfoldable pub label_line : List ℕ × ℕ → List ℕ
 label_line symbol =
     symbol.0 ++ (codes " "
@@ -46,7 +47,7 @@ rule_address (At address) = address
 rule_address (Changed address) = address
 
 module _ (names : List (List ℕ × ℕ)) where
-  -- a rule's number, the command that made it, its address, and behind it the address's label
+  -- a rule's number, the command that made it, its address, and after it the address's label
   unfoldable pub rule_line : ℕ → Rule → List ℕ
   rule_line number rule =
       codes "rule " ++ (decimal number ++ (rule_command rule ++ (address_digits (rule_address rule)
@@ -69,18 +70,27 @@ live_keys status mode =
     (if takes_codes status mode then codes " keys" else [])
     ++ (if is_waiting status then codes " stop" else [])
 
-unfoldable pub live_line : Panel → List ℕ
-live_line panel =
-    codes "live" ++ (flat_map (live_name panel) button_names
-    ++ (live_keys panel.status panel.mode ++ codes "\n"))
+-- what lets the machine go on: its orders are performed, an input takes keys, or Start is pressed,
+-- in Manual after Normal
+abbrev pub way_text : Status → Mode → List ℕ
+way_text status mode =
+    if is_waiting status then codes "\nway keys\n"
+    else (if not (is_halted status) then codes "\nway orders\n"
+    else (if is_manual mode then codes "\nway normal start\n" else codes "\nway start\n"))
 
-unfoldable pub answer_to : Question → Standing → List ℕ
-answer_to (questions.Numbers range point) standing =
-    lines_text (number_line point) standing.debugger.state range.first range.count
-answer_to (questions.Why address) standing =
-    why_text (label_of (labels_of standing.source)) standing.debugger address
-answer_to questions.Labels standing = flat_map label_line (labels_of standing.source)
-answer_to questions.Rules standing =
-    rule_lines (labels_of standing.source) 0 standing.debugger.rules
-answer_to questions.Live standing = live_line standing.debugger.state.core.panel
-answer_to questions.Commands standing = commands_text
+unfoldable pub live_text : Panel → List ℕ
+live_text panel =
+    codes "live" ++ (flat_map (live_name panel) button_names
+    ++ (live_keys panel.status panel.mode ++ way_text panel.status panel.mode))
+
+unfoldable pub answer_to : Question → LabState → List ℕ
+answer_to (questions.Numbers range point) lab =
+    lines_text (number_line point) lab.debugger.state range.first range.count
+answer_to (questions.Why address) lab =
+    why_text (label_of (labels_of lab.source)) lab.debugger address
+answer_to questions.Labels lab = flat_map label_line (labels_of lab.source)
+answer_to questions.Rules lab =
+    rule_lines (labels_of lab.source) 0 lab.debugger.rules
+answer_to questions.Live lab = live_text lab.debugger.state.core.panel
+answer_to questions.Commands lab = commands_text
+answer_to questions.PanelData lab = panel_data lab.debugger.state

@@ -1,10 +1,10 @@
--- Part of the public promise: what is said behind replies: the reasons of refusals, and how the
--- machine stands behind a run that is told.
+-- Part of the public promise: what is said after replies: the reasons of refusals, and the
+-- machine's state after a run that is reported.
 use Rattle.std.specs.Prelude.{ℕ, zero, suc, ◌-◌, ◌==◌, if◌then◌else◌, Option, None, List, []}
 use Rattle.std.specs.Prelude.{◌∷◌, ◌++◌, codes, drop, length, slice_index, take}
 use Rattle.std.specs.Option.{option_map_or}
 use Rattle.std.specs.Str.{bytes_eq}
-use Rattle.lgp_stream.specs.LineWords.{behind_word, first_word}
+use Rattle.lgp_stream.specs.LineWords.{after_word, first_word}
 use Rattle.lgp_table.specs.declared.panel.Mode.{Mode}
 use Rattle.lgp_table.specs.declared.panel.Status.{Status}
 use Rattle.lgp_text.specs.NamedValues.{named}
@@ -34,7 +34,7 @@ reason_of kinds.ClockEnd = codes "the clock would pass its end, 4611686018427387
 reason_of kinds.Full = codes "there are 64 rules, drop takes one away"
 reason_of kinds.NoRule = codes "no rule has this number, rules lists them"
 reason_of kinds.TooFar = codes "no more orders than this are kept"
-reason_of kinds.NoHit = codes "no rule hits one of the kept orders, which are so many"
+reason_of kinds.NoHit = codes "no rule hits one of the kept orders, and this is their number"
 reason_of kinds.NoImage = codes "no source has assembled yet"
 reason_of kinds.TooLong = codes "a line has at most 4096 bytes, a source 1048576"
 reason_of kinds.BadSign =
@@ -54,19 +54,20 @@ last_line text = drop (line_start text (length text - 1)) text
 unfoldable pub refusal_in : List ℕ → Option RefusalKind
 refusal_in line =
     if bytes_eq (first_word line) (codes "?")
-    then named refusal_numbers (first_word (behind_word line)) else None
+    then named refusal_numbers (first_word (after_word line)) else None
 
--- a reply with the reason behind its last line
+-- a reply with the reason after its last line
 abbrev pub with_reason : List ℕ → RefusalKind → List ℕ
 with_reason reply kind =
     take (length reply - 1) reply ++ (codes ": " ++ (reason_of kind ++ codes "\n"))
 
--- a reply, of which the last line has its reason behind it where that is a refusal
+-- a reply, of which the last line has its reason after it where that is a refusal
 unfoldable pub reasoned : List ℕ → List ℕ
 reasoned reply = option_map_or (with_reason reply) (refusal_in (last_line reply)) reply
 
--- what is told of a run behind which the machine stands so: where the reply at its end leaves open
--- how the machine stands, with a line that says it
+-- what is reported of a run after which the machine is in this state: where the reply at its end
+-- leaves open in which state the machine is, with a line that says it
 unfoldable pub explained : Status → Mode → List ℕ → List ℕ
-explained status mode told =
-    if tells_standstill (last_line told) then told ++ stand_text status mode else reasoned told
+explained status mode reported =
+    if tells_standstill (last_line reported) then reported ++ stand_text status mode
+    else reasoned reported

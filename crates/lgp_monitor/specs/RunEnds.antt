@@ -1,9 +1,9 @@
--- Part of the public promise: what is said behind a run that found the machine at rest, and behind
--- one that a rule stopped: how the machine stands, and what lets it go on.
+-- Part of the public promise: what is said after a run that found the machine at rest, and after
+-- one that a rule stopped: the machine's state, and what lets it go on.
 use Rattle.std.specs.Prelude.{ℕ, ◌&&◌, ◌||◌, Bool, List, ◌++◌, codes, nat_eq}
 use Rattle.std.specs.List.{starts_with}
 use Rattle.std.specs.Str.{bytes_eq}
-use Rattle.lgp_stream.specs.LineWords.{behind_word, first_word}
+use Rattle.lgp_stream.specs.LineWords.{after_word, first_word}
 use Rattle.lgp_table.specs.declared.panel.Cause.{Cause}
 use Rattle.lgp_table.specs.declared.panel.Cause.TheVariants.{Operator, Stop, Overflow, Step}
 use Rattle.lgp_table.specs.declared.panel.Mode.{Mode}
@@ -16,7 +16,7 @@ abbrev pub halt_text : Cause → List ℕ
 halt_text Operator = codes "the operator halted the machine, or has not started it"
 halt_text Stop = codes "a stop order halted the machine"
 halt_text Overflow = codes "an overflow halted the machine"
-halt_text Step = codes "the machine halted behind one operation"
+halt_text Step = codes "the machine halted after one operation"
 
 -- what starts it
 abbrev pub start_text : Mode → List ℕ
@@ -24,7 +24,7 @@ start_text Normal = codes ": press start lets it go on\n"
 start_text OneOperation = codes ": press start lets it do one order\n"
 start_text Manual = codes ": press normal, then press start lets it go on\n"
 
--- how the machine stands, and what lets it go on
+-- the machine's state, and what lets it go on
 unfoldable pub stand_text : Status → Mode → List ℕ
 stand_text (Halted cause) mode = codes "        " ++ (halt_text cause ++ start_text mode)
 stand_text Waiting mode = codes
@@ -37,4 +37,4 @@ unfoldable pub tells_standstill : List ℕ → Bool
 tells_standstill line =
     bytes_eq line (codes "ran 0 rest\n")
     || (starts_with nat_eq line (codes "ran ")
-    && bytes_eq (first_word (behind_word (behind_word line))) (codes "rule"))
+    && bytes_eq (first_word (after_word (after_word line))) (codes "rule"))

@@ -4,11 +4,11 @@ use Rattle.std.specs.Prelude.{ℕ, List}
 use Rattle.std.specs.List.{concat}
 use Rattle.lgp_stream.specs.Language.{question_count, text_replies}
 use Rattle.lgp_stream.specs.Transcript.{untouched}
-use Rattle.lgp_lab.specs.Standing.{opening_standing}
+use Rattle.lgp_lab.specs.LabState.{opening_state}
 use Rattle.lgp_monitor.specs.Monitor.{monitor_language}
 
 unfoldable pub monitor_replies : List ℕ → List (List ℕ)
-monitor_replies typed = text_replies monitor_language (untouched opening_standing) typed
+monitor_replies typed = text_replies monitor_language (untouched opening_state) typed
 
 abbrev pub monitor_text : List ℕ → List ℕ
 monitor_text typed = concat (monitor_replies typed)

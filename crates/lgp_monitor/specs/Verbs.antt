@@ -1,8 +1,8 @@
--- Part of the public promise: the commands of the monitor, each with what stands behind its name.
+-- Part of the public promise: the commands of the monitor, each with what comes after its name.
 -- Those of the script language are among them, the desk's `quit`, and those that name a file, which
 -- the monitor's program takes.
 use Rattle.std.specs.Prelude.{ℕ, Bool, true, false, List, [], ◌∷◌, codes}
-use Rattle.lgp_monitor.specs.declared.telling.Telling.TheVariants as tellings
+use Rattle.lgp_trace.specs.declared.form.Form.TheVariants as forms
 use Rattle.lgp_monitor.specs.declared.verb.AddressCommand.TheVariants as address_commands
 use Rattle.lgp_monitor.specs.declared.verb.LoneCommand.TheVariants as lone_commands
 use Rattle.lgp_monitor.specs.declared.verb.NumberCommand.TheVariants as number_commands
@@ -20,9 +20,10 @@ verb_names =
     ∷ (codes "turn", verbs.Number number_commands.Script)
     ∷ (codes "orders", verbs.Number number_commands.Script)
     ∷ (codes "run", verbs.Number number_commands.Script)
-    ∷ (codes "trace", verbs.Number (number_commands.Told tellings.Trace))
-    ∷ (codes "profile", verbs.Number (number_commands.Told tellings.Profile))
-    ∷ (codes "drum", verbs.Number (number_commands.Told tellings.Drum))
+    ∷ (codes "trace", verbs.Number (number_commands.Trace forms.Columns))
+    ∷ (codes "profile", verbs.Number (number_commands.Profile forms.Columns))
+    ∷ (codes "drum", verbs.Number number_commands.Drum)
+    ∷ (codes "optimum", verbs.NumberAddress)
     ∷ (codes "why", verbs.Address address_commands.Why)
     ∷ (codes "back", verbs.Number number_commands.Script)
     ∷ (codes "last", verbs.Lone lone_commands.Script)
@@ -47,17 +48,21 @@ verb_names =
     ∷ (codes "labels", verbs.Lone lone_commands.Labels)
     ∷ (codes "live", verbs.Lone lone_commands.Live)
     ∷ (codes "commands", verbs.Lone lone_commands.Commands)
+    ∷ (codes "panel-data", verbs.Lone lone_commands.PanelData)
+    ∷ (codes "trace-data", verbs.Number (number_commands.Trace forms.Data))
+    ∷ (codes "profile-data", verbs.Number (number_commands.Profile forms.Data))
     ∷ (codes "transcript", verbs.Lone lone_commands.Transcript)
     ∷ (codes "new", verbs.Lone lone_commands.New)
     ∷ (codes "help", verbs.Command)
     ∷ (codes "quit", verbs.End)
     ∷ []
 
--- what stands behind a command's name in its form
+-- what comes after a command's name in its form
 unfoldable pub operands_form : Verb → List ℕ
 operands_form (verbs.Lone _) = []
 operands_form (verbs.Address command) = codes " ttss"
 operands_form (verbs.Number command) = codes " NUMBER"
+operands_form verbs.NumberAddress = codes " NUMBER or optimum NUMBER ttss"
 operands_form verbs.Range = codes " ttss NUMBER, at most 64"
 operands_form verbs.ScaledRange = codes " ttss NUMBER, at most 64, or numbers ttss NUMBER POINT"
 operands_form verbs.Word =
@@ -75,6 +80,7 @@ unfoldable pub operands_kind : Verb → List ℕ
 operands_kind (verbs.Lone _) = codes " nothing\n"
 operands_kind (verbs.Address command) = codes " address\n"
 operands_kind (verbs.Number command) = codes " number\n"
+operands_kind verbs.NumberAddress = codes " number\n"
 operands_kind verbs.Range = codes " range\n"
 operands_kind verbs.ScaledRange = codes " range\n"
 operands_kind verbs.Word = codes " address word\n"
@@ -92,6 +98,7 @@ only_asks (verbs.Lone lone_commands.Rules) = true
 only_asks (verbs.Lone lone_commands.Labels) = true
 only_asks (verbs.Lone lone_commands.Live) = true
 only_asks (verbs.Lone lone_commands.Commands) = true
+only_asks (verbs.Lone lone_commands.PanelData) = true
 only_asks (verbs.Lone lone_commands.Transcript) = true
 only_asks (verbs.Address address_commands.Why) = true
 only_asks verbs.Range = true
@@ -99,7 +106,7 @@ only_asks verbs.ScaledRange = true
 only_asks verbs.Command = true
 only_asks _ = false
 
--- whether an address stands first behind a command's name
+-- whether an address comes first after a command's name
 abbrev pub takes_address : Verb → Bool
 takes_address (verbs.Address command) = true
 takes_address verbs.Range = true

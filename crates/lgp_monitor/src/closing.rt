@@ -30,7 +30,7 @@ fn push_marked_at<A: Allocator>(
     }
 }
 
-/// Passes over so many lines, or all.
+/// Passes over a given number of lines, or all.
 fn pass_lines(lines: &mut Lines, count: u64)
     ensures { lines.new ≡ drop count lines.old }
 {
@@ -51,7 +51,7 @@ fn next_text<'s>(lines: &mut Lines<'s>) -> Option<&'s [u8]>
 }
 
 /// The lines of a source, some of them passed. Faults come in the order of lines, so that their lines
-/// are found in one pass; where one lies behind, the pass begins anew.
+/// are found in one pass; where one lies earlier, the pass begins anew.
 #[derive(Drop)]
 struct Passed<'s> {
     source: &'s [u8],

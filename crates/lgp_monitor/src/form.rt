@@ -3,16 +3,17 @@
 ghost use Rattle.std.specs.Prelude.{◌≡◌, ◌++◌, ◌||◌, ◌&&◌, ◌==◌, Bool, OnOk, flat_map, if◌then◌else◌, length, slice_index};
 ghost use Rattle.std.specs.List.{list_any};
 ghost use Rattle.std.specs.Option.{option_map_or};
-ghost use Rattle.lgp_stream.specs.LineWords.{behind_word, first_word, has_no_word};
+ghost use Rattle.lgp_stream.specs.LineWords.{after_word, first_word, has_no_word};
 ghost use Rattle.lgp_assembler.specs.AddressOperands.{address_operand};
 ghost use Rattle.lgp_text.specs.NamedValues.{named, pairs_of};
-ghost use Rattle.lgp_monitor.specs.Forms.{address_mistake, are_digits, by_address, command_line, commands_text, form_line, has_capital, has_l_or_o, help_text, is_beyond_63, is_l_or_o, is_order_with_digits, misformed_address, misformed_text, mistake_text, no_command_reason, operand_reason, takes_numbers, takes_place, value_mistake, value_reason, verb_reason};
+ghost use Rattle.lgp_monitor.specs.Forms.{address_mistake, are_digits, by_address, command_line, commands_text, form_line, has_capital, has_l_or_o, help_text, is_beyond_63, is_l_or_o, is_order_with_digits, misformed_address, misformed_text, mistake_text, no_command_reason, operand_reason, second_reason, takes_numbers, takes_place, value_mistake, value_reason, verb_reason};
 ghost use Rattle.lgp_monitor.specs.Verbs.{operands_form, operands_kind, verb_names};
 
 use crate::verb::{
     VERBS, Verb, only_asks, operands_form, operands_kind, takes_address, verb_named,
 };
 use lgp_assembler::{Name, OperandFault, Symbols, address_operand};
+use lgp_lab::lone_number;
 use lgp_stream::{has_no_word, split_word};
 use lgp_text::{Named, Piece, push_pieces};
 use lgp_word::{Address, Op, read_decimal};
@@ -35,7 +36,7 @@ pub enum Mistake {
     Label,
     /// The address lies beyond the drum.
     Drum,
-    /// No blank stands between an order and its address.
+    /// No blank is between an order and its address.
     Blank,
     /// It has `l` or `o`, which are 1 and 0 on a tape alone.
     LetterDigit,
@@ -315,7 +316,7 @@ fn push_value_reason<A: Allocator>(
     }
     let split = split_word(value);
     if takes_place(split.word) {
-        return push_operand_reason(text, said, place, split.behind);
+        return push_operand_reason(text, said, place, split.rest);
     }
     if takes_numbers(split.word) {
         return push_form(text, said.name, said.verb);
@@ -334,7 +335,7 @@ fn push_put_reason<A: Allocator>(
         ++ operand_reason said.now.names.now (said.now.name.now ++ operands_form said.now.verb)
         counter operands.now
         (value_reason said.now.names.now (said.now.name.now ++ operands_form said.now.verb)
-        (behind_word operands.now))) }
+        (after_word operands.now))) }
 {
     if has_no_word(operands) {
         return push_form(text, said.name, said.verb);
@@ -342,8 +343,26 @@ fn push_put_reason<A: Allocator>(
     let split = split_word(operands);
     let names = Symbols { names: said.names };
     match address_operand(&names, u64::from(counter.number()), split.word) {
-        Ok(place) => push_value_reason(text, said, place, split.behind),
+        Ok(place) => push_value_reason(text, said, place, split.rest),
         Err(fault) => push_mistake(text, split.word, address_mistake(fault, split.word)),
+    }
+}
+
+/// Appends what is wrong with an address after a number, or the command's form.
+fn push_second_reason<A: Allocator>(
+    text: &mut Vec<u8, A>,
+    said: &Said<'_>,
+    counter: Address,
+    operands: &[u8],
+) -> Result<(), AllocError>
+    ensures { OnOk result (text.new.items ≡ text.old.items
+        ++ second_reason said.now.names.now
+        (said.now.name.now ++ operands_form said.now.verb) counter operands.now) }
+{
+    let number = split_word(operands);
+    match lone_number(number.word) {
+        Some(_) => push_operand_reason(text, said, counter, number.rest),
+        None => push_form(text, said.name, said.verb),
     }
 }
 
@@ -365,8 +384,9 @@ fn push_verb_reason<A: Allocator>(
         verb,
     };
     match verb {
-        Verb::Word => push_put_reason(text, &said, counter, split.behind),
-        _ if takes_address(verb) => push_operand_reason(text, &said, counter, split.behind),
+        Verb::Word => push_put_reason(text, &said, counter, split.rest),
+        Verb::NumberAddress => push_second_reason(text, &said, counter, split.rest),
+        _ if takes_address(verb) => push_operand_reason(text, &said, counter, split.rest),
         _ => push_form(text, split.word, verb),
     }
 }

@@ -1,37 +1,37 @@
 //! The monitor: typed lines, each answered by the script lines that it stands for.
 
 ghost use Rattle.std.specs.Prelude.{◌≡◌, ◌++◌, ◌∷◌, [], List, ℕ, IfOk, OnOk, codes, is_some, unwrap_or};
-ghost use Rattle.lgp_stream.specs.LineWords.{behind_word, first_word};
+ghost use Rattle.lgp_stream.specs.LineWords.{after_word, first_word};
 ghost use Rattle.lgp_stream.specs.KeptLine.{kept_of};
 ghost use Rattle.lgp_stream.specs.Transcript.{after_lines, after_meaning, replies_text, stand_in, untouched};
 ghost use Rattle.lgp_lab.specs.Script.{script_language};
-ghost use Rattle.lgp_lab.specs.Standing.{labels_of, opening_standing};
-ghost use Rattle.lgp_monitor.specs.Blocks.{behind_block, block_reply};
+ghost use Rattle.lgp_lab.specs.LabState.{labels_of, opening_state};
+ghost use Rattle.lgp_monitor.specs.FileTexts.{after_tape, restore_lines, restore_reply, tape_reply};
 ghost use Rattle.lgp_monitor.specs.Closing.{closing_reply};
-ghost use Rattle.lgp_monitor.specs.Typed.{typed_of};
+ghost use Rattle.lgp_monitor.specs.Entry.{entry_of};
 ghost use Rattle.lgp_monitor.specs.Forms.{form_line, help_text, misformed_text};
-ghost use Rattle.lgp_monitor.specs.Monitor.{counter_at, explained_reply, explained_run, go_lines, jump_line, meaning_of, monitor_language, names_at, panel_at, placed_line, put_line, reply_of, run_line, told_reply, typed_at};
+ghost use Rattle.lgp_monitor.specs.Monitor.{counter_at, explained_reply, explained_run, go_lines, jump_line, meaning_of, monitor_language, names_at, panel_at, placed_line, put_line, reply_of, run_line, run_operands, reported_reply, entry_at};
 ghost use Rattle.lgp_monitor.specs.Reasons.{explained};
 
-use crate::blocks::answer_block;
 use crate::closing::closing_reply;
+use crate::entry::{Entry, entry_of};
+use crate::file_texts::{mount_tape, restore};
 use crate::form::{push_form_line, push_help, push_misformed};
 use crate::progress::{Progress, Silence};
 use crate::question::push_answer;
 use crate::reason::{push_explained, push_reasoned};
 use crate::script_line::answer_kept;
-use crate::telling::{Telling, run_told};
-use crate::typed::{Typed, typed_of};
+use crate::telling::{Telling, run_reported};
 use crate::verb::Verb;
 use lgp_lab::Laboratory;
-use lgp_stream::{Answers, LineBytes, Recorder, split_word};
+use lgp_stream::{Answers, LineBytes, Recorder, has_no_word, split_word};
 use lgp_text::{Piece, push_pieces};
 use lgp_word::{Address, Op, Word, plain_order};
 use std::alloc::{AllocError, Allocator};
 use std::marker::Model;
 
-/// What answers typed lines: a laboratory that keeps the script lines which they stood for, and is told how far long runs are. Clauses
-/// see where it stands, and that script.
+/// What answers typed lines: a laboratory that keeps the script lines which they stood for, and reports how far long runs are. Clauses
+/// see its state, and that script.
 #[derive(Drop)]
 pub struct Monitor<L, A: Allocator, P: Progress = Silence> {
     alloc: A,
@@ -47,7 +47,7 @@ impl<L, A: Allocator, P: Progress> Model for Monitor<L, A, P> {
     ghost view = { λ monitor. monitor.recorder };
 }
 
-/// The script lines behind the jump.
+/// The script lines after the jump.
 const BEHIND_JUMP: [&[u8]; 6] = [
     b"press fill",
     b"press oneop",
@@ -93,17 +93,17 @@ fn jump_line<A: Allocator>(alloc: A, address: Address) -> Result<Vec<u8, A>, All
     Ok(line)
 }
 
-/// Appends what is told of a run, with what is said behind it where the laboratory then stands.
-fn push_told<A: Allocator + Copy>(
+/// Appends what is reported of a run, with what is said after it in the state that the laboratory then has.
+fn push_reported<A: Allocator + Copy>(
     text: &mut Vec<u8, A>,
-    told: &[u8],
+    reported: &[u8],
     laboratory: &Laboratory<A>,
 ) -> Result<(), AllocError>
     ensures { OnOk result (text.new.items ≡ text.old.items
-        ++ explained (panel_at laboratory.now).status (panel_at laboratory.now).mode told.now) }
+        ++ explained (panel_at laboratory.now).status (panel_at laboratory.now).mode reported.now) }
 {
     let look = laboratory.debugger().look();
-    push_explained(text, told, look.status, look.mode)
+    push_explained(text, reported, look.status, look.mode)
 }
 
 /// Answers a script's line, a refusal with its reason.
@@ -171,7 +171,7 @@ fn answer_itself<A: Allocator + Copy, P: Progress>(
 ) -> Result<(), AllocError>
     ensures reply { (text : List ℕ) → line.now ≡ kept_of text
         → OnOk result (reply.new.items
-        ≡ reply.old.items ++ unwrap_or (closing_reply recorder.old.standing.opened line.now)
+        ≡ reply.old.items ++ unwrap_or (closing_reply recorder.old.state.opened line.now)
         (explained_reply recorder.old (stand_in line.now))) }
     ensures after { (text : List ℕ) → line.now ≡ kept_of text
         → OnOk result (recorder.new
@@ -219,18 +219,30 @@ fn go<A: Allocator + Copy>(
     recorder.answer_lines(&BEHIND_JUMP, reply)
 }
 
-/// The script line of a run that is told.
+/// Appends the number of orders, the first of some operands.
+fn push_run_operands<A: Allocator>(text: &mut Vec<u8, A>, operands: &[u8]) -> Result<(), AllocError>
+    ensures { OnOk result (text.new.items ≡ text.old.items ++ run_operands operands.now) }
+{
+    let number = split_word(operands);
+    if has_no_word(number.rest) {
+        return text.extend_from_slice(operands);
+    }
+    text.extend_from_slice(b" ")?;
+    text.extend_from_slice(number.word)
+}
+
+/// The script line of a run that is reported.
 #[tactic(auto, unfolding(crate::specs::Monitor::run_line))]
 fn run_line<A: Allocator>(alloc: A, line: &[u8]) -> Result<Vec<u8, A>, AllocError>
     ensures { IfOk result (λ text. text.items ≡ run_line line.now) }
 {
     let mut text = Vec::new(alloc);
     text.extend_from_slice(b"run")?;
-    text.extend_from_slice(split_word(line).behind)?;
+    push_run_operands(&mut text, split_word(line).rest)?;
     Ok(text)
 }
 
-/// Performs a run that is told, and keeps the script line of the run.
+/// Performs a run that is reported, and keeps the script line of the run.
 fn tell<A: Allocator + Copy>(
     alloc: A,
     recorder: &mut Recorder<Laboratory<A>, A>,
@@ -240,21 +252,21 @@ fn tell<A: Allocator + Copy>(
     reply: &mut Vec<u8, A>,
 ) -> Result<(), AllocError>
     ensures reply { (text : List ℕ) → line.now ≡ kept_of text
-        → Typed.Told telling limit ≡ typed_at recorder.old text
+        → Entry.Reported telling limit ≡ entry_at recorder.old text
         → OnOk result (reply.new.items ≡ reply.old.items
-        ++ told_reply recorder.old telling limit line.now.front) }
+        ++ reported_reply recorder.old telling limit line.now.front) }
     ensures after { (text : List ℕ) → line.now ≡ kept_of text
-        → Typed.Told telling limit ≡ typed_at recorder.old text
+        → Entry.Reported telling limit ≡ entry_at recorder.old text
         → OnOk result (recorder.new
         ≡ after_lines script_language recorder.old (run_line line.now.front ∷ [])) }
 {
     let run = run_line(alloc, line.front())?;
     recorder.keep_line(&run)?;
-    run_told(recorder.answers_mut(), telling, limit, reply)
+    run_reported(recorder.answers_mut(), telling, limit, reply)
 }
 
-/// Performs a run that is told, with what is said behind its reply.
-fn explain_told<A: Allocator + Copy>(
+/// Performs a run that is reported, with what is said after its reply.
+fn explain_reported<A: Allocator + Copy>(
     alloc: A,
     recorder: &mut Recorder<Laboratory<A>, A>,
     telling: Telling,
@@ -263,30 +275,30 @@ fn explain_told<A: Allocator + Copy>(
     reply: &mut Vec<u8, A>,
 ) -> Result<(), AllocError>
     ensures reply { (text : List ℕ) → line.now ≡ kept_of text
-        → Typed.Told telling limit ≡ typed_at recorder.old text
+        → Entry.Reported telling limit ≡ entry_at recorder.old text
         → OnOk result (reply.new.items ≡ reply.old.items
         ++ explained_run recorder.old telling limit line.now.front) }
     ensures after { (text : List ℕ) → line.now ≡ kept_of text
-        → Typed.Told telling limit ≡ typed_at recorder.old text
+        → Entry.Reported telling limit ≡ entry_at recorder.old text
         → OnOk result (recorder.new
         ≡ after_lines script_language recorder.old (run_line line.now.front ∷ [])) }
 {
     let mut said = Vec::new(alloc);
     tell(alloc, recorder, telling, limit, line, &mut said)?;
-    push_told(reply, &said, recorder.answers())
+    push_reported(reply, &said, recorder.answers())
 }
 
-/// Appends the form of the command that stands behind another.
-fn push_form_behind<A: Allocator>(
+/// Appends the form of the command that comes after another.
+fn push_form_after<A: Allocator>(
     text: &mut Vec<u8, A>,
     line: &[u8],
     verb: Verb,
 ) -> Result<(), AllocError>
     ensures { OnOk result (text.new.items
-        ≡ text.old.items ++ form_line (first_word (behind_word line.now)) verb) }
+        ≡ text.old.items ++ form_line (first_word (after_word line.now)) verb) }
 {
     let command = split_word(line);
-    push_form_line(text, split_word(command.behind).word, verb)
+    push_form_line(text, split_word(command.rest).word, verb)
 }
 
 /// The script line that names an address in the place of a line's first operand.
@@ -306,7 +318,7 @@ fn placed_line<A: Allocator>(
             Piece::Text(command.word),
             Piece::Text(b" "),
             Piece::Place(address),
-            Piece::Text(split_word(command.behind).behind),
+            Piece::Text(split_word(command.rest).rest),
         ],
     )?;
     Ok(text)
@@ -360,19 +372,19 @@ fn begin_anew<A: Allocator + Copy>(
     reply: &mut Vec<u8, A>,
 ) -> Result<(), AllocError>
     ensures reply { OnOk result (reply.new.items ≡ reply.old.items ++ codes "new\n") }
-    ensures after { OnOk result (recorder.new ≡ untouched opening_standing) }
+    ensures after { OnOk result (recorder.new ≡ untouched opening_state) }
 {
     let laboratory = Laboratory::new(alloc)?;
     recorder.begin_anew(laboratory);
     reply.extend_from_slice(b"new\n")
 }
 
-/// What a line asks for where a laboratory stands.
-fn typed_at<A: Allocator + Copy>(laboratory: &Laboratory<A>, line: &LineBytes) -> Typed
-    ensures { result ≡ typed_of (labels_of laboratory.now.source)
+/// What a line asks for in the state of a laboratory.
+fn entry_at<A: Allocator + Copy>(laboratory: &Laboratory<A>, line: &LineBytes) -> Entry
+    ensures { result ≡ entry_of (labels_of laboratory.now.source)
         laboratory.now.debugger.state.core.panel.counter (is_some laboratory.now.opened) line.now }
 {
-    typed_of(
+    entry_of(
         laboratory.has_open_source(),
         laboratory.labels(),
         laboratory.debugger().look().counter,
@@ -384,39 +396,41 @@ fn typed_at<A: Allocator + Copy>(laboratory: &Laboratory<A>, line: &LineBytes) -
 fn perform<A: Allocator + Copy, P: Progress>(
     alloc: A,
     recorder: &mut Recorder<Laboratory<A>, A>,
-    typed: Typed,
+    entry: Entry,
     line: &LineBytes,
     progress: &P,
     reply: &mut Vec<u8, A>,
 ) -> Result<(), AllocError>
     ensures reply { (text : List ℕ) → line.now ≡ kept_of text
-        → typed ≡ typed_at recorder.old text
+        → entry ≡ entry_at recorder.old text
         → OnOk result (reply.new.items
-        ≡ reply.old.items ++ reply_of recorder.old typed line.now) }
+        ≡ reply.old.items ++ reply_of recorder.old entry line.now) }
     ensures after { (text : List ℕ) → line.now ≡ kept_of text
-        → typed ≡ typed_at recorder.old text
-        → OnOk result (recorder.new ≡ after_meaning script_language opening_standing
-        recorder.old (meaning_of typed line.now)) }
+        → entry ≡ entry_at recorder.old text
+        → OnOk result (recorder.new ≡ after_meaning script_language opening_state
+        recorder.old (meaning_of entry line.now)) }
 {
-    match typed {
-        Typed::Itself => answer_itself(alloc, recorder, line, progress, reply),
-        Typed::Misformed => misform(alloc, recorder, line, reply),
-        Typed::Placed(address) => place(alloc, recorder, address, line.front(), reply),
-        Typed::Go(address) => go(alloc, recorder, address, reply),
-        Typed::Put(address, word) => put(alloc, recorder, address, word, reply),
-        Typed::Told(telling, limit) => explain_told(alloc, recorder, telling, limit, line, reply),
-        Typed::Asked(question) => push_answer(reply, &question, recorder.answers()),
-        Typed::Transcript => reply.extend_from_slice(recorder.transcript()),
-        Typed::New => begin_anew(alloc, recorder, reply),
-        Typed::Help => push_help(reply),
-        Typed::HelpOf(verb) => push_form_behind(reply, line.front(), verb),
+    match entry {
+        Entry::Itself => answer_itself(alloc, recorder, line, progress, reply),
+        Entry::Misformed => misform(alloc, recorder, line, reply),
+        Entry::Placed(address) => place(alloc, recorder, address, line.front(), reply),
+        Entry::Go(address) => go(alloc, recorder, address, reply),
+        Entry::Put(address, word) => put(alloc, recorder, address, word, reply),
+        Entry::Reported(telling, limit) => explain_reported(
+            alloc, recorder, telling, limit, line, reply,
+        ),
+        Entry::Asked(question) => push_answer(reply, &question, recorder.answers()),
+        Entry::Transcript => reply.extend_from_slice(recorder.transcript()),
+        Entry::New => begin_anew(alloc, recorder, reply),
+        Entry::Help => push_help(reply),
+        Entry::HelpOf(verb) => push_form_after(reply, line.front(), verb),
     }
 }
 
 impl<A: Allocator + Copy> Monitor<Laboratory<A>, A> {
     /// A monitor with a new laboratory.
     pub fn new(alloc: A) -> Result<Monitor<Laboratory<A>, A>, AllocError>
-        ensures { IfOk result (λ monitor. monitor ≡ untouched opening_standing) }
+        ensures { IfOk result (λ monitor. monitor ≡ untouched opening_state) }
     {
         Monitor::telling(alloc, Silence)
     }
@@ -425,7 +439,7 @@ impl<A: Allocator + Copy> Monitor<Laboratory<A>, A> {
 impl<A: Allocator + Copy, P: Progress> Monitor<Laboratory<A>, A, P> {
     /// A monitor with a new laboratory, which tells how far long runs are.
     pub fn telling(alloc: A, progress: P) -> Result<Monitor<Laboratory<A>, A, P>, AllocError>
-        ensures { IfOk result (λ monitor. monitor ≡ untouched opening_standing) }
+        ensures { IfOk result (λ monitor. monitor ≡ untouched opening_state) }
     {
         let laboratory = Laboratory::new(alloc)?;
         Ok(Monitor {
@@ -435,25 +449,38 @@ impl<A: Allocator + Copy, P: Progress> Monitor<Laboratory<A>, A, P> {
         })
     }
 
-    /// Answers a block of lines: the reply's bytes are put behind `reply`. A refused growth leaves open what was done.
-    pub(crate) fn take_block<B: Allocator>(
+    /// Puts the words of a dump on the drum, by lines of a script where the words differ. The machine has to be at rest. A refused
+    /// growth leaves open what was done.
+    pub fn restore<B: Allocator>(
         &mut self,
-        kind: &[u8],
+        dump: &[u8],
+        reply: &mut Vec<u8, B>,
+    ) -> Result<(), AllocError>
+        ensures reply { OnOk result (reply.new.items
+            ≡ reply.old.items ++ restore_reply self.old dump.now) }
+        ensures after { OnOk result (self.new
+            ≡ after_lines script_language self.old (restore_lines self.old dump.now)) }
+    {
+        restore(self.alloc, &mut self.recorder, dump, reply)
+    }
+
+    /// Mounts a tape by its text, of any length; its name is in the transcript. A refused growth leaves open what was done.
+    pub fn mount_tape<B: Allocator>(
+        &mut self,
+        name: &[u8],
         text: &[u8],
         reply: &mut Vec<u8, B>,
     ) -> Result<(), AllocError>
         ensures reply { OnOk result (reply.new.items
-            ≡ reply.old.items ++ block_reply self.old
-            (record { kind = kind.now; text = text.now })) }
-        ensures after { OnOk result (self.new
-            ≡ behind_block self.old (record { kind = kind.now; text = text.now })) }
+            ≡ reply.old.items ++ tape_reply self.old text.now) }
+        ensures after { OnOk result (self.new ≡ after_tape self.old name.now text.now) }
     {
-        answer_block(self.alloc, &mut self.recorder, kind, text, reply)
+        mount_tape(self.alloc, &mut self.recorder, name, text, reply)
     }
 
     /// The laboratory in which its lines are answered.
     pub fn laboratory(&self) -> &Laboratory<A>
-        ensures { result.now ≡ self.now.standing }
+        ensures { result.now ≡ self.now.state }
     {
         self.recorder.answers()
     }
@@ -463,11 +490,11 @@ impl<A: Allocator + Copy, P: Progress> Answers<A> for Monitor<Laboratory<A>, A, 
     ghost language = { monitor_language };
 
     fn answer(&mut self, line: &LineBytes, reply: &mut Vec<u8, A>) -> Result<(), AllocError> {
-        let typed = typed_at(self.recorder.answers(), line);
+        let entry = entry_at(self.recorder.answers(), line);
         perform(
             self.alloc,
             &mut self.recorder,
-            typed,
+            entry,
             line,
             &self.progress,
             reply,

@@ -2,11 +2,12 @@
 
 ghost use Rattle.std.specs.Prelude.{◌≡◌, ◌++◌, [], OnOk, true};
 ghost use Rattle.lgp_debugger.specs.Run.{IsRun};
+ghost use Rattle.lgp_debugger.specs.Watching.{rules_in_force};
 ghost use Rattle.lgp_lab.specs.HistoryCommands.{answer_to_run};
 
 use crate::progress::Progress;
 use lgp_assembler::Name;
-use lgp_debugger::{Debugger, Ran, RunFault, WatchFault, Watcher};
+use lgp_debugger::{Debugger, Quiet, Ran, RunFault, WatchFault, Watcher};
 use lgp_history::{History, Records};
 use lgp_lab::{Laboratory, Teller};
 use std::alloc::{AllocError, Allocator};
@@ -14,29 +15,35 @@ use std::alloc::{AllocError, Allocator};
 /// Counts the orders of a run in portions.
 #[derive(Drop)]
 struct Portions<'a, P: Progress> {
+    /// What has each order performed.
+    quiet: Quiet,
     progress: &'a P,
     portion: u64,
     /// How many orders of this portion are to come.
     left: u64,
-    /// How many orders are done of which it was told.
-    told: u64,
+    /// How many of the orders done were reported.
+    reported: u64,
 }
 
 impl<P: Progress> Portions<'_, P> {
-    /// One order more: where it is the first of a new portion, it is told how many are done.
+    /// One order more: where it is the first of a new portion, the number of those done is reported.
     #[inline(always)]
-    fn count(&mut self) {
-        if self.left == 0 {
-            self.told = self.told.saturating_add(self.portion);
-            self.left = self.portion;
-            self.progress.performed(self.told);
+    fn count(&mut self)
+        ensures { self.new.quiet ≡ self.old.quiet }
+    {
+        match self.left.checked_sub(1) {
+            Some(left) => self.left = left,
+            None => {
+                self.reported = self.reported.saturating_add(self.portion);
+                self.left = self.portion.saturating_sub(1);
+                self.progress.performed(self.reported);
+            }
         }
-        self.left = self.left.saturating_sub(1);
     }
 }
 
 impl<H: History<A>, A: Allocator, P: Progress> Watcher<H, A, ()> for Portions<'_, P> {
-    ghost in_force = { λ _ rules. rules };
+    ghost in_force = { λ portions rules. rules_in_force portions.quiet.by_rules rules };
 
     ghost ready = { λ _ _ _. Unit {0} };
 
@@ -48,19 +55,47 @@ impl<H: History<A>, A: Allocator, P: Progress> Watcher<H, A, ()> for Portions<'_
     fn order(
         &mut self,
         debugger: &mut Debugger<H, A>,
-        _kept: &mut (),
+        kept: &mut (),
     ) -> Result<Option<u8>, WatchFault> {
-        match debugger.go_on() {
+        let mut quiet = self.quiet;
+        match quiet.order(debugger, kept) {
             Ok(stop) => {
                 self.count();
                 Ok(stop)
             }
-            Err(fault) => Err(WatchFault::Refused(fault)),
+            Err(fault) => Err(fault),
         }
     }
 }
 
-/// Runs a debugger as `Debugger::run` does, and tells after each portion of the orders how many are done.
+/// Runs a debugger by its rules or without any, and tells after each portion of the orders how many are done.
+#[inline(always)]
+fn run_counted<A: Allocator + Copy, P: Progress>(
+    debugger: &mut Debugger<Records<A>, A>,
+    limit: u64,
+    progress: &P,
+    quiet: Quiet,
+) -> Result<Ran, RunFault>
+    ensures { IsRun (rules_in_force quiet.by_rules debugger.old.rules) limit debugger.old
+        debugger.new result }
+{
+    let portion = progress.portion().max(1);
+    let mut portions = Portions {
+        quiet,
+        progress,
+        portion,
+        left: portion,
+        reported: 0,
+    };
+    let outcome = debugger.run_watched(limit, &mut portions, &mut ());
+    if portions.reported > 0 {
+        progress.ended();
+    }
+    outcome
+}
+
+/// Runs a debugger as `Debugger::run` does, and tells after each portion of the orders how many are done. A run without rules has
+/// a loop of its own.
 #[inline(never)]
 fn run_in_portions<A: Allocator + Copy, P: Progress>(
     debugger: &mut Debugger<Records<A>, A>,
@@ -69,18 +104,11 @@ fn run_in_portions<A: Allocator + Copy, P: Progress>(
 ) -> Result<Ran, RunFault>
     ensures { IsRun debugger.old.rules limit debugger.old debugger.new result }
 {
-    let portion = progress.portion().max(1);
-    let mut portions = Portions {
-        progress,
-        portion,
-        left: portion,
-        told: 0,
-    };
-    let outcome = debugger.run_watched(limit, &mut portions, &mut ());
-    if portions.told > 0 {
-        progress.ended();
+    if debugger.rules().is_empty() {
+        run_counted(debugger, limit, progress, Quiet { by_rules: false })
+    } else {
+        run_counted(debugger, limit, progress, Quiet { by_rules: true })
     }
-    outcome
 }
 
 /// Writes nothing about a run, and tells how far it is.
@@ -90,7 +118,7 @@ struct InPortions<'a, P: Progress> {
 }
 
 impl<P: Progress> Teller for InPortions<'_, P> {
-    ghost told = { λ _ names s origins orders. [] };
+    ghost reported = { λ _ names s origins orders. [] };
 
     fn run<A: Allocator + Copy>(
         &self,
@@ -115,5 +143,5 @@ pub fn run_shown<A: Allocator + Copy, P: Progress>(
         ≡ reply.old.items ++ (answer_to_run laboratory.old limit).reply) }
     ensures after { OnOk result (laboratory.new ≡ (answer_to_run laboratory.old limit).after) }
 {
-    laboratory.run_told(&InPortions { progress }, limit, reply)
+    laboratory.run_reported(&InPortions { progress }, limit, reply)
 }

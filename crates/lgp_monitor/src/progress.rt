@@ -1,18 +1,18 @@
 //! How far long runs are.
 
-/// What is told how far a long run is while it goes on.
+/// What learns how far a long run is while it goes on.
 pub trait Progress: Drop {
-    /// After how many orders it is told each time; 0 is taken as 1.
+    /// After how many orders the next report comes; 0 is taken as 1.
     fn portion(&self) -> u64;
 
-    /// So many orders of a run are done, and it goes on.
+    /// A given number of orders of a run are done, and it goes on.
     fn performed(&self, orders: u64);
 
-    /// A run has ended of which `performed` told.
+    /// A run has ended of which `performed` has reported.
     fn ended(&self);
 }
 
-/// Is told nothing.
+/// Learns nothing.
 #[derive(Clone, Copy, Debug, Drop)]
 pub struct Silence;
 

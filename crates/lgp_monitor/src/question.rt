@@ -4,14 +4,15 @@ ghost use Rattle.std.specs.Prelude.{◌≡◌, ◌++◌, ◌+◌, ◌<◌, OnOk,
 ghost use Rattle.lgp_word.specs.Digits.{address_digits};
 ghost use Rattle.lgp_lab.specs.DrumCommands.{lines_text};
 ghost use Rattle.lgp_lab.specs.Names.{button_names};
-ghost use Rattle.lgp_lab.specs.Standing.{labels_of};
+ghost use Rattle.lgp_lab.specs.LabState.{labels_of};
 ghost use Rattle.lgp_trace.specs.OriginLines.{why_text};
 ghost use Rattle.lgp_monitor.specs.Telling.{label_of};
 ghost use Rattle.lgp_text.specs.NamedValues.{pairs_of};
-ghost use Rattle.lgp_monitor.specs.Questions.{answer_to, label_line, live_keys, live_line, live_name, number_line, rule_address, rule_command, rule_line, rule_lines};
+ghost use Rattle.lgp_monitor.specs.Questions.{answer_to, label_line, live_keys, live_name, live_text, number_line, rule_address, rule_command, rule_line, rule_lines, way_text};
 
 use crate::form::push_commands;
 use crate::labels::{NamedAddresses, push_name};
+use crate::panel_data::push_panel_data;
 use crate::scaled::{Point, push_scaled};
 use lgp_assembler::Name;
 use lgp_debugger::Debugger;
@@ -28,7 +29,7 @@ use std::alloc::{AllocError, Allocator};
 /// What is shown and changes nothing.
 #[derive(Clone, Copy)]
 pub enum Question {
-    /// Words by their digits, as fractions and as numbers whose point is behind a place.
+    /// Words by their digits, as fractions and as numbers whose point is after a place.
     Numbers(Span, Point),
     /// Where the word at an address came from.
     Why(Address),
@@ -36,13 +37,15 @@ pub enum Question {
     Labels,
     /// The rules with their numbers.
     Rules,
-    /// Which buttons and keys would do something now.
+    /// Which buttons and keys would do something now, and what lets the machine go on.
     Live,
     /// Each command, whether it only asks, and what its operands are.
     Commands,
+    /// What the panel shows, as lines of a key and a value.
+    PanelData,
 }
 
-/// Appends a word by its digits, as a fraction and as a number whose point is behind a place.
+/// Appends a word by its digits, as a fraction and as a number whose point is after a place.
 #[tactic(auto, unfolding(crate::specs::Questions::number_line))]
 fn push_number_line<A: Allocator>(
     text: &mut Vec<u8, A>,
@@ -229,7 +232,7 @@ fn push_live_names<A: Allocator, B: Allocator + Clone>(
     Ok(())
 }
 
-/// The keys that are live of a machine that stands so.
+/// The keys that are live of a machine in this state.
 fn live_keys(status: Status, mode: Mode) -> &'static [u8]
     ensures { result.now ≡ live_keys status mode }
 {
@@ -237,6 +240,18 @@ fn live_keys(status: Status, mode: Mode) -> &'static [u8]
         (Status::Waiting, _) => b" keys stop",
         (Status::Halted(_), Mode::Manual) => b" keys",
         _ => b"",
+    }
+}
+
+/// What lets a machine go on in this state.
+fn way_text(status: Status, mode: Mode) -> &'static [u8]
+    ensures { result.now ≡ way_text status mode }
+{
+    match (status, mode) {
+        (Status::Waiting, _) => b"\nway keys\n",
+        (Status::Halted(_), Mode::Manual) => b"\nway normal start\n",
+        (Status::Halted(_), _) => b"\nway start\n",
+        _ => b"\nway orders\n",
     }
 }
 
@@ -251,28 +266,29 @@ fn push_live_buttons<A: Allocator, B: Allocator + Clone>(
     push_live_names(text, debugger, &BUTTONS)
 }
 
-/// Appends the keys that are live of a machine that shows this.
+/// Appends the keys that are live of a machine that shows this, and what lets it go on.
 fn push_live_keys<A: Allocator>(text: &mut Vec<u8, A>, look: &Look) -> Result<(), AllocError>
-    ensures { OnOk result (text.new.items
-        ≡ text.old.items ++ (live_keys look.now.status look.now.mode ++ codes "\n")) }
+    ensures { OnOk result (text.new.items ≡ text.old.items
+        ++ (live_keys look.now.status look.now.mode
+        ++ way_text look.now.status look.now.mode)) }
 {
     push_pieces(
         text,
         &[
             Piece::Text(live_keys(look.status, look.mode)),
-            Piece::Text(b"\n"),
+            Piece::Text(way_text(look.status, look.mode)),
         ],
     )
 }
 
-/// Appends which buttons and keys would do something now.
-#[tactic(auto, unfolding(crate::specs::Questions::live_line))]
+/// Appends which buttons and keys would do something now, and what lets the machine go on.
+#[tactic(auto, unfolding(crate::specs::Questions::live_text))]
 fn push_live<A: Allocator, B: Allocator + Clone>(
     text: &mut Vec<u8, A>,
     debugger: &Debugger<Records<B>, B>,
 ) -> Result<(), AllocError>
     ensures { OnOk result (text.new.items
-        ≡ text.old.items ++ live_line debugger.now.state.core.panel) }
+        ≡ text.old.items ++ live_text debugger.now.state.core.panel) }
 {
     text.extend_from_slice(b"live")?;
     push_live_buttons(text, debugger)?;
@@ -300,5 +316,6 @@ pub fn push_answer<A: Allocator + Copy>(
         }
         Question::Live => push_live(text, laboratory.debugger()),
         Question::Commands => push_commands(text),
+        Question::PanelData => push_panel_data(text, laboratory.debugger().machine()),
     }
 }

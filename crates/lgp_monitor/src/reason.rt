@@ -1,4 +1,4 @@
-//! What is said behind replies: the reasons of refusals, and how the machine stands behind a run that is told.
+//! What is said after replies: the reasons of refusals, and the machine's state after a run that is reported.
 
 ghost use Rattle.std.specs.Prelude.{◌≡◌, ◌++◌, ◌-◌, ◌≤◌, length, OnOk};
 ghost use Rattle.lgp_text.specs.NamedValues.{named};
@@ -58,7 +58,7 @@ fn reason_of(kind: RefusalKind) -> &'static [u8]
         RefusalKind::Full => b"there are 64 rules, drop takes one away",
         RefusalKind::NoRule => b"no rule has this number, rules lists them",
         RefusalKind::TooFar => b"no more orders than this are kept",
-        RefusalKind::NoHit => b"no rule hits one of the kept orders, which are so many",
+        RefusalKind::NoHit => b"no rule hits one of the kept orders, and this is their number",
         RefusalKind::NoImage => b"no source has assembled yet",
         RefusalKind::TooLong => b"a line has at most 4096 bytes, a source 1048576",
         RefusalKind::BadSign => {
@@ -95,13 +95,13 @@ fn refusal_in(line: &[u8]) -> Option<RefusalKind>
 {
     let mark = split_word(line);
     if mark.word == b"?".as_slice() {
-        kind_numbered(split_word(mark.behind).word)
+        kind_numbered(split_word(mark.rest).word)
     } else {
         None
     }
 }
 
-/// Appends a reply with the reason behind its last line.
+/// Appends a reply with the reason after its last line.
 fn push_with_reason<A: Allocator>(
     text: &mut Vec<u8, A>,
     kind: RefusalKind,
@@ -120,7 +120,7 @@ fn push_with_reason<A: Allocator>(
     )
 }
 
-/// Appends a reply, of which the last line has its reason behind it where that is a refusal.
+/// Appends a reply, of which the last line has its reason after it where that is a refusal.
 #[tactic(auto, unfolding(crate::specs::Reasons::reasoned))]
 pub fn push_reasoned<A: Allocator>(text: &mut Vec<u8, A>, reply: &[u8]) -> Result<(), AllocError>
     ensures { OnOk result (text.new.items ≡ text.old.items ++ reasoned reply.now) }
@@ -131,19 +131,19 @@ pub fn push_reasoned<A: Allocator>(text: &mut Vec<u8, A>, reply: &[u8]) -> Resul
     }
 }
 
-/// Appends what is told of a run behind which the machine stands so, with what is said behind it.
+/// Appends what is reported of a run after which the machine is in this state, with what is said after it.
 #[tactic(auto, unfolding(crate::specs::Reasons::explained))]
 pub fn push_explained<A: Allocator>(
     text: &mut Vec<u8, A>,
-    told: &[u8],
+    reported: &[u8],
     status: Status,
     mode: Mode,
 ) -> Result<(), AllocError>
-    ensures { OnOk result (text.new.items ≡ text.old.items ++ explained status mode told.now) }
+    ensures { OnOk result (text.new.items ≡ text.old.items ++ explained status mode reported.now) }
 {
-    if tells_standstill(last_line(told)) {
-        text.extend_from_slice(told)?;
+    if tells_standstill(last_line(reported)) {
+        text.extend_from_slice(reported)?;
         return push_stand(text, status, mode);
     }
-    push_reasoned(text, told)
+    push_reasoned(text, reported)
 }

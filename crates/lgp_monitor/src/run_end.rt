@@ -1,4 +1,4 @@
-//! What is said behind a run that leaves open how the machine stands.
+//! What is said after a run that leaves the machine's state open.
 
 ghost use Rattle.std.specs.Prelude.{◌≡◌, ◌++◌, OnOk};
 ghost use Rattle.lgp_monitor.specs.RunEnds.{halt_text, stand_text, start_text, tells_standstill};
@@ -16,7 +16,7 @@ fn halt_text(cause: Cause) -> &'static [u8]
         Cause::Operator => b"the operator halted the machine, or has not started it",
         Cause::Stop => b"a stop order halted the machine",
         Cause::Overflow => b"an overflow halted the machine",
-        Cause::Step => b"the machine halted behind one operation",
+        Cause::Step => b"the machine halted after one operation",
     }
 }
 
@@ -31,7 +31,7 @@ fn start_text(mode: Mode) -> &'static [u8]
     }
 }
 
-/// Appends how the machine stands, and what lets it go on.
+/// Appends the machine's state, and what lets it go on.
 #[tactic(auto, unfolding(crate::specs::RunEnds::stand_text))]
 pub fn push_stand<A: Allocator>(
     text: &mut Vec<u8, A>,
@@ -63,7 +63,7 @@ pub fn push_stand<A: Allocator>(
 pub fn tells_standstill(line: &[u8]) -> bool
     ensures { result ≡ tells_standstill line.now }
 {
-    let count = split_word(split_word(line).behind);
+    let count = split_word(split_word(line).rest);
     line == b"ran 0 rest\n".as_slice()
-        || (line.starts_with(b"ran ") && split_word(count.behind).word == b"rule".as_slice())
+        || (line.starts_with(b"ran ") && split_word(count.rest).word == b"rule".as_slice())
 }

@@ -4,7 +4,7 @@ ghost use Rattle.std.specs.Prelude.{◌≡◌, [], IfErr, IfOk, IfSome, OnOk, fa
 ghost use Rattle.std.specs.Io.KnownBytes.{Appends, IsAtEnd};
 ghost use Rattle.lgp_stream.specs.Language.{HasCause, StandsWritten};
 ghost use Rattle.lgp_stream.specs.Transcript.{untouched};
-ghost use Rattle.lgp_lab.specs.Standing.{opening_standing};
+ghost use Rattle.lgp_lab.specs.LabState.{opening_state};
 ghost use Rattle.lgp_monitor.specs.Running.{monitor_faults, monitor_text};
 ghost use Rattle.lgp_monitor.specs.Monitor.{monitor_language};
 
@@ -27,7 +27,7 @@ pub fn run_monitor<A: Allocator + Copy, R: Feed, W: Sink>(
     ensures cause { IfErr result (λ fault.
         HasCause fault (R.failed reader.new) (W.failed writer.new)) }
     ensures stands { IfErr result (λ fault. IfSome (R.remaining reader.old) (λ typed.
-        StandsWritten [] monitor_language (untouched opening_standing) fault typed
+        StandsWritten [] monitor_language (untouched opening_state) fault typed
         (R.remaining reader.new) (W.contents writer.old) (W.contents writer.new))) }
 {
     let Ok(monitor) = Monitor::new(alloc) else {

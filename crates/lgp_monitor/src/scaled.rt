@@ -1,4 +1,4 @@
-//! Words as numbers whose point is behind a place.
+//! Words as numbers whose point is after a place.
 
 ghost use Rattle.std.specs.Prelude.{◌≡◌, ℕ, ◌++◌, ◌^◌, ◌<◌, ◌≤◌, ◌==◌, [], OnOk, codes, if◌then◌else◌};
 ghost use Rattle.lgp_word.specs.Order.{sign_of};
@@ -13,7 +13,7 @@ use std::marker::Model;
 /// The units of 10^-10 that make 1.
 const UNITS: u64 = 10_000_000_000;
 
-/// The place behind which a number's point is, 0 to 30. Clauses see its number.
+/// The place after which a number's point is, 0 to 30. Clauses see its number.
 #[derive(Clone, Copy)]
 pub struct Point {
     place: u32,
@@ -58,7 +58,7 @@ fn minus_text(minus: bool) -> &'static [u8]
     if minus { b"-" } else { b"" }
 }
 
-/// A word as a number without its sign, where the point is behind place 30.
+/// A word as a number without its sign, where the point is after place 30.
 fn size_of(word: Word) -> u64
     ensures value { result ≡ size_of word }
     ensures bound { result ≤ 2 ^ 30 }
@@ -71,7 +71,7 @@ fn size_of(word: Word) -> u64
     }
 }
 
-/// The same where the point is behind another place, in units of 10^-10, to the nearest.
+/// The same where the point is after another place, in units of 10^-10, to the nearest.
 #[tactic(auto, unfolding(crate::specs::Scaled::units_at))]
 fn units_at(point: Point, size: u64) -> u64
     requires { size ≤ 2 ^ 30 }
@@ -96,8 +96,8 @@ fn push_decimals<A: Allocator>(text: &mut Vec<u8, A>, number: u64) -> Result<(),
     Ok(())
 }
 
-/// Appends what stands behind a whole number for so many units.
-fn push_behind_whole<A: Allocator>(text: &mut Vec<u8, A>, units: u64) -> Result<(), AllocError>
+/// Appends what comes after a whole number for a given number of units.
+fn push_after_whole<A: Allocator>(text: &mut Vec<u8, A>, units: u64) -> Result<(), AllocError>
     requires { units < 10 ^ 10 }
     ensures { OnOk result (text.new.items ≡ text.old.items
         ++ (if units == 0 then [] else codes "." ++ decimals 10 units)) }
@@ -109,16 +109,16 @@ fn push_behind_whole<A: Allocator>(text: &mut Vec<u8, A>, units: u64) -> Result<
     push_decimals(text, units)
 }
 
-/// Appends so many units of 10^-10 as a number.
+/// Appends a given number of units of 10^-10 as a number.
 #[tactic(auto, unfolding(crate::specs::Scaled::units_text))]
 fn push_units<A: Allocator>(text: &mut Vec<u8, A>, units: u64) -> Result<(), AllocError>
     ensures { OnOk result (text.new.items ≡ text.old.items ++ units_text units) }
 {
     push_pieces(text, &[Piece::Number(units / UNITS)])?;
-    push_behind_whole(text, units % UNITS)
+    push_after_whole(text, units % UNITS)
 }
 
-/// Appends a word as a number whose point is behind a place.
+/// Appends a word as a number whose point is after a place.
 #[tactic(auto, unfolding(crate::specs::Scaled::scaled_text))]
 pub(crate) fn push_scaled<A: Allocator>(
     text: &mut Vec<u8, A>,

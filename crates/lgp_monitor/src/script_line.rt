@@ -1,4 +1,4 @@
-//! Lines that are answered as lines of a script as they stand.
+//! Lines that are answered as lines of a script as they are.
 
 ghost use Rattle.std.specs.Prelude.{◌≡◌, ◌≤◌, ◌++◌, ◌∷◌, [], List, ℕ, None, Some, IfSome, OnOk, false, length};
 ghost use Rattle.lgp_stream.specs.KeptLine.{kept_of, line_limit};
@@ -22,9 +22,9 @@ fn run_limit(line: &[u8]) -> Option<u64>
     if has_no_word(line) || is_comment(line) {
         return None;
     }
-    let Split { word, behind } = split_word(line);
+    let Split { word, rest } = split_word(line);
     if word == b"run".as_slice() {
-        lone_number(behind)
+        lone_number(rest)
     } else {
         None
     }
@@ -40,7 +40,7 @@ fn run<A: Allocator + Copy, P: Progress>(
 ) -> Result<(), AllocError>
     requires command { command_of line.now ≡ Some (Run limit) }
     requires answered { is_passed_over line.now ≡ false }
-    requires closed { recorder.old.standing.opened ≡ None }
+    requires closed { recorder.old.state.opened ≡ None }
     requires short { length line.now ≤ line_limit }
     ensures reply { OnOk result (reply.new.items ≡ reply.old.items
         ++ replies_text script_language recorder.old (line.now ∷ [])) }

@@ -1,13 +1,13 @@
-//! The commands of the monitor, each with what stands behind its name.
+//! The commands of the monitor, each with what comes after its name.
 
 ghost use Rattle.std.specs.Prelude.{◌≡◌};
 ghost use Rattle.lgp_text.specs.NamedValues.{named};
 ghost use Rattle.lgp_monitor.specs.Verbs.{only_asks, operands_form, operands_kind, takes_address, verb_names};
 
-use crate::telling::Telling;
 use lgp_text::{Named, value_named};
+use lgp_trace::Form;
 
-/// A command behind whose name nothing stands.
+/// A command with nothing after its name.
 #[derive(Clone, Copy)]
 pub enum LoneCommand {
     /// One of scripts.
@@ -18,11 +18,12 @@ pub enum LoneCommand {
     Labels,
     Live,
     Commands,
+    PanelData,
     Transcript,
     New,
 }
 
-/// A command behind whose name an address stands.
+/// A command with an address after its name.
 #[derive(Clone, Copy)]
 pub enum AddressCommand {
     /// One of scripts.
@@ -31,27 +32,31 @@ pub enum AddressCommand {
     Why,
 }
 
-/// A command behind whose name a number stands.
+/// A command with a number after its name.
 #[derive(Clone, Copy)]
 pub enum NumberCommand {
     /// One of scripts.
     Script,
-    /// A run that is told.
-    Told(Telling),
+    /// Runs that are reported.
+    Trace(Form),
+    Profile(Form),
+    Drum,
 }
 
-/// What a line's first word says: what stands behind it, and what is done.
+/// What a line's first word says: what comes after it, and what is done.
 #[derive(Clone, Copy)]
 pub enum Verb {
-    /// Nothing stands behind it.
+    /// Nothing comes after it.
     Lone(LoneCommand),
     /// An address.
     Address(AddressCommand),
     /// A number.
     Number(NumberCommand),
+    /// A number, and perhaps an address.
+    NumberAddress,
     /// An address, and how many words from it on.
     Range,
-    /// The same, and perhaps the place behind which their point is.
+    /// The same, and perhaps the place after which their point is.
     ScaledRange,
     /// An address and a word.
     Word,
@@ -70,7 +75,7 @@ pub enum Verb {
 }
 
 /// The commands by their first word.
-pub const VERBS: [Named<Verb>; 39] = [
+pub const VERBS: [Named<Verb>; 43] = [
     (b"put", Verb::Word),
     (b"go", Verb::Address(AddressCommand::Go)),
     (b"mount", Verb::Text),
@@ -79,12 +84,13 @@ pub const VERBS: [Named<Verb>; 39] = [
     (b"turn", Verb::Number(NumberCommand::Script)),
     (b"orders", Verb::Number(NumberCommand::Script)),
     (b"run", Verb::Number(NumberCommand::Script)),
-    (b"trace", Verb::Number(NumberCommand::Told(Telling::Trace))),
+    (b"trace", Verb::Number(NumberCommand::Trace(Form::Columns))),
     (
         b"profile",
-        Verb::Number(NumberCommand::Told(Telling::Profile)),
+        Verb::Number(NumberCommand::Profile(Form::Columns)),
     ),
-    (b"drum", Verb::Number(NumberCommand::Told(Telling::Drum))),
+    (b"drum", Verb::Number(NumberCommand::Drum)),
+    (b"optimum", Verb::NumberAddress),
     (b"why", Verb::Address(AddressCommand::Why)),
     (b"back", Verb::Number(NumberCommand::Script)),
     (b"last", Verb::Lone(LoneCommand::Script)),
@@ -109,6 +115,15 @@ pub const VERBS: [Named<Verb>; 39] = [
     (b"labels", Verb::Lone(LoneCommand::Labels)),
     (b"live", Verb::Lone(LoneCommand::Live)),
     (b"commands", Verb::Lone(LoneCommand::Commands)),
+    (b"panel-data", Verb::Lone(LoneCommand::PanelData)),
+    (
+        b"trace-data",
+        Verb::Number(NumberCommand::Trace(Form::Data)),
+    ),
+    (
+        b"profile-data",
+        Verb::Number(NumberCommand::Profile(Form::Data)),
+    ),
     (b"transcript", Verb::Lone(LoneCommand::Transcript)),
     (b"new", Verb::Lone(LoneCommand::New)),
     (b"help", Verb::Command),
@@ -122,7 +137,7 @@ pub fn verb_named(name: &[u8]) -> Option<Verb>
     value_named(&VERBS, name)
 }
 
-/// What stands behind a command's name in its form.
+/// What comes after a command's name in its form.
 #[tactic(auto, unfolding(crate::specs::Verbs::operands_form))]
 pub fn operands_form(verb: Verb) -> &'static [u8]
     ensures { result.now ≡ operands_form verb }
@@ -131,6 +146,7 @@ pub fn operands_form(verb: Verb) -> &'static [u8]
         Verb::Lone(_) => b"",
         Verb::Address(_) => b" ttss",
         Verb::Number(_) => b" NUMBER",
+        Verb::NumberAddress => b" NUMBER or optimum NUMBER ttss",
         Verb::Range => b" ttss NUMBER, at most 64",
         Verb::ScaledRange => b" ttss NUMBER, at most 64, or numbers ttss NUMBER POINT",
         Verb::Word => {
@@ -157,7 +173,7 @@ pub fn operands_kind(verb: Verb) -> &'static [u8]
     match verb {
         Verb::Lone(_) | Verb::End => b" nothing\n",
         Verb::Address(_) => b" address\n",
-        Verb::Number(_) => b" number\n",
+        Verb::Number(_) | Verb::NumberAddress => b" number\n",
         Verb::Range | Verb::ScaledRange => b" range\n",
         Verb::Word => b" address word\n",
         Verb::Text => b" text\n",
@@ -180,7 +196,7 @@ pub fn only_asks(verb: Verb) -> bool
     }
 }
 
-/// Whether an address stands first behind a command's name.
+/// Whether an address comes first after a command's name.
 pub fn takes_address(verb: Verb) -> bool
     ensures { result ≡ takes_address verb }
 {

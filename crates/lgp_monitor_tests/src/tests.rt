@@ -1,14 +1,9 @@
-//! Typed lines and what is written for them. A helper without clauses stands around each call, and a test is a table of texts with what
+//! Typed lines and what is written for them. Each call is made by a helper without clauses, and a test is a table of texts with what
 //! is written for each.
 
-mod attending;
-mod blocks;
-mod progress;
-mod sessions;
-
 use lgp_lab::{FeedOf, READS, SinkOf};
+use lgp_limited::Limited;
 use lgp_monitor::run_monitor;
-use lgp_scarce::Scarce;
 use lgp_stream::StreamFault;
 use std::alloc::{Allocator, Global};
 use std::process::Abort;
@@ -16,7 +11,7 @@ use std::process::Abort;
 /// Typed lines, what is written for them, and how many replies begin with a question mark.
 type Row = (&'static [u8], &'static [u8], u64);
 
-const ROWS: [Row; 31] = [
+const ROWS: [Row; 37] = [
     // Words by order, number and fraction: the machine's word of n at 30 is 2n, and -.5 is -2^30 of 2^31 steps.
     (
         b"put 0050 = 385\nput 0051 = -1\nput 0052 -.5\nput 0053 h 6363\nwords 0050 4\n",
@@ -43,19 +38,37 @@ const ROWS: [Row; 31] = [
     // The refusals of the script language, with their reasons: at work a word, an order and a tape, then word times; in manual the rest.
     (
         b"press start\nput 0000 00000002\nput *+1 z\nmount 12\nturn 1\npress manual\ndrop 0\nback 1\nlast\nlist\nmount 12A\ntranscript\n",
-        b"live\n? 2 Moving: the machine is at work, press manual halts it\n? 2 Moving: the machine is at work, press manual halts it\n? 2 Moving: the machine is at work, press manual halts it\n? 3 AtWork: the machine is at work, and turn is for one at rest\nlive\n? 6 NoRule: no rule has this number, rules lists them\n? 7 TooFar 0: no more orders than this are kept\n? 8 NoHit 0: no rule hits one of the kept orders, which are so many\n? 10 NoImage: no source has assembled yet\n? 12 BadSign 2: the byte at this place of the text, counted from 0, begins no sign of a tape\npress start\nput 0000 00000002\nput 0001 00000000\nmount 12\nturn 1\npress manual\ndrop 0\nback 1\nlast\nlist\nmount 12A\n",
+        b"live\n? 2 Moving: the machine is at work, press manual halts it\n? 2 Moving: the machine is at work, press manual halts it\n? 2 Moving: the machine is at work, press manual halts it\n? 3 AtWork: the machine is at work, and turn is for one at rest\nlive\n? 6 NoRule: no rule has this number, rules lists them\n? 7 TooFar 0: no more orders than this are kept\n? 8 NoHit 0: no rule hits one of the kept orders, and this is their number\n? 10 NoImage: no source has assembled yet\n? 12 BadSign 2: the byte at this place of the text, counted from 0, begins no sign of a tape\npress start\nput 0000 00000002\nput 0001 00000000\nmount 12\nturn 1\npress manual\ndrop 0\nback 1\nlast\nlist\nmount 12A\n",
         9,
     ),
-    // What is live: of a new machine, of one in Manual, at work, at an input that waits, and for one operation.
+    // What is live and lets the machine go on: of a new machine, of one in Manual, at work, at an input that waits, and for one operation.
     (
         b"live\npress manual\nlive\npress normal\nput 0000 i 0000\npress start\nlive\norders 1\nlive\npress oneop\nlive now\npress compute\nlive\ntranscript\n",
-        b"live normal oneop manual start clear fill\nlive\nlive normal oneop manual clear fill read keys\nlive\nok\nlive\nlive normal oneop manual\norders 1 waiting\nlive normal oneop manual compute read keys stop\nlive\n? 1 Form: live\nlive\nlive normal oneop manual start clear fill execute\npress manual\npress normal\nput 0000 00040000\npress start\norders 1\npress oneop\nlive now\npress compute\n",
+        b"live normal oneop manual start clear fill\nway start\nlive\nlive normal oneop manual clear fill read keys\nway normal start\nlive\nok\nlive\nlive normal oneop manual\nway orders\norders 1 waiting\nlive normal oneop manual compute read keys stop\nway keys\nlive\n? 1 Form: live\nlive\nlive normal oneop manual start clear fill execute\nway start\npress manual\npress normal\nput 0000 00040000\npress start\norders 1\npress oneop\nlive now\npress compute\n",
         1,
     ),
     // Each command, whether it only asks, and what it takes.
     (
         b"commands\ntranscript\n",
-        b"put does address word\ngo does address\nmount does text\npress does button\ntype does text\nturn does number\norders does number\nrun does number\ntrace does number\nprofile does number\ndrum does number\nwhy asks address\nback does number\nlast does nothing\npanel asks nothing\nwords asks range\nshow asks range\nnumbers asks range\nprinted asks nothing\ndump asks nothing\nsource does source\ndo does file\ntape does file\narchive does file\nsave does file\nrestore does file\nlist asks nothing\nload does nothing\nbreak does address\nwatch does address\ndrop does number\nrules asks nothing\nlabels asks nothing\nlive asks nothing\ncommands asks nothing\ntranscript asks nothing\nnew does nothing\nhelp asks command\nquit does nothing\n",
+        b"put does address word\ngo does address\nmount does text\npress does button\ntype does text\nturn does number\norders does number\nrun does number\ntrace does number\nprofile does number\ndrum does number\noptimum does number\nwhy asks address\nback does number\nlast does nothing\npanel asks nothing\nwords asks range\nshow asks range\nnumbers asks range\nprinted asks nothing\ndump asks nothing\nsource does source\ndo does file\ntape does file\narchive does file\nsave does file\nrestore does file\nlist asks nothing\nload does nothing\nbreak does address\nwatch does address\ndrop does number\nrules asks nothing\nlabels asks nothing\nlive asks nothing\ncommands asks nothing\npanel-data asks nothing\ntrace-data does number\nprofile-data does number\ntranscript asks nothing\nnew does nothing\nhelp asks command\nquit does nothing\n",
+        0,
+    ),
+    // The panel as lines of a key and a value, and two codes of a tape that the reader takes, reported so.
+    (
+        b"press manual\nmount 12\npress bp8 down\npanel-data\npanel-data now\npress read\ntrace-data 1\ntranscript\n",
+        b"live\nok 2\nlive\ncounter 0000\naccumulator 00000000\nregister 00000000\nstatus halted operator\nmode manual\nbp32 up\nbp16 up\nbp8 down\nbp4 up\ntransfer up\nsixbit up\nreader off\ntape 2\nclock 0\n? 1 Form: panel-data\nlive\nclock 0\nstatus reading\nfind 0\ntake 0\nseek 0\nact 769\nbefore 00000000\nafter 00000012\npassed 2\nran 1 rest\npress manual\nmount 12\npress bp8 down\npanel-data now\npress read\nrun 1\n",
+        1,
+    ),
+    // An order with a label that prints, reported as lines of a key and a value, and one in the register; then their profiles.
+    (
+        b"source\nfirst z\n end\n.\nput 0000 p 3300\npress start\ntrace-data 1\nprofile-data 1\npress oneop\npress execute\ntrace-data 1\nprofile-data 0\ntrace-data\ntranscript\n",
+        b"cells 1 start none\nok\nlive\nclock 0\nat 0000 first\norder p 3300\nfind 64\ntake 1\nseek 1\nact 385\nbefore 00000000\nafter 00000000\nput-by hand\nput-clock 0\nput-over z 0000\nprinted 33\nsign p\nran 1 limit\norders 1\ntimes 9\nturns 0.1\nfind 6\ntake 1\nseek 1\nact 1\nelsewhere 0\nplace 0001\ntimes 9\nran 1 rest\nlive\nlive\nclock 460\nat register\norder z 0000\nfind 0\ntake 0\nseek 1\nact 1\nbefore 00000000\nafter 00000000\nran 1 rest\norders 0\ntimes 0\nturns 0.0\nfind 0\ntake 0\nseek 0\nact 0\nelsewhere 0\nran 0 rest\n        a stop order halted the machine: press start lets it do one order\n? 1 Form: trace-data NUMBER\nsource\nfirst z\n end\n.\nput 0000 00082100\npress start\nrun 1\nrun 1\npress oneop\npress execute\nrun 1\nrun 0\ntrace-data\n",
+        1,
+    ),
+    // An order that stores into the next one, which names that order, each with labels.
+    (
+        b"source\nfirst y third\nthird z\n end\n.\nput first y third\nput third h third\npress start\ntrace-data 2\n",
+        b"cells 2 start none\nok\nok\nlive\nclock 0\nat 0000 first\norder y 0001 third\nfind 64\ntake 1\nseek 8\nact 1\nbefore 00000000\nafter 00000000\nput-by hand\nput-clock 0\nput-over z 0000\nstored 0001 third\nfound 000j0004\nfound-order h 0001 third\nfound-number 393218\nleft 000j0000\nleft-order h 0000 first\nleft-number 393216\nclock 74\nat 0001 third\norder h 0000 first\nfind 63\ntake 1\nseek 54\nact 1\nbefore 00000000\nafter 00000000\nput-by y 0001 third\nput-at 0000 first\nput-clock 0\nput-ago 1\nput-over h 0001 third\nstored 0000 first\nfound 00020004\nfound-order y 0001 third\nfound-number 65538\nleft 00000000\nleft-order z 0000\nleft-number 0\nran 2 limit\n",
         0,
     ),
     // A new laboratory, with an empty transcript, and without the rules and names from before.
@@ -89,13 +102,13 @@ const ROWS: [Row; 31] = [
         b"? 9 Faults\nline 1 UnknownOrder\n",
         1,
     ),
-    // Two orders told one by one; the transcript has the run.
+    // Two orders reported one by one; the transcript has the run.
     (
         b"put 0000 b 0003\nput 0001 z 0000\nput 0003 = 4\npress start\ntrace 9\ntranscript\n",
         b"ok\nok\nok\nlive\n  clock  at           order           find take seek  act   sum  accumulator\n      0  0000         b 0003            64    1   26    1    92  00000000 -> 00000008\n        this order was put there by hand, clock 0; before it was z 0000\n     92  0001         z 0000            45    1    1    1    48  00000008\nran 2 rest\nput 0000 0001000j\nput 0001 00000000\nput 0003 00000008\npress start\nrun 9\n",
         0,
     ),
-    // No order, one that a rule stops behind, one before rest, and none at rest. The operands stand in the transcript as they were typed.
+    // No order, one that a rule stops after, one before rest, and none at rest. The operands are in the transcript as they were typed.
     (
         b"put 0000 b 0003\nput 0001 z 0000\nbreak 0001\npress start\ntrace 0\ntrace   9  \ntrace 9999999999\ntrace 3\ntranscript\n",
         b"ok\nok\nrule 0\nlive\n  clock  at           order           find take seek  act   sum  accumulator\nran 0 limit\n  clock  at           order           find take seek  act   sum  accumulator\n      0  0000         b 0003            64    1   26    1    92  00000000\n        this order was put there by hand, clock 0; before it was z 0000\nran 1 rule 0\n        the machine is still going: run goes on, press manual halts it\n  clock  at           order           find take seek  act   sum  accumulator\n     92  0001         z 0000            45    1    1    1    48  00000000\nran 1 rest\n  clock  at           order           find take seek  act   sum  accumulator\nran 0 rest\n        a stop order halted the machine: press start lets it go on\nput 0000 0001000j\nput 0001 00000000\nbreak 0001\npress start\nrun 0\nrun   9  \nrun 9999999999\nrun 3\n",
@@ -126,7 +139,25 @@ const ROWS: [Row; 31] = [
         b"ok\nok\nlive\n      0  ...............................................................F\n     64  i.........................Rx\nran 1 limit\n     64                              ....................................\n    128  ........Fi-x\nran 1 rest\n    128              \nran 0 rest\n        a stop order halted the machine: press start lets it go on\nput 0000 0001000j\nput 0001 00000000\npress start\nrun 1\nrun 9\nrun 9\n",
         0,
     ),
-    // The names of the last source that assembled are the labels, whatever stands on the drum. Of two names of a place the first is its label.
+    // By the words that would have cost less elsewhere: the sectors 50, 43, 36, 29, 22 and 15 are read in time for the second order.
+    (
+        b"put 0000 b 0003\nput 0001 z 0000\npress start\noptimum 9\noptimum 9 0003\ntranscript\n",
+        b"ok\nok\nlive\norders 2, word times 140, turns of the drum 2.1\nthe ten words with most to gain\n  0003              sector  3, best 15        64   45 %\n  all words that may be moved together        64   45 %\nran 2 rest\nno order was performed, so no word was named\nran 0 rest\n        a stop order halted the machine: press start lets it go on\nput 0000 0001000j\nput 0001 00000000\npress start\nrun 9\nrun 9\n",
+        0,
+    ),
+    // A word by its name. The transcript has the number of orders alone, with one blank in front of it where a word is reported.
+    (
+        b"source\nfirst z\nword word 00000004\n end first\n.\npress start\n optimum  7   word+1\n optimum  7\ntranscript\n",
+        b"cells 2 start 0000\nlive\norders 1, word times 67, turns of the drum 1.0\n0002\n  no order named it: wherever it stands, they take as long\nran 1 rest\nno order was performed, so no word was named\nran 0 rest\n        a stop order halted the machine: press start lets it go on\nsource\nfirst z\nword word 00000004\n end first\n.\npress start\nrun 7\nrun  7\n",
+        0,
+    ),
+    // Which operand is wrong, the number or the address.
+    (
+        b"optimum\noptimum 9 0064\noptimum 9 none\noptimum x 0064\noptimum 9 0001 2\ntranscript\n",
+        b"? 1 Form: optimum NUMBER or optimum NUMBER ttss\n? 1 Form: 0064 is no address: sectors are 00 to 63\n? 1 Form: none names no label of the last source\n? 1 Form: optimum NUMBER or optimum NUMBER ttss\n? 1 Form: optimum NUMBER or optimum NUMBER ttss\noptimum\noptimum 9 0064\noptimum 9 none\noptimum x 0064\noptimum 9 0001 2\n",
+        5,
+    ),
+    // The names of the last source that assembled are the labels, whatever is on the drum. Of two names of a place the first is its label.
     (
         b"source\nfirst b four\n z\nfour word 00000004\nsame org 0000\n end\n.\nput 0000 b 0002\nput 0001 z 0000\nput 0002 = 1\npress start\ntrace 9\n",
         b"cells 3 start none\nok\nok\nok\nlive\n  clock  at           order           find take seek  act   sum  accumulator\n      0  0000 first   b 0002 four       64    1   17    1    83  00000000 -> 00000002\n        this order was put there by hand, clock 0; before it was z 0000\n     83  0001         z 0000            54    1    1    1    57  00000002\nran 2 rest\n",
@@ -138,7 +169,7 @@ const ROWS: [Row; 31] = [
         b"cells 3 start none\nfirst 0000\nfour 0002\nok\nok\n0002 wwwwwwwq\n0000 z 0000\n0001 u 0000\nrule 0\nrule 1\nrule 2\nrule 0 break 0001\nrule 1 watch 0002 four\nrule 2 break 0000 first\nsource\nfirst b four\n z\nfour word 00000004\n end\n.\nput 0002 wwwwwwwq\nput 0001 000f0000\nwords 0002 1\nshow 0000  2\nbreak 0001\nwatch 0002\nbreak 0000\n",
         0,
     ),
-    // Words by operations of a source, by digits at a label, and by numbers with a point: 5 behind 10 is 5 times 2 to the power 21.
+    // Words by operations of a source, by digits at a label, and by numbers with a point: 5 after 10 is 5 times 2 to the power 21.
     (
         b"source\nhere z\n end\n.\nput 0005 int 5 10\nput 0006 = 3 29\nput 0007 z\nput 0008 p =a\nput 0009 -t *+1\nput here 0000000q\nput here+1 .5\nwords 0000 2\nwords 0005 5\n",
         b"cells 1 start none\nok\nok\nok\nok\nok\nok\nok\n0000 0000000q\n0001 40000000\n0005 00f00000\n0006 0000000j\n0007 00000000\n0008 00083900\n0009 800g0028\n",
@@ -150,22 +181,22 @@ const ROWS: [Row; 31] = [
         b"ok\nok\nok\n0002 wwwwwwwq  -.0000000009  -1\n0003 00000302   .0000003586  385\n0004 j0000000  -.5000000000  -536870912\n0005 00000000   .0000000000  0\nput 0002 wwwwwwwq\nput 0003 00000302\nput 0004 j0000000\n",
         0,
     ),
-    // The same with their point behind another place: pi behind place 3, and what has no more than ten decimals exactly.
+    // The same with their point after another place: pi after place 3, and what has no more than ten decimals exactly.
     (
         b"put 0000 = 3\nput 0001 = 5 10\nput 0002 .1\nput 0003 -.5\nput 0004 80000000\nput 0005 3243w6f8\nput 0006 = -1\nnumbers 0000 7 3\nnumbers 0000 7 29\nnumbers 0001 2  10 \nnumbers 0000 7 0\nnumbers 0000 7 30\nnumbers 0000 7\nnumbers 0000 1 31\nnumbers 0000 1 030\nnumbers 0000 1 3 3\nnumbers 0000 65 3\nnumbers 0000 1 x\nnumbers 0000\nnumbers x 1 3\ntranscript\n",
         b"ok\nok\nok\nok\nok\nok\nok\n0000 00000006   .0000000028  0.0000000224\n0001 00f00000   .0048828125  0.0390625\n0002 0jjjjjjj   .0999999996  0.799999997\n0003 j0000000  -.5000000000  -4\n0004 80000000  -1.000000000  -8\n0005 3243w6f8   .3926990815  3.1415926516\n0006 wwwwwwwq  -.0000000009  -0.0000000075\n0000 00000006   .0000000028  1.5\n0001 00f00000   .0048828125  2621440\n0002 0jjjjjjj   .0999999996  53687091\n0003 j0000000  -.5000000000  -268435456\n0004 80000000  -1.000000000  -536870912\n0005 3243w6f8   .3926990815  210828714\n0006 wwwwwwwq  -.0000000009  -0.5\n0001 00f00000   .0048828125  5\n0002 0jjjjjjj   .0999999996  102.3999996185\n0000 00000006   .0000000028  0.0000000028\n0001 00f00000   .0048828125  0.0048828125\n0002 0jjjjjjj   .0999999996  0.0999999996\n0003 j0000000  -.5000000000  -0.5\n0004 80000000  -1.000000000  -1\n0005 3243w6f8   .3926990815  0.3926990815\n0006 wwwwwwwq  -.0000000009  -0.0000000009\n0000 00000006   .0000000028  3\n0001 00f00000   .0048828125  5242880\n0002 0jjjjjjj   .0999999996  107374182\n0003 j0000000  -.5000000000  -536870912\n0004 80000000  -1.000000000  -1073741824\n0005 3243w6f8   .3926990815  421657428\n0006 wwwwwwwq  -.0000000009  -1\n0000 00000006   .0000000028  3\n0001 00f00000   .0048828125  5242880\n0002 0jjjjjjj   .0999999996  107374182\n0003 j0000000  -.5000000000  -536870912\n0004 80000000  -1.000000000  -1073741824\n0005 3243w6f8   .3926990815  421657428\n0006 wwwwwwwq  -.0000000009  -1\n? 1 Form: numbers ttss NUMBER, at most 64, or numbers ttss NUMBER POINT\n? 1 Form: numbers ttss NUMBER, at most 64, or numbers ttss NUMBER POINT\n? 1 Form: numbers ttss NUMBER, at most 64, or numbers ttss NUMBER POINT\n? 1 Form: numbers ttss NUMBER, at most 64, or numbers ttss NUMBER POINT\n? 1 Form: numbers ttss NUMBER, at most 64, or numbers ttss NUMBER POINT\n? 1 Form: numbers ttss NUMBER, at most 64, or numbers ttss NUMBER POINT\n? 1 Form: x names no label of the last source\nput 0000 00000006\nput 0001 00f00000\nput 0002 0jjjjjjj\nput 0003 j0000000\nput 0004 80000000\nput 0005 3243w6f8\nput 0006 wwwwwwwq\nnumbers 0000 1 31\nnumbers 0000 1 030\nnumbers 0000 1 3 3\nnumbers 0000 65 3\nnumbers 0000 1 x\nnumbers 0000\nnumbers x 1 3\n",
         7,
     ),
-    // A run that is told and finds the machine at rest, in each mode, and with no order asked for. `run` has the script's reply.
+    // A run that is reported and finds the machine at rest, in each mode, and with no order asked for. `run` has the script's reply.
     (
         b"trace 9\npress oneop\ntrace 0\npress manual\ntrace 1\nrun 1\ntranscript\n",
         b"  clock  at           order           find take seek  act   sum  accumulator\nran 0 rest\n        the operator halted the machine, or has not started it: press start lets it go on\nlive\n  clock  at           order           find take seek  act   sum  accumulator\nran 0 rest\n        the operator halted the machine, or has not started it: press start lets it do one order\nlive\n  clock  at           order           find take seek  act   sum  accumulator\nran 0 rest\n        the operator halted the machine, or has not started it: press normal, then press start lets it go on\nran 0 rest\nrun 9\npress oneop\nrun 0\npress manual\nrun 1\nrun 1\n",
         0,
     ),
-    // The same behind an overflow, an input without a tape, and one operation.
+    // The same after an overflow, an input without a tape, and one operation.
     (
         b"put 0000 d 0010\nput 0001 i\nput 0002 u *\npress start\nrun 9\ntrace 9\npress start\nrun 9\ntrace 9\npress oneop\npress compute\ntrace 9\npress start\nrun 9\ntrace 9\n",
-        b"ok\nok\nok\nlive\nran 1 rest\n  clock  at           order           find take seek  act   sum  accumulator\nran 0 rest\n        an overflow halted the machine: press start lets it go on\nlive\nran 1 rest\n  clock  at           order           find take seek  act   sum  accumulator\nran 0 rest\n        an input waits for codes: press read lets the tape pass, press compute ends the input\nlive\nlive\n  clock  at           order           find take seek  act   sum  accumulator\nran 0 rest\n        the machine halted behind one operation: press start lets it do one order\nlive\nran 1 rest\n  clock  at           order           find take seek  act   sum  accumulator\nran 0 rest\n        the machine halted behind one operation: press start lets it do one order\n",
+        b"ok\nok\nok\nlive\nran 1 rest\n  clock  at           order           find take seek  act   sum  accumulator\nran 0 rest\n        an overflow halted the machine: press start lets it go on\nlive\nran 1 rest\n  clock  at           order           find take seek  act   sum  accumulator\nran 0 rest\n        an input waits for codes: press read lets the tape pass, press compute ends the input\nlive\nlive\n  clock  at           order           find take seek  act   sum  accumulator\nran 0 rest\n        the machine halted after one operation: press start lets it do one order\nlive\nran 1 rest\n  clock  at           order           find take seek  act   sum  accumulator\nran 0 rest\n        the machine halted behind one operation: press start lets it do one order\n",
         0,
     ),
     // A run that a rule stops has the script's reply.
@@ -196,7 +227,7 @@ const ROWS: [Row; 31] = [
         ? 1 Form: z names no label of the last source\n",
         6,
     ),
-    // Why a word behind `put ttss` is no value.
+    // Why a word after `put ttss` is no value.
     (
         b"put 0000 b 0064\nput 0000 b 43\nput 0000 B 0043\nput 0000 b0043\nput 0000 0043 6\nput 0200 000l03oo\nput 0000 -t *-1\nput 0000 b\nput 0000 word 43\n",
         b"? 1 Form: 0064 is no address: sectors are 00 to 63\n\
@@ -212,7 +243,7 @@ const ROWS: [Row; 31] = [
     ),
 ];
 
-/// Answers typed lines; what is written stands behind `written`.
+/// Answers typed lines; what is written comes after `written`.
 fn run<A: Allocator + Copy>(
     alloc: A,
     typed: &[u8],
@@ -248,8 +279,9 @@ const SUM_OF_A_TABLE: &[u8] =
 /// How many lines it takes to put and start it.
 const LINES: usize = 27;
 
-/// What is written behind the replies to those lines, one order after another and all 42 added up.
-const TOLD: [(&[u8], &[u8]); 2] = [
+/// What is written after the replies to those lines, one order after another, all 42 added up, and the words that would have cost less
+/// elsewhere.
+const REPORTED: [(&[u8], &[u8]); 3] = [
     (
         b"trace 4\n",
         b"  clock  at           order           find take seek  act   sum  accumulator\n      0  0000         r 0017            64    1   24    1    90  00000000\n        this order was put there by hand, clock 0; before it was z 0000\n        0017: 000f0000 u 0000 = 327680 -> 000f0008 u 0002 = 327684\n     90  0001         u 0004            47    1    1    1    50  00000000\n        this order was put there by hand, clock 0; before it was z 0000\n    140  0004         b 0020            24    1   15    1    41  00000000 -> 00000100\n        this order was put there by hand, clock 0; before it was z 0000\n    181  0005         y 0009            56    1   35    1    93  00000100\n        this order was put there by hand, clock 0; before it was z 0000\n        0009: 000q0000 a 0000 = 458752 -> 000q0100 a 0100 = 458880\nran 4 limit\n",
@@ -258,10 +290,14 @@ const TOLD: [(&[u8], &[u8]); 2] = [
         b"profile 100\n",
         b"orders 42, word times 2910, turns of the drum 45.4\n  waiting for orders      1562   53 %\n  into the register         42    1 %\n  waiting for words       1264   43 %\n  acting                    42    1 %\n  at no address              0    0 %\nthe ten places with most word times\n  0014                     432   14 %\n  0009                     406   13 %\n  0010                     362   12 %\n  0008                     301   10 %\n  0013                     300   10 %\n  0011                     228    7 %\n  0012                     212    7 %\n  0005                      93    3 %\n  0000                      90    3 %\n  0007                      73    2 %\nran 42 rest\n",
     ),
+    (
+        b"optimum 100\n",
+        b"orders 42, word times 2910, turns of the drum 45.4\nthe ten words with most to gain\n  0021              sector 21, best  0       256    8 %\n  0022              sector 22, best 27       256    8 %\n  0024              sector 24, best 23       256    8 %\n  0020              sector 20, best 19        64    2 %\n  0023              sector 23, best 21        64    2 %\n  0025              sector 25, best 17        64    2 %\n  all words that may be moved together       960   32 %\nnot to be moved, since they were performed as orders\n  0009              sector  9, best 26       256    8 %\n  0017              sector 17, best 15        64    2 %\nnot to be moved, since a changed order named them, or one in the register alone\n  0100              sector  0, best 24        64    2 %\n  0101              sector  1, best 24        64    2 %\n  0102              sector  2, best 24        64    2 %\n  0103              sector  3, best 24        64    2 %\nran 42 rest\n",
+    ),
 ];
 
-/// What is written for the program and a line behind it; only what stands behind so many lines of it.
-fn written_behind<'a>(written: &'a [u8], lines: usize) -> &'a [u8] {
+/// What is written for the program and a line after it; only what comes after a given number of lines of it.
+fn written_after<'a>(written: &'a [u8], lines: usize) -> &'a [u8] {
     let mut left = written;
     for _ in 0..lines {
         left = match left.iter().position(|byte| *byte == b'\n') {
@@ -272,20 +308,20 @@ fn written_behind<'a>(written: &'a [u8], lines: usize) -> &'a [u8] {
     left
 }
 
-/// Whether this is written for a line behind the program.
-fn is_told(global: Global, line: &[u8], text: &[u8]) -> bool {
+/// Whether this is written for a line after the program.
+fn is_reported(global: Global, line: &[u8], text: &[u8]) -> bool {
     let mut typed = Vec::new(global);
     let mut written = Vec::new(global);
     typed.extend_from_slice(SUM_OF_A_TABLE).is_ok()
         && typed.extend_from_slice(line).is_ok()
         && run(global, &typed, &mut written) == Ok(0)
-        && written_behind(&written, LINES) == text
+        && written_after(&written, LINES) == text
 }
 
 #[test]
-fn a_program_that_changes_itself_is_told(rt: HostRuntime) {
-    let told = TOLD.map(|(line, text)| is_told(rt.alloc(), line, text));
-    assert_eq!(rt; told, [true, true]);
+fn a_program_that_changes_itself_is_reported(rt: HostRuntime) {
+    let reported = REPORTED.map(|(line, text)| is_reported(rt.alloc(), line, text));
+    assert_eq!(rt; reported, [true; 3]);
 }
 
 /// A source of these lines between a short one and its point.
@@ -315,9 +351,9 @@ fn a_source_that_is_too_long_has_no_marks(rt: HostRuntime) {
     assert_eq!(rt; answered, [true, true]);
 }
 
-/// Runs that are told in each way, with labels.
+/// Runs that are reported in each way, with labels.
 const EACH: &[u8] =
-    b"source\nfirst z\n end\n.\nput 0000 b 0003\npress start\ntrace 1\nprofile 1\npress start\ndrum 2\n";
+    b"source\nfirst z\n end\n.\nput 0000 b 0003\npress start\ntrace 1\nprofile 1\npress start\ndrum 2\nback 2\ntrace-data 1\nprofile-data 1\npanel-data\nlive\npress start\noptimum 1\npress start\noptimum 1 0000\n";
 
 /// Two sources with faults.
 const FAULTY: &[u8] = b"source\n q\n b none\n end\n.\nsource\n z\n.\n";
@@ -327,16 +363,16 @@ const MOST: u64 = 1000;
 
 /// Answers lines with the nth growth refused: whether it was, and whether the end was that of a refused or of a whole run.
 fn ended(
-    scarce: &Scarce<Global>,
+    limited: &Limited<Global>,
     global: Global,
     lines: &[u8],
     faults: u64,
     nth: u64,
 ) -> (bool, bool) {
     let mut written = Vec::new(global);
-    scarce.refuse(nth);
-    let outcome = run(scarce, lines, &mut written);
-    let refused = scarce.was_refused();
+    limited.refuse(nth);
+    let outcome = run(limited, lines, &mut written);
+    let refused = limited.was_refused();
     (
         refused,
         outcome
@@ -349,9 +385,9 @@ fn ended(
 }
 
 /// Whether each growth that is refused in turn, until none is left, ends the lines for want of memory; how many there are.
-fn refusals(scarce: &Scarce<Global>, global: Global, lines: &[u8], faults: u64) -> Option<u64> {
+fn refusals(limited: &Limited<Global>, global: Global, lines: &[u8], faults: u64) -> Option<u64> {
     for nth in 1..MOST {
-        match ended(scarce, global, lines, faults, nth) {
+        match ended(limited, global, lines, faults, nth) {
             (true, true) => {}
             (false, true) => return Some(nth - 1),
             _ => return None,
@@ -361,10 +397,10 @@ fn refusals(scarce: &Scarce<Global>, global: Global, lines: &[u8], faults: u64) 
 }
 
 #[test]
-fn each_growth_of_a_told_run_is_refused(rt: HostRuntime) {
-    let scarce = Scarce::new(rt.alloc());
-    let refused = refusals(&scarce, rt.alloc(), EACH, 0);
-    let are_back = scarce.blocks_out() == 0;
+fn each_growth_of_a_reported_run_is_refused(rt: HostRuntime) {
+    let limited = Limited::new(rt.alloc());
+    let refused = refusals(&limited, rt.alloc(), EACH, 0);
+    let are_back = limited.blocks_out() == 0;
     assert!(rt;
         are_back && refused.is_some_and(|count| count > 20),
         "{refused:?}"
@@ -373,9 +409,9 @@ fn each_growth_of_a_told_run_is_refused(rt: HostRuntime) {
 
 #[test]
 fn each_growth_of_marked_faults_is_refused(rt: HostRuntime) {
-    let scarce = Scarce::new(rt.alloc());
-    let refused = refusals(&scarce, rt.alloc(), FAULTY, 2);
-    let are_back = scarce.blocks_out() == 0;
+    let limited = Limited::new(rt.alloc());
+    let refused = refusals(&limited, rt.alloc(), FAULTY, 2);
+    let are_back = limited.blocks_out() == 0;
     assert!(rt;
         are_back && refused.is_some_and(|count| count > 20),
         "{refused:?}"

@@ -1,4 +1,4 @@
-//! A box as its pointer, for a place where only a pointer may stand.
+//! A box as its pointer, for a place where only a pointer may be.
 #![tactic(auto)]
 
 mod parts;

@@ -27,7 +27,7 @@ pub enum Phase {
     Decode(Word),
     /// Waiting for the sector of the order's address.
     Seek(Word),
-    /// The order acts, or a tape passes, for so many word times more.
+    /// The order acts, or a tape passes, for a given number of word times more.
     Act(u64),
 }
 

@@ -55,7 +55,7 @@ pub fn seek_time(op: Op, address: Address, clock: u64, after: u64) -> u64
 }
 
 /// The word times of an order's last phase, in which it acts: 65 for m, n and d, 385 for a p that prints, 1 and 384 for each code that
-/// passes for an i with the reader as it stands, and 1 for all else; at most 402,653,185.
+/// passes for an i with the reader as it is, and 1 for all else; at most 402,653,185.
 #[tactic(auto, unfolding(lgp_table::specs::Activity::act_time))]
 pub fn act_time<A: Allocator>(op: Op, address: Address, reader: &Reader<A>) -> u64
     ensures time { result ≡ act_time op address reader.now }
@@ -69,7 +69,7 @@ pub fn act_time<A: Allocator>(op: Op, address: Address, reader: &Reader<A>) -> u
     }
 }
 
-/// The word times of phases three and four of an order word, from so many word times after this clock.
+/// The word times of phases three and four of an order word, from a given number of word times after this clock.
 #[tactic(auto, using(crate::proofs::Bounds::time_bounds))]
 fn rest_time<A: Allocator>(word: Word, reader: &Reader<A>, clock: u64, after: u64) -> u64
     requires { after < 2 ^ 32 }

@@ -398,7 +398,7 @@ fn a_code_is_printed(rt: HostRuntime) -> Result<(), Fail> {
 }
 
 /// Whether all but the last word time of a print pass as they should, and whether the last one, of a copy of the processor, is
-/// foretold to print; and that one.
+/// predicted to print; and that one.
 fn last_of_a_print<A: Allocator + Copy>(
     bench: &mut Bench<A>,
 ) -> Result<(bool, bool, Progress), Fail> {

@@ -120,7 +120,7 @@ impl<A: Allocator> Reader<A> {
         &self.codes[..self.passed]
     }
 
-    /// Moves the tape back by so many codes, which are then left again. False, and nothing changes, where fewer have passed.
+    /// Moves the tape back by a given number of codes, which are then left again. False, and nothing changes, where fewer have passed.
     pub fn back_up(&mut self, count: usize) -> bool
         ensures answer { IsTrue result ↔ (count ≤ length self.old.passed) }
         ensures moved { OnTrue result (self.new ≡ tape_before self.old count) }

@@ -1,8 +1,8 @@
 //! A reader with its tape, and one that is refused memory.
 
 use lgp_flexo::{Code, TAPE_LIMIT, read_tape_text};
+use lgp_limited::Limited;
 use lgp_reader::{Input, Reader};
-use lgp_scarce::Scarce;
 use std::alloc::{Allocator, Global};
 
 /// Whether a reader is on, how many codes have passed, and how many are left.
@@ -22,7 +22,7 @@ fn mount<A: Allocator + Copy>(reader: &mut Reader<A>, alloc: A, text: &[u8]) -> 
     }
 }
 
-/// Puts the tape of a text in of which so many codes have passed; whether it has so many.
+/// Puts the tape of a text in of which a given number of codes have passed; whether it has that many.
 fn set<A: Allocator + Copy>(reader: &mut Reader<A>, alloc: A, text: &[u8], passed: usize) -> bool {
     match read_tape_text(alloc, text) {
         Ok(codes) if passed <= codes.len() && codes.len() <= TAPE_LIMIT => {
@@ -33,7 +33,7 @@ fn set<A: Allocator + Copy>(reader: &mut Reader<A>, alloc: A, text: &[u8], passe
     }
 }
 
-/// Puts a tape of so many conditional stops in. How many are handed back; `None` where memory is refused.
+/// Puts a tape of a given number of conditional stops in. How many are handed back; `None` where memory is refused.
 fn mount_stops(reader: &mut Reader, global: Global, count: usize) -> Option<usize> {
     let codes = vec![in global; Code::STOP; count].ok()?;
     match reader.mount(codes) {
@@ -182,37 +182,37 @@ fn copied<A: Allocator + Clone>(reader: &Reader<A>) -> Copied {
 }
 
 /// Copies a reader with the nth growth refused: what the copy has, whether a growth was refused, and what shows of the reader.
-fn copied_scarcely<B: Allocator>(
-    scarce: &Scarce<B>,
-    reader: &Reader<&Scarce<B>>,
+fn copied_within_limit<B: Allocator>(
+    limited: &Limited<B>,
+    reader: &Reader<&Limited<B>>,
     nth: u64,
 ) -> (Copied, bool, Shown) {
-    scarce.refuse(nth);
-    (copied(reader), scarce.was_refused(), shown(reader))
+    limited.refuse(nth);
+    (copied(reader), limited.was_refused(), shown(reader))
 }
 
 /// Copies a reader that is on and within its tape, with the first growth refused and then with none.
 fn copied_twice<'s, B: Allocator>(
-    scarce: &'s Scarce<B>,
-    reader: &mut Reader<&'s Scarce<B>>,
+    limited: &'s Limited<B>,
+    reader: &mut Reader<&'s Limited<B>>,
 ) -> (bool, [(Copied, bool, Shown); 2]) {
-    let taken = mount(reader, scarce, b"12");
+    let taken = mount(reader, limited, b"12");
     start(reader);
     let first = pass(reader);
-    let refused = copied_scarcely(scarce, reader, 1);
+    let refused = copied_within_limit(limited, reader, 1);
     (
         taken && first == Some(6),
-        [refused, copied_scarcely(scarce, reader, 2)],
+        [refused, copied_within_limit(limited, reader, 2)],
     )
 }
 
 #[test]
 fn a_refused_copy_changes_nothing(rt: HostRuntime) {
-    let scarce = Scarce::new(rt.alloc());
-    let mut reader = Reader::new(&scarce);
+    let limited = Limited::new(rt.alloc());
+    let mut reader = Reader::new(&limited);
     let within = (true, 1, 1);
     assert_eq!(rt;
-        (copied_twice(&scarce, &mut reader), scarce.blocks_out()),
+        (copied_twice(&limited, &mut reader), limited.blocks_out()),
         (
             (
                 true,
@@ -232,8 +232,8 @@ fn first_passed<A: Allocator>(reader: &Reader<A>) -> Option<u8> {
     Some(code.number())
 }
 
-/// The first code of a tape that has passed in an input, and what shows behind it; and whether the tape is taken.
-fn behind_input(reader: &mut Reader, global: Global) -> (bool, Shown, Option<u8>, Shown) {
+/// The first code of a tape that has passed in an input, and what shows after it; and whether the tape is taken.
+fn after_the_input(reader: &mut Reader, global: Global) -> (bool, Shown, Option<u8>, Shown) {
     let taken = mount(reader, global, b"12'3");
     let mounted = shown(reader);
     start(reader);
@@ -250,15 +250,15 @@ fn moved_back(reader: &mut Reader) -> ([(bool, Shown); 2], Option<u8>, Copied) {
 #[test]
 fn a_tape_goes_back(rt: HostRuntime) {
     let mut reader = Reader::new(rt.alloc());
-    let behind = (false, 3, 1);
+    let later = (false, 3, 1);
     assert_eq!(rt;
-        behind_input(&mut reader, rt.alloc()),
-        (true, (false, 0, 4), Some(6), behind)
+        after_the_input(&mut reader, rt.alloc()),
+        (true, (false, 0, 4), Some(6), later)
     );
     assert_eq!(rt;
         moved_back(&mut reader),
         (
-            [(false, behind), (true, (false, 1, 3))],
+            [(false, later), (true, (false, 1, 3))],
             Some(10),
             Some(((false, 2, 2), Some(32)))
         )
@@ -268,7 +268,7 @@ fn a_tape_goes_back(rt: HostRuntime) {
 #[test]
 fn a_tape_takes_anothers_place(rt: HostRuntime) {
     let mut reader = Reader::new(rt.alloc());
-    behind_input(&mut reader, rt.alloc());
+    after_the_input(&mut reader, rt.alloc());
     assert_eq!(rt;
         (mount(&mut reader, rt.alloc(), b"ab"), shown(&reader)),
         (true, (false, 0, 2))
@@ -277,25 +277,25 @@ fn a_tape_takes_anothers_place(rt: HostRuntime) {
 
 /// Puts a tape in, another one in its place, and sets a third one: whether each was taken, and how many blocks are out then.
 fn taken_in_turn<'s, B: Allocator>(
-    scarce: &'s Scarce<B>,
-    reader: &mut Reader<&'s Scarce<B>>,
+    limited: &'s Limited<B>,
+    reader: &mut Reader<&'s Limited<B>>,
 ) -> [(bool, u64); 3] {
     [
-        (mount(reader, scarce, b"12'"), scarce.blocks_out()),
-        (mount(reader, scarce, b"ab"), scarce.blocks_out()),
-        (set(reader, scarce, b"12'3", 3), scarce.blocks_out()),
+        (mount(reader, limited, b"12'"), limited.blocks_out()),
+        (mount(reader, limited, b"ab"), limited.blocks_out()),
+        (set(reader, limited, b"12'3", 3), limited.blocks_out()),
     ]
 }
 
 #[test]
 fn a_reader_has_the_memory_of_one_tape(rt: HostRuntime) {
-    let scarce = Scarce::new(rt.alloc());
-    let mut reader = Reader::new(&scarce);
-    assert_eq!(rt; taken_in_turn(&scarce, &mut reader), [(true, 1); 3]);
+    let limited = Limited::new(rt.alloc());
+    let mut reader = Reader::new(&limited);
+    assert_eq!(rt; taken_in_turn(&limited, &mut reader), [(true, 1); 3]);
 }
 
-/// A tape of four codes of which three have passed, in a reader that is on; the code that passes then; and whether it has so
-/// many codes.
+/// A tape of four codes of which three have passed, in a reader that is on; the code that passes then; and whether it has
+/// that many codes.
 fn set_within(reader: &mut Reader, global: Global) -> (bool, Shown, Option<u8>) {
     start(reader);
     (set(reader, global, b"12'3", 3), shown(reader), pass(reader))

@@ -24,7 +24,7 @@ block_val at = vstruct (vcons (ptr_val at) vnil)
 abbrev pub block_laws : FLaws (row_field block.the_row)
 block_laws = row_laws block.the_row the_row_laws the_told
 
--- a block at a place, with so many bytes
+-- a block at a place, with a given number of bytes
 abbrev pub block_at : Ptr → ℕ → Fml
 block_at place bytes = (block.the_row).own_val (record { at = place; size = bytes }) (block_val place ∷ [])
 

@@ -1,4 +1,4 @@
--- What the walks share of a body: what runs behind a `match`.
+-- What the walks share of a body: what runs after a `match`.
 use seplogic.Ra.Ura.{Ura}
 use mir.Syntax.{Body}
 use prog.Wp.{Env, Calls, Loops, Wp, after_seq}

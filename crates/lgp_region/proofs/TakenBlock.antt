@@ -47,17 +47,17 @@ module _ {M : Type 1} {𝓤 : Ura M} {𝓛 : Logic 𝓤} {K : Type 0} {Γ : List
   pub taken : K → (type : Ty) (n a : ℕ) (answer : Answered.Denot) (v : Val) → capped (size type) ≡ n → IsFor n a answer
       → ((b o : ℕ) → v ≡ live 1 (vcons (block_val (block_ptr b o)) vnil) → Seq K 𝓛 ((‵ (froom type b o) ⊛ ‵ (block_token type (block_ptr b o))) ∷ Γ) G)
       → (v ≡ live 0 vnil → Seq K 𝓛 Γ G) → Seq K 𝓛 (‵ (Answered.own_val answer (v ∷ [])) ∷ Γ) G
-  taken t type n a None v asked told some none =
+  taken t type n a None v asked known some none =
       use1 𝓛 (given (v ∷ [] ≡ live 0 vnil ∷ []) (‵ ftrue)) (own_open 𝓛 (option.the_type block.the_row) answer_laws (inl tt) v) $
       learn t (λ is. drop t $ none (ap only is))
-  taken t type n a (Some x) v asked told some none =
-      let short : size type < 2 ^ 63 = capped_small (size type) (omega (arith, told.2)) in
+  taken t type n a (Some x) v asked known some none =
+      let short : size type < 2 ^ 63 = capped_small (size type) (omega (arith, known.2)) in
       let same : n ≡ size type = sym asked ∙ capped_is (size type) (omega arith) in
       use1 𝓛 (given (v ∷ [] ≡ live 1 (vcons (block_val x.at) vnil) ∷ []) (‵ (live_own (option.the_type block.the_row).parts answer_laws (inr (inl (x, tt))))))
       (own_open 𝓛 (option.the_type block.the_row) answer_laws (inr (inl (x, tt))) v) $
       learn t (λ is. fsplit t $ move t (1 ∷ []) $ drop t $ fsplit t $ drop t $
-      rewrite t 0 (λ (k : ℕ). ‵ (bytes_at x.at k)) (told.0 ∙ ap block_size same) refl $
+      rewrite t 0 (λ (k : ℕ). ‵ (bytes_at x.at k)) (known.0 ∙ ap block_size same) refl $
       in_a_block t x.at (λ p. bytes_at p (block_size (size type))) (id⊢ 𝓤 (never 𝓤)) (λ b o at.
       use1 𝓛 (‵ (froom type b o) ⊛ ‵ (block_token type (block_ptr b o)))
-      (for_value 𝓛 _ b o short (subst (λ (k : ℕ). k ≤ block_size k) same told.1)) $
+      (for_value 𝓛 _ b o short (subst (λ (k : ℕ). k ≤ block_size k) same known.1)) $
       some b o (ap only is ∙ ap (λ (p : Ptr). live 1 (vcons (block_val p) vnil)) at)))

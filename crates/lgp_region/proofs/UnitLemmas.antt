@@ -40,7 +40,7 @@ module _ {M : Type 1} {𝓤 : Ura M} (𝓛 : Logic 𝓤) where
     abbrev pub bytes : ℕ → ℕ → SProp 𝓤
     bytes o n = H.room (units_of n) b o
 
-    -- n bytes as room for a value that takes m of them, and the bytes behind it
+    -- n bytes as room for a value that takes m of them, and the bytes after it
     front : (type : Ty) (o m n : ℕ) → up 16 (size type) ≡ m → m ≤ n → Lends (bytes o n) (sep 𝓤 (H.room type b o) (bytes (o + m) (n - m)))
     front type o m n takes within =
         let fields : Tys = tcons type (tcons (units_of (n - m)) tnil) in
@@ -49,14 +49,14 @@ module _ {M : Type 1} {𝓤 : Ura M} (𝓛 : Logic 𝓤) where
         let start : up (align type) 0 ≡ 0 = no_offset type in
         let all : size both ≡ n / 16 * 16 = (λ i. up (unit i) (up 16 (start i + size type) + (n - m) / 16 * 16)) ∙ omega arith in
         let here : o + up (align type) 0 ≡ o = omega arith in
-        let behind : o + up 16 (up (align type) 0 + size type) ≡ o + m = omega arith in
+        let rest : o + up 16 (up (align type) 0 + size type) ≡ o + m = omega arith in
         let parts : rooms_at 𝓤 H fields 0 b o ≡ sep 𝓤 (H.room type b o) (bytes (o + m) (n - m)) =
-        λ i. sep 𝓤 (H.room type b (here i)) (alone (bytes (behind i) (n - m)) i) in
+        λ i. sep 𝓤 (H.room type b (here i)) (alone (bytes (rest i) (n - m)) i) in
         lends_on _ _ (sep 𝓤 (H.room type b o) (bytes (o + m) (n - m)))
         (𝓛.laws.room_as (units_of n) both b o all (subst (λ (k : ℕ). Dv k 16) (sym unit) tt))
         (subst (Lends (H.room both b o)) parts (𝓛.laws.room_fields [] fields b o))
 
-    -- the first m of n bytes, and those behind them
+    -- the first m of n bytes, and those after them
     pub bytes_cut : (o m n : ℕ) → m % 16 ≡ 0 → m ≤ n → ent 𝓤 (bytes o n) (sep 𝓤 (bytes o m) (bytes (o + m) (n - m)))
     bytes_cut o m n whole within =
         let Both : SProp 𝓤 = sep 𝓤 (bytes o m) (bytes (o + m) (n - m)) in

@@ -7,7 +7,7 @@ use prog.Memory.{size}
 use base.Fml.{Fml, fex, fwand}
 use denote.RawPtr.{Ptr, room_for}
 
--- so many bytes, as units
+-- a given number of bytes, as units
 abbrev pub units_of : ℕ → Ty
 units_of bytes = ty_array (ty_int w128) (bytes / 16)
 
@@ -19,8 +19,8 @@ whole_units bytes = bytes / 16 * 16
 abbrev pub bytes_at : Ptr → ℕ → Fml
 bytes_at place bytes = room_for (units_of bytes) place
 
--- the number of the smallest size that a request of so many bytes fits: 0 for one unit, 1 for two
--- units, 2 for four
+-- the number of the smallest size that a request of a given number of bytes fits: 0 for one unit, 1
+-- for two units, 2 for four
 unfoldable pub shelf_of : ℕ → ℕ
 shelf_of bytes = 64 - leading_zeros w64 ((bytes - 1) / 16)
 

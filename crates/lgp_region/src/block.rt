@@ -21,16 +21,16 @@ impl Model for Block {
 }
 
 impl Block {
-    /// The first `size` bytes, and those behind them.
+    /// The first `size` bytes, and those after them.
     pub fn cut(self, size: usize) -> (Block, Block)
         requires whole { size % 16 ≡ 0 }
         requires within { size ≤ self.size }
         ensures front { result.0.size ≡ size }
-        ensures behind { result.1.size ≡ self.size - size }
+        ensures rest { result.1.size ≡ self.size - size }
     {
         let Block { at } = self;
-        let behind = unsafe { at.add(size) };
-        (Block { at }, Block { at: behind })
+        let rest = unsafe { at.add(size) };
+        (Block { at }, Block { at: rest })
     }
 
     /// Takes `size` bytes from an allocator, to which they never go back. `None` where it has none.

@@ -15,7 +15,7 @@ pub struct Memory {
     pub block: Block,
     /// How many bytes. What is beyond the last multiple of 16 is not used.
     pub size: usize,
-    pub ghost told: { block.size ≡ size },
+    pub ghost size_is: { block.size ≡ size },
 }
 
 impl Memory {
@@ -34,19 +34,19 @@ impl Memory {
         }
     }
 
-    /// The first `size` bytes, and those behind them.
+    /// The first `size` bytes, and those after them.
     pub fn cut(self, size: usize) -> (Memory, Memory)
         requires whole { size % 16 ≡ 0 }
         requires within { size ≤ self.size }
         ensures front { result.0.size ≡ size }
-        ensures behind { result.1.size ≡ self.size - size }
+        ensures rest { result.1.size ≡ self.size - size }
     {
         let Memory { block, size: all } = self;
-        let (front, behind) = block.cut(size);
+        let (front, rest) = block.cut(size);
         (
             Memory { block: front, size },
             Memory {
-                block: behind,
+                block: rest,
                 size: all - size,
             },
         )

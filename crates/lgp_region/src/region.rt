@@ -129,7 +129,7 @@ impl Region {
         Link::within(room, memory)
     }
 
-    /// Keeps a block that was given for a request of so many bytes.
+    /// Keeps a block that was given for a request of a given number of bytes.
     fn keep(&self, block: Block, size: usize)
         requires { block.size ≡ block_size size }
     {

@@ -5,7 +5,7 @@ ghost use Rattle.lgp_region.specs.Room.{shelf_of, block_size};
 /// How many sizes of blocks there are: from 16 bytes to 32 gigabytes, each twice the one before it.
 pub(crate) const SHELVES: u32 = 32;
 
-/// The number of the smallest size that a request of so many bytes fits.
+/// The number of the smallest size that a request of a given number of bytes fits.
 pub(crate) fn shelf(size: usize) -> u32
     ensures number { result ≡ shelf_of size }
     ensures fits { size ≤ 16 * 2 ^ result }

@@ -4,17 +4,17 @@ use crate::{Memory, Region};
 use std::alloc::{AllocError, Allocator};
 use std::test::Fail;
 
-/// A region over so many bytes of another allocator.
+/// A region over a given number of bytes of another allocator.
 fn region_of<A: Allocator>(alloc: &A, size: usize) -> Result<Region, AllocError> {
     Ok(Region::new(Memory::taken_for_good(alloc, size)?))
 }
 
-/// Whether a request for so many bytes is met. They are freed again.
+/// Whether a request for a given number of bytes is met. They are freed again.
 fn is_met(region: &Region, bytes: usize) -> bool {
     Vec::<u8, _>::with_capacity(region, bytes).is_ok()
 }
 
-/// How many of three requests for so many bytes are met while the earlier ones are in use.
+/// How many of three requests for a given number of bytes are met while the earlier ones are in use.
 fn met_of_three(region: &Region, bytes: usize) -> usize {
     let Ok(_first) = Vec::<u8, _>::with_capacity(region, bytes) else {
         return 0;
@@ -74,7 +74,7 @@ fn a_freed_block_serves_no_other_size(rt: HostRuntime) -> Result<(), Fail> {
     Ok(())
 }
 
-/// Takes blocks of 16 bytes up to so many at the same time. How many it got.
+/// Takes blocks of 16 bytes up to a given number at the same time. How many it got.
 fn at_once(region: &Region, most: usize) -> usize {
     let Ok(_block) = Vec::<u8, _>::with_capacity(region, 16) else {
         return 0;
@@ -137,7 +137,7 @@ fn vectors_side_by_side_keep_their_numbers(rt: HostRuntime) -> Result<(), Fail> 
     Ok(())
 }
 
-/// How many of three requests for 16 bytes a region meets that lasts and lies in so many bytes; `None` where there is none.
+/// How many of three requests for 16 bytes a region meets that lasts and lies in a given number of bytes; `None` where there is none.
 fn met_by_lasting<A: Allocator>(alloc: &A, size: usize) -> Result<Option<usize>, AllocError> {
     match Region::lasting(Memory::taken_for_good(alloc, size)?) {
         Ok(region) => Ok(Some(met_of_three(region, 16))),

@@ -121,7 +121,7 @@ in_order place false (b ∷ rest) from _ if_not =
 
 -- ---- comments
 
--- `body` is what stands from a place on up to the first comment
+-- `body` is the text from a place on up to the first comment
 record IsRestToComment (whole : List ℕ) (place : ℕ) (rest body : List ℕ) : Type 0 where
   front : body ≡ take (length body) rest
   none_before : (k : ℕ) → k < length body → begins_comment whole (place + k) ≡ false

@@ -52,7 +52,7 @@ opened b (c ∷ more) e =
     joined b c more (line_len rest) (map (without_last 10) (cut_lines (drop (line_len rest) rest))) (line_len-bounds rest (omega arith)).0
     ∙ sym (ap (λ t. before_pieces b (map (without_last 10) t)) (first_line c more))
 
--- the first line, where a line feed stands in front
+-- the first line, where a line feed is in front
 feed_first : (b : ℕ) (rest : List ℕ) → (b == 10) ≡ true → cut_lines (b ∷ rest) ≡ (b ∷ []) ∷ cut_lines rest
 feed_first b rest e = first_line b rest ∙ ap (λ n. take n (b ∷ rest) ∷ cut_lines (drop n (b ∷ rest))) (len_feed b _ e)
 

@@ -83,7 +83,7 @@ past_token place b rest e =
 
 -- ---- what a step of the tokens gives
 
--- what stands from a place on, as a slice reads it
+-- what a text has from a place on, as a slice reads it
 abbrev pub rest_from : List ℕ → ℕ → List ℕ
 rest_from body place = take (length body - place) (drop place body)
 

@@ -30,7 +30,7 @@ plain_append (b ∷ one) other all more = (all.0, plain_append one other all.1 m
 
 -- ---- cutting
 
--- a line ends at the line feed behind it
+-- a line ends at the line feed after it
 pub piece_first : (line rest : List ℕ) → ArePlain line → pieces (line ++ 10 ∷ rest) ≡ line ∷ pieces rest
 piece_first [] rest all = refl
 piece_first (b ∷ line) rest all =
@@ -101,7 +101,7 @@ token_first place b word rest all blank =
     ∙ ap (λ t. record { text = t; first = place; past = place + length whole } ∷ tokens_from (place + length whole) true (drop (length whole) (whole ++ rest))) (take_at whole rest (length whole) refl)
     ∙ ap (λ t. token_of place whole ∷ tokens_from (place + length whole) true t) (drop_at whole rest (length whole) refl)
 
--- the line of an operation and an operand, each behind a space
+-- the line of an operation and an operand, each after a space
 pub record IsStatement (line : SourceLine) (number : ℕ) (text name operand : List ℕ) : Type 0 where
   pub first : SourceToken
   pub second : SourceToken
@@ -119,15 +119,15 @@ statement_line number n o name operand is_name is_operand =
       plain_append (n ∷ name) (32 ∷ (o ∷ operand)) (plain_visible (n ∷ name) is_name)
           ((omega arith, omega arith, λ e. absurd (omega arith)), plain_visible (o ∷ operand) is_operand),
     ) in
-    let behind = 1 + length (n ∷ name) in
-    let tokens : tokens_of text ≡ token_of 1 (n ∷ name) ∷ token_of (behind + 1) (o ∷ operand) ∷ [] =
+    let after = 1 + length (n ∷ name) in
+    let tokens : tokens_of text ≡ token_of 1 (n ∷ name) ∷ token_of (after + 1) (o ∷ operand) ∷ [] =
     ap (tokens_from 0 true) (no_comment text plain)
     ∙ token_first 1 n name (32 ∷ (o ∷ operand)) is_name refl
-    ∙ ap (λ t. token_of 1 (n ∷ name) ∷ t) (ap (tokens_from (behind + 1) true) (sym (append-nil (o ∷ operand)))
+    ∙ ap (λ t. token_of 1 (n ∷ name) ∷ t) (ap (tokens_from (after + 1) true) (sym (append-nil (o ∷ operand)))
     ∙ token_first _ o _ [] is_operand tt) in
     record {
       first = token_of 1 (n ∷ name);
-      second = token_of (behind + 1) (o ∷ operand);
+      second = token_of (after + 1) (o ∷ operand);
       name_is = refl;
       operand_is = refl;
       line_is = ap (λ bad. line_with number text bad (if is_some bad then [] else tokens_of text)) (no_bad_byte text plain)

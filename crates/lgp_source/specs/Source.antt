@@ -29,7 +29,7 @@ abbrev pub before_pieces : ℕ → List (List ℕ) → List (List ℕ)
 before_pieces b [] = (b ∷ []) ∷ []
 before_pieces b (piece ∷ pieces) = (b ∷ piece) ∷ pieces
 
--- what stands between line feeds: nothing comes after a last line feed, and an empty source has no
+-- what is between line feeds: nothing comes after a last line feed, and an empty source has no
 -- piece
 abbrev pub pieces : List ℕ → List (List ℕ)
 pieces [] = []
@@ -64,7 +64,7 @@ body_from fresh (b ∷ rest) = if fresh && b == 59 then [] else b ∷ body_from 
 abbrev pub before_comment : List ℕ → List ℕ
 before_comment text = body_from true text
 
--- the token that begins at a place, where `body` is what stands from there on: it goes on to the
+-- the token that begins at a place, where `body` is the text from there on: it goes on to the
 -- next blank
 abbrev pub token_at : ℕ → List ℕ → SourceToken
 token_at place body = record {

@@ -36,7 +36,7 @@ fn is_blank(byte: u8) -> bool
     byte == b' ' || byte == b'\t'
 }
 
-/// Whether a byte may not stand in a line.
+/// Whether a byte may not be in a line.
 fn is_bad(byte: u8) -> bool
     ensures { result ≡ source.is_bad byte }
 {
@@ -57,7 +57,7 @@ fn before_comment(text: &[u8]) -> &[u8]
     text
 }
 
-/// The tokens from a place on that stands at a token's beginning, at a blank or at the end.
+/// The tokens from a place on that is at a token's beginning, at a blank or at the end.
 #[derive(Drop)]
 struct Tokens<'a> {
     body: &'a [u8],
@@ -89,14 +89,14 @@ fn blank_place(body: &[u8]) -> Option<usize>
     body.iter().position(|byte| is_blank(*byte))
 }
 
-/// The place of the first byte that may not stand in a line.
+/// The place of the first byte that may not be in a line.
 fn bad_place(text: &[u8]) -> Option<usize>
     ensures { result ≡ position source.is_bad text.now }
 {
     text.iter().position(|byte| is_bad(*byte))
 }
 
-/// How many bytes stand before the first blank.
+/// How many bytes come before the first blank.
 #[tactic(auto, using(crate::proofs::Places::run_lengths))]
 fn run(body: &[u8]) -> usize
     ensures value { result ≡ position_or_len source.is_blank body.now }

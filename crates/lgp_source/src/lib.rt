@@ -67,7 +67,7 @@ impl<'a> Iterator for Lines<'a> {
 
 /// A law, for readers and proofs: what the tokens of a line's text are.
 ///
-/// The body is the text up to the first `;` that stands at the line's start or after a blank. Each
+/// The body is the text up to the first `;` that is at the line's start or after a blank. Each
 /// token is a longest run of the body without blanks, and the slice of the text at its span; each
 /// byte of the body that is no blank lies in a token; and the tokens are in order.
 #[tactic(auto, using(crate::proofs::Laws::token_laws))]

@@ -18,18 +18,18 @@ text_of-append (x ∷ xs) ys = ap (λ (more : List ℕ). ended x ++ more) (text_
 pub after-append : {S : Type 0} (language : Language S) (r : Recorded S) (xs ys : List (List ℕ)) → after_lines language (after_lines language r xs) ys ≡ after_lines language r (xs ++ ys)
 unfolding after_lines
 after-append {S} language r xs ys =
-    ap (λ (s : S). record { standing = s; transcript = (r.transcript ++ text_of xs) ++ text_of ys }) (sym (state_after-append language _ xs ys))
-    ∙ ap (λ (t : List ℕ). record { standing = state_after language r.standing (xs ++ ys); transcript = t })
+    ap (λ (s : S). record { state = s; transcript = (r.transcript ++ text_of xs) ++ text_of ys }) (sym (state_after-append language _ xs ys))
+    ∙ ap (λ (t : List ℕ). record { state = state_after language r.state (xs ++ ys); transcript = t })
     (append_assoc r.transcript (text_of xs) (text_of ys) ∙ ap (λ (t : List ℕ). r.transcript ++ t) (sym (text_of-append xs ys)))
 
 pub replies-append : {S : Type 0} (language : Language S) (r : Recorded S) (xs ys : List (List ℕ)) → replies_text language r (xs ++ ys) ≡ replies_text language r xs ++ replies_text language (after_lines language r xs) ys
 unfolding after_lines replies_text
 replies-append language r xs ys =
-    ap concat (replies_to-append language _ xs ys) ∙ concat-append (replies_to language r.standing xs) (replies_to language (state_after language r.standing xs) ys)
+    ap concat (replies_to-append language _ xs ys) ∙ concat-append (replies_to language r.state xs) (replies_to language (state_after language r.state xs) ys)
 
 pub after-none : {S : Type 0} (language : Language S) (r : Recorded S) → after_lines language r [] ≡ r
 unfolding after_lines
-after-none language r = ap (λ (t : List ℕ). record { standing = r.standing; transcript = t }) (append-nil r.transcript)
+after-none language r = ap (λ (t : List ℕ). record { state = r.state; transcript = t }) (append-nil r.transcript)
 
 pub replies-none : {S : Type 0} (language : Language S) (r : Recorded S) → replies_text language r [] ≡ []
 unfolding replies_text

@@ -1,4 +1,4 @@
--- A text that is taken byte by byte: its complete lines, and the piece of a line behind them.
+-- A text that is taken byte by byte: its complete lines, and the piece of a line after them.
 use Rattle.std.proofs.Common.{◌≡◌, ℕ, ◌+◌, Bool, true, false, cond, List, [], ◌∷◌, ◌++◌, length, take, count_by, refl, sym, ap, ◌∙◌, eqb, append_assoc, length-append, add-zero}
 use Rattle.std.specs.List.{AllByRecursion, onto_first, slice_split}
 use Rattle.std.specs.Str.Lines.{lines, lines_of_parts, strip_carriage_return}
@@ -11,10 +11,10 @@ use Rattle.lgp_stream.specs.Language.{complete_lines, is_line_feed}
 use Rattle.lgp_stream.specs.StreamInside.{IsCut}
 
 -- no byte of a piece of a line is a line feed
-IsOpen : List ℕ → Type 0
+unfoldable pub IsOpen : List ℕ → Type 0
 IsOpen piece = AllByRecursion (λ byte. eqb byte 10 ≡ false) piece
 
-IsOpen-push : (piece : List ℕ) (byte : ℕ) → IsOpen piece → eqb byte 10 ≡ false → IsOpen (piece ++ byte ∷ [])
+pub IsOpen-push : (piece : List ℕ) (byte : ℕ) → IsOpen piece → eqb byte 10 ≡ false → IsOpen (piece ++ byte ∷ [])
 unfolding IsOpen
 IsOpen-push [] byte free other = (other, tt)
 IsOpen-push (first ∷ piece) byte free other = (free.0, IsOpen-push piece byte free.1 other)
@@ -34,13 +34,13 @@ slice_split-parts (byte ∷ bytes) = by_feed (eqb byte 10) (slice_split (λ byte
 lines_of_parts-more : (line : List ℕ) (rest : List (List ℕ)) → IsSplit rest → lines_of_parts (line ∷ rest) ≡ strip_carriage_return line ∷ lines_of_parts rest
 lines_of_parts-more line _ (parts first more) = refl
 
-lines-feed : (piece bytes : List ℕ) → IsOpen piece → lines (piece ++ 10 ∷ bytes) ≡ strip_carriage_return piece ∷ lines bytes
+pub lines-feed : (piece bytes : List ℕ) → IsOpen piece → lines (piece ++ 10 ∷ bytes) ≡ strip_carriage_return piece ∷ lines bytes
 unfolding IsOpen
 lines-feed piece bytes free =
     rw (slice_split_at _ _ 10 bytes (All-from_recursion (λ byte. eqb byte 10 ≡ false) piece free) refl)
     (lines_of_parts-more piece _ (slice_split-parts bytes))
 
-lines-open : (piece : List ℕ) → IsOpen piece → lines piece ≡ cond (eqb (length piece) 0) [] (piece ∷ [])
+pub lines-open : (piece : List ℕ) → IsOpen piece → lines piece ≡ cond (eqb (length piece) 0) [] (piece ∷ [])
 unfolding IsOpen
 lines-open piece free = rw (slice_split_none _ piece (All-from_recursion (λ byte. eqb byte 10 ≡ false) piece free)) refl
 

@@ -24,7 +24,7 @@ pub Consumes-none : (a : Option (List ℕ)) → Consumes a a []
 Consumes-none None = tt
 Consumes-none (Some us) = refl
 
--- a front and a piece behind it
+-- a front and a piece after it
 pub take-piece : (bytes : List ℕ) (taken count : ℕ) → take (taken + count) bytes ≡ take taken bytes ++ take count (take (length bytes - taken) (drop taken bytes))
 take-piece bytes taken count = rw (take_rest bytes taken) (take-add taken count bytes)
 

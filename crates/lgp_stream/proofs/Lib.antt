@@ -3,6 +3,8 @@ pub mod KnownLemmas
 pub mod FrontLemmas
 pub mod LineLemmas
 pub mod CutLemmas
+pub mod SpeechLemmas
+pub mod FirstLines
 pub mod StreamLemmas
 pub mod StandIns
 pub mod LineLaws

@@ -7,9 +7,9 @@ use Rattle.std.proofs.Math.Seq.{get_or-append_seam, take-append_seam}
 use Rattle.lgp_stream.specs.Language.{Language, state_after}
 use Rattle.lgp_stream.specs.StreamInside.{IsCut}
 use Rattle.lgp_stream.proofs.CutLemmas.{IsCut-feed, IsCut-lines, IsCut-none, IsCut-push}
-use Rattle.lgp_stream.specs.Transcript.{AreLines, HasMeanings, IsLine, IsToldByTranscript, Meaning, Anew, Lines, Recorded, StandForLines, after_lines, after_meaning, ended, untouched}
+use Rattle.lgp_stream.specs.Transcript.{AreLines, HasMeanings, IsLine, IsReportedByTranscript, Meaning, Anew, Lines, Recorded, StandForLines, after_lines, after_meaning, ended, untouched}
 
--- ---- a line behind complete ones
+-- ---- a line after complete ones
 
 abbrev ends_with_return : List ℕ → Bool
 ends_with_return line = get_or line (length line - 1) 0 == 13
@@ -51,48 +51,48 @@ IsCut-ended bytes complete line cut free = by_return (ends_with_return line) ref
 
 -- ---- where lines of the other language lead
 
--- the transcript is complete lines, which lead where it stands
-pub record IsTold {S : Type 0} (language : Language S) (opening standing : S) (transcript : List ℕ) : Type 0 where
+-- the transcript is complete lines, which lead to the state reached
+pub record IsReported {S : Type 0} (language : Language S) (opening state : S) (transcript : List ℕ) : Type 0 where
   pub said : List (List ℕ)
   pub cut : IsCut transcript said []
-  pub stands : standing ≡ state_after language opening said
+  pub stands : state ≡ state_after language opening said
 
-pub IsTold-none : {S : Type 0} (language : Language S) (opening : S) → IsTold language opening opening []
-IsTold-none language opening = record { said = []; cut = IsCut-none; stands = refl }
+pub IsReported-none : {S : Type 0} (language : Language S) (opening : S) → IsReported language opening opening []
+IsReported-none language opening = record { said = []; cut = IsCut-none; stands = refl }
 
 state_after-last : {S : Type 0} (language : Language S) (s : S) (said : List (List ℕ)) (line : List ℕ) → state_after language s (said ++ line ∷ []) ≡ language.after (state_after language s said) line
 state_after-last language s [] line = refl
 state_after-last language s (first ∷ said) line = state_after-last language (language.after s first) said line
 
-IsTold-line : {S : Type 0} (language : Language S) (opening standing : S) (transcript line : List ℕ) → IsTold language opening standing transcript → IsLine line
-    → IsTold language opening (language.after standing line) (transcript ++ ended line)
-IsTold-line {S} language opening standing transcript line told free = record {
-  said = told.said ++ line ∷ [];
-  cut = IsCut-ended transcript told.said line told.cut free;
+IsReported-line : {S : Type 0} (language : Language S) (opening state : S) (transcript line : List ℕ) → IsReported language opening state transcript → IsLine line
+    → IsReported language opening (language.after state line) (transcript ++ ended line)
+IsReported-line {S} language opening state transcript line reported free = record {
+  said = reported.said ++ line ∷ [];
+  cut = IsCut-ended transcript reported.said line reported.cut free;
   stands = grind (arith, state_after-last);
 }
 
-pub IsTold-lines : {S : Type 0} (language : Language S) (opening standing : S) (transcript : List ℕ) (lines : List (List ℕ)) → IsTold language opening standing transcript → AllByRecursion IsLine lines
-    → IsTold language opening (state_after language standing lines) (transcript ++ concat (map ended lines))
-IsTold-lines language opening standing transcript [] told free = rw (append-nil transcript) told
-IsTold-lines language opening standing transcript (line ∷ lines) told free =
+pub IsReported-lines : {S : Type 0} (language : Language S) (opening state : S) (transcript : List ℕ) (lines : List (List ℕ)) → IsReported language opening state transcript → AllByRecursion IsLine lines
+    → IsReported language opening (state_after language state lines) (transcript ++ concat (map ended lines))
+IsReported-lines language opening state transcript [] reported free = rw (append-nil transcript) reported
+IsReported-lines language opening state transcript (line ∷ lines) reported free =
     rw (append_assoc transcript (ended _) (concat (map ended _))) at
-    (IsTold-lines language opening (language.after standing line) (transcript ++ ended _) lines (IsTold-line language opening standing transcript line told free.0) free.1)
+    (IsReported-lines language opening (language.after state line) (transcript ++ ended _) lines (IsReported-line language opening state transcript line reported free.0) free.1)
 
-pub IsTold-meaning : {S : Type 0} (language : Language S) (opening : S) (r : Recorded S) (meaning : Meaning) → IsTold language opening r.standing r.transcript → AreLines meaning
-    → IsTold language opening (after_meaning language opening r meaning).standing (after_meaning language opening r meaning).transcript
+pub IsReported-meaning : {S : Type 0} (language : Language S) (opening : S) (r : Recorded S) (meaning : Meaning) → IsReported language opening r.state r.transcript → AreLines meaning
+    → IsReported language opening (after_meaning language opening r meaning).state (after_meaning language opening r meaning).transcript
 unfolding after_lines
-IsTold-meaning language opening r (Lines lines) told free = IsTold-lines language opening r.standing r.transcript lines told free
-IsTold-meaning language opening r Anew told free = IsTold-none language opening
+IsReported-meaning language opening r (Lines lines) reported free = IsReported-lines language opening r.state r.transcript lines reported free
+IsReported-meaning language opening r Anew reported free = IsReported-none language opening
 
-IsTold-text : {S : Type 0} (language : Language S) (opening : S) (meaning : Recorded S → List ℕ → Meaning) (typed : Language (Recorded S)) → HasMeanings language opening meaning typed → StandForLines meaning
-    → (r : Recorded S) (lines : List (List ℕ)) → IsTold language opening r.standing r.transcript → AllByRecursion IsLine lines
-    → IsTold language opening (state_after typed r lines).standing (state_after typed r lines).transcript
-IsTold-text language opening meaning typed has stand r [] told free = told
-IsTold-text {S} language opening meaning typed has stand r (line ∷ lines) told free =
-    IsTold-text language opening meaning typed has stand (typed.after r line) lines
-    (subst (λ (next : Recorded S). IsTold language opening next.standing next.transcript) (sym (has r line))
-    (IsTold-meaning language opening r (meaning r line) told (stand r line free.0)))
+IsReported-text : {S : Type 0} (language : Language S) (opening : S) (meaning : Recorded S → List ℕ → Meaning) (typed : Language (Recorded S)) → HasMeanings language opening meaning typed → StandForLines meaning
+    → (r : Recorded S) (lines : List (List ℕ)) → IsReported language opening r.state r.transcript → AllByRecursion IsLine lines
+    → IsReported language opening (state_after typed r lines).state (state_after typed r lines).transcript
+IsReported-text language opening meaning typed has stand r [] reported free = reported
+IsReported-text {S} language opening meaning typed has stand r (line ∷ lines) reported free =
+    IsReported-text language opening meaning typed has stand (typed.after r line) lines
+    (subst (λ (next : Recorded S). IsReported language opening next.state next.transcript) (sym (has r line))
+    (IsReported-meaning language opening r (meaning r line) reported (stand r line free.0)))
     free.1
 
 -- ---- the lines of a text
@@ -130,12 +130,12 @@ lines_are_lines text = free-lines (slice_split (λ byte. eqb byte 10) text) (fre
 
 -- ---- together
 
-pub IsTold-all : {S : Type 0} (language : Language S) (opening : S) (r : Recorded S) → IsTold language opening r.standing r.transcript → IsToldByTranscript language opening r
-IsTold-all {S} language opening r told =
-    told.stands ∙ ap (λ (said : List (List ℕ)). state_after language opening said) (sym (IsCut-lines r.transcript told.said [] told.cut ∙ append-nil told.said))
+pub IsReported-all : {S : Type 0} (language : Language S) (opening : S) (r : Recorded S) → IsReported language opening r.state r.transcript → IsReportedByTranscript language opening r
+IsReported-all {S} language opening r reported =
+    reported.stands ∙ ap (λ (said : List (List ℕ)). state_after language opening said) (sym (IsCut-lines r.transcript reported.said [] reported.cut ∙ append-nil reported.said))
 
-pub told_by_transcript : {S : Type 0} (language : Language S) (opening : S) (meaning : Recorded S → List ℕ → Meaning) (typed : Language (Recorded S)) → HasMeanings language opening meaning typed
-    → StandForLines meaning → (text : List ℕ) → IsToldByTranscript language opening (state_after typed (untouched opening) (lines text))
-told_by_transcript language opening meaning typed has stand text =
-    IsTold-all language opening (state_after typed (untouched opening) (lines text))
-    (IsTold-text language opening meaning typed has stand (untouched opening) (lines text) (IsTold-none language opening) (lines_are_lines text))
+pub reported_by_transcript : {S : Type 0} (language : Language S) (opening : S) (meaning : Recorded S → List ℕ → Meaning) (typed : Language (Recorded S)) → HasMeanings language opening meaning typed
+    → StandForLines meaning → (text : List ℕ) → IsReportedByTranscript language opening (state_after typed (untouched opening) (lines text))
+reported_by_transcript language opening meaning typed has stand text =
+    IsReported-all language opening (state_after typed (untouched opening) (lines text))
+    (IsReported-text language opening meaning typed has stand (untouched opening) (lines text) (IsReported-none language opening) (lines_are_lines text))

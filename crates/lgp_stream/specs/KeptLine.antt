@@ -1,8 +1,10 @@
 -- Part of the public promise: what is kept of a line that is read byte by byte, enough to answer
 -- it.
-use Rattle.std.specs.Prelude.{ℕ, ◌&&◌, ◌||◌, Bool, if◌then◌else◌, nat_le, nat_lt, List, [], ◌∷◌}
+use Rattle.std.specs.Prelude.{◌≡◌, ℕ, ◌&&◌, ◌||◌, Bool, if◌then◌else◌, nat_le, nat_lt, List, []}
+use Rattle.std.specs.Prelude.{◌∷◌}
 use Rattle.std.specs.Prelude.{◌++◌, length, take}
 use Rattle.std.specs.List.{list_all}
+use Rattle.std.specs.Str.Lines.{lines}
 use Rattle.lgp_stream.specs.LineWords.{is_space}
 
 -- how many bytes of a line are kept
@@ -29,3 +31,9 @@ kept_push kept byte = record {
   longer = kept.longer || nat_le line_limit (length kept.front);
   blank = kept.blank && is_space byte;
 }
+
+-- this is kept of the first line of a text, which the rest follows
+pub record IsFirstLine (text : List ℕ) (kept : Kept) (rest : List ℕ) : Type 0 where
+  pub first : List ℕ
+  pub is_kept : kept ≡ kept_of first
+  pub lines_are : lines text ≡ first ∷ lines rest

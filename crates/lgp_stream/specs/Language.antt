@@ -1,5 +1,5 @@
 -- Part of the public promise: what a language of lines is, the replies to a text in it, and what
--- stands written of them where the text was not answered to its end.
+-- is written of them where the text was not answered to its end.
 use Rattle.std.specs.Prelude.{◌≡◌, ℕ, ◌+◌, ◌-◌, ◌^◌, ◌≤◌, ◌==◌, Bool, true, min, List, [], ◌∷◌}
 use Rattle.std.specs.Prelude.{◌++◌, fold, length, take, count_by, slice_index, Option, Some, ⊤}
 use Rattle.std.specs.List.{concat}
@@ -49,15 +49,15 @@ is_line_feed character = character == byte "\n"
 abbrev pub complete_lines : List ℕ → List (List ℕ)
 complete_lines text = take (count_by is_line_feed text) (lines text)
 
--- of a text that was read in part, the replies to the complete lines of that part were written,
--- behind those in front
-pub record HasReadPart {S : Type 0} (front : List (List ℕ)) (language : Language S) (s : S)
+-- of a text that was read in part, what is written for the complete lines of that part was written,
+-- after what was in front
+pub record HasReadPart (front : List (List ℕ)) (written_for : List (List ℕ) → List (List ℕ))
     (text : List ℕ) (left w₀ w : Option (List ℕ)) : Type 0 where
   pub part : List ℕ
   pub consumed : Consumes (Some text) left part
-  pub sent : Appends w₀ w (concat (front ++ replies_to language s (complete_lines part)))
+  pub sent : Appends w₀ w (concat (front ++ written_for (complete_lines part)))
 
--- the first bytes of the replies were written, so many as counted
+-- the first bytes of the replies were written, as many as counted
 pub record HasWrittenBytes (count : ℕ) (w₀ w : Option (List ℕ))
     (replies : List (List ℕ)) : Type 0 where
   pub taken : ℕ
@@ -65,7 +65,7 @@ pub record HasWrittenBytes (count : ℕ) (w₀ w : Option (List ℕ))
   pub sent : Appends w₀ w (take taken (concat replies))
   pub counted : count ≡ min taken count_limit
 
--- all replies before one were written, each whole, and of that one and those behind it nothing
+-- all replies before one were written, each whole, and of that one and those after it nothing
 pub record HasWrittenReplies (w₀ w : Option (List ℕ)) (replies : List (List ℕ)) : Type 0 where
   pub first : List (List ℕ)
   pub lacking : List ℕ
@@ -73,16 +73,17 @@ pub record HasWrittenReplies (w₀ w : Option (List ℕ)) (replies : List (List 
   pub joined : replies ≡ first ++ (lacking ∷ rest)
   pub sent : Appends w₀ w (concat first)
 
--- what stands written of replies after each fault, where nothing is read on the way
+-- what is written of replies after each fault, where nothing is read on the way
 abbrev pub HasStopped : StreamFault → Option (List ℕ) → Option (List ℕ) → List (List ℕ) → Type 0
 HasStopped Read w₀ w replies = ⊥
 HasStopped (Write count) w₀ w replies = HasWrittenBytes count w₀ w replies
 HasStopped Memory w₀ w replies = HasWrittenReplies w₀ w replies
 
--- what stands written after each fault, of replies in front and of the replies to a text
+-- what is written after each fault, of replies in front and of the replies to a text
 abbrev pub StandsWritten : {S : Type 0} → List (List ℕ) → Language S → S → StreamFault → List ℕ
     → Option (List ℕ) → Option (List ℕ) → Option (List ℕ) → Type 0
-StandsWritten front language s Read text left w₀ w = HasReadPart front language s text left w₀ w
+StandsWritten front language s Read text left w₀ w =
+    HasReadPart front (replies_to language s) text left w₀ w
 StandsWritten front language s fault text left w₀ w =
     HasStopped fault w₀ w (front ++ text_replies language s text)
 
@@ -92,13 +93,13 @@ HasCause Read reader writer = reader ≡ true
 HasCause (Write count) reader writer = writer ≡ true
 HasCause Memory reader writer = ⊤
 
--- what stands written of one text after each fault: nothing, or so many of its first bytes as are
+-- what is written of one text after each fault: nothing, or as many of its first bytes as are
 -- counted
 abbrev pub StandsOf : List ℕ → StreamFault → Option (List ℕ) → Option (List ℕ) → Type 0
 StandsOf text (Write count) w₀ w = HasWrittenBytes count w₀ w (text ∷ [])
 StandsOf text fault w₀ w = Appends w₀ w []
 
--- a fault, counted behind so many bytes
-abbrev pub fault_behind : ℕ → StreamFault → StreamFault
-fault_behind bytes (Write taken) = Write (min (taken + bytes) count_limit)
-fault_behind bytes fault = fault
+-- a fault, counted after a given number of bytes
+abbrev pub fault_after : ℕ → StreamFault → StreamFault
+fault_after bytes (Write taken) = Write (min (taken + bytes) count_limit)
+fault_after bytes fault = fault

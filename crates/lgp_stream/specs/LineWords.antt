@@ -13,13 +13,13 @@ is_visible character = not (is_space character)
 unfoldable pub without_spaces : List ℕ → List ℕ
 without_spaces text = drop (position_or_len is_visible text) text
 
--- the first word of a text, and what stands behind it
+-- the first word of a text, and what comes after it
 unfoldable pub first_word : List ℕ → List ℕ
 first_word text = before_first is_space (without_spaces text)
 
-unfoldable pub behind_word : List ℕ → List ℕ
-behind_word text = drop (position_or_len is_space (without_spaces text)) (without_spaces text)
+unfoldable pub after_word : List ℕ → List ℕ
+after_word text = drop (position_or_len is_space (without_spaces text)) (without_spaces text)
 
--- no word stands on it
+-- there is no word on it
 unfoldable pub has_no_word : List ℕ → Bool
 has_no_word text = list_all is_space text

@@ -9,9 +9,9 @@ use Rattle.std.specs.Str.Lines.{lines}
 use Rattle.lgp_stream.specs.KeptLine.{Kept}
 use Rattle.lgp_stream.specs.Language.{Language, is_line_feed, replies_to, state_after}
 
--- where something stands, and the text whose lines have brought it there
+-- the state of something, and the text whose lines have brought it into that state
 pub record Recorded (S : Type 0) : Type 0 where
-  pub standing : S
+  pub state : S
   pub transcript : List ℕ
 
 -- what a line stands for: lines of the other language, one after another, or a new beginning
@@ -19,7 +19,7 @@ pub data Meaning : Type 0 where
   Lines : List (List ℕ) → Meaning
   Anew : Meaning
 
--- a line as a text has it: behind a carriage return stands another one, since a text's line loses
+-- a line as a text has it: after a carriage return there is another one, since a text's line loses
 -- one
 unfoldable pub ended : List ℕ → List ℕ
 ended line =
@@ -46,14 +46,14 @@ AreLines Anew = Unit {0}
 module _ {S : Type 0} where
   -- before the first line
   abbrev pub untouched : S → Recorded S
-  untouched standing = record { standing = standing; transcript = [] }
+  untouched state = record { state = state; transcript = [] }
 
-  -- with a line more in the transcript, and where it stands otherwise
+  -- with a line more in the transcript, and with another state
   abbrev pub with_line : Recorded S → List ℕ → Recorded S
   with_line recorded line = record recorded { transcript = recorded.transcript ++ ended line }
 
-  abbrev pub with_standing : Recorded S → S → Recorded S
-  with_standing recorded standing = record recorded { standing = standing }
+  abbrev pub with_state : Recorded S → S → Recorded S
+  with_state recorded state = record recorded { state = state }
 
   -- lines stand for lines
   abbrev pub StandForLines : (Recorded S → List ℕ → Meaning) → Type 0
@@ -65,19 +65,19 @@ module _ {S : Type 0} (language : Language S) where
   -- after lines of it, and the replies to them
   unfoldable pub after_lines : Recorded S → List (List ℕ) → Recorded S
   after_lines recorded lines = record {
-    standing = state_after language recorded.standing lines;
+    state = state_after language recorded.state lines;
     transcript = recorded.transcript ++ concat (map ended lines);
   }
 
   unfoldable pub replies_text : Recorded S → List (List ℕ) → List ℕ
-  replies_text recorded lines = concat (replies_to language recorded.standing lines)
+  replies_text recorded lines = concat (replies_to language recorded.state lines)
 
   -- after a line of this meaning
   abbrev pub after_meaning : S → Recorded S → Meaning → Recorded S
   after_meaning opening recorded (Lines lines) = after_lines recorded lines
   after_meaning opening recorded Anew = untouched opening
 
-  -- a language of lines with a meaning each: its lines do to a transcript and to where it stands
+  -- a language of lines with a meaning each: its lines do to a transcript and to the state
   -- what they mean
   abbrev pub HasMeanings : S → (Recorded S → List ℕ → Meaning) → Language (Recorded S) → Type 0
   HasMeanings opening meaning typed =
@@ -85,6 +85,6 @@ module _ {S : Type 0} (language : Language S) where
       → typed.after recorded line ≡ after_meaning opening recorded (meaning recorded line)
 
   -- wherever a text leads, the other language puts it there for the transcript
-  abbrev pub IsToldByTranscript : S → Recorded S → Type 0
-  IsToldByTranscript opening recorded =
-      recorded.standing ≡ state_after language opening (lines recorded.transcript)
+  abbrev pub IsReportedByTranscript : S → Recorded S → Type 0
+  IsReportedByTranscript opening recorded =
+      recorded.state ≡ state_after language opening (lines recorded.transcript)

@@ -47,7 +47,7 @@ pub struct FeedOf<T> {
 }
 
 impl<T: Read> FeedOf<T> {
-    /// A feed of what a reader has left, which reads at most so many times.
+    /// A feed of what a reader has left, which reads at most a given number of times.
     pub fn new(reader: T, reads: u64) -> FeedOf<T>
         ensures remaining { ⟦<FeedOf<T> as Feed>⟧.remaining result ≡ T.remaining reader }
         ensures reads { ⟦<FeedOf<T> as Feed>⟧.reads result ≡ reads }

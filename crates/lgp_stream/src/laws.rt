@@ -5,7 +5,7 @@ ghost use Rattle.std.specs.List.{AllByRecursion};
 ghost use Rattle.std.specs.Str.Lines.{lines};
 ghost use Rattle.lgp_stream.specs.KeptLine.{kept_of, line_limit};
 ghost use Rattle.lgp_stream.specs.Language.{Language, state_after};
-ghost use Rattle.lgp_stream.specs.Transcript.{HasMeanings, IsLine, IsToldByTranscript, Meaning, Recorded, StandForLines, stand_in, untouched};
+ghost use Rattle.lgp_stream.specs.Transcript.{HasMeanings, IsLine, IsReportedByTranscript, Meaning, Recorded, StandForLines, stand_in, untouched};
 
 /// A line that stands in for another one is kept as that is; it is that one, where that is kept whole.
 #[tactic(auto, using(crate::proofs::StandIns::stand_ins))]
@@ -21,11 +21,11 @@ pub fn text_has_lines()
 {}
 
 /// Whatever text is typed, it leads where the other language is led by the transcript.
-#[tactic(auto, using(crate::proofs::LineLaws::told_by_transcript))]
+#[tactic(auto, using(crate::proofs::LineLaws::reported_by_transcript))]
 pub fn transcript_tells_all<S>()
     ensures { (language : Language S) (opening : S) (meaning : Recorded S → List ℕ → Meaning)
         (typed : Language (Recorded S)) → HasMeanings language opening meaning typed
         → StandForLines meaning → (text : List ℕ)
-        → IsToldByTranscript language opening
+        → IsReportedByTranscript language opening
         (state_after typed (untouched opening) (lines text)) }
 {}

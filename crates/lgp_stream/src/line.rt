@@ -1,8 +1,8 @@
 //! What is kept of a line that is read byte by byte.
 
-ghost use Rattle.std.specs.Prelude.{◌≡◌, ◌≤◌, [], false, length, List, ℕ};
+ghost use Rattle.std.specs.Prelude.{◌≡◌, ◌≤◌, ◌<◌, [], false, length, List, ℕ};
 ghost use Rattle.std.specs.Str.{bytes_eq};
-ghost use Rattle.lgp_stream.specs.KeptLine.{Kept, kept_of, kept_push, line_limit};
+ghost use Rattle.lgp_stream.specs.KeptLine.{IsFirstLine, Kept, kept_of, kept_push, line_limit};
 ghost use Rattle.lgp_stream.specs.OpenLineInside.{Open, is_unbegun, open_of, open_push, whole};
 
 use arrayvec::ArrayVec;
@@ -91,7 +91,7 @@ impl LineBytes {
         !self.longer && self.front.as_slice() == word
     }
 
-    /// Whether no word stands on the line: all bytes are spaces.
+    /// Whether there is no word on the line: all bytes are spaces.
     pub fn has_no_word(&self) -> bool
         ensures { result ≡ self.now.blank }
     {
@@ -99,7 +99,7 @@ impl LineBytes {
     }
 }
 
-/// An open line; a carriage return is held back until the next byte shows whether the line ends behind it.
+/// An open line; a carriage return is held back until the next byte shows whether the line ends after it.
 #[derive(Drop)]
 pub struct Line {
     bytes: LineBytes,
@@ -169,5 +169,34 @@ impl Line {
         let mut line = self;
         line.release();
         line.bytes
+    }
+}
+
+/// A line of a text, as it is kept, and the text after it.
+#[derive(Drop)]
+pub struct FirstLine<'a> {
+    pub line: LineBytes,
+    pub rest: &'a [u8],
+}
+
+/// The first line of a text that is not empty.
+pub fn first_line(text: &[u8]) -> FirstLine<'_>
+    requires { 0 < length text.now }
+    ensures line { IsFirstLine text.now result.line result.rest.now }
+    ensures shorter { length result.rest.now < length text.now }
+{
+    let mut open = Line::new();
+    for (place, byte) in text.iter().enumerate() {
+        if *byte == b'\n' {
+            return FirstLine {
+                line: open.complete(),
+                rest: &text[place + 1..],
+            };
+        }
+        open.push(*byte);
+    }
+    FirstLine {
+        line: open.last(),
+        rest: &[],
     }
 }

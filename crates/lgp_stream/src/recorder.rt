@@ -10,7 +10,7 @@ use crate::stream::Answers;
 use std::alloc::{AllocError, Allocator};
 use std::marker::Model;
 
-/// What answers lines, with the text of all lines that it has answered. Clauses see where it stands and the text.
+/// What answers lines, with the text of all lines that it has answered. Clauses see its state and the text.
 #[derive(Drop)]
 pub struct Recorder<L, A: Allocator> {
     answers: L,
@@ -23,7 +23,7 @@ impl<L, A: Allocator> Model for Recorder<L, A> {
     ghost Value = { Recorded L };
 
     ghost view = { λ recorder. record {
-      standing = recorder.answers;
+      state = recorder.answers;
       transcript = recorder.transcript.items;
     } };
 }
@@ -59,7 +59,7 @@ impl<L, A: Allocator> Recorder<L, A> {
     /// What answers the lines, for work that no line here asks for: the caller keeps the line that asks for the same.
     pub fn answers_mut(&mut self) -> &mut L
         ensures* lends { sem 𝓛 (lends_answers L.row A.row A.Allocator self.entry result) }
-        ensures value { result.now ≡ self.old.standing }
+        ensures value { result.now ≡ self.old.state }
     {
         &mut self.answers
     }
@@ -85,7 +85,7 @@ impl<L: Answers<A>, A: Allocator + Copy> Recorder<L, A> {
 
     /// What answers the lines.
     pub fn answers(&self) -> &L
-        ensures { result.now ≡ self.now.standing }
+        ensures { result.now ≡ self.now.state }
     {
         &self.answers
     }
@@ -146,7 +146,7 @@ impl<L: Answers<A>, A: Allocator + Copy> Recorder<L, A> {
     /// Answers the text's end.
     pub fn close(&mut self, reply: &mut Vec<u8, A>) -> Result<(), AllocError>
         ensures { OnOk result (reply.new.items
-            ≡ reply.old.items ++ L.language.closing self.old.standing) }
+            ≡ reply.old.items ++ L.language.closing self.old.state) }
     {
         self.answers.close(reply)
     }

@@ -35,7 +35,7 @@ pub struct SinkOf<T> {
 }
 
 impl<T: Write> SinkOf<T> {
-    /// A sink that writes behind what a writer holds.
+    /// A sink that writes after what a writer holds.
     pub fn new(writer: T) -> SinkOf<T>
         ensures contents { ⟦<SinkOf<T> as Sink>⟧.contents result ≡ T.contents writer }
         ensures failed { ⟦<SinkOf<T> as Sink>⟧.failed result ≡ false }

@@ -44,7 +44,7 @@ const TEXTS: [(&[u8], &[u8], u64); 5] = [
     (b"\r\r\n", b"\r\n.\n", 0),
 ];
 
-/// Whether a text has these replies, of which so many begin with a question mark.
+/// Whether a text has these replies, of which a given number begin with a question mark.
 fn is_echoed(alloc: Global, text: &[u8], wanted: &[u8], questions: u64) -> bool {
     let mut replies = Vec::new(alloc);
     echoed(alloc, text, &mut replies) == Ok(questions) && replies.as_slice() == wanted
@@ -60,7 +60,7 @@ fn each_line_has_its_reply(rt: HostRuntime) {
     }
 }
 
-/// A text of so many lines of fifteen bytes, behind a line of so many.
+/// A text of a given number of lines of fifteen bytes, after a line of a given length.
 fn long_text(alloc: Global, first: usize, lines: usize) -> Result<Vec<u8>, AllocError> {
     let mut text = Vec::new(alloc);
     for _ in 0..first {
@@ -73,7 +73,7 @@ fn long_text(alloc: Global, first: usize, lines: usize) -> Result<Vec<u8>, Alloc
     Ok(text)
 }
 
-/// The first line's length, the number of lines behind it, and how many bytes its replies have.
+/// The first line's length, the number of lines after it, and how many bytes its replies have.
 const LENGTHS: [(usize, usize, usize); 3] = [
     (LINE_LIMIT, 1, 4097 + 16 + 2),
     (LINE_LIMIT + 1, 1, 4097 + 16 + 2),
@@ -134,13 +134,13 @@ fn is_written(alloc: Global, text: &[u8]) -> bool {
 }
 
 #[test]
-fn a_write_is_counted_behind_what_was_written(rt: HostRuntime) {
+fn a_write_is_counted_after_what_was_written(rt: HostRuntime) {
     assert!(rt; is_written(rt.alloc(), b"file a\n"));
     assert_eq!(rt;
         [
-            StreamFault::Read.behind(7),
-            StreamFault::Write(2).behind(7),
-            StreamFault::Memory.behind(7)
+            StreamFault::Read.after_bytes(7),
+            StreamFault::Write(2).after_bytes(7),
+            StreamFault::Memory.after_bytes(7)
         ],
         [
             StreamFault::Read,

@@ -5,7 +5,7 @@ use Rattle.lgp_word.specs.declared.order.Op.TheVariants.{Z, B, Y, R, I, D, N, M,
 use Rattle.lgp_word.specs.Order.{address_at, op_at, sign_of}
 use Rattle.lgp_table.specs.State.{Core, State, word_at}
 use Rattle.lgp_table.specs.Rows.{Effect, row}
-use Rattle.lgp_table.specs.Activity.{act_time, after_fetch, after_order, begun_in, core_after, core_behind, cost, cost_at}
+use Rattle.lgp_table.specs.Activity.{act_time, after_fetch, after_order, begun_in, core_after, core_after_begun, cost, cost_at}
 use Rattle.lgp_table.specs.Activity.{next, print_of, printed_by, resume, time_of}
 use Rattle.lgp_table.specs.declared.panel.Cause.TheVariants.{Step}
 use Rattle.lgp_table.specs.PassedCodes.{core_without_passed, without_passed}
@@ -54,20 +54,20 @@ pub cost-without : (s : State) → cost (without_passed s) ≡ cost s
 unfolding cost_at
 cost-without s = time_of-without _ _ _
 
-core_behind-without : (status : Status) (core : Core)
-    → core_without_passed (core_behind (begun_in status (core_without_passed core)) status (core_without_passed core))
-    ≡ core_without_passed (core_behind (begun_in status core) status core)
+core_after_begun-without : (status : Status) (core : Core)
+    → core_without_passed (core_after_begun (begun_in status (core_without_passed core)) status (core_without_passed core))
+    ≡ core_without_passed (core_after_begun (begun_in status core) status core)
 unfolding effect_without_passed
-core_behind-without (Halted cause) core = refl
-core_behind-without Going core =
+core_after_begun-without (Halted cause) core = refl
+core_after_begun-without Going core =
     let word = word_at core core.panel.counter in
     let on = resume core.panel.mode in
     ap (λ (effect : Effect). after_order effect on) (row-without (op_at word) (sign_of word) (address_at word) (after_fetch core))
-core_behind-without Executing core =
+core_after_begun-without Executing core =
     let word = core.panel.register in
     ap (λ (effect : Effect). after_order effect (Halted Step)) (row-without (op_at word) (sign_of word) (address_at word) core)
-core_behind-without Waiting core = refl
-core_behind-without Reading core = refl
+core_after_begun-without Waiting core = refl
+core_after_begun-without Reading core = refl
 
 printed_by-without : (status : Status) (core : Core)
     → printed_by (begun_in status (core_without_passed core)) ≡ printed_by (begun_in status core)
@@ -85,7 +85,7 @@ printed_by-without Reading core = refl
 pub next-without : (s : State) → without_passed (next (without_passed s)) ≡ without_passed (next s)
 unfolding core_after print_of
 next-without s =
-    let core = core_behind-without s.core.panel.status s.core in
+    let core = core_after_begun-without s.core.panel.status s.core in
     let prints = printed_by-without s.core.panel.status s.core in
     let time = cost-without s in
     cc

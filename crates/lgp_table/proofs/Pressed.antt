@@ -106,7 +106,7 @@ kept_more : (kept : List Action) (action : Action) → list_all presses_switch k
     → list_all presses_switch (kept ++ action ∷ []) ≡ true
 kept_more kept action all is = rw (list_all-append _ _ (action ∷ []), all, is) refl
 
--- what holds on the way: the events to come are such, so many of their word times are left, and none of the activities left looks
+-- what holds on the way: the events to come are such, a given number of their word times is left, and none of the activities left looks
 record IsOnTheWay (s : State) (count : ℕ) (elapsed : ℕ) (kept : List Action) (events : List Event) : Type 0 where
   such : list_all is_time_or_switch events ≡ true
   switches_kept : list_all presses_switch kept ≡ true

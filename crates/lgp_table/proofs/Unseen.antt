@@ -6,7 +6,7 @@ use Rattle.lgp_word.specs.declared.order.Op.TheVariants.{Z, B, Y, R, I, D, N, M,
 use Rattle.lgp_word.specs.Order.{address_at, op_at, sign_of}
 use Rattle.lgp_table.specs.State.{Core, State, word_at}
 use Rattle.lgp_table.specs.Rows.{Effect, passes_stop, row}
-use Rattle.lgp_table.specs.Activity.{after_fetch, after_order, begun_in, core_after, core_behind, cost, cost_at}
+use Rattle.lgp_table.specs.Activity.{after_fetch, after_order, begun_in, core_after, core_after_begun, cost, cost_at}
 use Rattle.lgp_table.specs.Activity.{next, print_of, printed_by, resume, time_of}
 use Rattle.lgp_table.specs.SwitchPresses.{core_with_switches, looks, looks_at_switches, order_looks, with_switches}
 use Rattle.lgp_table.specs.declared.panel.Status.{Status}
@@ -58,8 +58,8 @@ unfolding cost_at
 cost_same s switches = time_same _ _ switches _
 
 core_same : (status : Status) (core : Core) (switches : Switches) → looks (begun_in status core) ≡ false
-    → core_behind (begun_in status (core_with_switches core switches)) status (core_with_switches core switches)
-    ≡ core_with_switches (core_behind (begun_in status core) status core) switches
+    → core_after_begun (begun_in status (core_with_switches core switches)) status (core_with_switches core switches)
+    ≡ core_with_switches (core_after_begun (begun_in status core) status core) switches
 unfolding effect_with_switches
 core_same (Halted cause) core switches blind = refl
 core_same Going core switches blind =

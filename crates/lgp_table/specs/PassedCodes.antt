@@ -1,4 +1,4 @@
--- Part of the public promise. The codes that have passed the reader stand in the state so that a
+-- Part of the public promise. The codes that have passed the reader are in the state so that a
 -- step back can put the tape back. No order, cost or action looks at them: this says what a state
 -- is without them.
 use Rattle.std.specs.Prelude.{[]}

@@ -27,7 +27,7 @@ abbrev pub tape_to_read : List ℕ → Tape
 tape_to_read codes = record { on = true; passed = []; left = codes }
 
 -- the codes of 1 2, a carriage return (which is skipped) and 3, and the same with a conditional
--- stop behind them
+-- stop after them
 abbrev pub unended_tape : List ℕ
 unended_tape = 6 ∷ 10 ∷ 16 ∷ 14 ∷ []
 

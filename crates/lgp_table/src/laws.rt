@@ -87,7 +87,7 @@ pub fn passed_codes()
         ≡ without_passed (after_action s action) }
 {}
 
-/// So many activities and then so many others are all of them together. The clock goes on by the sum of what each of them costs.
+/// A number of activities and then a number of others are all of them together. The clock goes on by the sum of what each of them costs.
 #[tactic(auto, using(crate::proofs::After::states_after))]
 pub fn activities_together()
     ensures none { (s : State) → after s 0 ≡ s }
@@ -109,7 +109,7 @@ pub fn unseen_switches()
 {}
 
 /// Of activities that do not look at BREAK POINT and TRANSFER CONTROL nobody's hand on these switches is felt: after as many word
-/// times as they take, with presses of those switches anywhere between, the machine stands at the same boundary but for them.
+/// times as they take, with presses of those switches anywhere between, the machine is at the same boundary but for them.
 #[tactic(auto, using(crate::proofs::Pressed::switches_pressed))]
 pub fn pressed_switches()
     ensures { (s : State) → (count : ℕ) → (events : List Event)

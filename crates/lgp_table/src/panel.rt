@@ -54,7 +54,7 @@ impl Mode {
         }
     }
 
-    /// How the machine stands in this mode when a tape that was started from the console has ended without a conditional stop.
+    /// The state of the machine in this mode when a tape that was started from the console has ended without a conditional stop.
     pub fn status_at_end(self) -> Status
         ensures { result ≡ status_at_end self }
     {

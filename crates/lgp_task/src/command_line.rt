@@ -105,7 +105,7 @@ fn asm_command<'a>(global: Global) -> Result<Command<'a>, AllocError>
         global,
         "asm",
         "Assemble a source and write its listing",
-        "Assemble a source and write its listing: each line behind the address and the word that \
+        "Assemble a source and write its listing: each line after its address and the word that \
          it became. Of a faulty source the faults are written instead, a line each.",
         "Example: write the listing of the program in sum.src.\n  lgp_lab asm sum.src",
     );

@@ -61,7 +61,7 @@ impl<A: Allocator> FileNames<A> {
         }
     }
 
-    /// One name more, behind the others; where memory is refused the names stay as they are.
+    /// One name more, after the others; where memory is refused the names stay as they are.
     pub fn push(&mut self, name: FileName<A>) -> Result<(), AllocError>
         ensures ok { OnOk result (self.new ≡ self.old ++ name ∷ []) }
         ensures err { OnErr result (self.new ≡ self.old) }

@@ -23,7 +23,7 @@ pub enum Task<A: Allocator = Global> {
     Asm(FileName<A>),
     /// Write the tape of a source.
     Tape(FileName<A>),
-    /// Load a source into a new machine and run it for at most so many orders.
+    /// Load a source into a new machine and run it for at most a given number of orders.
     Run(FileName<A>, u64),
     /// Run a script.
     Script(FileName<A>),

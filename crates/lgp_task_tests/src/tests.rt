@@ -5,7 +5,7 @@ use linked_list_allocator::LocalHeap;
 use std::alloc::{AllocError, Allocator, Global};
 use std::test::Fail;
 
-/// The words behind the program's name, with a path for the latter.
+/// The words after the program's name, with a path for the latter.
 fn words(global: Global, words: &[&str]) -> Result<Vec<String>, AllocError> {
     let mut all = vec![in global; String::from_str(global, "/usr/local/bin/lab")?]?;
     for word in words {
@@ -60,9 +60,9 @@ fn is_batch_of(global: Global, typed: &[&str], first: &str, last: &str) -> bool 
     }
 }
 
-/// What may be told in place of a task.
+/// What may be reported in place of a task.
 #[derive(Clone, Copy, PartialEq, Eq)]
-enum Told {
+enum Reported {
     Usage,
     Help,
     /// An answer that is the text whole.
@@ -71,48 +71,48 @@ enum Told {
 }
 
 /// Whether a text has a part, or is it whole.
-fn is_text(text: &str, told: Told, part: &str) -> bool {
-    match told {
-        Told::Help => text.contains(part),
-        Told::Answer => text == part,
-        Told::Usage | Told::Memory => false,
+fn is_text(text: &str, reported: Reported, part: &str) -> bool {
+    match reported {
+        Reported::Help => text.contains(part),
+        Reported::Answer => text == part,
+        Reported::Usage | Reported::Memory => false,
     }
 }
 
-/// Whether the words are no task and this is told of them, with a text that has this part.
-fn is_told<A: Allocator + Copy>(
+/// Whether the words are no task and this is reported of them, with a text that has this part.
+fn is_reported<A: Allocator + Copy>(
     global: Global,
     alloc: A,
     typed: &[&str],
-    told: Told,
+    reported: Reported,
     part: &str,
 ) -> bool {
     match read(global, alloc, typed) {
-        Err(TaskFault::Usage(text)) => told == Told::Usage && text.as_str().contains(part),
-        Err(TaskFault::Help(text)) => is_text(text.as_str(), told, part),
-        Err(TaskFault::Memory) => told == Told::Memory,
+        Err(TaskFault::Usage(text)) => reported == Reported::Usage && text.as_str().contains(part),
+        Err(TaskFault::Help(text)) => is_text(text.as_str(), reported, part),
+        Err(TaskFault::Memory) => reported == Reported::Memory,
         Ok(_) => false,
     }
 }
 
-/// Whether the words are mistaken, and what is told of them has this part.
+/// Whether the words are mistaken, and what is reported of them has this part.
 fn is_mistaken(global: Global, typed: &[&str], part: &str) -> bool {
-    is_told(global, global, typed, Told::Usage, part)
+    is_reported(global, global, typed, Reported::Usage, part)
 }
 
 /// Whether the words ask for help, and the help has this part.
 fn is_helped(global: Global, typed: &[&str], part: &str) -> bool {
-    is_told(global, global, typed, Told::Help, part)
+    is_reported(global, global, typed, Reported::Help, part)
 }
 
 /// Whether the words ask for a text that is this one, whole.
 fn is_answered(global: Global, typed: &[&str], answer: &str) -> bool {
-    is_told(global, global, typed, Told::Answer, answer)
+    is_reported(global, global, typed, Reported::Answer, answer)
 }
 
 /// Whether memory was refused.
 fn is_refused<A: Allocator + Copy>(global: Global, alloc: A, typed: &[&str]) -> bool {
-    is_told(global, alloc, typed, Told::Memory, "")
+    is_reported(global, alloc, typed, Reported::Memory, "")
 }
 
 #[test]
@@ -153,7 +153,7 @@ fn a_batch_takes_its_files_in_order(rt: HostRuntime) {
 }
 
 #[test]
-fn mistaken_words_are_told(rt: HostRuntime) {
+fn mistaken_words_are_reported(rt: HostRuntime) {
     let usage = "Usage: lgp_lab";
     for (typed, part) in [
         (["assemble"].as_slice(), usage),
@@ -168,7 +168,7 @@ fn mistaken_words_are_told(rt: HostRuntime) {
 }
 
 #[test]
-fn a_limit_out_of_range_is_told(rt: HostRuntime) {
+fn a_limit_out_of_range_is_reported(rt: HostRuntime) {
     let range = "is not in 0..=4294967295";
     for (digits, part) in [
         ("4294967296", range),
@@ -198,8 +198,8 @@ fn help_is_given(rt: HostRuntime) {
 }
 
 #[test]
-fn name_and_version_are_told(rt: HostRuntime) {
-    let told = [
+fn name_and_version_are_reported(rt: HostRuntime) {
+    let reported = [
         is_answered(rt.alloc(), &["--version"], "lgp_lab 0.1.0\n"),
         is_answered(rt.alloc(), &["-V"], "lgp_lab 0.1.0\n"),
         is_mistaken(
@@ -208,7 +208,7 @@ fn name_and_version_are_told(rt: HostRuntime) {
             "Usage: lgp_lab asm <FILE>",
         ),
     ];
-    assert_eq!(rt; told, [true; 3]);
+    assert_eq!(rt; reported, [true; 3]);
 }
 
 /// What is refused while a heap has no room: a command with a file, a batch and the help; standard input takes none.
@@ -311,24 +311,33 @@ fn a_session_takes_files_and_an_echo(rt: HostRuntime) {
     assert_eq!(rt; parts, wanted);
 }
 
-/// What is told of words that ask for no session.
-fn session_told<A: Allocator + Copy>(global: Global, alloc: A, typed: &[&str]) -> Option<Told> {
+/// What is reported of words that ask for no session.
+fn session_reported<A: Allocator + Copy>(
+    global: Global,
+    alloc: A,
+    typed: &[&str],
+) -> Option<Reported> {
     match session(global, alloc, typed) {
-        Err(TaskFault::Usage(_)) => Some(Told::Usage),
-        Err(TaskFault::Help(_)) => Some(Told::Help),
-        Err(TaskFault::Memory) => Some(Told::Memory),
+        Err(TaskFault::Usage(_)) => Some(Reported::Usage),
+        Err(TaskFault::Help(_)) => Some(Reported::Help),
+        Err(TaskFault::Memory) => Some(Reported::Memory),
         Ok(_) => None,
     }
 }
 
 #[test]
 fn words_that_ask_for_no_session_are_refused(rt: HostRuntime) {
-    let told = [
-        session_told(rt.alloc(), rt.alloc(), &["--loud"]),
-        session_told(rt.alloc(), rt.alloc(), &["--echo=no"]),
-        session_told(rt.alloc(), rt.alloc(), &["--help"]),
-        session_told(rt.alloc(), rt.alloc(), &["--version"]),
+    let reported = [
+        session_reported(rt.alloc(), rt.alloc(), &["--loud"]),
+        session_reported(rt.alloc(), rt.alloc(), &["--echo=no"]),
+        session_reported(rt.alloc(), rt.alloc(), &["--help"]),
+        session_reported(rt.alloc(), rt.alloc(), &["--version"]),
     ];
-    let wanted = [Told::Usage, Told::Usage, Told::Help, Told::Help];
-    assert!(rt; told == wanted.map(Some));
+    let wanted = [
+        Reported::Usage,
+        Reported::Usage,
+        Reported::Help,
+        Reported::Help,
+    ];
+    assert!(rt; reported == wanted.map(Some));
 }

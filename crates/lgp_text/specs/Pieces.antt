@@ -5,7 +5,7 @@ use Rattle.lgp_word.specs.Digits.{address_digits, digits_of}
 use Rattle.lgp_text.specs.declared.pieces.Piece.{Piece}
 use Rattle.lgp_text.specs.declared.pieces.Piece.TheVariants.{Text, Number, Place, Digits}
 
--- a text as it stands, a number in decimal, an address as ttss, a word as eight digits
+-- a text as it is, a number in decimal, an address as ttss, a word as eight digits
 abbrev pub piece_text : Piece → List ℕ
 piece_text (Text text) = text.now
 piece_text (Number number) = decimal number

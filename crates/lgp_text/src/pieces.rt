@@ -10,7 +10,7 @@ use std::alloc::{AllocError, Allocator};
 /// A piece of a line.
 #[derive(Clone, Copy)]
 pub enum Piece<'a> {
-    /// The bytes as they stand.
+    /// The bytes as they are.
     Text(&'a [u8]),
     /// A number in decimal.
     Number(u64),

@@ -1,4 +1,4 @@
--- Signs along the drum: how many they are, and signs behind others.
+-- Signs along the drum: how many they are, and signs after others.
 use Rattle.std.proofs.Common.{◌≡◌, ◌∙◌, ℕ, zero, suc, ◌+◌, ◌-◌, ◌<◌, ◌++◌, [], ◌∷◌, List, Option, None, Some, length, replicate, length-append, append_assoc, refl, sym, ap, arith}
 use Rattle.std.proofs.lemmas.List.{append-nil, length-replicate, replicate_more}
 use Rattle.std.specs.Str.{byte}
@@ -36,7 +36,7 @@ as_many_signs account =
       length-replicate phases.act (byte "x"),
     )
 
--- signs behind others
+-- signs after others
 pub signs_in_rows-append : (clock : ℕ) (before after : List ℕ) → signs_in_rows clock (before ++ after) ≡ signs_in_rows clock before ++ signs_in_rows (clock + length before) after
 signs_in_rows-append clock [] after = ap (λ (c : ℕ). signs_in_rows c after) (omega arith)
 signs_in_rows-append clock (sign ∷ more) after =
@@ -44,11 +44,11 @@ signs_in_rows-append clock (sign ∷ more) after =
     ap (λ (t : List ℕ). sign_in_row clock sign ++ t) (signs_in_rows-append (clock + 1) more after ∙ ap (λ (c : ℕ). signs_in_rows (clock + 1) more ++ signs_in_rows c after) on)
     ∙ sym (append_assoc (sign_in_row clock sign) (signs_in_rows (clock + 1) more) (signs_in_rows (clock + length (sign ∷ more)) after))
 
--- signs behind so many others, behind a text
-pub rows_behind : (text before after : List ℕ) (clock count : ℕ) → length before ≡ count → (text ++ signs_in_rows clock before) ++ signs_in_rows (clock + count) after ≡ text ++ signs_in_rows clock (before ++ after)
-rows_behind text before after clock count so_many =
+-- signs after a given number of others, after a text
+pub rows_after : (text before after : List ℕ) (clock count : ℕ) → length before ≡ count → (text ++ signs_in_rows clock before) ++ signs_in_rows (clock + count) after ≡ text ++ signs_in_rows clock (before ++ after)
+rows_after text before after clock count counted =
     append_assoc text (signs_in_rows clock before) (signs_in_rows (clock + count) after)
-    ∙ ap (λ (c : ℕ). text ++ (signs_in_rows clock before ++ signs_in_rows (clock + c) after)) (sym so_many)
+    ∙ ap (λ (c : ℕ). text ++ (signs_in_rows clock before ++ signs_in_rows (clock + c) after)) (sym counted)
     ∙ ap (λ (t : List ℕ). text ++ t) (sym (signs_in_rows-append clock before after))
 
 single : (clock sign : ℕ) → signs_in_rows clock (sign ∷ []) ≡ sign_in_row clock sign
@@ -58,7 +58,7 @@ single clock sign = append-nil (sign_in_row clock sign)
 pub sign_more : (text : List ℕ) (clock count sign : ℕ) → (text ++ signs_in_rows clock (replicate count sign)) ++ sign_in_row (clock + count) sign ≡ text ++ signs_in_rows clock (replicate (count + 1) sign)
 sign_more text clock count sign =
     ap (λ (t : List ℕ). (text ++ signs_in_rows clock (replicate count sign)) ++ t) (sym (single _ _))
-    ∙ rows_behind _ _ _ _ _ (length-replicate count sign)
+    ∙ rows_after _ _ _ _ _ (length-replicate count sign)
     ∙ ap (λ (t : List ℕ). text ++ signs_in_rows clock t) (replicate_more _ _)
 
 -- a wait: dots, and the sign at its end
@@ -67,9 +67,9 @@ wait_done text clock zero sign some = absurd (omega arith)
 wait_done text clock (suc before) sign some =
     let one_less : suc before - 1 ≡ before = omega arith in
     rw one_less (ap (λ (t : List ℕ). (text ++ signs_in_rows clock (replicate before (byte "."))) ++ t) (sym (single _ _))
-    ∙ rows_behind _ _ _ _ _ (length-replicate before (byte ".")))
+    ∙ rows_after _ _ _ _ _ (length-replicate before (byte ".")))
 
--- the four phases one behind the other
+-- the four phases one after the other
 pub account_drawn : (text : List ℕ) (clock : ℕ) (account : Account)
     → (((text ++ signs_in_rows clock (waited account.phases.find (byte "F")))
     ++ signs_in_rows (clock + account.phases.find) (replicate account.phases.take (byte "i")))
@@ -83,8 +83,8 @@ account_drawn text clock account =
     let taken = replicate phases.take (byte "i") in
     let sought = seek_signs account.operand (stored_address account.order) phases.seek in
     let acted = replicate phases.act (byte "x") in
-    rows_behind ((text ++ signs_in_rows clock found) ++ signs_in_rows (clock + phases.find) taken) sought acted (clock + phases.find + phases.take) phases.seek (length-seek_signs account.operand (stored_address account.order) _)
-    ∙ rows_behind (text ++ signs_in_rows clock found) _ (sought ++ acted) (clock + phases.find) _ (length-replicate phases.take (byte "i"))
-    ∙ rows_behind text found _ _ _ (length-waited _ (byte "F"))
+    rows_after ((text ++ signs_in_rows clock found) ++ signs_in_rows (clock + phases.find) taken) sought acted (clock + phases.find + phases.take) phases.seek (length-seek_signs account.operand (stored_address account.order) _)
+    ∙ rows_after (text ++ signs_in_rows clock found) _ (sought ++ acted) (clock + phases.find) _ (length-replicate phases.take (byte "i"))
+    ∙ rows_after text found _ _ _ (length-waited _ (byte "F"))
 
 pub ruleset rows = (sign_more, append-nil)

@@ -12,5 +12,7 @@ pub mod Shares
 pub mod TurnsLemmas
 pub mod UsesLemmas
 pub mod OptimumLemmas
+pub mod GainLemmas
+pub mod AllMoved
 pub mod Telling
 pub mod UnchangedWords

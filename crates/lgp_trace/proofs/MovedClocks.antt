@@ -1,4 +1,4 @@
--- The same orders with words at other sectors: what depends on where a word stands, and what does not.
+-- The same orders with words at other sectors: what depends on where a word is, and what does not.
 use Rattle.std.proofs.Common.{◌≡◌, ◌≢◌, ◌∙◌, ℕ, zero, suc, ◌+◌, ◌%◌, ◌≤◌, ◌==◌, ◌&&◌, ◌||◌, ◌⊎◌, inl, inr, Bool, true, false, true≢false, Option, Some, None, is_none, option_map, cond, leb, ap, refl, sym, arith}
 use Rattle.std.specs.Option.{option_map_or}
 use Rattle.std.proofs.lemmas.Bool.{eqb-true}
@@ -9,7 +9,7 @@ use Rattle.lgp_word.specs.declared.order.Op.{Op}
 use Rattle.lgp_flexo.specs.Tape.{Tape}
 use Rattle.lgp_table.specs.After.{after}
 use Rattle.lgp_table.specs.State.{Core, State, word_at}
-use Rattle.lgp_table.specs.Activity.{BegunOrder, act_time, begun_in, begun_order, core_after, core_behind, cost_at, find_time, resume, seek_time, seeks, status_after, status_at_end, take_time, time_alone, time_of}
+use Rattle.lgp_table.specs.Activity.{BegunOrder, act_time, begun_in, begun_order, core_after, core_after_begun, cost_at, find_time, resume, seek_time, seeks, status_after, status_at_end, take_time, time_alone, time_of}
 use Rattle.lgp_table.specs.Console.{is_at_rest}
 use Rattle.lgp_table.specs.Rows.{effect_of}
 use Rattle.lgp_table.specs.declared.panel.Cause.TheVariants.{Step}
@@ -34,7 +34,7 @@ wait_same sector one other same = omega arith
 pub wait_lands : (sector one other : ℕ) → (one + wait sector one) % 64 ≡ (other + wait sector other) % 64
 wait_lands sector one other = omega arith
 
--- who waits after so many word times waits as long less, or a turn more
+-- who waits after a given number of word times waits as long less, or a turn more
 pub wait_later : (sector clock times : ℕ) → 1 ≤ times → times ≤ 64
     → wait sector (clock + times) + times ≡ wait sector clock + cond (leb (wait sector clock) times) 64 0
 wait_later sector clock times least most = grind (arith, nat_tests)
@@ -64,16 +64,16 @@ read : (done : Bool) (mode : Mode) → GoesOrRests (cond done (resume mode) (sta
 read true mode = resumed mode
 read false mode = at_end mode
 
-goes_behind : (status : Status) (core : Core) → core.panel.status ≡ status → GoesOrRests (core_behind (begun_in status core) status core).panel.status
-goes_behind (Halted cause) core e = inr (ap is_at_rest e)
-goes_behind Going core e = after_ending _ _ (resumed core.panel.mode)
-goes_behind Executing core e = after_ending (effect_of core.panel.register core).ending (Halted Step) (inr refl)
-goes_behind Waiting core e = inr (ap is_at_rest e)
-goes_behind Reading core e = read _ core.panel.mode
+goes_after : (status : Status) (core : Core) → core.panel.status ≡ status → GoesOrRests (core_after_begun (begun_in status core) status core).panel.status
+goes_after (Halted cause) core e = inr (ap is_at_rest e)
+goes_after Going core e = after_ending _ _ (resumed core.panel.mode)
+goes_after Executing core e = after_ending (effect_of core.panel.register core).ending (Halted Step) (inr refl)
+goes_after Waiting core e = inr (ap is_at_rest e)
+goes_after Reading core e = read _ core.panel.mode
 
 pub goes_later : (s : State) (count : ℕ) → GoesOrRests (after s (suc count)).core.panel.status
 unfolding after core_after
-goes_later s count = goes_behind (after s count).core.panel.status (after s count).core refl
+goes_later s count = goes_after (after s count).core.panel.status (after s count).core refl
 
 not_executing : (status : Status) → GoesOrRests status → status ≢ Executing
 not_executing status (inl goes) is = cc
@@ -88,8 +88,8 @@ seek_time_own op m clock = refl
 time_own : (order : Option BegunOrder) (status : Status) (tape : Tape) (clock : ℕ) → time_with sector_of order status tape clock ≡ time_of order status tape clock
 time_own None status tape clock = refl
 time_own (Some order) status tape clock =
-    let behind = find_time order.place clock + take_time order.place in
-    ap (λ (n : ℕ). behind + (n + act_time (op_at order.word) (address_at order.word) tape)) (seek_time_own (op_at order.word) (address_at order.word) (clock + behind))
+    let fetching = find_time order.place clock + take_time order.place in
+    ap (λ (n : ℕ). fetching + (n + act_time (op_at order.word) (address_at order.word) tape)) (seek_time_own (op_at order.word) (address_at order.word) (clock + fetching))
 
 cost_own : (core : Core) (clock : ℕ) → cost_with sector_of core clock ≡ cost_at core clock
 unfolding cost_with cost_at
@@ -102,16 +102,16 @@ clock_own s (suc count) =
     ap (λ (n : ℕ). n + cost_with sector_of (after s count).core n) (clock_own s count)
     ∙ ap (λ (n : ℕ). (after s count).clock + n) (cost_own (after s count).core (after s count).clock)
 
--- the sectors alone matter, and not how they are told
+-- the sectors alone matter, and not how they are given
 seek_time_as : (one other : ℕ → ℕ) (op : Op) (m clock : ℕ) → one m ≡ other m → seek_time_with one op m clock ≡ seek_time_with other op m clock
 seek_time_as one other op m clock same = ap (λ (n : ℕ). cond (seeks op) (wait n clock) 1) same
 
 time_as : (one other : ℕ → ℕ) (order : Option BegunOrder) (status : Status) (tape : Tape) (clock : ℕ) → ((m : ℕ) → one m ≡ other m) → time_with one order status tape clock ≡ time_with other order status tape clock
 time_as one other None status tape clock same = refl
 time_as one other (Some order) status tape clock same =
-    let behind = find_time order.place clock + take_time order.place in
-    ap (λ (n : ℕ). behind + (n + act_time (op_at order.word) (address_at order.word) tape))
-    (seek_time_as one other (op_at order.word) (address_at order.word) (clock + behind) (same (address_at order.word)))
+    let fetching = find_time order.place clock + take_time order.place in
+    ap (λ (n : ℕ). fetching + (n + act_time (op_at order.word) (address_at order.word) tape))
+    (seek_time_as one other (op_at order.word) (address_at order.word) (clock + fetching) (same (address_at order.word)))
 
 clock_as : (one other : ℕ → ℕ) (s : State) (count : ℕ) → ((m : ℕ) → one m ≡ other m) → clock_with one s count ≡ clock_with other s count
 unfolding clock_with cost_with
@@ -156,10 +156,10 @@ unnamed_time None status core word sector clock e = refl
 unnamed_time (Some order) status core word sector clock e =
     let op = op_at order.word in
     let m = address_at order.word in
-    let behind = find_time order.place clock + take_time order.place in
+    let fetching = find_time order.place clock + take_time order.place in
     let found : Found = record { address = m; word = word_at core m } in
-    ap (λ (n : ℕ). behind + (n + act_time op m core.tape))
-    (unnamed_address (seeks op) (m == word) sector (sector_of m) (clock + behind) (sym (named_by op m word found refl) ∙ e))
+    ap (λ (n : ℕ). fetching + (n + act_time op m core.tape))
+    (unnamed_address (seeks op) (m == word) sector (sector_of m) (clock + fetching) (sym (named_by op m word found refl) ∙ e))
 
 pub unnamed_clock : (s : State) (count word sector : ℕ) → is_named s count word ≡ false → clock_with (moved word sector) s count ≡ clock_with sector_of s count
 unfolding clock_with cost_with some_order
@@ -180,12 +180,12 @@ abbrev InTurn : ℕ → ℕ → Type 0
 InTurn one other = one % 64 ≡ other % 64
 
 -- The clocks with two groups of words at other sectors, with one of them alone, with the other alone, and with none: what each group
--- saves adds up, and the head stands where one of the two alone has it.
+-- saves adds up, and the head is where one of the two alone has it.
 record Four (both one other own : ℕ) : Type 0 where
   sum : both + own ≡ one + other
   near : (InTurn both one × InTurn other own) ⊎ (InTurn both other × InTurn one own)
 
--- the same where the head stands at one place in all four
+-- the same where the head is at one place in all four
 record FourAt (both one other own : ℕ) : Type 0 where
   sum : both + own ≡ one + other
   both_at : InTurn both own
@@ -252,12 +252,12 @@ four_sought true false sector mine its both one other own act same h =
       near = inl (omega (arith, first, h.both_at, h.one_at), omega (arith, second, h.other_at));
     }
 
-abbrev pub behind : Option ℕ → ℕ → ℕ
-behind place clock = clock + (find_time place clock + take_time place)
+abbrev pub fetched_at : Option ℕ → ℕ → ℕ
+fetched_at place clock = clock + (find_time place clock + take_time place)
 
-four_behind : (place : Option ℕ) (both one other own : ℕ) → Four both one other own → (place ≡ None → FourAt both one other own)
-    → FourAt (behind place both) (behind place one) (behind place other) (behind place own)
-four_behind None both one other own h at =
+four_after : (place : Option ℕ) (both one other own : ℕ) → Four both one other own → (place ≡ None → FourAt both one other own)
+    → FourAt (fetched_at place both) (fetched_at place one) (fetched_at place other) (fetched_at place own)
+four_after None both one other own h at =
     let here = at refl in
     record {
       sum = omega (arith, here.sum);
@@ -265,7 +265,7 @@ four_behind None both one other own h at =
       one_at = omega (arith, here.one_at);
       other_at = omega (arith, here.other_at);
     }
-four_behind (Some place) both one other own h at = four_found place both one other own h
+four_after (Some place) both one other own h at = four_found place both one other own h
 
 four_is : (a b c d both one other own : ℕ) → both ≡ a → one ≡ b → other ≡ c → own ≡ d → Four a b c d → Four both one other own
 four_is a b c d both one other own e f g i h = rw (e, f, g, i) h
@@ -290,12 +290,12 @@ four_next (Some order) status tape sectors word sector both one other own same h
     let op = op_at order.word in
     let m = address_at order.word in
     let act = act_time op m tape in
-    let here : FourAt (behind order.place both) (behind order.place one) (behind order.place other) (behind order.place own) =
-    four_behind order.place both one other own h (λ (e : order.place ≡ None). at (ap is_none e)) in
+    let here : FourAt (fetched_at order.place both) (fetched_at order.place one) (fetched_at order.place other) (fetched_at order.place own) =
+    four_after order.place both one other own h (λ (e : order.place ≡ None). at (ap is_none e)) in
     let stays : (m == word) ≡ true → sectors m ≡ sector_of m =
     λ (e : (m == word) ≡ true). ap sectors (eqb-true m word e) ∙ same ∙ ap sector_of (sym (eqb-true m word e)) in
     four_is _ _ _ _ _ _ _ _ (omega arith) (omega arith) (omega arith) (omega arith)
-    (four_sought (seeks op) (m == word) sector (sectors m) (sector_of m) (behind order.place both) (behind order.place one) (behind order.place other) (behind order.place own) act stays here)
+    (four_sought (seeks op) (m == word) sector (sectors m) (sector_of m) (fetched_at order.place both) (fetched_at order.place one) (fetched_at order.place other) (fetched_at order.place own) act stays here)
 
 four_at : (clock : ℕ) → FourAt clock clock clock clock
 four_at clock = record { sum = refl; both_at = refl; one_at = refl; other_at = refl }

@@ -9,9 +9,9 @@ use Rattle.lgp_table.specs.State.{Core, State}
 use Rattle.lgp_trace.specs.Account.{operand_in, place_of}
 use Rattle.lgp_trace.specs.Optimum.{clock_with, freedom, freedom_of, moved, took_with}
 use Rattle.lgp_trace.specs.OptimumInside.{ShowsSame, seek_with}
-use Rattle.lgp_trace.specs.OptimumKept.{AreUsesOf, IsBest, IsLeast, IsOptimumOf, Kept, last_seek, seek_behind, seek_of, Turned, times_at, turns_at, use_at, wait_of}
+use Rattle.lgp_trace.specs.OptimumKept.{AreUsesOf, IsBest, IsLeast, IsOptimumOf, Kept, last_seek, seek_after, seek_of, Turned, times_at, turns_at, use_at, wait_of}
 use Rattle.lgp_trace.specs.Phases.{all_phases, phases_of}
-use Rattle.lgp_trace.specs.TurnsInside.{is_behind, no_turns, one_turn_if}
+use Rattle.lgp_trace.specs.TurnsInside.{is_last_late, no_turns, one_turn_if}
 use Rattle.lgp_trace.specs.UsesInside.{no_uses}
 use Rattle.lgp_trace.specs.declared.account.Found.{Found}
 use Rattle.lgp_trace.specs.declared.optimum.Best.{Best}
@@ -22,7 +22,7 @@ use Rattle.lgp_trace.proofs.PhaseLaws.{phases_cost}
 use Rattle.lgp_trace.proofs.Shares.{shares_more}
 use Rattle.lgp_trace.proofs.UsesLemmas.{no_uses_at}
 
-pub seek_with_found : (found : Option Found) (after : Core) (clock : ℕ) (phases : Phases) → seek_with (option_map (operand_in after) found) clock phases ≡ seek_behind found clock phases
+pub seek_with_found : (found : Option Found) (after : Core) (clock : ℕ) (phases : Phases) → seek_with (option_map (operand_in after) found) clock phases ≡ seek_after found clock phases
 seek_with_found None after clock phases = refl
 seek_with_found (Some found) after clock phases = refl
 
@@ -49,7 +49,7 @@ no_orders kept s took turned last uses = record {
 
 pub optimum_more : (old new : Kept) (s : State) (count : ℕ) → IsOptimumOf old s count → is_at_rest (after s count).core.panel.status ≡ false
     → new.took ≡ old.took + all_phases (phases_of (after s count))
-    → ((word sector : ℕ) → word < 4096 → sector < 64 → turns_at new.turned word sector ≡ turns_at old.turned word sector + one_turn_if (is_behind old.last (place_of (after s count)) word sector))
+    → ((word sector : ℕ) → word < 4096 → sector < 64 → turns_at new.turned word sector ≡ turns_at old.turned word sector + one_turn_if (is_last_late old.last (place_of (after s count)) word sector))
     → new.last ≡ seek_of (after s count) → AreUsesOf new.uses s (count + 1) → IsOptimumOf new s (count + 1)
 unfolding after last_seek
 optimum_more old new s count h works took turns last uses =
@@ -84,7 +84,7 @@ shows_same old new s count h same = record {
 
 -- ---- what it tells
 
-clock_goes_on : (sectors : ℕ → ℕ) (s : State) (count : ℕ) → s.clock ≤ clock_with sectors s count
+pub clock_goes_on : (sectors : ℕ → ℕ) (s : State) (count : ℕ) → s.clock ≤ clock_with sectors s count
 unfolding clock_with
 clock_goes_on sectors s zero = omega arith
 clock_goes_on sectors s (suc count) = omega (arith, clock_goes_on sectors s count)
@@ -114,9 +114,9 @@ pub best_of_run : (kept : Kept) (s : State) (count word : ℕ) (best : Best) →
 best_of_run kept s count word best h on_drum =
     best_as (times_at kept word) (took_with s count word) (sector_of word) best (omega arith) (λ (sector : ℕ) (on_track : sector < 64). times_took kept s count h word sector on_drum on_track)
 
-pub freedom_told : (kept : Kept) (s : State) (count word : ℕ) → IsOptimumOf kept s count → word < 4096
+pub freedom_reported : (kept : Kept) (s : State) (count word : ℕ) → IsOptimumOf kept s count → word < 4096
     → (let used = use_at kept.uses word in freedom used.named used.performed used.by_other) ≡ freedom_of s count word
-freedom_told kept s count word h on_drum = ap (λ (u : Use). freedom u.named u.performed u.by_other) (h.uses.each word on_drum)
+freedom_reported kept s count word h on_drum = ap (λ (u : Use). freedom u.named u.performed u.by_other) (h.uses.each word on_drum)
 
 pub took_within : (kept : Kept) (first now : State) (count : ℕ) → IsOptimumOf kept first count → now ≡ after first count → kept.took ≤ now.clock
 took_within kept first now count h is = omega (arith, h.took, ap (λ (s : State). s.clock) is)

@@ -1,4 +1,4 @@
--- The four phases together, and where the head stands at their ends.
+-- The four phases together, and where the head is at their ends.
 use Rattle.std.proofs.Common.{◌≡◌, ℕ, ◌+◌, ◌-◌, Option, true, false, Some, None, option_map, refl, ap, arith, cond}
 use Rattle.std.proofs.lemmas.Option.{none-some, same_Some}
 use Rattle.lgp_word.specs.declared.order.Op.{Op}

@@ -14,12 +14,12 @@ use Rattle.lgp_table.specs.declared.panel.Status.{Status}
 use Rattle.lgp_table.specs.declared.panel.Status.TheVariants.{Halted, Going, Executing, Waiting, Reading}
 use Rattle.lgp_trace.specs.Account.{place_of, sought_word}
 use Rattle.lgp_trace.specs.Optimum.{clock_with, cost_with, moved, time_with}
-use Rattle.lgp_trace.specs.OptimumKept.{last_seek, seek_behind, seek_of, wait_of}
+use Rattle.lgp_trace.specs.OptimumKept.{last_seek, seek_after, seek_of, wait_of}
 use Rattle.lgp_trace.specs.Phases.{phases_of, phases_with}
 use Rattle.lgp_trace.specs.declared.phases.Phases.{Phases}
-use Rattle.lgp_trace.specs.TurnsInside.{is_behind, is_late, one_turn_if}
+use Rattle.lgp_trace.specs.TurnsInside.{is_last_late, is_late, one_turn_if}
 use Rattle.lgp_trace.specs.declared.optimum.Seek.{Seek}
-use Rattle.lgp_trace.proofs.MovedClocks.{GoesOrRests, behind, goes_later, wait_later, wait_same}
+use Rattle.lgp_trace.proofs.MovedClocks.{GoesOrRests, fetched_at, goes_later, wait_later, wait_same}
 
 -- ---- where the last order ends
 
@@ -28,7 +28,7 @@ abbrev pub EndsAt : Option Seek → ℕ → Type 0
 EndsAt last clock = IfSome last (λ seek. clock ≡ seek.begun + wait (sector_of seek.word) seek.begun + seek.act)
 
 ends_word : (does : Bool) (m w clock find take seek act : ℕ) → (does ≡ true → seek ≡ wait (sector_of m) (clock + (find + take)))
-    → EndsAt (seek_behind (cond does (Some (record { address = m; word = w })) None) clock (record { find = find; take = take; seek = seek; act = act })) (clock + (find + take + (seek + act)))
+    → EndsAt (seek_after (cond does (Some (record { address = m; word = w })) None) clock (record { find = find; take = take; seek = seek; act = act })) (clock + (find + take + (seek + act)))
 ends_word true m w clock find take seek act is =
     let begin : clock + find + take ≡ clock + (find + take) = omega arith in
     let waits : wait (sector_of m) (clock + find + take) ≡ seek = ap (wait (sector_of m)) begin ∙ sym (is refl) in
@@ -40,7 +40,7 @@ unfolding seek_time
 seek_time-waits op m clock e = rw e refl
 
 ends_order : (order : Option BegunOrder) (status : Status) (core : Core) (clock : ℕ)
-    → EndsAt (seek_behind (sought_word (option_map (λ (o : BegunOrder). o.word) order) core) clock (phases_with order status core.tape clock)) (clock + time_of order status core.tape clock)
+    → EndsAt (seek_after (sought_word (option_map (λ (o : BegunOrder). o.word) order) core) clock (phases_with order status core.tape clock)) (clock + time_of order status core.tape clock)
 ends_order None status core clock = tt
 ends_order (Some order) status core clock =
     let op = op_at order.word in
@@ -94,8 +94,8 @@ found_some false seek place word sector one clock turns own_turns same shares en
 found_shares : (last : Option Seek) (place : Option ℕ) (word sector one clock turns own_turns : ℕ)
     → one + (64 * own_turns + wait_of last word (sector_of word)) ≡ clock + (64 * turns + wait_of last word sector)
     → EndsAt last clock → (place ≡ None → last ≡ None)
-    → behind place one + 64 * (own_turns + one_turn_if (is_behind last place word (sector_of word)))
-    ≡ behind place clock + 64 * (turns + one_turn_if (is_behind last place word sector))
+    → fetched_at place one + 64 * (own_turns + one_turn_if (is_last_late last place word (sector_of word)))
+    ≡ fetched_at place clock + 64 * (turns + one_turn_if (is_last_late last place word sector))
 found_shares None None word sector one clock turns own_turns shares ends placed = omega (arith, shares)
 found_shares None (Some place) word sector one clock turns own_turns shares ends placed =
     omega (arith, apart (sector_of place) one clock turns own_turns (omega (arith, shares)))
@@ -122,31 +122,31 @@ word_shares true false m word sector one clock begun act turns own_turns same he
     let waits : wait (sector_of m) one ≡ wait (sector_of m) clock = wait_same (sector_of m) one clock (omega arith) in
     omega (arith, shares, waits)
 
-wait_of-behind : (does : Bool) (m w clock : ℕ) (phases : Phases) (word sector : ℕ)
-    → wait_of (seek_behind (cond does (Some (record { address = m; word = w })) None) clock phases) word sector
+wait_of-after : (does : Bool) (m w clock : ℕ) (phases : Phases) (word sector : ℕ)
+    → wait_of (seek_after (cond does (Some (record { address = m; word = w })) None) clock phases) word sector
     ≡ cond does (cond (m == word) (wait sector (clock + phases.find + phases.take)) 0) 0
-wait_of-behind true m w clock phases word sector = refl
-wait_of-behind false m w clock phases word sector = refl
+wait_of-after true m w clock phases word sector = refl
+wait_of-after false m w clock phases word sector = refl
 
 order_shares : (order : BegunOrder) (status : Status) (core : Core) (word sector one clock turns own_turns : ℕ)
-    → behind order.place one + 64 * own_turns ≡ behind order.place clock + 64 * turns
-    → one + time_with (moved word sector) (Some order) status core.tape one + (64 * own_turns + wait_of (seek_behind (sought_word (Some order.word) core) clock (phases_with (Some order) status core.tape clock)) word (sector_of word))
-    ≡ clock + time_of (Some order) status core.tape clock + (64 * turns + wait_of (seek_behind (sought_word (Some order.word) core) clock (phases_with (Some order) status core.tape clock)) word sector)
+    → fetched_at order.place one + 64 * own_turns ≡ fetched_at order.place clock + 64 * turns
+    → one + time_with (moved word sector) (Some order) status core.tape one + (64 * own_turns + wait_of (seek_after (sought_word (Some order.word) core) clock (phases_with (Some order) status core.tape clock)) word (sector_of word))
+    ≡ clock + time_of (Some order) status core.tape clock + (64 * turns + wait_of (seek_after (sought_word (Some order.word) core) clock (phases_with (Some order) status core.tape clock)) word sector)
 unfolding seek_time
 order_shares order status core word sector one clock turns own_turns shares =
     let op = op_at order.word in
     let m = address_at order.word in
     let phases = phases_with (Some order) status core.tape clock in
-    let begun : clock + phases.find + phases.take ≡ behind order.place clock = omega arith in
-    rw (wait_of-behind (seeks op) m (word_at core m) clock phases word (sector_of word), wait_of-behind (seeks op) m (word_at core m) clock phases word sector)
-    (omega (arith, word_shares (seeks op) (m == word) m word sector (behind order.place one) (behind order.place clock) (clock + phases.find + phases.take) (act_time op m core.tape) turns own_turns (eqb-true m word) begun shares))
+    let begun : clock + phases.find + phases.take ≡ fetched_at order.place clock = omega arith in
+    rw (wait_of-after (seeks op) m (word_at core m) clock phases word (sector_of word), wait_of-after (seeks op) m (word_at core m) clock phases word sector)
+    (omega (arith, word_shares (seeks op) (m == word) m word sector (fetched_at order.place one) (fetched_at order.place clock) (clock + phases.find + phases.take) (act_time op m core.tape) turns own_turns (eqb-true m word) begun shares))
 
 shares_next : (order : Option BegunOrder) (status : Status) (core : Core) (last : Option Seek) (word sector one clock turns own_turns : ℕ)
     → one + (64 * own_turns + wait_of last word (sector_of word)) ≡ clock + (64 * turns + wait_of last word sector)
     → EndsAt last clock → (place_in order ≡ None → last ≡ None)
-    → (let now = seek_behind (sought_word (option_map (λ (o : BegunOrder). o.word) order) core) clock (phases_with order status core.tape clock) in
-    one + time_with (moved word sector) order status core.tape one + (64 * (own_turns + one_turn_if (is_behind last (place_in order) word (sector_of word))) + wait_of now word (sector_of word))
-    ≡ clock + time_of order status core.tape clock + (64 * (turns + one_turn_if (is_behind last (place_in order) word sector)) + wait_of now word sector))
+    → (let now = seek_after (sought_word (option_map (λ (o : BegunOrder). o.word) order) core) clock (phases_with order status core.tape clock) in
+    one + time_with (moved word sector) order status core.tape one + (64 * (own_turns + one_turn_if (is_last_late last (place_in order) word (sector_of word))) + wait_of now word (sector_of word))
+    ≡ clock + time_of order status core.tape clock + (64 * (turns + one_turn_if (is_last_late last (place_in order) word sector)) + wait_of now word sector))
 shares_next None status core last word sector one clock turns own_turns shares ends placed =
     omega (arith, found_shares last None word sector one clock turns own_turns shares ends placed)
 shares_next (Some order) status core last word sector one clock turns own_turns shares ends placed =
@@ -165,7 +165,7 @@ later_placed : (s : State) (count : ℕ) → GoesOrRests (after s (suc count)).c
 later_placed s count (inl going) works none = absurd (going_place _ (after s (suc count)).core going none)
 later_placed s count (inr rests) works none = absurd (true≢false (sym rests ∙ works))
 
--- an order of a run that stands nowhere on the drum is its first
+-- an order of a run that is nowhere on the drum is its first
 placed : (s : State) (count : ℕ) → is_at_rest (after s count).core.panel.status ≡ false → place_of (after s count) ≡ None → last_seek s count ≡ None
 unfolding last_seek
 placed s zero works none = refl
@@ -174,8 +174,8 @@ placed s (suc count) works none = later_placed s count (goes_later s count) work
 pub shares_more : (s : State) (count : ℕ) → is_at_rest (after s count).core.panel.status ≡ false → (last : Option Seek) → last ≡ last_seek s count → (word sector turns own_turns : ℕ)
     → clock_with (moved word sector) s count + (64 * own_turns + wait_of last word (sector_of word)) ≡ (after s count).clock + (64 * turns + wait_of last word sector)
     → (let now = after s count in
-    clock_with (moved word sector) s (suc count) + (64 * (own_turns + one_turn_if (is_behind last (place_of now) word (sector_of word))) + wait_of (seek_of now) word (sector_of word))
-    ≡ (after s (suc count)).clock + (64 * (turns + one_turn_if (is_behind last (place_of now) word sector)) + wait_of (seek_of now) word sector))
+    clock_with (moved word sector) s (suc count) + (64 * (own_turns + one_turn_if (is_last_late last (place_of now) word (sector_of word))) + wait_of (seek_of now) word (sector_of word))
+    ≡ (after s (suc count)).clock + (64 * (turns + one_turn_if (is_last_late last (place_of now) word sector)) + wait_of (seek_of now) word sector))
 unfolding clock_with cost_with after phases_of cost_at
 shares_more s count works last is word sector turns own_turns shares =
     let core = (after s count).core in

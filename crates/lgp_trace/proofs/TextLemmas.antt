@@ -7,7 +7,7 @@ use Rattle.lgp_trace.specs.Columns.{blanks, left_aligned}
 long : (before text : List ℕ) → length (before ++ text) - length before ≡ length text
 long before text = omega (arith, length-append before text)
 
--- a text and the blanks behind it are the text in its column
+-- a text and the blanks after it are the text in its column
 pub column : (width : ℕ) (before text : List ℕ) → (before ++ text) ++ blanks (width - (length (before ++ text) - length before)) ≡ before ++ left_aligned width text
 column width before text = rw (long before text) (append_assoc before text (blanks (width - length text)))
 

@@ -182,7 +182,7 @@ drum_names Reading core place address e = cc
 placed_names : (now : State) (place address : ℕ) → place_of now ≡ Some place → names address now ≡ word_names (word_at now.core place) address
 placed_names now place address e = drum_names now.core.panel.status now.core place address e
 
--- a word that no order changed stands as it stood
+-- a word that no order changed is as it was
 unchanged_word : (s : State) (count address : ℕ) → is_changed s count address ≡ false → word_at (after s count).core address ≡ word_at s.core address
 unfolding some_order after
 unchanged_word s zero address e = refl

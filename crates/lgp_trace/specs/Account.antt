@@ -12,7 +12,7 @@ use Rattle.lgp_trace.specs.declared.account.Begun.{Begun}
 use Rattle.lgp_trace.specs.declared.account.Found.{Found}
 use Rattle.lgp_trace.specs.declared.account.Operand.{Operand}
 
--- where the order of the activity stands: only an order at the counter has a place
+-- where the order of the activity is: only an order at the counter has a place
 abbrev pub place_of : State → Option ℕ
 place_of s = place_in (begun_order s.core)
 
@@ -31,7 +31,7 @@ sought_word (Some order) core =
 abbrev pub found_of : State → Option Found
 found_of s = sought_word (order_of s) s.core
 
--- that word, and what stands there afterwards
+-- that word, and what is there afterwards
 abbrev pub operand_in : Core → Found → Operand
 operand_in after found = record {
   address = found.address;

@@ -1,5 +1,5 @@
 -- Part of the public promise. The lines of an account: one with its columns, then those that begin
--- with eight blanks, each only where there is something to say. A label says what stands behind an
+-- with eight blanks, each only where there is something to say. A label says what comes after an
 -- address; for an address without one that is nothing.
 use Rattle.std.specs.Prelude.{ℕ, ◌-◌, ◌/◌, ◌^◌, ◌++◌, ◌==◌, ◌&&◌, Bool, if◌then◌else◌}
 use Rattle.std.specs.Prelude.{Option, Some, None, List, [], ◌∷◌, codes, decimal, is_some}
@@ -34,7 +34,7 @@ place_text label address = address_digits address ++ label address
 abbrev pub minus_text : Bool → List ℕ
 minus_text minus = if minus then codes "-" else []
 
--- the label behind the address of an order that refers to a word: all but z, i and p do
+-- the label after the address of an order that refers to a word: all but z, i and p do
 abbrev pub reference_text : (ℕ → List ℕ) → Op → ℕ → List ℕ
 reference_text label Z address = []
 reference_text label I address = []
@@ -47,20 +47,20 @@ performed_text label word =
     minus_text (takes_minus (op_at word) && sign_of word) ++ (op_letter (op_at word) ∷ codes " "
     ++ (address_digits (address_at word) ++ reference_text label (op_at word) (address_at word)))
 
--- a word as a number, one half of its bits with its sign: the binary point stands behind bit 30
+-- a word as a number, one half of its bits with its sign: the binary point comes after bit 30
 abbrev pub number_text : ℕ → List ℕ
 number_text word =
     if sign_of word then codes "-" ++ decimal ((2 ^ 32 - word) / 2) else decimal (word / 2)
 
--- an order behind the digits of the word that is one
-abbrev pub order_behind : (ℕ → List ℕ) → ℕ → List ℕ
-order_behind label word =
+-- an order after the digits of the word that is one
+abbrev pub order_after : (ℕ → List ℕ) → ℕ → List ℕ
+order_after label word =
     if is_some (decoded word) then codes " " ++ performed_text label word else []
 
 -- a word by its digits, as the order that it is, if it is one, and as a number
 unfoldable pub word_text : (ℕ → List ℕ) → ℕ → List ℕ
 word_text label word =
-    digits_of word ++ (order_behind label word ++ (codes " = " ++ number_text word))
+    digits_of word ++ (order_after label word ++ (codes " = " ++ number_text word))
 
 -- ---- the line with columns
 
@@ -75,7 +75,7 @@ accumulator_text before after =
     if before == after
     then digits_of before else digits_of before ++ (codes " -> " ++ digits_of after)
 
--- where the order stands, and the order; where there is none, the status in which the activity
+-- where the order is, and the order; where there is none, the status in which the activity
 -- begins
 unfoldable pub order_columns : (ℕ → List ℕ) → Account → List ℕ
 order_columns label account =
@@ -107,7 +107,7 @@ change_text label before after =
     codes ": "
     ++ (word_text label before ++ (codes " -> " ++ (word_text label after ++ codes "\n")))
 
--- what an order has stored: the word that stood there and the one that does
+-- what an order has stored: the word that was there and the one that is there now
 unfoldable pub stored_line : (ℕ → List ℕ) → Operand → List ℕ
 stored_line label operand =
     codes "        "
@@ -118,7 +118,7 @@ stored_lines label (Some order) (Some operand) =
     if stores (op_at order) then stored_line label operand else []
 stored_lines label _ _ = []
 
--- the sign of a code behind its number, where it has one
+-- the sign of a code after its number, where it has one
 unfoldable pub sign_text : Option ℕ → List ℕ
 sign_text None = []
 sign_text (Some sign) = codes ", sign \"" ++ (sign ∷ codes "\"")

@@ -4,8 +4,10 @@ pub mod Profile
 pub mod Columns
 pub mod AccountLines
 pub mod OriginLines
+pub mod AccountData
 pub mod DrumRows
 pub mod ProfileLines
+pub mod ProfileData
 pub mod Runs
 pub mod UnchangedInside
 pub mod Optimum
@@ -13,6 +15,8 @@ pub mod OptimumKept
 pub mod TurnsInside
 pub mod UsesInside
 pub mod OptimumInside
+pub mod Gains
+pub mod OptimumLines
 pub use Rattle.lgp_table.specs.State
 pub use Rattle.lgp_table.specs.Activity
 pub use Rattle.lgp_table.specs.Interleaving

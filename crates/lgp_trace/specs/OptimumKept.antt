@@ -1,4 +1,5 @@
--- Part of the public promise. What an `Optimum` keeps of so many orders, and what it tells of them.
+-- Part of the public promise. What an `Optimum` keeps of a given number of orders, and what it
+-- tells of them.
 use Rattle.std.specs.Prelude.{◌≡◌, ◌≢◌, ℕ, zero, suc, ◌+◌, ◌-◌, ◌*◌, ◌%◌, ◌<◌, ◌≤◌, ◌==◌, false}
 use Rattle.std.specs.Prelude.{if◌then◌else◌, Option, Some, None, List, length}
 use Rattle.std.specs.Prelude.{slice_index, slice_index_or}
@@ -38,14 +39,14 @@ pub record IsTurned (rows counts : List ℕ) : Type 0 where
 
 -- ---- the last order
 
--- the wait of an order for its word, where the word is this one, had it stood at a sector
+-- the wait of an order for its word, where the word is this one, had it been at a sector
 abbrev pub wait_of : Option Seek → ℕ → ℕ → ℕ
 wait_of None word sector = 0
 wait_of (Some seek) word sector = if seek.word == word then wait sector seek.begun else 0
 
-abbrev pub seek_behind : Option Found → ℕ → Phases → Option Seek
-seek_behind None clock phases = None
-seek_behind (Some found) clock phases = Some (record {
+abbrev pub seek_after : Option Found → ℕ → Phases → Option Seek
+seek_after None clock phases = None
+seek_after (Some found) clock phases = Some (record {
   word = found.address;
   begun = clock + phases.find + phases.take;
   act = phases.act;
@@ -53,9 +54,9 @@ seek_behind (Some found) clock phases = Some (record {
 
 -- the wait of the order that begins here
 abbrev pub seek_of : State → Option Seek
-seek_of now = seek_behind (found_of now) now.clock (phases_of now)
+seek_of now = seek_after (found_of now) now.clock (phases_of now)
 
--- that of the last one of so many orders
+-- that of the last one of a given number of orders
 unfoldable pub last_seek : State → ℕ → Option Seek
 last_seek s zero = None
 last_seek s (suc count) = seek_of (after s count)
@@ -76,7 +77,7 @@ use_of s count address = record {
   by_other = is_named_by_other s count address;
 }
 
--- the uses by so many orders from a state on
+-- the uses by a given number of orders from a state on
 pub record AreUsesOf (uses : List Use) (s : State) (count : ℕ) : Type 0 where
   pub each : (address : ℕ) → address < 4096 → use_at uses address ≡ use_of s count address
 
@@ -93,12 +94,12 @@ pub record Kept : Type 0 where
 abbrev pub share : Kept → ℕ → ℕ → ℕ
 share kept word sector = 64 * turns_at kept.turned word sector + wait_of kept.last word sector
 
--- how long the orders would have taken, had a word stood at a sector
+-- how long the orders would have taken, had a word been at a sector
 abbrev pub times_at : Kept → ℕ → ℕ → ℕ
 times_at kept word sector =
     kept.took + share kept word sector - share kept word (sector_of word)
 
--- what is kept of so many orders from a state on
+-- what is kept of a given number of orders from a state on
 pub record IsOptimumOf (kept : Kept) (s : State) (count : ℕ) : Type 0 where
   pub took : s.clock + kept.took ≡ (after s count).clock
   pub last : kept.last ≡ last_seek s count

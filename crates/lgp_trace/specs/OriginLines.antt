@@ -1,5 +1,5 @@
--- Part of the public promise. What is written about where words came from. A label says what stands
--- behind an address.
+-- Part of the public promise. What is written about where words came from. A label says what
+-- comes after an address.
 use Rattle.std.specs.Prelude.{ℕ, ◌++◌, ◌==◌, if◌then◌else◌, Option, Some, None, List, [], codes}
 use Rattle.std.specs.Prelude.{decimal, is_some}
 use Rattle.lgp_word.specs.Digits.{digits_of}
@@ -15,7 +15,7 @@ use Rattle.lgp_trace.specs.AccountLines.{account_details, account_line, number_t
 use Rattle.lgp_trace.specs.AccountLines.{place_text, word_text}
 use Rattle.lgp_trace.specs.declared.account.Account.{Account}
 
--- where an order stood
+-- where an order was
 abbrev pub stood_text : (ℕ → List ℕ) → Option ℕ → List ℕ
 stood_text label None = codes " in the instruction register"
 stood_text label (Some place) = codes " at " ++ place_text label place
@@ -25,7 +25,7 @@ abbrev pub ago_text : ℕ → List ℕ
 ago_text orders =
     decimal orders ++ (if orders == 1 then codes " order ago" else codes " orders ago")
 
--- an order, where it stood and when
+-- an order, where it was and when
 unfoldable pub past_order_text : (ℕ → List ℕ) → PastOrder → List ℕ
 past_order_text label order =
     performed_text label order.word ++ (stood_text label order.place
@@ -45,7 +45,7 @@ lost_text label word =
 unfoldable pub this_order_was : List ℕ
 this_order_was = codes "        this order was "
 
--- what put a word where it stands, and what stood there before
+-- what put a word where it is, and what was there before
 unfoldable pub origin_text : (ℕ → List ℕ) → Origin → List ℕ
 origin_text label origin =
     codes "put there by " ++ (changer_text label origin.changer
@@ -57,8 +57,8 @@ origin_lines label None = []
 origin_lines label (Some origin) = this_order_was ++ origin_text label origin
 
 -- an account with the origin of its order
-unfoldable pub told_account : (ℕ → List ℕ) → Account → Option Origin → List ℕ
-told_account label account origin =
+unfoldable pub reported_account : (ℕ → List ℕ) → Account → Option Origin → List ℕ
+reported_account label account origin =
     account_line label account ++ (origin_lines label origin ++ account_details label account)
 
 -- why a word is as it is

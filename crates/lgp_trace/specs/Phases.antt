@@ -35,8 +35,8 @@ phases_with (Some order) status tape clock =
 unfoldable pub phases_of : State → Phases
 phases_of s = phases_with (begun_order s.core) s.core.panel.status s.core.tape s.clock
 
--- From this clock on the head has read the sector of an address when so many word times have
--- passed, and not before.
+-- From this clock on the head has read the sector of an address when a given number of word times
+-- have passed, and not before.
 pub record IsFirstRead (address clock times : ℕ) : Type 0 where
   pub some : 1 ≤ times
   pub read : position_under_head (clock + times) ≡ position_of (sector_of address)

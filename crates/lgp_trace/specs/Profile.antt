@@ -8,7 +8,7 @@ use Rattle.lgp_trace.specs.Account.{place_of}
 use Rattle.lgp_trace.specs.Phases.{all_phases, only_act, phases_of}
 use Rattle.lgp_trace.specs.declared.phases.Phases.{Phases}
 
--- the word times by phase, those of the orders that stand at each address, and those of all else
+-- the word times by phase, those of the orders that are at each address, and those of all else
 pub record Profiled : Type 0 where
   pub phases : Phases
   pub places : List ℕ
@@ -41,7 +41,7 @@ with_activity profile place phases = record {
       if is_some place then profile.elsewhere else profile.elsewhere + all_phases phases;
 }
 
--- the profile of so many activities from a state on
+-- the profile of a given number of activities from a state on
 unfoldable pub profile_of : State → ℕ → Profiled
 profile_of s zero = empty_profile
 profile_of s (suc count) =

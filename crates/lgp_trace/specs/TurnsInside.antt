@@ -15,11 +15,11 @@ no_turns = record { rows = replicate 4096 0; counts = replicate 64 0 }
 abbrev pub is_late : ℕ → ℕ → ℕ → Bool
 is_late room begun sector = nat_le room (wait sector begun)
 
--- the same of the last order, where it waited for this word and the next one stands on the drum
-abbrev pub is_behind : Option Seek → Option ℕ → ℕ → ℕ → Bool
-is_behind None place word sector = false
-is_behind (Some seek) None word sector = false
-is_behind (Some seek) (Some place) word sector =
+-- the same of the last order, where it waited for this word and the next one is on the drum
+abbrev pub is_last_late : Option Seek → Option ℕ → ℕ → ℕ → Bool
+is_last_late None place word sector = false
+is_last_late (Some seek) None word sector = false
+is_last_late (Some seek) (Some place) word sector =
     (seek.word == word)
     && is_late (wait (sector_of place) (seek.begun + seek.act)) seek.begun sector
 

@@ -24,7 +24,7 @@ abbrev pub use_with : List Use → ℕ → Use → ℕ → Use
 use_with uses address more other =
     if other == address then joined (use_at uses other) more else use_at uses other
 
--- with an order that stood at a place
+-- with an order that was at a place
 abbrev pub use_with_place : List Use → Option ℕ → ℕ → Use
 use_with_place uses None other = use_at uses other
 use_with_place uses (Some place) other = record (use_at uses other) {
@@ -53,7 +53,7 @@ use_with_change uses operand other =
           && (before.performed && not before.changed && word_names operand.found other));
     }
 
--- whether an order at a place is not the one that stood there at the start
+-- whether an order at a place is not the one that was there at the start
 abbrev pub is_other : List Use → Option ℕ → Bool
 is_other uses None = true
 is_other uses (Some place) = (use_at uses place).changed

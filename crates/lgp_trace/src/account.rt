@@ -50,7 +50,7 @@ pub struct Begun {
 pub struct Account {
     pub before: Look,
     pub after: Look,
-    /// Where its order stood; none where it was in the register, or the reader was started from the console.
+    /// Where its order was; none where it was in the register, or the reader was started from the console.
     pub place: Option<Address>,
     /// The order's word; none where the reader was started from the console.
     pub order: Option<Word>,
@@ -63,7 +63,7 @@ pub struct Account {
     pub passed: usize,
 }
 
-/// Where the order stands of the activity that begins here.
+/// Where the order is of the activity that begins here.
 #[inline(always)]
 pub fn place_of<A: Allocator>(machine: &Machine<A>) -> Option<Address>
     ensures { IsTrue (is_boundary machine.now) → result ≡ place_of machine.now.state }
@@ -103,7 +103,7 @@ fn found_of<A: Allocator>(machine: &Machine<A>) -> Option<Found>
     })
 }
 
-/// A word that was found, if one was, and what stands there now.
+/// A word that was found, if one was, and what is there now.
 #[inline(always)]
 fn operand_in<A: Allocator>(machine: &Machine<A>, found: Option<Found>) -> Option<Operand>
     ensures { result ≡ option_map (operand_in machine.now.state.core) found }
@@ -148,7 +148,7 @@ impl Begun {
         })
     }
 
-    /// The same of an order that takes so many word times and prints this.
+    /// The same of an order that takes a given number of word times and prints this.
     #[inline(always)]
     pub(crate) fn until(self, times: u64, prints: Option<Code>) -> Begun
         requires { self.phases.find + self.phases.take + self.phases.seek ≤ times }
@@ -166,7 +166,7 @@ impl Begun {
         }
     }
 
-    /// The account of the activity, with the machine as it stands after it.
+    /// The account of the activity, with the machine as it is after it.
     #[inline(always)]
     pub fn finish<A: Allocator>(self, machine: &Machine<A>) -> Account
         requires { IsTrue (is_boundary machine.now) }

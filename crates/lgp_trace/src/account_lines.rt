@@ -3,13 +3,13 @@
 ghost use Rattle.std.specs.Prelude.{◌≡◌, ◌++◌, ◌^◌, ◌<◌, OnOk, [], codes, decimal};
 ghost use Rattle.std.specs.Option.{option_map_or};
 ghost use Rattle.lgp_text.specs.PanelWords.{status_text};
-ghost use Rattle.lgp_trace.specs.AccountLines.{account_details, account_line, account_text, accumulator_text, change_text, heading_text, number_text, order_behind, order_columns, passed_lines, performed_text, phases_text, place_text, printed_line, reference_text, register_line, result_columns, sign_text, stored_line, stored_lines, word_text};
+ghost use Rattle.lgp_trace.specs.AccountLines.{account_details, account_line, account_text, accumulator_text, change_text, heading_text, number_text, order_after, order_columns, passed_lines, performed_text, phases_text, place_text, printed_line, reference_text, register_line, result_columns, sign_text, stored_line, stored_lines, word_text};
 ghost use Rattle.lgp_trace.specs.Columns.{left_aligned};
 ghost use Rattle.lgp_trace.specs.Phases.{all_phases};
 ghost use Rattle.lgp_flexo.specs.Code.{sign_at};
 
 use crate::account::{Account, Operand};
-use crate::columns::{push_blanks_behind, push_right, push_spaced};
+use crate::columns::{push_blanks_after, push_right, push_spaced};
 use crate::labels::Labels;
 use crate::phases::Phases;
 use lgp_flexo::{Code, sign_of};
@@ -77,7 +77,7 @@ pub(crate) fn push_performed<L: Labels, A: Allocator>(
     push_reference(text, op, address, labels)
 }
 
-/// Appends a word as a whole number, with its point behind place 30.
+/// Appends a word as a whole number, with its point after place 30.
 pub fn push_number<A: Allocator>(text: &mut Vec<u8, A>, word: Word) -> Result<(), AllocError>
     ensures { OnOk result (text.new.items ≡ text.old.items ++ number_text word) }
 {
@@ -90,14 +90,14 @@ pub fn push_number<A: Allocator>(text: &mut Vec<u8, A>, word: Word) -> Result<()
     }
 }
 
-/// Appends an order behind the digits of the word that is one.
-fn push_order_behind<L: Labels, A: Allocator>(
+/// Appends an order after the digits of the word that is one.
+fn push_order_after<L: Labels, A: Allocator>(
     text: &mut Vec<u8, A>,
     word: Word,
     labels: &L,
 ) -> Result<(), AllocError>
     ensures { OnOk result (text.new.items
-        ≡ text.old.items ++ order_behind (L.label labels.now) word) }
+        ≡ text.old.items ++ order_after (L.label labels.now) word) }
 {
     if decode(word).is_none() {
         return Ok(());
@@ -117,12 +117,12 @@ pub(crate) fn push_word<L: Labels, A: Allocator>(
         ≡ text.old.items ++ word_text (L.label labels.now) word) }
 {
     push_pieces(text, &[Piece::Digits(word.get())])?;
-    push_order_behind(text, word, labels)?;
+    push_order_after(text, word, labels)?;
     push_pieces(text, &[Piece::Text(b" = ")])?;
     push_number(text, word)
 }
 
-/// Appends where an order stands, if it does.
+/// Appends where an order is, if it is on the drum.
 fn push_at<L: Labels, A: Allocator>(
     text: &mut Vec<u8, A>,
     place: Option<Address>,
@@ -150,7 +150,7 @@ fn push_at_column<L: Labels, A: Allocator>(
 {
     let begins = text.len();
     push_at(text, place, labels)?;
-    push_blanks_behind(text, 12, begins)
+    push_blanks_after(text, 12, begins)
 }
 
 /// Appends the order; where there is none, the status in which the activity begins.
@@ -184,7 +184,7 @@ fn push_activity_column<L: Labels, A: Allocator>(
 {
     let begins = text.len();
     push_activity(text, order, status, labels)?;
-    push_blanks_behind(text, 14, begins)
+    push_blanks_after(text, 14, begins)
 }
 
 /// Appends the word times of the phases and their sum.
@@ -226,7 +226,7 @@ fn push_accumulator<A: Allocator>(
     )
 }
 
-/// Appends where the order stands, and the order.
+/// Appends where the order is, and the order.
 #[tactic(auto, unfolding(crate::specs::AccountLines::order_columns))]
 fn push_order_columns<L: Labels, A: Allocator>(
     text: &mut Vec<u8, A>,
@@ -275,7 +275,7 @@ pub fn push_account_line<L: Labels, A: Allocator>(
     push_result_columns(text, account)
 }
 
-/// Appends that the order stood in the register, if it did.
+/// Appends that the order was in the register, if it did.
 fn push_register_line<A: Allocator>(text: &mut Vec<u8, A>, status: Status) -> Result<(), AllocError>
     ensures { OnOk result (text.new.items ≡ text.old.items ++ register_line status) }
 {
@@ -341,7 +341,7 @@ fn push_stored_lines<L: Labels, A: Allocator>(
 
 /// The sign of a code as its byte.
 #[tactic(auto, using(crate::proofs::Signs::sign_short))]
-fn sign_byte(code: Code) -> Option<u8>
+pub(crate) fn sign_byte(code: Code) -> Option<u8>
     ensures { result ≡ sign_at code }
 {
     let _number = code.number();

@@ -6,7 +6,7 @@ ghost use Rattle.lgp_trace.specs.Columns.{blanks, right_aligned, spaced_number};
 use itoa::Buffer;
 use std::alloc::{AllocError, Allocator};
 
-/// Appends a byte so many times.
+/// Appends a byte a given number of times.
 #[tactic(auto, using(crate::proofs::TextLemmas::copies))]
 pub fn push_copies<A: Allocator>(
     text: &mut Vec<u8, A>,
@@ -35,7 +35,7 @@ pub fn push_right<A: Allocator>(
     text.extend_from_slice(digits)
 }
 
-/// Appends a number in its column, behind a blank.
+/// Appends a number in its column, after a blank.
 #[tactic(auto, unfolding(crate::specs::Columns::spaced_number))]
 pub fn push_spaced<A: Allocator>(
     text: &mut Vec<u8, A>,
@@ -48,8 +48,24 @@ pub fn push_spaced<A: Allocator>(
     push_right(text, width, number)
 }
 
-/// Appends blanks behind what begins at a place of the text, up to the width of its column.
-pub fn push_blanks_behind<A: Allocator>(
+/// The same of a number of up to 128 bits.
+#[tactic(auto, unfolding(crate::specs::Columns::spaced_number))]
+pub fn push_wide<A: Allocator>(
+    text: &mut Vec<u8, A>,
+    width: u64,
+    number: u128,
+) -> Result<(), AllocError>
+    ensures { OnOk result (text.new.items ≡ text.old.items ++ spaced_number width number) }
+{
+    let mut buffer = Buffer::new();
+    let digits = buffer.format(number).as_bytes();
+    text.push(b' ')?;
+    push_copies(text, b' ', width.saturating_sub(digits.len() as u64))?;
+    text.extend_from_slice(digits)
+}
+
+/// Appends blanks after what begins at a place of the text, up to the width of its column.
+pub fn push_blanks_after<A: Allocator>(
     text: &mut Vec<u8, A>,
     width: u64,
     begins: usize,

@@ -50,7 +50,7 @@ impl<H: History<A>, A: Allocator, B: Allocator> Watcher<H, A, Vec<u8, B>> for Dr
 }
 
 /// Runs a debugger as `Debugger::run` does, and appends of each order its signs along the drum. Where the clock's end refuses an
-/// order, those before it stand and are drawn. Where memory is refused, as many orders stand as the fault says, and what the text has
+/// order, those before it remain and are drawn. Where memory is refused, as many orders remain as the fault says, and what the text has
 /// after what it had is not said.
 pub fn draw_run<H: History<A>, A: Allocator, B: Allocator>(
     debugger: &mut Debugger<H, A>,

@@ -52,7 +52,7 @@ fn push_sign<A: Allocator>(text: &mut Vec<u8, A>, clock: u64, sign: u8) -> Resul
     Ok(())
 }
 
-/// Appends so many equal signs from a clock on.
+/// Appends a given number of equal signs from a clock on.
 #[tactic(auto, using(crate::proofs::DrumLemmas::rows))]
 fn push_signs<A: Allocator>(
     text: &mut Vec<u8, A>,
@@ -107,7 +107,8 @@ fn push_seek<A: Allocator>(
 ) -> Result<(), AllocError>
     requires { clock + account.now.phases.seek ≤ clock_end }
     ensures { OnOk result (text.new.items ≡ text.old.items ++ signs_in_rows clock
-        (seek_signs account.now.operand (stored_address account.now.order) account.now.phases.seek)) }
+        (seek_signs account.now.operand (stored_address account.now.order)
+        account.now.phases.seek)) }
 {
     match account.operand {
         None => push_signs(text, clock, b'-', account.phases.seek),

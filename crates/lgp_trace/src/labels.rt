@@ -5,12 +5,12 @@ ghost use Rattle.std.specs.Prelude.{◌≡◌, ◌++◌, ℕ, [], List, OnOk};
 use lgp_word::Address;
 use std::alloc::{AllocError, Allocator};
 
-/// What is written behind addresses.
+/// What is written after addresses.
 pub trait Labels {
-    /// What stands behind an address: a blank and its label, or nothing.
+    /// What comes after an address: a blank and its label, or nothing.
     ghost label: { Self → ℕ → List ℕ };
 
-    /// Appends what stands behind an address.
+    /// Appends what comes after an address.
     fn push_label<A: Allocator>(
         &self,
         text: &mut Vec<u8, A>,

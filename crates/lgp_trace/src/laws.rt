@@ -42,7 +42,7 @@ pub fn codes_pass()
         ≡ length s.core.tape.passed + (account_of s).passed }
 {}
 
-/// The clock after so many activities is the clock before them and the word times of all phases of their profile.
+/// The clock after a given number of activities is the clock before them and the word times of all phases of their profile.
 #[tactic(auto, using(crate::proofs::Sums::profile_clock))]
 pub fn profiles()
     ensures clock { (s : State) → (count : ℕ) → (after s count).clock

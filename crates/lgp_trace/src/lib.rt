@@ -2,19 +2,24 @@
 #![tactic(auto)]
 
 mod account;
+mod account_data;
 mod account_lines;
 mod columns;
 mod draw;
 mod drum_rows;
+mod form;
 mod labels;
 pub mod laws;
 mod optimum;
 pub mod optimum_laws;
+mod optimum_lines;
 mod optimum_runs;
 mod origin_lines;
 mod phases;
 mod profile;
+mod profile_data;
 mod profile_lines;
+mod ranking;
 mod runs;
 mod take;
 mod trace;
@@ -28,15 +33,19 @@ pub use account_lines::{
 };
 pub use draw::draw_run;
 pub use drum_rows::{push_drum, push_rows_begun, push_rows_ended};
+pub use form::Form;
 pub use labels::{Labels, NoLabels};
 pub use lgp_table::{seeks, stores};
 pub use optimum::{Best, Optimum};
+pub use optimum_lines::{push_optimum, push_word_optimum};
 pub use optimum_runs::optimum_run;
-pub use origin_lines::{order_origin, push_origin_lines, push_told, push_why, push_why_line};
+pub use origin_lines::{order_origin, push_origin_lines, push_reported, push_why, push_why_line};
 pub use phases::Phases;
 pub use profile::Profile;
+pub use profile_data::push_profile_in;
 pub use profile_lines::push_profile;
+pub use ranking::Gain;
 pub use runs::profile_run;
 pub use take::take_account;
-pub use trace::trace_run;
+pub use trace::{push_heading_in, trace_run};
 pub use uses::Freedom;

@@ -1,4 +1,4 @@
-//! Where a word would have cost least: what the orders of a run would have taken, had a word stood at another sector.
+//! Where a word would have cost least: what the orders of a run would have taken, had a word been at another sector.
 
 ghost use Rattle.std.specs.Prelude.{◌≡◌, ℕ, ◌+◌, ◌^◌, ◌<◌, false, option_map, slice_index, IfOk, IfSome, OnOk, OnErr};
 ghost use Rattle.lgp_word.specs.Address.{sector_of};
@@ -7,10 +7,11 @@ ghost use Rattle.lgp_table.specs.After.{after};
 ghost use Rattle.lgp_table.specs.Console.{is_at_rest};
 ghost use Rattle.lgp_table.specs.State.{State};
 ghost use Rattle.lgp_trace.specs.Account.{account_of, found_of, operand_in, place_of};
+ghost use Rattle.lgp_trace.specs.Gains.{best_of, moves_in, times_of};
 ghost use Rattle.lgp_trace.specs.Optimum.{freedom, freedom_of, took_with};
 ghost use Rattle.lgp_trace.specs.OptimumInside.{ShowsSame, seek_with};
 ghost use Rattle.lgp_trace.specs.OptimumKept.{IsBest, IsLeast, IsOptimumOf, share, times_at, turns_at, use_at};
-ghost use Rattle.lgp_trace.specs.TurnsInside.{is_behind, one_turn_if};
+ghost use Rattle.lgp_trace.specs.TurnsInside.{is_last_late, one_turn_if};
 ghost use Rattle.lgp_trace.specs.Phases.{all_phases, phases_of};
 
 use crate::account::Account;
@@ -39,7 +40,7 @@ pub struct Seek {
     pub act: u64,
 }
 
-/// What orders one after another would have taken, had one of the words that they name stood at another sector. Memory grows with the
+/// What orders one after another would have taken, had one of the words that they name been at another sector. Memory grows with the
 /// number of these words, and not with that of the orders.
 #[derive(Drop)]
 pub struct Optimum<A: Allocator = Global> {
@@ -109,7 +110,7 @@ impl<A: Allocator> Optimum<A> {
         Ok(())
     }
 
-    /// Has memory for what an order would take that waits for this word, or a refused growth.
+    /// Gives a word room for its counts, unless it has some; or a refused growth.
     pub(crate) fn make_room(&mut self, word: Address) -> Result<(), AllocError>
         ensures room { OnOk result (0 < slice_index self.new.turned.rows word) }
         ensures same { ShowsSame self.old self.new }
@@ -148,7 +149,7 @@ impl<A: Allocator> Optimum<A> {
         ensures took { self.new.took ≡ self.old.took + times }
         ensures turns { (word : ℕ) → (sector : ℕ) → word < 4096 → sector < 64
             → turns_at self.new.turned word sector ≡ turns_at self.old.turned word sector
-            + one_turn_if (is_behind self.old.last place.now word sector) }
+            + one_turn_if (is_last_late self.old.last place.now word sector) }
         ensures rows { self.new.turned.rows ≡ self.old.turned.rows }
         ensures last { self.new.last ≡ self.old.last }
         ensures uses { self.new.uses ≡ self.old.uses }
@@ -167,13 +168,14 @@ impl<A: Allocator> Optimum<A> {
         self.took
     }
 
-    /// By sector, how many word times the orders would have taken, had the word stood there. At its own it is what they took.
+    /// By sector, how many word times the orders would have taken, had the word been there. At its own it is what they took.
     pub fn at(&self, word: Address) -> [u128; SECTORS]
         ensures exact { (sector : ℕ) → sector < 64
             → slice_index result sector ≡ times_at self.now word sector }
         ensures of_run { (s : State) → (count : ℕ) → IsOptimumOf self.now s count
             → (sector : ℕ) → sector < 64
             → slice_index result sector ≡ took_with s count word sector }
+        ensures all { result ≡ times_of (moves_in self.now) word }
     {
         let own = self.share(word, word.sector());
         let mut times = [0; SECTORS];
@@ -184,7 +186,7 @@ impl<A: Allocator> Optimum<A> {
         times
     }
 
-    /// What the orders take for a word at a sector beyond what they take wherever it stands.
+    /// What the orders take for a word at a sector beyond what they take wherever it is.
     fn share(&self, word: Address, sector: u16) -> u128
         requires { sector < 64 }
         ensures share { result ≡ share self.now word sector }
@@ -202,6 +204,7 @@ impl<A: Allocator> Optimum<A> {
         ensures exact { IsBest (times_at self.now word) (sector_of word) result }
         ensures of_run { (s : State) → (count : ℕ) → IsOptimumOf self.now s count
             → IsBest (took_with s count word) (sector_of word) result }
+        ensures best { result ≡ best_of (moves_in self.now) word }
     {
         let times = self.at(word);
         let sector = least_sector(&times, word.sector());
@@ -212,7 +215,7 @@ impl<A: Allocator> Optimum<A> {
         }
     }
 
-    /// Whether a word may stand elsewhere.
+    /// Whether a word may be elsewhere.
     pub fn freedom(&self, word: Address) -> Freedom
         ensures exact { let used = use_at self.now.uses word in
             result ≡ freedom used.named used.performed used.by_other }

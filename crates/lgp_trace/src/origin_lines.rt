@@ -2,7 +2,7 @@
 
 ghost use Rattle.std.specs.Prelude.{◌≡◌, ◌++◌, ◌^◌, ◌<◌, OnOk, codes, decimal};
 ghost use Rattle.lgp_debugger.specs.Debugging.{order_origin};
-ghost use Rattle.lgp_trace.specs.OriginLines.{ago_text, changer_text, lost_text, origin_lines, origin_text, past_order_text, reason_text, stood_text, this_order_was, told_account, why_line, why_text};
+ghost use Rattle.lgp_trace.specs.OriginLines.{ago_text, changer_text, lost_text, origin_lines, origin_text, past_order_text, reason_text, stood_text, this_order_was, reported_account, why_line, why_text};
 ghost use Rattle.lgp_trace.specs.Phases.{all_phases};
 
 use crate::account::Account;
@@ -18,7 +18,7 @@ use lgp_word::{Address, Word, decode};
 use std::alloc::{AllocError, Allocator};
 
 /// Where the order came from that a debugger performs next; `None` where it is as it was when the kept steps begin, and where it
-/// stands in the instruction register alone.
+/// is in the instruction register alone.
 pub fn order_origin<H: Origins<A>, A: Allocator>(debugger: &Debugger<H, A>) -> Option<Origin>
     ensures { result ≡ order_origin debugger.now }
 {
@@ -29,7 +29,7 @@ pub fn order_origin<H: Origins<A>, A: Allocator>(debugger: &Debugger<H, A>) -> O
     }
 }
 
-/// Appends where an order stood.
+/// Appends where an order was.
 fn push_stood<L: Labels, A: Allocator>(
     text: &mut Vec<u8, A>,
     place: Option<Address>,
@@ -63,7 +63,7 @@ fn push_clock<A: Allocator>(text: &mut Vec<u8, A>, clock: u64) -> Result<(), All
     push_pieces(text, &[Piece::Number(clock)])
 }
 
-/// Appends an order, where it stood and when.
+/// Appends an order, where it was and when.
 #[tactic(auto, unfolding(crate::specs::OriginLines::past_order_text))]
 fn push_past_order<L: Labels, A: Allocator>(
     text: &mut Vec<u8, A>,
@@ -101,7 +101,7 @@ fn push_changer<L: Labels, A: Allocator>(
 
 /// Appends a lost word.
 #[tactic(auto, unfolding(crate::specs::OriginLines::lost_text))]
-fn push_lost<L: Labels, A: Allocator>(
+pub(crate) fn push_lost<L: Labels, A: Allocator>(
     text: &mut Vec<u8, A>,
     word: Word,
     labels: &L,
@@ -130,7 +130,7 @@ fn push_before_it_was<A: Allocator>(text: &mut Vec<u8, A>) -> Result<(), AllocEr
     text.extend_from_slice(b"; before it was ")
 }
 
-/// Appends what put a word where it stands, and what stood there before.
+/// Appends what put a word where it is, and what was there before.
 #[tactic(auto, unfolding(crate::specs::OriginLines::origin_text))]
 fn push_origin<L: Labels, A: Allocator>(
     text: &mut Vec<u8, A>,
@@ -173,8 +173,8 @@ pub fn push_origin_lines<L: Labels, A: Allocator>(
 }
 
 /// Appends all lines of an account whose order came from there.
-#[tactic(auto, unfolding(crate::specs::OriginLines::told_account))]
-pub fn push_told<L: Labels, A: Allocator>(
+#[tactic(auto, unfolding(crate::specs::OriginLines::reported_account))]
+pub fn push_reported<L: Labels, A: Allocator>(
     text: &mut Vec<u8, A>,
     account: &Account,
     origin: Option<Origin>,
@@ -182,7 +182,7 @@ pub fn push_told<L: Labels, A: Allocator>(
 ) -> Result<(), AllocError>
     requires { all_phases account.now.phases < 2 ^ 64 }
     ensures { OnOk result (text.new.items
-        ≡ text.old.items ++ told_account (L.label labels.now) account.now origin) }
+        ≡ text.old.items ++ reported_account (L.label labels.now) account.now origin) }
 {
     push_account_line(text, account, labels)?;
     push_origin_lines(text, origin, labels)?;
@@ -205,7 +205,7 @@ fn push_reason<L: Labels, A: Allocator>(
     }
 }
 
-/// Appends a line that says what stands at an address, and where it came from.
+/// Appends a line that says what is at an address, and where it came from.
 #[tactic(auto, unfolding(crate::specs::OriginLines::why_line))]
 pub fn push_why_line<L: Labels, A: Allocator>(
     text: &mut Vec<u8, A>,

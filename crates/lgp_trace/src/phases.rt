@@ -15,7 +15,7 @@ use std::alloc::Allocator;
 pub struct Phases {
     /// Until the order is read: 1 to 64, and 0 where it comes from the register or there is none.
     pub find: u64,
-    /// Until it stands in the register: 1, or 0 where it does so already.
+    /// Until it is in the register: 1, or 0 where it is there already.
     pub take: u64,
     /// Until the word at its address is read: 1 to 64, and 1 for the orders that use no word.
     pub seek: u64,
@@ -81,7 +81,7 @@ impl Phases {
         Some(phases)
     }
 
-    /// The same with so long a last phase that all four together take so many word times.
+    /// The same with so long a last phase that all four together take a given number of word times.
     #[inline(always)]
     pub fn until(self, times: u64) -> Phases
         requires { self.find + self.take + self.seek ≤ times }

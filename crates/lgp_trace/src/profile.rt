@@ -102,7 +102,7 @@ impl<A: Allocator> Profile<A> {
         self.elsewhere = 0;
     }
 
-    /// The word times of the orders that stood at an address.
+    /// The word times of the orders that were at an address.
     pub fn at(&self, place: Address) -> u64
         ensures exact { result ≡ slice_index self.now.places place }
         ensures within { result ≤ all_phases self.now.phases }
@@ -110,7 +110,7 @@ impl<A: Allocator> Profile<A> {
         self.places[usize::from(place.number())]
     }
 
-    /// The word times of all activities whose orders stood nowhere on the drum.
+    /// The word times of all activities whose orders were nowhere on the drum.
     pub fn elsewhere(&self) -> u64
         ensures { result ≡ self.now.elsewhere }
     {

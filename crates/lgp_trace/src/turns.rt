@@ -1,4 +1,4 @@
-//! Turns of the drum that orders lose for a word, by the sector at which it stands.
+//! Turns of the drum that orders lose for a word, by the sector at which it is.
 
 ghost use Rattle.std.specs.Prelude.{◌≡◌, ℕ, ◌+◌, ◌-◌, ◌*◌, ◌^◌, ◌<◌, ◌≤◌, ◌==◌, ◌&&◌, nat_le, nat_lt, length, slice_index, if◌then◌else◌, IfOk, OnOk, OnErr};
 ghost use Rattle.lgp_table.specs.Wait.{wait};
@@ -13,7 +13,7 @@ use std::marker::Model;
 /// How many sectors a track has.
 const SECTORS: usize = Address::SECTORS as usize;
 
-/// How many turns more than they need the orders take that waited for a word, had it stood at each of the sectors. Only a word with a row
+/// How many turns more than they need the orders take that waited for a word, had it been at each of the sectors. Only a word with a row
 /// takes memory for its counts.
 #[derive(Drop)]
 pub(crate) struct Turns<A: Allocator = Global> {

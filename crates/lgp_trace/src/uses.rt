@@ -1,4 +1,4 @@
-//! What orders made of the words of the drum, and which of them may stand elsewhere.
+//! What orders made of the words of the drum, and which of them may be elsewhere.
 
 ghost use Rattle.std.specs.Prelude.{◌≡◌, ◌+◌, ◌<◌, ℕ, length, option_map, IfOk, IfSome};
 ghost use Rattle.lgp_table.specs.Activity.{next};
@@ -15,16 +15,16 @@ use lgp_word::{Address, parts};
 use std::alloc::{AllocError, Allocator, Global};
 use std::marker::Model;
 
-/// Whether a word may stand elsewhere on the drum, so that the program stays the same.
+/// Whether a word may be elsewhere on the drum, so that the program stays the same.
 #[derive(Clone, Copy, Debug, PartialEq, Eq)]
 pub enum Freedom {
     /// It may.
     Free,
-    /// No order waited for it: wherever it stands, the orders take as long.
+    /// No order waited for it: wherever it is, the orders take as long.
     Unnamed,
     /// It was performed as an order.
     Performed,
-    /// An order waited for it that another one had changed or has changed since, or that stood in the instruction register alone.
+    /// An order waited for it that another one had changed or has changed since, or that was in the instruction register alone.
     NamedByChanged,
 }
 
@@ -33,7 +33,7 @@ pub enum Freedom {
 pub struct Use {
     /// One waited for it.
     pub named: bool,
-    /// One stood there.
+    /// One was there.
     pub performed: bool,
     /// One left another word there.
     pub changed: bool,
@@ -96,7 +96,7 @@ impl<A: Allocator> Uses<A> {
         self.uses.fill(Use::NONE);
     }
 
-    /// Adds what an order made of words, by where it stood and by the word that it waited for.
+    /// Adds what an order made of words, by where it was and by the word that it waited for.
     pub(crate) fn note(&mut self, place: &Option<Address>, operand: &Option<Operand>)
         ensures { (s : State) → (count : ℕ) → AreUsesOf self.old s count
             → place.now ≡ place_of (after s count)
@@ -108,7 +108,7 @@ impl<A: Allocator> Uses<A> {
         self.note_place(place);
     }
 
-    /// Adds that an order stood at a place.
+    /// Adds that an order was at a place.
     fn note_place(&mut self, place: &Option<Address>)
         ensures uses { (other : ℕ) → use_at self.new other
             ≡ use_with_place self.old place.now other }
@@ -194,7 +194,7 @@ impl<A: Allocator> Uses<A> {
         self.uses[usize::from(address.number())]
     }
 
-    /// Whether a word may stand elsewhere.
+    /// Whether a word may be elsewhere.
     pub(crate) fn freedom(&self, address: Address) -> Freedom
         ensures { let used = use_at self.now address in
             result ≡ freedom used.named used.performed used.by_other }

@@ -3,6 +3,7 @@
 ghost use Rattle.std.specs.Prelude.{◌^◌, ◌<◌, IsTrue};
 ghost use Rattle.lgp_trace.specs.Phases.{all_phases};
 
+mod data;
 mod ends;
 mod exchanges;
 mod growths;
@@ -10,6 +11,7 @@ mod lines;
 mod moves;
 mod optimum;
 mod origins;
+mod ranking;
 mod runs;
 mod single;
 mod steps;
@@ -55,7 +57,7 @@ fn take<A: Allocator>(machine: &mut Machine<A>) -> Result<Account, OrderFault> {
     take_account(machine)
 }
 
-/// An order of a program: its place, the word times of its phases but for the one in which it is taken, and the word that stands at
+/// An order of a program: its place, the word times of its phases but for the one in which it is taken, and the word that is at
 /// its address afterwards, or 0 where it waits for none.
 type Row = (u16, u64, u64, u64, u32);
 
@@ -171,7 +173,7 @@ const ORDERS: &[Row] = &[
     (3, 57, 1, 1, 0),
 ];
 
-/// Starts the machine, and accounts for so many orders as there are rows. How many are as they should be, how the next one is refused,
+/// Starts the machine, and accounts for as many orders as there are rows. How many are as they should be, how the next one is refused,
 /// and the clock.
 fn accounted<A: Allocator>(
     machine: &mut Machine<A>,
@@ -250,7 +252,7 @@ fn profiled<A: Allocator>(machine: &mut Machine<A>, profile: &mut Profile<A>) ->
     shown(profile)
 }
 
-/// The order at 0009 is performed four times, and no order stands at 0020.
+/// The order at 0009 is performed four times, and no order is at 0020.
 #[test]
 fn the_profile_of_a_program(rt: HostRuntime) -> Result<(), Fail> {
     let mut machine = with_words(rt.alloc(), SUM_OF_A_TABLE)?;

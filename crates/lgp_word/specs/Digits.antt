@@ -29,7 +29,7 @@ four_digits number =
 unfoldable pub digits_of : ℕ → List ℕ
 digits_of bits = four_digits (bits / 65536) ++ four_digits (bits % 65536)
 
--- the number that a list of digits stands for, behind what was read before
+-- the number that a list of digits stands for, after what was read before
 abbrev pub number_of : ℕ → List ℕ → Option ℕ
 number_of before [] = Some before
 number_of before (byte ∷ bytes) =

@@ -5,7 +5,7 @@ ghost use Rattle.std.specs.Char.{is_ascii_digit};
 ghost use Rattle.std.specs.List.{list_all};
 ghost use Rattle.lgp_word.specs.Decimal.{decimal_number, decimal_of, readable_digits, is_decimal};
 
-/// The text is one decimal digit or more, and at most so many.
+/// The text is one decimal digit or more, and at most a given number of digits.
 #[tactic(auto, unfolding(crate::specs::Decimal::is_decimal))]
 fn is_decimal(most: usize, text: &[u8]) -> bool
     ensures value { result ≡ is_decimal most text.now }

@@ -153,7 +153,7 @@ pub fn decode(word: Word) -> Option<Order>
     }
 }
 
-/// The parts of any word: its sign, and what stands in the places of order and address.
+/// The parts of any word: its sign, and what is in the places of order and address.
 #[tactic(auto, unfolding(crate::specs::Order::op_of))]
 pub fn parts(word: Word) -> (bool, Op, Address)
     ensures sign { result.0 ≡ sign_of word }

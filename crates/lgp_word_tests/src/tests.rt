@@ -85,7 +85,7 @@ fn position(sector: u16) -> Option<u16> {
     None
 }
 
-/// The place of the first sector that stands at another position.
+/// The place of the first sector that is at another position.
 fn first_displaced(rows: &[(u16, u16)]) -> Option<usize> {
     for (place, (sector, at)) in rows.iter().enumerate() {
         if position(*sector) != Some(*at) {
@@ -329,7 +329,7 @@ fn address_parts_are_replaced(rt: HostRuntime) {
     );
 }
 
-/// The number of a decimal text of at most so many digits.
+/// The number of a decimal text of at most a given number of digits.
 fn decimal(text: &[u8], most: usize) -> Option<u64> {
     read_decimal(text, most.min(18))
 }
@@ -361,6 +361,6 @@ fn first_misread_decimal(rows: &[(&[u8], usize, Option<u64>)]) -> Option<usize> 
 }
 
 #[test]
-fn decimals_have_so_many_digits(rt: HostRuntime) {
+fn decimals_have_a_limit_of_digits(rt: HostRuntime) {
     assert_eq!(rt; first_misread_decimal(&DECIMALS), None);
 }

@@ -1,5 +1,5 @@
 use Rattle.std.proofs.Common.{refl}
-use Rattle.lgp_assembler.proofs.Assembled.{faults_told, image_made, ok_image, ok_faultless, err_faults, cells_apart, cells_clear}
+use Rattle.lgp_assembler.proofs.Assembled.{faults_reported, image_made, ok_image, ok_faultless, err_faults, cells_apart, cells_clear}
 use Rattle.lgp_assembler.proofs.assemble.Goals as goal
 
 pub returns : goal.returns
@@ -7,14 +7,14 @@ returns g c =
     let source = c.args.source.now in
     let scan = c.in_ok-scan.scan in
     let draft = c.in_ok-draft.draft in
-    let told = faults_told source scan.lines scan.place scan.ended scan.names draft.faults.items draft.parts.cells.items draft.parts.start draft.parts.symbols.items c.in_ok-scan.ensures.stands c.in_ok-draft.ensures in
+    let reported = faults_reported source scan.lines scan.place scan.ended scan.names draft.faults.items draft.parts.cells.items draft.parts.start draft.parts.symbols.items c.in_ok-scan.ensures.stands c.in_ok-draft.ensures in
     let made = image_made source scan.lines scan.place scan.ended scan.names draft.faults.items draft.parts.cells.items draft.parts.start draft.parts.symbols.items c.in_ok-scan.ensures.stands c.in_ok-draft.ensures in
     let r = c.image_or_faults.result in
     let answer = c.image_or_faults.ensures in
     record {
       image = ok_image r _ _ _ answer.image answer.faultless made;
-      faultless = ok_faultless r _ _ answer.faultless told;
-      faults = err_faults r _ _ answer.faults told;
+      faultless = ok_faultless r _ _ answer.faultless reported;
+      faults = err_faults r _ _ answer.faults reported;
       faulty = answer.faulty;
     }
 

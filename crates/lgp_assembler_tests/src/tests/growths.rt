@@ -2,7 +2,7 @@
 //! last it is what there is with ample memory.
 
 use super::*;
-use lgp_scarce::Scarce;
+use lgp_limited::Limited;
 use linked_list_allocator::LocalHeap;
 
 /// More growths than any of these sources has.
@@ -71,11 +71,11 @@ fn end_of<A: Allocator + Copy>(alloc: A, source: &[u8], ample: &Ample) -> End {
 /// Assembles a source with each growth refused in turn. How many growths it has; `None` where one
 /// is refused and the answer is another than that, or where none is and the answer is another than
 /// with ample memory.
-fn growths<B: Allocator>(scarce: &Scarce<B>, source: &[u8], ample: &Ample) -> Option<u64> {
+fn growths<B: Allocator>(limited: &Limited<B>, source: &[u8], ample: &Ample) -> Option<u64> {
     for nth in 0..MOST {
-        scarce.refuse(nth + 1);
-        let end = end_of(scarce, source, ample);
-        if !scarce.was_refused() {
+        limited.refuse(nth + 1);
+        let end = end_of(limited, source, ample);
+        if !limited.was_refused() {
             return (end == End::Same).then_some(nth);
         }
         if end != End::Refused {
@@ -86,13 +86,13 @@ fn growths<B: Allocator>(scarce: &Scarce<B>, source: &[u8], ample: &Ample) -> Op
 }
 
 /// How many growths a source has.
-fn growths_of<B: Allocator>(scarce: &Scarce<B>, global: Global, source: &[u8]) -> Option<u64> {
-    growths(scarce, source, &assemble(global, source))
+fn growths_of<B: Allocator>(limited: &Limited<B>, global: Global, source: &[u8]) -> Option<u64> {
+    growths(limited, source, &assemble(global, source))
 }
 
 /// Sources, and growths that each has at least. The marks of the places that are taken, the names
 /// of the lines, the words, the names of the image and the faults take memory, each where there is
-/// one of them; the last source's only fault is told behind its lines. The fourth source has words and
+/// one of them; the last source's only fault is reported after its lines. The fourth source has words and
 /// names before its fault, which are of no use then.
 const SOURCES: [(&[u8], u64); 6] = [
     (FIRST_PROGRAM, 4),
@@ -103,16 +103,16 @@ const SOURCES: [(&[u8], u64); 6] = [
     (b"", 2),
 ];
 
-/// Whether each source has so many growths.
-fn all_sources<B: Allocator>(scarce: &Scarce<B>, global: Global) -> [bool; 6] {
-    SOURCES.map(|(source, least)| growths_of(scarce, global, source) >= Some(least))
+/// Whether each source has a given number of growths.
+fn all_sources<B: Allocator>(limited: &Limited<B>, global: Global) -> [bool; 6] {
+    SOURCES.map(|(source, least)| growths_of(limited, global, source) >= Some(least))
 }
 
 #[test]
 fn each_growth_of_an_assembly_is_refused(rt: HostRuntime) -> Result<(), Fail> {
     let heap = LocalHeap::new(rt.alloc(), 65536)?;
-    let scarce = Scarce::new(&heap);
-    let found = all_sources(&scarce, rt.alloc());
+    let limited = Limited::new(&heap);
+    let found = all_sources(&limited, rt.alloc());
     assert_eq!(rt; (found, heap.used()), ([true; 6], 0));
     Ok(())
 }
@@ -121,8 +121,8 @@ fn each_growth_of_an_assembly_is_refused(rt: HostRuntime) -> Result<(), Fail> {
 #[test]
 fn each_growth_of_many_words_is_refused(rt: HostRuntime) -> Result<(), Fail> {
     let source = named_words(rt.alloc())?;
-    let scarce = Scarce::new(rt.alloc());
-    let found = growths_of(&scarce, rt.alloc(), &source);
-    assert!(rt; found >= Some(7) && scarce.blocks_out() == 0, "{found:?}");
+    let limited = Limited::new(rt.alloc());
+    let found = growths_of(&limited, rt.alloc(), &source);
+    assert!(rt; found >= Some(7) && limited.blocks_out() == 0, "{found:?}");
     Ok(())
 }

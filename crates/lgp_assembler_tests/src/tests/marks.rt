@@ -1,7 +1,7 @@
 //! A test is a table of lines with the kinds of their faults, and what is shown for each.
 
 use lgp_assembler::{FaultKind, push_marked};
-use lgp_scarce::Scarce;
+use lgp_limited::Limited;
 use std::alloc::{AllocError, Allocator, Global};
 use std::process::Abort;
 
@@ -20,7 +20,7 @@ const ROWS: [Row; 16] = [
         FaultKind::UnknownOrder,
         b"         q 0000\n         ^\n",
     ),
-    // Below a tab stands a tab.
+    // Below a tab is a tab.
     (
         b"\tb\t0064",
         FaultKind::BadOperand,
@@ -39,7 +39,7 @@ const ROWS: [Row; 16] = [
     ),
     (b"", FaultKind::NoEnd, b""),
     (b" z", FaultKind::NoEnd, b"         z\n"),
-    // Behind the end a label is at fault, or else the operation.
+    // After the end a label is at fault, or else the operation.
     (
         b"one z",
         FaultKind::AfterEnd,
@@ -102,7 +102,7 @@ fn faulty_lines_are_marked(rt: HostRuntime) {
     assert_eq!(rt; first_mismarked(rt.alloc(), &ROWS), ROWS.len());
 }
 
-/// A text, and behind it a byte so many times.
+/// A text, and after it a byte a given number of times.
 fn followed(alloc: Global, text: &[u8], byte: u8, count: usize) -> Result<Vec<u8>, AllocError> {
     let mut all = Vec::new(alloc);
     all.extend_from_slice(text)?;
@@ -124,7 +124,7 @@ fn is_cut(alloc: Global) -> Result<bool, AllocError> {
     Ok(is_shown(alloc, &line, FaultKind::UnknownName, &wanted))
 }
 
-/// Whether nothing is marked of an operand behind the 200 bytes that are shown.
+/// Whether nothing is marked of an operand after the 200 bytes that are shown.
 fn is_unmarked(alloc: Global) -> Result<bool, AllocError> {
     let mut line = followed(alloc, b" b", b' ', 250)?;
     line.extend_from_slice(b"none")?;
@@ -142,19 +142,19 @@ fn long_lines_are_cut(rt: HostRuntime) -> Result<(), AllocError> {
 
 /// Shows a line with the nth growth refused: whether it was, and whether the call said so or showed
 /// the line.
-fn ended(scarce: &Scarce<Global>, nth: u64) -> (bool, bool) {
-    let mut text = Vec::new(scarce);
-    scarce.refuse(nth);
+fn ended(limited: &Limited<Global>, nth: u64) -> (bool, bool) {
+    let mut text = Vec::new(limited);
+    limited.refuse(nth);
     let shown = push_marked(&mut text, b" b none", FaultKind::UnknownName);
-    let refused = scarce.was_refused();
+    let refused = limited.was_refused();
     let whole = text.as_slice() == b"         b none\n           ^^^^\n".as_slice();
     (refused, shown.is_err() == refused && (refused || whole))
 }
 
-/// How many growths there are, where each that is refused in turn is told.
-fn refusals(scarce: &Scarce<Global>) -> Option<u64> {
+/// How many growths there are, where each that is refused in turn is reported.
+fn refusals(limited: &Limited<Global>) -> Option<u64> {
     for nth in 1..100 {
-        match ended(scarce, nth) {
+        match ended(limited, nth) {
             (true, true) => {}
             (false, true) => return Some(nth - 1),
             _ => return None,
@@ -165,9 +165,9 @@ fn refusals(scarce: &Scarce<Global>) -> Option<u64> {
 
 #[test]
 fn each_growth_may_be_refused(rt: HostRuntime) {
-    let scarce = Scarce::new(rt.alloc());
-    let count = refusals(&scarce);
-    let are_back = scarce.blocks_out() == 0;
+    let limited = Limited::new(rt.alloc());
+    let count = refusals(&limited);
+    let are_back = limited.blocks_out() == 0;
     assert!(rt;
         are_back && count.is_some_and(|count| count > 1),
         "{count:?}"

@@ -1,5 +1,5 @@
 //! The word of one operation by itself, and addresses by names. The words are worked by hand: an
-//! order is its letter's number times 65,536 and its address times 4, and `n` with its point behind
+//! order is its letter's number times 65,536 and its address times 4, and `n` with its point after
 //! `q` is `n` times 2 to the power `31 - q`.
 
 use super::*;
@@ -68,7 +68,7 @@ fn bits(names: &Symbols, patch: &Patch) -> Result<u32, OperandFault> {
     }
 }
 
-/// How many of the operations have the word or the fault that stands beside them.
+/// How many of the operations have the word or the fault that is beside them.
 fn right_patches(names: &Symbols, patches: &[Patch]) -> usize {
     let mut right = 0_usize;
     for patch in patches {
@@ -85,7 +85,7 @@ fn number(names: &Symbols, text: &[u8]) -> Result<u16, OperandFault> {
     }
 }
 
-/// How many of the operands have the address or the fault that stands beside them.
+/// How many of the operands have the address or the fault that is beside them.
 fn right_addresses(names: &Symbols, addresses: &[(&[u8], Result<u16, OperandFault>)]) -> usize {
     let mut right = 0_usize;
     for (text, wanted) in addresses {

@@ -3,7 +3,7 @@
 use super::*;
 
 /// A source of 4,074 words, each of which is four times its place: all places before the loader's
-/// and all behind it.
+/// and all after it.
 fn full_source(alloc: Global) -> Result<Vec<u8>, AllocError> {
     let mut source = Vec::new(alloc);
     for _ in 0..4032u16 {
@@ -58,7 +58,7 @@ const BAD_LABEL: &[u8] = b"9 ; a line of sixty-four bytes with its line feed ---
 
 const END: &[u8] = b" end ; ---------------------------------------------------------";
 
-/// A source of so many lines, then the last one.
+/// A source of a given number of lines, then the last one.
 fn long_source(alloc: Global, line: &[u8], lines: u32) -> Result<Vec<u8>, AllocError> {
     let mut source = Vec::new(alloc);
     for _ in 0..lines {

@@ -96,7 +96,7 @@ const NEVER: Living = Living {
 };
 
 /// Whether an action is live at a status and in the mode of this number.
-fn told(living: Living, status: Status, mode: usize) -> bool {
+fn reported(living: Living, status: Status, mode: usize) -> bool {
     match status {
         Status::Halted(_) => living.halted[mode % 3],
         Status::Waiting => living.waiting,
@@ -104,17 +104,17 @@ fn told(living: Living, status: Status, mode: usize) -> bool {
     }
 }
 
-/// Whether an action is live or dead as told, both before it is pressed and then, and changes nothing where it is dead.
+/// Whether an action is live or dead as reported, both before it is pressed and then, and changes nothing where it is dead.
 fn lives(global: Global, before: &Panel, action: &Action, live: bool) -> bool {
     let (answer, after, on) = pressed(global, before, *action);
     answer == live && would_be_live(before, action) == live && (live || (after == *before && !on))
 }
 
-/// The first status and mode where an action is not live or dead as told.
-fn first_untold(global: Global, action: Action, living: Living) -> Option<(Status, Mode)> {
+/// The first status and mode where an action is not live or dead as reported.
+fn first_unreported(global: Global, action: Action, living: Living) -> Option<(Status, Mode)> {
     for (number, mode) in MODES.into_iter().enumerate() {
         for status in STATUSES {
-            let live = told(living, status, number);
+            let live = reported(living, status, number);
             if !lives(global, &panel(status, mode), &action, live) {
                 return Some((status, mode));
             }
@@ -156,7 +156,7 @@ fn table() -> [(Action, Living); 15] {
 fn actions_are_live_by_the_table(rt: HostRuntime) {
     for (place, (action, living)) in table().into_iter().enumerate() {
         assert_eq!(rt;
-            first_untold(rt.alloc(), action, living),
+            first_unreported(rt.alloc(), action, living),
             None,
             "of action {place}"
         );

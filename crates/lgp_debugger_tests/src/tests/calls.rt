@@ -36,14 +36,14 @@ pub enum Call {
     Put(u16, u32),
     Press(Button),
     Step,
-    /// So many orders, or fewer where one is refused.
+    /// A given number of orders, or fewer where one is refused.
     Steps(u64),
     Idle(u64),
     /// A tape by its text.
     Mount(&'static [u8]),
     Back(u64),
     AddRule(Named),
-    /// The same rule so many times, or fewer where one is refused.
+    /// The same rule a given number of times, or fewer where one is refused.
     AddRules(Named, u64),
     RemoveRule(u8),
     Run(u64),
@@ -90,7 +90,7 @@ pub enum Answer {
     /// How many were done.
     Done(u64),
     Idle(Result<(), IdleFault>),
-    /// A refused tape is told by the number of codes handed back. `None` where the text is no tape's.
+    /// A refused tape is reported by the number of codes handed back. `None` where the text is no tape's.
     Mount(Option<Result<(), (MountFault, usize)>>),
     Back(Result<(), BackFault>),
     AddRule(Result<u8, RuleFault>),
@@ -192,7 +192,7 @@ pub fn idle<H: History<A>, A: Allocator>(
     lab.idle(times)
 }
 
-/// Mounts a tape; a refused one is told by the number of codes handed back.
+/// Mounts a tape; a refused one is reported by the number of codes handed back.
 pub fn mount<H: History<A>, A: Allocator>(
     lab: &mut Debugger<H, A>,
     codes: Vec<Code, A>,
@@ -213,7 +213,7 @@ fn mount_text<H: History<A>, A: Allocator + Copy>(
     Some(mount(lab, codes))
 }
 
-/// Goes back by so many orders.
+/// Goes back by a given number of orders.
 pub fn back<H: History<A>, A: Allocator>(
     lab: &mut Debugger<H, A>,
     orders: u64,
@@ -250,7 +250,7 @@ pub fn remove_rule<H: History<A>, A: Allocator>(
     lab.remove_rule(number).map(name_of)
 }
 
-/// Performs at most so many orders.
+/// Performs at most a given number of orders.
 pub fn run<H: History<A>, A: Allocator>(
     lab: &mut Debugger<H, A>,
     limit: u64,
@@ -258,7 +258,7 @@ pub fn run<H: History<A>, A: Allocator>(
     lab.run(limit)
 }
 
-/// Performs at most so many orders, and no rule stops them.
+/// Performs at most a given number of orders, and no rule stops them.
 pub fn run_freely<H: History<A>, A: Allocator>(
     lab: &mut Debugger<H, A>,
     limit: u64,

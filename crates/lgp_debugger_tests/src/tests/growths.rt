@@ -10,9 +10,9 @@ use lgp_debugger::{
 };
 use lgp_flexo::{Code, read_tape_text};
 use lgp_history::{BackFault, Checkpoints, History, Records};
+use lgp_limited::Limited;
 use lgp_loader::LoadFault;
 use lgp_machine::Look;
-use lgp_scarce::Scarce;
 use std::alloc::{AllocError, Allocator, Global};
 use std::test::Fail;
 
@@ -132,18 +132,18 @@ fn called<H: History<A>, A: Allocator>(lab: &mut Debugger<H, A>, call: Call) -> 
 /// Makes a call with each growth refused in turn. Whether there was one; `None` where a growth is refused and the call does not say
 /// so or changes anything, or where none is and it is not done.
 fn in_turn<H: History<A>, A: Allocator>(
-    scarce: &Scarce<Global>,
+    limited: &Limited<Global>,
     lab: &mut Debugger<H, A>,
     call: Call,
 ) -> Option<bool> {
     let before = whole(lab);
     for nth in 1..MOST {
-        scarce.refuse(nth);
+        limited.refuse(nth);
         let ended = called(lab, call);
-        if ended == Ended::Done && !scarce.was_refused() {
+        if ended == Ended::Done && !limited.was_refused() {
             return Some(nth > 1);
         }
-        if ended != Ended::Refused || !scarce.was_refused() || whole(lab) != before {
+        if ended != Ended::Refused || !limited.was_refused() || whole(lab) != before {
             return None;
         }
     }
@@ -165,20 +165,20 @@ fn mount_or_back<H: History<A>, A: Allocator>(
 
 /// Mounts a tape likewise. A tape that is handed back has all of its codes, and is tried again.
 fn mount_in_turn<H: History<A>, A: Allocator>(
-    scarce: &Scarce<Global>,
+    limited: &Limited<Global>,
     lab: &mut Debugger<H, A>,
     tape: Vec<Code, A>,
 ) -> Option<bool> {
     let (before, shown) = (whole(lab), codes(tape.as_slice()));
     let mut tape = tape;
     for nth in 1..MOST {
-        scarce.refuse(nth);
+        limited.refuse(nth);
         match mount_or_back(lab, tape) {
-            Ok(()) => return (!scarce.was_refused()).then_some(nth > 1),
+            Ok(()) => return (!limited.was_refused()).then_some(nth > 1),
             Err((MountFault::Memory, back)) if codes(back.as_slice()) == shown => tape = back,
             Err(_) => return None,
         }
-        if !scarce.was_refused() || whole(lab) != before {
+        if !limited.was_refused() || whole(lab) != before {
             return None;
         }
     }
@@ -187,39 +187,39 @@ fn mount_in_turn<H: History<A>, A: Allocator>(
 
 /// The steps before the first order, of which one mounts a tape. Which of them take memory.
 fn open<H: History<A>, A: Allocator>(
-    scarce: &Scarce<Global>,
+    limited: &Limited<Global>,
     lab: &mut Debugger<H, A>,
     tape: Vec<Code, A>,
 ) -> Option<[bool; 6]> {
     Some([
-        in_turn(scarce, lab, Call::Put(1, HOLD))?,
-        in_turn(scarce, lab, Call::Put(2, TRANSFER))?,
-        in_turn(scarce, lab, Call::Idle(5))?,
-        in_turn(scarce, lab, Call::Put(100, 6))?,
-        mount_in_turn(scarce, lab, tape)?,
-        in_turn(scarce, lab, Call::Press(Button::Start))?,
+        in_turn(limited, lab, Call::Put(1, HOLD))?,
+        in_turn(limited, lab, Call::Put(2, TRANSFER))?,
+        in_turn(limited, lab, Call::Idle(5))?,
+        in_turn(limited, lab, Call::Put(100, 6))?,
+        mount_in_turn(limited, lab, tape)?,
+        in_turn(limited, lab, Call::Press(Button::Start))?,
     ])
 }
 
 /// The steps within the orders, likewise.
 fn pause<H: History<A>, A: Allocator>(
-    scarce: &Scarce<Global>,
+    limited: &Limited<Global>,
     lab: &mut Debugger<H, A>,
     tape: Vec<Code, A>,
 ) -> Option<[bool; 6]> {
     Some([
-        in_turn(scarce, lab, Call::Press(Button::Manual))?,
-        mount_in_turn(scarce, lab, tape)?,
-        in_turn(scarce, lab, Call::Put(100, 8))?,
-        in_turn(scarce, lab, Call::Idle(7))?,
-        in_turn(scarce, lab, Call::Press(Button::Normal))?,
-        in_turn(scarce, lab, Call::Press(Button::Start))?,
+        in_turn(limited, lab, Call::Press(Button::Manual))?,
+        mount_in_turn(limited, lab, tape)?,
+        in_turn(limited, lab, Call::Put(100, 8))?,
+        in_turn(limited, lab, Call::Idle(7))?,
+        in_turn(limited, lab, Call::Press(Button::Normal))?,
+        in_turn(limited, lab, Call::Press(Button::Start))?,
     ])
 }
 
-/// Performs so many orders so, and puts the state before each behind `log`. Whether one of them takes memory.
+/// Performs a given number of orders so, and appends the state before each to `log`. Whether one of them takes memory.
 fn perform<H: History<A>, A: Allocator>(
-    scarce: &Scarce<Global>,
+    limited: &Limited<Global>,
     lab: &mut Debugger<H, A>,
     orders: u64,
     log: &mut Vec<State>,
@@ -227,32 +227,32 @@ fn perform<H: History<A>, A: Allocator>(
     let mut grown = false;
     for _ in 0..orders {
         log.push(state(lab)).ok()?;
-        grown |= in_turn(scarce, lab, Call::Step)?;
+        grown |= in_turn(limited, lab, Call::Step)?;
     }
     Some(grown)
 }
 
 /// Six steps and 190 orders, six steps and ten orders. Which of the steps take memory, and whether an order does.
 fn fill<H: History<A>, A: Allocator + Copy>(
-    scarce: &Scarce<Global>,
+    limited: &Limited<Global>,
     alloc: A,
     lab: &mut Debugger<H, A>,
     log: &mut Vec<State>,
 ) -> Option<([bool; 6], bool, [bool; 6])> {
-    scarce.refuse(0);
+    limited.refuse(0);
     let first = codes_of(alloc, b"12'")?;
     let second = codes_of(alloc, b"34'5")?;
-    let opened = open(scarce, lab, first)?;
-    let grown = perform(scarce, lab, 190, log)?;
-    let paused = pause(scarce, lab, second)?;
-    perform(scarce, lab, 10, log)?;
+    let opened = open(limited, lab, first)?;
+    let grown = perform(limited, lab, 190, log)?;
+    let paused = pause(limited, lab, second)?;
+    perform(limited, lab, 10, log)?;
     Some((opened, grown, paused))
 }
 
-/// Goes back order by order until so many are kept, each time with each growth refused in turn; at each the state is that of `log`.
+/// Goes back order by order until a given number are kept, each time with each growth refused in turn; at each the state is that of `log`.
 /// How many times it takes memory.
 fn go_back<H: History<A>, A: Allocator>(
-    scarce: &Scarce<Global>,
+    limited: &Limited<Global>,
     lab: &mut Debugger<H, A>,
     orders: u64,
     log: &mut Vec<State>,
@@ -262,7 +262,7 @@ fn go_back<H: History<A>, A: Allocator>(
         if kept(lab).1 == orders {
             return Some(grown);
         }
-        if in_turn(scarce, lab, Call::Back)? {
+        if in_turn(limited, lab, Call::Back)? {
             grown = grown.saturating_add(1);
         }
         if log.pop() != Some(state(lab)) {
@@ -278,20 +278,20 @@ type Gone = (Option<u64>, Option<bool>, Option<u64>);
 /// Goes back three orders, then to the latest order that a rule hits, and then order by order to the first one that is kept. What is
 /// kept at the hit, which of it takes memory, and the rules at the end.
 fn go_back_by_rules<H: History<A>, A: Allocator>(
-    scarce: &Scarce<Global>,
+    limited: &Limited<Global>,
     lab: &mut Debugger<H, A>,
     log: &mut Vec<State>,
 ) -> Option<((u64, u64), Gone, [Option<Named>; 3])> {
-    let first = go_back(scarce, lab, 121, log);
+    let first = go_back(limited, lab, 121, log);
     add_rule(lab, Named::At(5)).ok()?;
     add_rule(lab, Named::Changed(100)).ok()?;
-    let hit = in_turn(scarce, lab, Call::LastHit);
+    let hit = in_turn(limited, lab, Call::LastHit);
     let kept_there = kept(lab);
     log.truncate(191);
     if log.pop() != Some(state(lab)) {
         return None;
     }
-    let last = go_back(scarce, lab, 0, log);
+    let last = go_back(limited, lab, 0, log);
     let rules = [0, 0, 0].map(|number| remove_rule(lab, number));
     Some((kept_there, (first, hit, last), rules))
 }
@@ -306,20 +306,20 @@ type ThereAndBack = (
 );
 
 fn there_and_back<H: History<A>, A: Allocator + Copy>(
-    (scarce, global): (&Scarce<Global>, Global),
+    (limited, global): (&Limited<Global>, Global),
     alloc: A,
     lab: &mut Debugger<H, A>,
 ) -> ThereAndBack {
     let mut log = Vec::new(global);
-    let filled = fill(scarce, alloc, lab, &mut log);
+    let filled = fill(limited, alloc, lab, &mut log);
     let full = (kept(lab), back(lab, 125));
-    let gone = go_back_by_rules(scarce, lab, &mut log);
+    let gone = go_back_by_rules(limited, lab, &mut log);
     let (look, _, [printed, _, left]) = state(lab);
     let there = (log.len(), kept(lab), look.counter.number(), printed.0, left);
     (filled, full, gone, there)
 }
 
-/// The 212 steps fill a history of 130; 124 of those are orders. Of the last seven orders behind the first three back the first one
+/// The 212 steps fill a history of 130; 124 of those are orders. Of the last seven orders after the first three back the first one
 /// changes the word that was put in the pause. The first kept order is the 77th, the second of a turn of the loop, before which 26
 /// codes were printed and the first tape was there. The rules stay.
 fn expected(opened: [bool; 6], paused: [bool; 6], gone: Gone) -> ThereAndBack {
@@ -337,45 +337,45 @@ fn expected(opened: [bool; 6], paused: [bool; 6], gone: Gone) -> ThereAndBack {
 
 /// That over a history.
 fn gone_over<H: History<A>, A: Allocator + Copy>(
-    scarce: (&Scarce<Global>, Global),
+    limited: (&Limited<Global>, Global),
     alloc: A,
     history: H,
 ) -> Result<ThereAndBack, AllocError> {
     let mut lab = with_order(alloc, history, PRINT)?;
-    Ok(there_and_back(scarce, alloc, &mut lab))
+    Ok(there_and_back(limited, alloc, &mut lab))
 }
 
 /// That over records of at most 130 steps.
-fn over_records(scarce: &Scarce<Global>, global: Global) -> Result<ThereAndBack, AllocError> {
-    gone_over((scarce, global), scarce, Records::new(scarce, 130)?)
+fn over_records(limited: &Limited<Global>, global: Global) -> Result<ThereAndBack, AllocError> {
+    gone_over((limited, global), limited, Records::new(limited, 130)?)
 }
 
 /// That over checkpoints.
-fn over_checkpoints(scarce: &Scarce<Global>, global: Global) -> Result<ThereAndBack, AllocError> {
-    gone_over((scarce, global), scarce, Checkpoints::new(scarce, 130)?)
+fn over_checkpoints(limited: &Limited<Global>, global: Global) -> Result<ThereAndBack, AllocError> {
+    gone_over((limited, global), limited, Checkpoints::new(limited, 130)?)
 }
 
 /// All steps but most orders take memory, and no way back does.
 #[test]
 fn records_with_each_growth_refused(rt: HostRuntime) -> Result<(), Fail> {
-    let scarce = Scarce::new(rt.alloc());
-    let seen = over_records(&scarce, rt.alloc())?;
+    let limited = Limited::new(rt.alloc());
+    let seen = over_records(&limited, rt.alloc())?;
     let gone = (Some(0), Some(false), Some(0));
     let wanted = expected([true; 6], [true; 6], gone);
-    assert_eq!(rt; (seen, scarce.blocks_out()), (wanted, 0));
+    assert_eq!(rt; (seen, limited.blocks_out()), (wanted, 0));
     Ok(())
 }
 
 /// The tapes take memory, the steps of which the machine is copied, and each way back.
 #[test]
 fn checkpoints_with_each_growth_refused(rt: HostRuntime) -> Result<(), Fail> {
-    let scarce = Scarce::new(rt.alloc());
-    let seen = over_checkpoints(&scarce, rt.alloc())?;
+    let limited = Limited::new(rt.alloc());
+    let seen = over_checkpoints(&limited, rt.alloc())?;
     let opened = [true, false, false, false, true, false];
     let paused = [false, true, false, false, false, false];
     let gone = (Some(3), Some(true), Some(114));
     let wanted = expected(opened, paused, gone);
-    assert_eq!(rt; (seen, scarce.blocks_out()), (wanted, 0));
+    assert_eq!(rt; (seen, limited.blocks_out()), (wanted, 0));
     Ok(())
 }
 
@@ -415,7 +415,7 @@ fn log_over<H: History<A>, A: Allocator + Copy>(
     log_of(global, &mut lab)
 }
 
-/// How a run of 80 orders ends whose nth growth is refused: after so many orders, with all of them done, or otherwise.
+/// How a run of 80 orders ends whose nth growth is refused: after a given number of orders, with all of them done, or otherwise.
 #[derive(Clone, Copy, Debug, PartialEq, Eq)]
 enum RunEnd {
     After(u64),
@@ -423,7 +423,8 @@ enum RunEnd {
     Otherwise,
 }
 
-/// Whether behind so many orders the state is that of `log`, three steps more are kept than these, and they lead back to the start.
+/// Whether after a given number of orders the state is that of `log`, three steps more are kept than these, and they lead back to the
+/// start.
 fn stands<H: History<A>, A: Allocator>(
     lab: &mut Debugger<H, A>,
     log: &[State],
@@ -457,7 +458,7 @@ fn run_so<H: History<A>, A: Allocator>(
 
 /// Runs so, and goes back to the start.
 fn run_refused<H: History<A>, A: Allocator>(
-    scarce: &Scarce<Global>,
+    limited: &Limited<Global>,
     lab: &mut Debugger<H, A>,
     log: &[State],
     (way, nth): (Way, u64),
@@ -465,10 +466,10 @@ fn run_refused<H: History<A>, A: Allocator>(
     if !start(lab) {
         return RunEnd::Otherwise;
     }
-    scarce.refuse(nth);
+    limited.refuse(nth);
     let answer = run_so(lab, way);
-    let refused = scarce.was_refused();
-    scarce.refuse(0);
+    let refused = limited.was_refused();
+    limited.refuse(0);
     match answer {
         Ok(ran) if !refused && ran.orders == 80 && stands(lab, log, 80) => RunEnd::Done,
         Err(
@@ -501,7 +502,7 @@ impl Runs {
         }
     }
 
-    /// One run more, which was broken off behind so many orders; `latest` is the number of the one before.
+    /// One run more, which was broken off after a given number of orders; `latest` is the number of the one before.
     fn after(self, latest: u64, orders: u64) -> Runs {
         Runs {
             first: self.first.or(Some(orders)),
@@ -514,13 +515,13 @@ impl Runs {
 
 /// Runs so over a history.
 fn run_over<H: History<A>, A: Allocator + Copy>(
-    (scarce, way, nth): (&Scarce<Global>, Way, u64),
+    (limited, way, nth): (&Limited<Global>, Way, u64),
     alloc: A,
     history: H,
     log: &[State],
 ) -> Result<RunEnd, AllocError> {
     let mut lab = with_order(alloc, history, PRINT)?;
-    Ok(run_refused(scarce, &mut lab, log, (way, nth)))
+    Ok(run_refused(limited, &mut lab, log, (way, nth)))
 }
 
 /// A kind of history.
@@ -531,26 +532,30 @@ enum Kind {
 }
 
 fn run_of_kind(
-    scarce: &Scarce<Global>,
+    limited: &Limited<Global>,
     (kind, way): (Kind, Way),
     log: &[State],
     nth: u64,
 ) -> Result<RunEnd, AllocError> {
-    scarce.refuse(0);
-    let so = (scarce, way, nth);
+    limited.refuse(0);
+    let so = (limited, way, nth);
     match kind {
-        Kind::Records => run_over(so, scarce, Records::new(scarce, 130)?, log),
-        Kind::Checkpoints => run_over(so, scarce, Checkpoints::new(scarce, 130)?, log),
+        Kind::Records => run_over(so, limited, Records::new(limited, 130)?, log),
+        Kind::Checkpoints => run_over(so, limited, Checkpoints::new(limited, 130)?, log),
     }
 }
 
 /// Runs over a history with each growth refused in turn.
-fn all_runs(scarce: &Scarce<Global>, global: Global, so: (Kind, Way)) -> Result<Runs, AllocError> {
+fn all_runs(
+    limited: &Limited<Global>,
+    global: Global,
+    so: (Kind, Way),
+) -> Result<Runs, AllocError> {
     let log = log_over(global, global, Records::new(global, 130)?)?;
     let mut runs = Runs::none();
     let mut latest = 0;
     for nth in 1..MOST {
-        match run_of_kind(scarce, so, &log, nth)? {
+        match run_of_kind(limited, so, &log, nth)? {
             RunEnd::After(orders) => {
                 runs = runs.after(latest, orders);
                 latest = orders;
@@ -562,7 +567,7 @@ fn all_runs(scarce: &Scarce<Global>, global: Global, so: (Kind, Way)) -> Result<
     Ok(runs)
 }
 
-/// The first order prints, and takes memory for the first code. The order behind 61 others is the step at place 64, before which
+/// The first order prints, and takes memory for the first code. The order after 61 others is the step at place 64, before which
 /// checkpoints copy the machine; it prints nothing, so over records it takes no memory.
 fn runs_expected(at_copy: bool) -> Runs {
     Runs {
@@ -574,42 +579,42 @@ fn runs_expected(at_copy: bool) -> Runs {
 }
 
 #[test]
-fn a_run_over_records_says_behind_how_many_orders_it_is_refused(
+fn a_run_over_records_says_after_how_many_orders_it_is_refused(
     rt: HostRuntime,
 ) -> Result<(), Fail> {
-    let scarce = Scarce::new(rt.alloc());
-    let runs = all_runs(&scarce, rt.alloc(), (Kind::Records, Way::ByRules))?;
-    assert_eq!(rt; (runs, scarce.blocks_out()), (runs_expected(false), 0));
+    let limited = Limited::new(rt.alloc());
+    let runs = all_runs(&limited, rt.alloc(), (Kind::Records, Way::ByRules))?;
+    assert_eq!(rt; (runs, limited.blocks_out()), (runs_expected(false), 0));
     Ok(())
 }
 
 #[test]
-fn a_free_run_over_records_says_behind_how_many_orders_it_is_refused(
+fn a_free_run_over_records_says_after_how_many_orders_it_is_refused(
     rt: HostRuntime,
 ) -> Result<(), Fail> {
-    let scarce = Scarce::new(rt.alloc());
-    let runs = all_runs(&scarce, rt.alloc(), (Kind::Records, Way::Freely))?;
-    assert_eq!(rt; (runs, scarce.blocks_out()), (runs_expected(false), 0));
+    let limited = Limited::new(rt.alloc());
+    let runs = all_runs(&limited, rt.alloc(), (Kind::Records, Way::Freely))?;
+    assert_eq!(rt; (runs, limited.blocks_out()), (runs_expected(false), 0));
     Ok(())
 }
 
 #[test]
-fn a_run_over_checkpoints_says_behind_how_many_orders_it_is_refused(
+fn a_run_over_checkpoints_says_after_how_many_orders_it_is_refused(
     rt: HostRuntime,
 ) -> Result<(), Fail> {
-    let scarce = Scarce::new(rt.alloc());
-    let runs = all_runs(&scarce, rt.alloc(), (Kind::Checkpoints, Way::ByRules))?;
-    assert_eq!(rt; (runs, scarce.blocks_out()), (runs_expected(true), 0));
+    let limited = Limited::new(rt.alloc());
+    let runs = all_runs(&limited, rt.alloc(), (Kind::Checkpoints, Way::ByRules))?;
+    assert_eq!(rt; (runs, limited.blocks_out()), (runs_expected(true), 0));
     Ok(())
 }
 
 #[test]
-fn a_free_run_over_checkpoints_says_behind_how_many_orders_it_is_refused(
+fn a_free_run_over_checkpoints_says_after_how_many_orders_it_is_refused(
     rt: HostRuntime,
 ) -> Result<(), Fail> {
-    let scarce = Scarce::new(rt.alloc());
-    let runs = all_runs(&scarce, rt.alloc(), (Kind::Checkpoints, Way::Freely))?;
-    assert_eq!(rt; (runs, scarce.blocks_out()), (runs_expected(true), 0));
+    let limited = Limited::new(rt.alloc());
+    let runs = all_runs(&limited, rt.alloc(), (Kind::Checkpoints, Way::Freely))?;
+    assert_eq!(rt; (runs, limited.blocks_out()), (runs_expected(true), 0));
     Ok(())
 }
 
@@ -619,7 +624,7 @@ type Loaded = Option<(bool, u64, (u64, u64))>;
 /// Loads with each growth refused in turn, with a step kept. `None` where a
 /// growth is refused and anything is done, or where none is and it is not loaded by 23 orders.
 fn load_in_turn<H: History<A>, A: Allocator + Copy>(
-    scarce: &Scarce<Global>,
+    limited: &Limited<Global>,
     alloc: A,
     lab: &mut Debugger<H, A>,
     image: &Image,
@@ -627,12 +632,12 @@ fn load_in_turn<H: History<A>, A: Allocator + Copy>(
     put(lab, 100, 4).ok()?;
     let before = whole(lab);
     for nth in 1..MOST {
-        scarce.refuse(nth);
+        limited.refuse(nth);
         let answer = load(lab, alloc, image);
-        if answer == Ok(23) && !scarce.was_refused() {
+        if answer == Ok(23) && !limited.was_refused() {
             return Some((nth > 1, clock(lab), kept(lab)));
         }
-        let refused = answer == Err(LoadFault::Memory) && scarce.was_refused();
+        let refused = answer == Err(LoadFault::Memory) && limited.was_refused();
         if !refused || whole(lab) != before {
             return None;
         }
@@ -642,20 +647,24 @@ fn load_in_turn<H: History<A>, A: Allocator + Copy>(
 
 /// Loads so over a history.
 fn load_over<H: History<A>, A: Allocator + Copy>(
-    scarce: &Scarce<Global>,
+    limited: &Limited<Global>,
     alloc: A,
     history: H,
     image: &Image,
 ) -> Result<Loaded, AllocError> {
     let mut lab = with_order(alloc, history, PRINT)?;
-    Ok(load_in_turn(scarce, alloc, &mut lab, image))
+    Ok(load_in_turn(limited, alloc, &mut lab, image))
 }
 
-fn load_of_kind(scarce: &Scarce<Global>, kind: Kind, image: &Image) -> Result<Loaded, AllocError> {
-    scarce.refuse(0);
+fn load_of_kind(
+    limited: &Limited<Global>,
+    kind: Kind,
+    image: &Image,
+) -> Result<Loaded, AllocError> {
+    limited.refuse(0);
     match kind {
-        Kind::Records => load_over(scarce, scarce, Records::new(scarce, 4)?, image),
-        Kind::Checkpoints => load_over(scarce, scarce, Checkpoints::new(scarce, 4)?, image),
+        Kind::Records => load_over(limited, limited, Records::new(limited, 4)?, image),
+        Kind::Checkpoints => load_over(limited, limited, Checkpoints::new(limited, 4)?, image),
     }
 }
 
@@ -666,21 +675,21 @@ fn image(alloc: Global) -> Result<Image, Fail> {
 }
 
 /// A load over records and one over checkpoints.
-fn loads(scarce: &Scarce<Global>, image: &Image) -> Result<[Loaded; 2], AllocError> {
-    let over_records = load_of_kind(scarce, Kind::Records, image)?;
+fn loads(limited: &Limited<Global>, image: &Image) -> Result<[Loaded; 2], AllocError> {
+    let over_records = load_of_kind(limited, Kind::Records, image)?;
     Ok([
         over_records,
-        load_of_kind(scarce, Kind::Checkpoints, image)?,
+        load_of_kind(limited, Kind::Checkpoints, image)?,
     ])
 }
 
 #[test]
 fn a_load_with_each_growth_refused_keeps_what_there_is(rt: HostRuntime) -> Result<(), Fail> {
-    let scarce = Scarce::new(rt.alloc());
+    let limited = Limited::new(rt.alloc());
     let image = image(rt.alloc())?;
-    let loads = loads(&scarce, &image)?;
+    let loads = loads(&limited, &image)?;
     assert_eq!(rt;
-        (loads, scarce.blocks_out()),
+        (loads, limited.blocks_out()),
         ([Some((true, 15342, (0, 0))); 2], 0)
     );
     Ok(())

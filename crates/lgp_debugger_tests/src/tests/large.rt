@@ -12,7 +12,7 @@ use std::test::Fail;
 /// A transfer to 0000.
 const TRANSFER: u32 = 0x000a_0000;
 
-/// A tape of so many codes.
+/// A tape of a given number of codes.
 fn tape<A: Allocator>(alloc: A, length: usize) -> Result<Vec<Code, A>, AllocError> {
     vec![in alloc; Code::STOP; length]
 }

@@ -24,7 +24,7 @@ struct Example {
     name: &'static str,
     /// How many steps the history keeps at most.
     capacity: usize,
-    /// The word that stands at 0000 at first.
+    /// The word that is at 0000 at first.
     first: u32,
     rows: &'static [(Call, Answer)],
 }
@@ -239,7 +239,7 @@ const PUTS_AND_MOUNTS: Example = Example {
     ],
 };
 
-/// A load takes 23 orders, and no step is kept behind it.
+/// A load takes 23 orders, and no step is kept after it.
 const LOAD: Example = Example {
     name: "a load keeps no step",
     capacity: 8,

@@ -80,7 +80,7 @@ fn five_runs<H: History<A>, A: Allocator>(lab: &mut Debugger<H, A>) -> [Answered
     [at_rest, three, none, unseen, watched(lab, (5, 2))]
 }
 
-/// The first transfer ends at 67, and each later one 64 word times after the one before. The order for which there was no room stands.
+/// The first transfer ends at 67, and each later one 64 word times after the one before. The order for which there was no room remains.
 #[test]
 fn what_is_seen_is_kept(rt: HostRuntime) -> Result<(), Fail> {
     let history = Records::new(rt.alloc(), 4096)?;
@@ -93,5 +93,41 @@ fn what_is_seen_is_kept(rt: HostRuntime) -> Result<(), Fail> {
         (ran(1, Reason::Rule(0)), 387, 451, 7),
     ];
     assert_eq!(rt; five_runs(&mut lab), wanted);
+    Ok(())
+}
+
+/// What the run answers, then the clock and how many orders are kept.
+type Ended = (Result<Ran, RunFault>, u64, u64);
+
+fn looked_at_by_nothing<H: History<A>, A: Allocator>(
+    lab: &mut Debugger<H, A>,
+    limit: u64,
+) -> Ended {
+    let mut quiet = lab.quiet();
+    let answer = lab.run_watched(limit, &mut quiet, &mut ());
+    (answer, clock(lab), kept(lab).1)
+}
+
+/// Three runs over a transfer to itself: without rules, by a rule, and at rest.
+fn three_quiet_runs<H: History<A>, A: Allocator>(lab: &mut Debugger<H, A>) -> [Ended; 3] {
+    let _live = press_button(lab, Button::Start);
+    let free = looked_at_by_nothing(lab, 3);
+    let _number = add_rule(lab, Named::At(0));
+    let stopped = looked_at_by_nothing(lab, 5);
+    let _live = press_button(lab, Button::Manual);
+    [free, stopped, looked_at_by_nothing(lab, 5)]
+}
+
+/// What looks at nothing is stopped by the rules that there are when it is made.
+#[test]
+fn nothing_looks_by_the_rules(rt: HostRuntime) -> Result<(), Fail> {
+    let history = Records::new(rt.alloc(), 4096)?;
+    let mut lab = with_order(rt.alloc(), history, TRANSFER)?;
+    let wanted = [
+        (ran(3, Reason::Limit), 195, 3),
+        (ran(1, Reason::Rule(0)), 259, 4),
+        (ran(0, Reason::Rest), 259, 4),
+    ];
+    assert_eq!(rt; three_quiet_runs(&mut lab), wanted);
     Ok(())
 }

@@ -1,7 +1,7 @@
 //! Texts of archives, read as SIMH's simulator reads them.
 
 use lgp_flexo::{TAPE_LIMIT, TextFault, read_archive_text};
-use lgp_scarce::Scarce;
+use lgp_limited::Limited;
 use std::alloc::{Allocator, Global};
 use std::test::Fail;
 
@@ -162,7 +162,7 @@ fn each_group_of_a_text(rt: HostRuntime) {
 }
 
 #[test]
-fn the_first_bad_byte_is_told(rt: HostRuntime) {
+fn the_first_bad_byte_is_reported(rt: HostRuntime) {
     for (text, place) in [
         (b"!".as_slice(), 0),
         (b"!1", 0),
@@ -202,7 +202,7 @@ fn a_line_of_a_tape(rt: HostRuntime) {
     assert!(rt; is_read_as(rt.alloc(), LINE, &LINE_CODES));
 }
 
-/// How a text of so many carriage returns is read, with line feeds behind it.
+/// How a text of a given number of carriage returns is read, with line feeds after it.
 fn many(global: Global, count: usize, feeds: usize) -> Option<bool> {
     let mut text = vec![in global; b'\r'; count].ok()?;
     text.resize(count.saturating_add(feeds), b'\n').ok()?;
@@ -220,37 +220,40 @@ fn one_code_too_many_is_refused(rt: HostRuntime) {
 }
 
 /// Reads the line with the nth growth refused: whether it was read, and whether a growth was refused.
-fn read_scarcely<B: Allocator>(scarce: &Scarce<B>, nth: u64) -> (bool, bool) {
-    scarce.refuse(nth);
-    (is_read_as(scarce, LINE, &LINE_CODES), scarce.was_refused())
+fn read_within_limit<B: Allocator>(limited: &Limited<B>, nth: u64) -> (bool, bool) {
+    limited.refuse(nth);
+    (
+        is_read_as(limited, LINE, &LINE_CODES),
+        limited.was_refused(),
+    )
 }
 
 #[test]
 fn a_growth_may_be_refused(rt: HostRuntime) {
-    let scarce = Scarce::new(rt.alloc());
-    assert!(rt; read_scarcely(&scarce, 1) == (false, true));
-    assert!(rt; read_scarcely(&scarce, 2) == (true, false) && scarce.blocks_out() == 0);
+    let limited = Limited::new(rt.alloc());
+    assert!(rt; read_within_limit(&limited, 1) == (false, true));
+    assert!(rt; read_within_limit(&limited, 2) == (true, false) && limited.blocks_out() == 0);
 }
 
 #[test]
-fn a_refused_growth_is_told_as_such(rt: HostRuntime) -> Result<(), Fail> {
-    let scarce = Scarce::new(rt.alloc());
-    scarce.refuse(1);
-    assert!(rt; matches!(read_archive_text(&scarce, b"1"), Err(TextFault::Memory(_))));
-    assert!(rt; scarce.blocks_out() == 0);
+fn a_refused_growth_is_reported_as_such(rt: HostRuntime) -> Result<(), Fail> {
+    let limited = Limited::new(rt.alloc());
+    limited.refuse(1);
+    assert!(rt; matches!(read_archive_text(&limited, b"1"), Err(TextFault::Memory(_))));
+    assert!(rt; limited.blocks_out() == 0);
     Ok(())
 }
 
 /// How a bad text is read where the first growth is refused.
-fn bad_read_scarcely<B: Allocator>(
-    scarce: &Scarce<B>,
+fn bad_read_within_limit<B: Allocator>(
+    limited: &Limited<B>,
 ) -> Result<(usize, Option<u8>), Option<usize>> {
-    scarce.refuse(1);
-    reading(scarce, b"1<", 0)
+    limited.refuse(1);
+    reading(limited, b"1<", 0)
 }
 
 #[test]
-fn a_bad_byte_is_told_without_memory(rt: HostRuntime) {
-    let scarce = Scarce::new(rt.alloc());
-    assert!(rt; bad_read_scarcely(&scarce) == Err(Some(1)));
+fn a_bad_byte_is_reported_without_memory(rt: HostRuntime) {
+    let limited = Limited::new(rt.alloc());
+    assert!(rt; bad_read_within_limit(&limited) == Err(Some(1)));
 }

@@ -10,7 +10,7 @@ use std::test::Fail;
 /// Holds the accumulator at 0136.
 const HOLD: u32 = 0x000c_0190;
 
-/// What an origin says in numbers: where the order stood, its word, its clock and how many orders back; a put has its clock alone.
+/// What an origin says in numbers: where the order was, its word, its clock and how many orders back; a put has its clock alone.
 /// Then the lost word.
 type Said = (Option<(Option<u16>, u32, u64)>, u64, u32);
 

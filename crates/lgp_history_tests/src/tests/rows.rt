@@ -8,7 +8,7 @@ use lgp_table::{Action, Status};
 use std::alloc::Allocator;
 use std::test::Fail;
 
-/// Goes back so many orders, at least 1: the answer, and what is seen then.
+/// Goes back a given number of orders, at least 1: the answer, and what is seen then.
 fn back_and_seen<A: Allocator, H: History<A>>(
     session: &mut Session<A, H>,
     orders: u64,

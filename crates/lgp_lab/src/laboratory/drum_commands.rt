@@ -1,9 +1,9 @@
 //! The drum.
 
-ghost use Rattle.std.specs.Prelude.{◌≡◌, ◌++◌, OnOk, codes, decimal};
+ghost use Rattle.std.specs.Prelude.{◌≡◌, ◌++◌, IfOk, OnOk, codes, decimal};
 ghost use Rattle.lgp_listing.specs.Dump.{cell_line, dump_of};
 ghost use Rattle.lgp_history.specs.Step.{Put};
-ghost use Rattle.lgp_lab.specs.Standing.{answer_to_step};
+ghost use Rattle.lgp_lab.specs.LabState.{answer_to_step};
 ghost use Rattle.lgp_lab.specs.DrumCommands.{answer_to_words, dump_text, lines_text, order_line};
 
 use super::Laboratory;
@@ -51,6 +51,17 @@ impl<A: Allocator + Copy> Laboratory<A> {
             ≡ reply.old.items ++ (answer_to_words order_line self.now span.now).reply) }
     {
         push_orders(reply, self.debugger.machine(), span)
+    }
+
+    /// The dump of the drum: a line for each word that is not zero.
+    pub fn drum_dump(&self) -> Result<Vec<u8, A>, AllocError>
+        ensures { IfOk result (λ text. text.items
+            ≡ dump_of self.now.debugger.state.core.words) }
+    {
+        let mut lines = Vec::new(self.alloc);
+        let machine = self.debugger.machine();
+        lgp_listing::push_dump(&mut lines, &LentDrum { machine })?;
+        Ok(lines)
     }
 
     /// Shows all words that are not zero.

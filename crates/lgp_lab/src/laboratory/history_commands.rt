@@ -4,7 +4,7 @@ ghost use Rattle.std.specs.Prelude.{◌≡◌, ◌++◌, OnOk};
 ghost use Rattle.lgp_debugger.specs.Debugging.{order_origins};
 ghost use Rattle.lgp_lab.specs.HistoryCommands.{answer_to_back, answer_to_drop, answer_to_last, answer_to_rule, answer_to_run, hit_text, orders_run, ran_text, reason_text};
 ghost use Rattle.lgp_lab.specs.Refusal.{refusal_text};
-ghost use Rattle.lgp_lab.specs.Standing.{labels_of};
+ghost use Rattle.lgp_lab.specs.LabState.{labels_of};
 
 use super::machine_commands::push_clock;
 use super::{Laboratory, labels_in};
@@ -65,17 +65,17 @@ impl<A: Allocator + Copy> Laboratory<A> {
         }
     }
 
-    /// Does what the command `run` does by a teller, whose text stands in front of the reply. A refused growth leaves open what
+    /// Does what the command `run` does by a teller, whose text comes before the reply. A refused growth leaves open what
     /// was done.
     #[tactic(auto, unfolding(crate::specs::HistoryCommands::answer_to_run, crate::specs::HistoryCommands::orders_run))]
-    pub fn run_told<T: Teller>(
+    pub fn run_reported<T: Teller>(
         &mut self,
         teller: &T,
         limit: u64,
         reply: &mut Vec<u8, A>,
     ) -> Result<(), AllocError>
         ensures reply { OnOk result (reply.new.items ≡ reply.old.items
-            ++ (T.told teller.now (labels_of self.old.source) self.old.debugger.state
+            ++ (T.reported teller.now (labels_of self.old.source) self.old.debugger.state
             (order_origins self.old.debugger) (orders_run limit self.old.debugger)
             ++ (answer_to_run self.old limit).reply)) }
         ensures after { OnOk result (self.new ≡ (answer_to_run self.old limit).after) }
@@ -87,7 +87,7 @@ impl<A: Allocator + Copy> Laboratory<A> {
         }
     }
 
-    /// Goes so many orders back.
+    /// Goes a given number of orders back.
     #[tactic(auto, unfolding(crate::specs::HistoryCommands::answer_to_back))]
     pub(super) fn back(&mut self, orders: u64, reply: &mut Vec<u8, A>) -> Result<(), AllocError>
         ensures reply { OnOk result (reply.new.items

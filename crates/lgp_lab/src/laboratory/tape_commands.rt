@@ -106,7 +106,7 @@ fn push_count<A: Allocator>(text: &mut Vec<u8, A>, count: u64) -> Result<(), All
     )
 }
 
-/// Appends so many codes by their text.
+/// Appends a given number of codes by their text.
 fn push_written<A: Allocator>(
     text: &mut Vec<u8, A>,
     count: u64,

@@ -96,7 +96,7 @@ pub const FILES: [(FileCall, &[u8], &[u8], u64); 8] = [
 ];
 
 #[test]
-fn a_source_file_is_listed_taped_and_run_or_its_faults_are_told(rt: HostRuntime) {
+fn a_source_file_is_listed_taped_and_run_or_its_faults_are_reported(rt: HostRuntime) {
     for (call, source, text, status) in FILES {
         expect_written(&rt, rt.alloc(), call, source, (text, status));
     }
@@ -127,8 +127,8 @@ fn run_part<W: Write + Drop>(
     batch_part(alloc, name, &mut feed, &mut sink)
 }
 
-/// What stands behind the first script's name and replies.
-fn behind_first(text: &[u8]) -> Option<&[u8]> {
+/// What comes after the first script's name and replies.
+fn after_first_byte(text: &[u8]) -> Option<&[u8]> {
     text.strip_prefix(b"file first run\n")?
         .strip_prefix(FIRST_RUN_REPLIES)
 }
@@ -139,7 +139,7 @@ fn a_script_of_several_has_a_line_with_its_name(rt: HostRuntime) {
     let first = run_part(rt.alloc(), "first run", FIRST_RUN, &mut written);
     let other = run_part(rt.alloc(), "other", b"foo", &mut written);
     assert_eq!(rt;
-        (first, other, behind_first(&written)),
+        (first, other, after_first_byte(&written)),
         (Ok(0), Ok(1), Some(b"file other\n? 1 Form\n".as_slice()))
     );
 }

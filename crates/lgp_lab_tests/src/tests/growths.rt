@@ -1,10 +1,10 @@
-//! Scripts and files with each growth refused in turn: what was replied before stands whole, and nothing of the reply that is refused.
+//! Scripts and files with each growth refused in turn: what was replied before remains whole, and nothing of the reply that is refused.
 
 use super::files::{FILES, FileCall, write_between};
 use super::streams::{Failing, Pieces};
 use super::{FIRST_RUN, FIRST_RUN_REPLIES, built, run_between};
 use lgp_lab::{FeedOf, LabFault, READS, SinkOf, batch_part};
-use lgp_scarce::Scarce;
+use lgp_limited::Limited;
 use std::alloc::{AllocError, Global};
 use std::process::Abort;
 use std::test::Fail;
@@ -74,7 +74,7 @@ fn replies_in(text: &[u8]) -> Option<usize> {
     left.is_empty().then_some(COMMANDS.len())
 }
 
-/// How a script ends whose nth growth is refused: refused behind so many whole replies, with all of them, or otherwise.
+/// How a script ends whose nth growth is refused: refused after a given number of whole replies, with all of them, or otherwise.
 #[derive(Clone, Copy, Debug, PartialEq, Eq)]
 enum End {
     Refused(usize),
@@ -82,22 +82,22 @@ enum End {
     Otherwise,
 }
 
-fn end_of(scarce: &Scarce<Global>, global: Global, script: &[u8], nth: u64) -> End {
+fn end_of(limited: &Limited<Global>, global: Global, script: &[u8], nth: u64) -> End {
     let mut written = Vec::new(global);
-    scarce.refuse(nth);
-    let ended = run_between(scarce, script, &mut written);
-    match (ended, scarce.was_refused(), replies_in(&written)) {
+    limited.refuse(nth);
+    let ended = run_between(limited, script, &mut written);
+    match (ended, limited.was_refused(), replies_in(&written)) {
         ((Err(LabFault::Memory), false, false), true, Some(replies)) => End::Refused(replies),
         ((Ok(0), false, false), false, Some(27)) => End::Done,
         _ => End::Otherwise,
     }
 }
 
-/// How often a script is refused behind each number of replies, until it is done; `None` where it ends otherwise.
-fn refusals(scarce: &Scarce<Global>, global: Global, script: &[u8]) -> Option<[u64; 27]> {
+/// How often a script is refused after each number of replies, until it is done; `None` where it ends otherwise.
+fn refusals(limited: &Limited<Global>, global: Global, script: &[u8]) -> Option<[u64; 27]> {
     let mut counts = [0u64; 27];
     for nth in 1..MOST {
-        match end_of(scarce, global, script, nth) {
+        match end_of(limited, global, script, nth) {
             End::Refused(replies) => {
                 let count = counts.get_mut(replies)?;
                 *count = count.saturating_add(1);
@@ -110,33 +110,33 @@ fn refusals(scarce: &Scarce<Global>, global: Global, script: &[u8]) -> Option<[u
 }
 
 /// Which commands are refused at least once; `None` as above.
-fn refused(scarce: &Scarce<Global>, global: Global) -> Result<Option<[bool; 27]>, AllocError> {
+fn refused(limited: &Limited<Global>, global: Global) -> Result<Option<[bool; 27]>, AllocError> {
     let script = script(global)?;
-    Ok(refusals(scarce, global, &script).map(|counts| counts.map(|count| count > 0)))
+    Ok(refusals(limited, global, &script).map(|counts| counts.map(|count| count > 0)))
 }
 
 #[test]
 fn each_growth_of_each_command_is_refused(rt: HostRuntime) -> Result<(), Fail> {
-    let scarce = Scarce::new(rt.alloc());
-    let refused = refused(&scarce, rt.alloc())?;
-    assert_eq!(rt; (refused, scarce.blocks_out()), (Some([true; 27]), 0));
+    let limited = Limited::new(rt.alloc());
+    let refused = refused(&limited, rt.alloc())?;
+    assert_eq!(rt; (refused, limited.blocks_out()), (Some([true; 27]), 0));
     Ok(())
 }
 
 /// Calls for a source with each growth refused in turn, over a reader of small pieces and a writer that takes few bytes at once.
-/// What it answers when it is not refused, and behind how many refusals; `None` where a refused one answers anything else than that,
+/// What it answers when it is not refused, and after how many refusals; `None` where a refused one answers anything else than that,
 /// or has written anything.
 fn called(
-    scarce: &Scarce<Global>,
+    limited: &Limited<Global>,
     global: Global,
     (call, source): (FileCall, &'static [u8]),
     text: &[u8],
 ) -> Option<(u64, Result<u64, LabFault>)> {
     for nth in 1..MOST {
         let mut writer = Failing::after(global, usize::MAX, 5);
-        scarce.refuse(nth);
-        let answer = write_between(call, scarce, Pieces::whole(source, 7), &mut writer);
-        if !scarce.was_refused() {
+        limited.refuse(nth);
+        let answer = write_between(call, limited, Pieces::whole(source, 7), &mut writer);
+        if !limited.was_refused() {
             return (writer.taken() == text).then_some((nth, answer));
         }
         if answer != Err(LabFault::Memory) || !writer.taken().is_empty() {
@@ -149,41 +149,41 @@ fn called(
 /// Expects that of a call for a source, with this text and status at last, and that it is refused at least once.
 fn expect_called(
     rt: &impl Abort,
-    scarce: &Scarce<Global>,
+    limited: &Limited<Global>,
     global: Global,
     row: (FileCall, &'static [u8], &'static [u8], u64),
 ) {
     let (call, source, text, status) = row;
-    let called = called(scarce, global, (call, source), text);
+    let called = called(limited, global, (call, source), text);
     let answer = called.map(|(nth, answer)| (nth > 1, answer));
     assert_eq!(rt; answer, Some((true, Ok(status))), "{call:?} {source:?}");
 }
 
 #[test]
 fn nothing_is_written_for_a_file_whose_growth_is_refused(rt: HostRuntime) -> Result<(), Fail> {
-    let scarce = Scarce::new(rt.alloc());
+    let limited = Limited::new(rt.alloc());
     for row in FILES {
-        expect_called(&rt, &scarce, rt.alloc(), row);
+        expect_called(&rt, &limited, rt.alloc(), row);
     }
-    assert_eq!(rt; scarce.blocks_out(), 0);
+    assert_eq!(rt; limited.blocks_out(), 0);
     Ok(())
 }
 
-/// How a script of several goes whose nth growth is refused: what it answers, and what is written behind the line of its name, if
+/// How a script of several goes whose nth growth is refused: what it answers, and what is written after the line of its name, if
 /// that is there.
 fn part_of(
-    scarce: &Scarce<Global>,
+    limited: &Limited<Global>,
     nth: u64,
     writer: &mut Failing,
 ) -> (Result<u64, LabFault>, bool) {
     let mut feed = FeedOf::new(Pieces::whole(FIRST_RUN, 7), READS);
     let mut sink = SinkOf::new(writer);
-    scarce.refuse(nth);
-    let answer = batch_part(scarce, "first run", &mut feed, &mut sink);
-    (answer, scarce.was_refused())
+    limited.refuse(nth);
+    let answer = batch_part(limited, "first run", &mut feed, &mut sink);
+    (answer, limited.was_refused())
 }
 
-/// Whether a text is empty, or the line of a name and then so many of the replies that they end with a line.
+/// Whether a text is empty, or the line of a name and then as many of the replies as end with a line.
 fn is_part(text: &[u8]) -> bool {
     let Some(replies) = text.strip_prefix(b"file first run\n") else {
         return text.is_empty();
@@ -192,10 +192,10 @@ fn is_part(text: &[u8]) -> bool {
 }
 
 /// How often a script of several is refused, until it is done; `None` where it ends otherwise.
-fn parts(scarce: &Scarce<Global>, global: Global, whole: &[u8]) -> Option<u64> {
+fn parts(limited: &Limited<Global>, global: Global, whole: &[u8]) -> Option<u64> {
     for nth in 1..MOST {
         let mut writer = Failing::after(global, usize::MAX, 5);
-        let ended = part_of(scarce, nth, &mut writer);
+        let ended = part_of(limited, nth, &mut writer);
         if ended == (Ok(0), false) {
             return (writer.taken() == whole).then_some(nth);
         }
@@ -207,14 +207,14 @@ fn parts(scarce: &Scarce<Global>, global: Global, whole: &[u8]) -> Option<u64> {
 }
 
 #[test]
-fn a_script_of_several_is_refused_behind_a_whole_reply(rt: HostRuntime) -> Result<(), Fail> {
+fn a_script_of_several_is_refused_after_a_whole_reply(rt: HostRuntime) -> Result<(), Fail> {
     let whole = built(
         rt.alloc(),
         &[(b"file first run\n", 1), (FIRST_RUN_REPLIES, 1)],
     )?;
-    let scarce = Scarce::new(rt.alloc());
-    let often = parts(&scarce, rt.alloc(), &whole);
-    let are_back = scarce.blocks_out() == 0;
+    let limited = Limited::new(rt.alloc());
+    let often = parts(&limited, rt.alloc(), &whole);
+    let are_back = limited.blocks_out() == 0;
     assert!(rt; are_back && often.is_some_and(|nth| nth > 10), "{often:?}");
     Ok(())
 }

@@ -4,7 +4,7 @@ use super::{built, expect, push_times};
 use std::alloc::{AllocError, Global};
 use std::test::Fail;
 
-/// A line of so many bytes that is `turn 5` with spaces behind it, and a line behind that.
+/// A line of a given number of bytes that is `turn 5` with spaces after it, and a line after that.
 fn padded(alloc: Global, length: usize, end: &[u8]) -> Result<Vec<u8>, AllocError> {
     let spaces = length.saturating_sub(6);
     built(
@@ -13,7 +13,7 @@ fn padded(alloc: Global, length: usize, end: &[u8]) -> Result<Vec<u8>, AllocErro
     )
 }
 
-/// How long a line is, how it ends, the replies to it and a line behind it, and how many of those begin with a question mark.
+/// How long a line is, how it ends, the replies to it and a line after it, and how many of those begin with a question mark.
 const LINES: [(usize, &[u8], &[u8], u64); 5] = [
     (4096, b"\n", b"clock 5\nclock 6\n", 0),
     (4096, b"\r\n", b"clock 5\nclock 6\n", 0),
@@ -40,7 +40,7 @@ fn a_blank_line_and_a_comment_have_any_length(rt: HostRuntime) -> Result<(), Fai
     Ok(())
 }
 
-/// A script with a source of one line of so many bytes, which is a comment, and of an end line.
+/// A script with a source of one line of a given number of bytes, which is a comment, and of an end line.
 fn long_source(alloc: Global, length: usize) -> Result<Vec<u8>, AllocError> {
     let signs = length.saturating_sub(1);
     built(
@@ -65,7 +65,7 @@ fn a_line_of_a_source_has_at_most_4096_bytes(rt: HostRuntime) -> Result<(), Fail
     Ok(())
 }
 
-/// A script with a source of this line so many times; then so many bytes of a comment, and this text.
+/// A script with a source of this line a given number of times; then a given number of bytes of a comment, and this text.
 fn many_lines(
     alloc: Global,
     line: &[u8],
@@ -80,8 +80,8 @@ fn many_lines(
     Ok(script)
 }
 
-/// How many lines of 1,024 bytes a source has, how many bytes more of a comment and which text behind them, the replies to it and
-/// to a line behind it, and how many of those begin with a question mark. The last one has 1,048,576 bytes.
+/// How many lines of 1,024 bytes a source has, how many bytes more of a comment and which text after them, the replies to it and
+/// to a line after it, and how many of those begin with a question mark. The last one has 1,048,576 bytes.
 const SOURCES: [(usize, usize, &[u8], &[u8], u64); 4] = [
     (1024, 0, b"", b"? 9 Faults\nline 1025 NoEnd\nclock 1\n", 1),
     (1024, 0, b"\n", b"? 11 TooLong\nclock 1\n", 1),

@@ -82,7 +82,7 @@ const ROWS: [Row; 14] = [
     ),
 ];
 
-/// Expects the replies to a script, and so many of them to begin with a question mark, in whatever pieces the script comes.
+/// Expects the replies to a script, and how many of them begin with a question mark, in whatever pieces the script comes.
 fn expect_replies(rt: &impl Abort, alloc: Global, (text, replies, faults): Row) {
     for most in [1, 7, 5000] {
         let mut written = Vec::new(alloc);
@@ -222,8 +222,8 @@ fn lines_are_answered_one_by_one(rt: HostRuntime) {
     }
 }
 
-/// The replies to the line `turn 5`, in which a byte stands in the first place, before the number, in place of the number, or
-/// behind it.
+/// The replies to the line `turn 5`, in which a byte is in the first place, before the number, in place of the number, or
+/// after it.
 fn wanted_at(alloc: Global, place: usize, byte: u8) -> Result<Vec<u8>, AllocError> {
     let front: &[u8] = match (place, byte) {
         (5, b'0'..=b'9') => b"clock ",
@@ -258,7 +258,7 @@ fn each_byte_anywhere_in_a_line(rt: HostRuntime) -> Result<(), Fail> {
     Ok(())
 }
 
-/// The words at 0100, 6363 and 0000 of a dump that stands behind two replies and its own first line.
+/// The words at 0100, 6363 and 0000 of a dump that comes after two replies and its own first line.
 fn dumped(alloc: Global, written: &[u8]) -> Option<[u32; 3]> {
     let text = written.strip_prefix(b"ok\nok\ndump 2\n")?;
     let drum = read_dump(alloc, text).ok()?;

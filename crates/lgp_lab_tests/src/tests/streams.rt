@@ -8,7 +8,7 @@ use std::io::{Read, Write};
 use std::process::Abort;
 use std::test::Fail;
 
-/// Gives a text in pieces of at most so many bytes. Then it ends, or fails once and ends after that.
+/// Gives a text in pieces of at most a given number of bytes. Then it ends, or fails once and ends after that.
 #[derive(Drop)]
 pub struct Pieces {
     text: &'static [u8],
@@ -45,7 +45,7 @@ impl Read for Pieces {
     }
 }
 
-/// Gives what another reader gives, and fails once where so many calls were answered.
+/// Gives what another reader gives, and fails once where a given number of calls were answered.
 #[derive(Drop)]
 struct Torn {
     pieces: Pieces,
@@ -77,7 +77,7 @@ impl Read for Semicolons {
     }
 }
 
-/// Takes at most so many bytes a call, fails once where so many calls were answered, and takes bytes again after that.
+/// Takes at most a given number of bytes a call, fails once where a given number of calls were answered, and takes bytes again after that.
 #[derive(Drop)]
 pub struct Failing {
     taken: Vec<u8>,
@@ -86,7 +86,7 @@ pub struct Failing {
 }
 
 impl Failing {
-    /// Fails once so many calls were answered, and has taken nothing yet.
+    /// Fails once a given number of calls were answered, and has taken nothing yet.
     pub fn after(alloc: Global, calls: usize, most: usize) -> Failing {
         Failing {
             taken: Vec::new(alloc),
@@ -140,7 +140,7 @@ impl Write for Busy {
     }
 }
 
-/// A text, whether a read fails behind it, the replies, and the answer.
+/// A text, whether a read fails after it, the replies, and the answer.
 const OPEN_LINES: [(&[u8], bool, &[u8], Result<u64, LabFault>); 4] = [
     (
         b"put 0000 000100j8\npan",
@@ -308,8 +308,8 @@ fn a_sink_takes_more_than_65536_bytes_at_once(rt: HostRuntime) -> Result<(), Fai
     Ok(())
 }
 
-/// How a script of semicolons without an end goes that is read so many times: how many reads are left before and after, the answer,
-/// and whether the reader has failed.
+/// How a script of semicolons without an end goes that is read a given number of times: how many reads are left before and after, the
+/// answer, and whether the reader has failed.
 fn run_semicolons(
     global: Global,
     reads: u64,
@@ -331,7 +331,7 @@ fn reads_are_counted_down(rt: HostRuntime) {
     );
 }
 
-/// Expects of a write that fails that as many bytes as told were taken of the replies.
+/// Expects of a write that fails that as many bytes as reported were taken of the replies.
 fn expect_taken(rt: &impl Abort, global: Global, most: usize, calls: usize) {
     let mut failing = Failing::after(global, calls, most);
     let ended = run_between(global, FIRST_RUN, &mut failing);

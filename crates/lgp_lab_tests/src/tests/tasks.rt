@@ -27,7 +27,7 @@ fn what_became_of_a_file_gives_the_status(rt: HostRuntime) {
 }
 
 #[test]
-fn a_file_is_read_at_most_so_many_times(rt: HostRuntime) {
+fn a_file_is_read_at_most_a_given_number_of_times(rt: HostRuntime) {
     assert_eq!(rt; READS, 4_294_967_296);
 }
 
@@ -168,7 +168,7 @@ fn a_command_reads_its_file_and_writes_what_is_defined(rt: HostRuntime) {
     }
 }
 
-/// Whether the source of 196 orders, run for so many, leaves a panel that begins so.
+/// Whether the source of 196 orders, run for this number of orders, leaves a panel that begins so.
 fn is_left_with(alloc: Global, limit: u64, panel: &[u8]) -> bool {
     let mut written = Vec::new(alloc);
     let status = status_into(

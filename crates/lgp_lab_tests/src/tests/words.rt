@@ -8,7 +8,7 @@ use std::io::Write;
 use std::process::Abort;
 
 /// The program's name and at most two words more.
-type Typed = &'static [&'static str];
+type CommandWords = &'static [&'static str];
 
 /// Words as the runtime gives them.
 fn words_of(alloc: Global, typed: &[&str]) -> Result<Vec<String>, AllocError> {
@@ -54,7 +54,7 @@ fn status_typed<W: Write + Drop, M: Write + Drop>(
 }
 
 /// Expects what is written for words, without a message, and the status.
-fn expect_done(rt: &impl Abort, alloc: Global, typed: Typed, wanted: (&[u8], u8)) {
+fn expect_done(rt: &impl Abort, alloc: Global, typed: CommandWords, wanted: (&[u8], u8)) {
     let mut output = Vec::new(alloc);
     let mut messages = Vec::new(alloc);
     let status = status_typed(alloc, typed, &mut output, &mut messages);
@@ -66,7 +66,7 @@ fn expect_done(rt: &impl Abort, alloc: Global, typed: Typed, wanted: (&[u8], u8)
 }
 
 /// Words, each with what is written and the status. A script of a batch has a line that names it, and one alone has none.
-const DONE: [(Typed, &[u8], u8); 6] = [
+const DONE: [(CommandWords, &[u8], u8); 6] = [
     (&["lgp_lab"], b"? 1 Form\n", 1),
     (&["lgp_lab", "script", "one"], b"clock 5\n", 0),
     (&["lgp_lab", "batch", "one"], b"file one\nclock 5\n", 0),
@@ -87,7 +87,7 @@ fn words_are_obeyed_without_a_message(rt: HostRuntime) {
 }
 
 /// Whether anything was written to the output and to the messages, and the status.
-fn told_for(alloc: Global, typed: Typed) -> (bool, bool, Option<u8>) {
+fn reported_for(alloc: Global, typed: CommandWords) -> (bool, bool, Option<u8>) {
     let mut output = Vec::new(alloc);
     let mut messages = Vec::new(alloc);
     let status = status_typed(alloc, typed, &mut output, &mut messages);
@@ -97,22 +97,22 @@ fn told_for(alloc: Global, typed: Typed) -> (bool, bool, Option<u8>) {
 #[test]
 fn help_is_no_message_and_a_mistake_is_one(rt: HostRuntime) {
     let alloc = rt.alloc();
-    let told = [
-        told_for(alloc, &["lgp_lab", "--help"]),
-        told_for(alloc, &["lgp_lab", "run", "--help"]),
-        told_for(alloc, &["lgp_lab", "sing"]),
-        told_for(alloc, &["lgp_lab", "script"]),
-        told_for(alloc, &["lgp_lab", "run", "tenth", "many"]),
+    let reported = [
+        reported_for(alloc, &["lgp_lab", "--help"]),
+        reported_for(alloc, &["lgp_lab", "run", "--help"]),
+        reported_for(alloc, &["lgp_lab", "sing"]),
+        reported_for(alloc, &["lgp_lab", "script"]),
+        reported_for(alloc, &["lgp_lab", "run", "tenth", "many"]),
     ];
     let help = (true, false, Some(0));
     let mistake = (false, true, Some(64));
-    assert_eq!(rt; told, [help, help, mistake, mistake, mistake]);
+    assert_eq!(rt; reported, [help, help, mistake, mistake, mistake]);
 }
 
-/// What is told of words that cannot be read.
+/// What is reported of words that cannot be read.
 const UNREAD: &[u8] = b"error: the words of the command line are not UTF-8 text\n";
 
-/// Expects what is told for words that are not there, without any output, and the status.
+/// Expects what is reported for words that are not there, without any output, and the status.
 fn expect_unread(rt: &impl Abort, alloc: Global, fault: WordFault, wanted: (&[u8], u8)) {
     let mut output = Vec::new(alloc);
     let mut messages = Vec::new(alloc);
@@ -125,7 +125,7 @@ fn expect_unread(rt: &impl Abort, alloc: Global, fault: WordFault, wanted: (&[u8
 }
 
 #[test]
-fn words_that_are_not_there_are_told_of(rt: HostRuntime) {
+fn words_that_are_not_there_are_reported(rt: HostRuntime) {
     expect_unread(&rt, rt.alloc(), WordFault::NotText, (UNREAD, 64));
     expect_unread(&rt, rt.alloc(), WordFault::Memory, (b"", 3));
 }

@@ -80,7 +80,7 @@ impl DrumWords for Lent<'_> {
     }
 }
 
-/// How many lines the dump of a lent drum has, and whether it stands behind what was there.
+/// How many lines the dump of a lent drum has, and whether it comes after what was there.
 fn appended(alloc: Global, drum: &Drum, wanted: &[u8]) -> Result<(u64, bool), AllocError> {
     let mut text = Vec::new(alloc);
     text.extend_from_slice(b"dump\n")?;
@@ -159,7 +159,7 @@ fn texts_that_are_no_dump(rt: HostRuntime) {
     }
 }
 
-/// Places in the line `0100 00000004` and its line feed, each with the bytes that may stand there
+/// Places in the line `0100 00000004` and its line feed, each with the bytes that may be there
 /// in a dump.
 const TAKEN: [(usize, &[u8]); 5] = [
     (0, b"0123456"),

@@ -3,7 +3,7 @@
 
 use super::dumps::{NO_DUMPS, fault_of};
 use super::*;
-use lgp_scarce::Scarce;
+use lgp_limited::Limited;
 use linked_list_allocator::LocalHeap;
 
 /// More growths than any of these calls has.
@@ -87,11 +87,11 @@ fn end_of<A: Allocator + Copy>(alloc: A, call: Call) -> End {
 /// Calls with each growth refused in turn. How many growths the call has; `None` where one is
 /// refused and the answer is another than that, or where none is and the answer is another than
 /// with ample memory.
-fn growths<B: Allocator>(scarce: &Scarce<B>, call: Call) -> Option<u64> {
+fn growths<B: Allocator>(limited: &Limited<B>, call: Call) -> Option<u64> {
     for nth in 0..MOST {
-        scarce.refuse(nth + 1);
-        let end = end_of(scarce, call);
-        if !scarce.was_refused() {
+        limited.refuse(nth + 1);
+        let end = end_of(limited, call);
+        if !limited.was_refused() {
             return (end == End::Same).then_some(nth);
         }
         if end != End::Refused {
@@ -103,11 +103,11 @@ fn growths<B: Allocator>(scarce: &Scarce<B>, call: Call) -> Option<u64> {
 
 /// How many growths the listing of a source has.
 fn growths_of_listing<B: Allocator>(
-    scarce: &Scarce<B>,
+    limited: &Limited<B>,
     global: Global,
     source: &[u8],
 ) -> Option<u64> {
-    growths(scarce, Call::Listing(source, &listing(global, source)))
+    growths(limited, Call::Listing(source, &listing(global, source)))
 }
 
 /// Sources, and growths that the listing of each has at least. The marks of the places that are
@@ -120,30 +120,30 @@ const SOURCES: [(&[u8], u64); 4] = [
     (b"", 2),
 ];
 
-/// Whether the listing of each source has so many growths.
-fn all_sources<B: Allocator>(scarce: &Scarce<B>, global: Global) -> [bool; 4] {
-    SOURCES.map(|(source, least)| growths_of_listing(scarce, global, source) >= Some(least))
+/// Whether the listing of each source has a given number of growths.
+fn all_sources<B: Allocator>(limited: &Limited<B>, global: Global) -> [bool; 4] {
+    SOURCES.map(|(source, least)| growths_of_listing(limited, global, source) >= Some(least))
 }
 
 #[test]
 fn each_growth_of_a_listing_is_refused(rt: HostRuntime) -> Result<(), Fail> {
     let heap = LocalHeap::new(rt.alloc(), 65536)?;
-    let scarce = Scarce::new(&heap);
-    let found = all_sources(&scarce, rt.alloc());
+    let limited = Limited::new(&heap);
+    let found = all_sources(&limited, rt.alloc());
     assert_eq!(rt; (found, heap.used()), ([true; 4], 0));
     Ok(())
 }
 
 /// How many growths the dump of a drum has, and its reading.
 fn growths_of_dump<B: Allocator>(
-    scarce: &Scarce<B>,
+    limited: &Limited<B>,
     global: Global,
     drum: &Drum,
 ) -> Result<[Option<u64>; 2], AllocError> {
     let text = dump(global, drum)?;
     Ok([
-        growths(scarce, Call::Dump(drum, &text)),
-        growths(scarce, Call::Read(&text, drum)),
+        growths(limited, Call::Dump(drum, &text)),
+        growths(limited, Call::Read(&text, drum)),
     ])
 }
 
@@ -161,24 +161,24 @@ fn drum_of_hundred(alloc: Global) -> Result<Drum, AllocError> {
 fn each_growth_of_a_dump_and_its_reading_is_refused(rt: HostRuntime) -> Result<(), Fail> {
     let heap = LocalHeap::new(rt.alloc(), 65536)?;
     let drum = drum_of_hundred(rt.alloc())?;
-    let scarce = Scarce::new(&heap);
-    let found = growths_of_dump(&scarce, rt.alloc(), &drum)?;
+    let limited = Limited::new(&heap);
+    let found = growths_of_dump(&limited, rt.alloc(), &drum)?;
     let some = found.map(|growths| growths >= Some(1));
     assert_eq!(rt; (some, heap.used()), ([true; 2], 0));
     Ok(())
 }
 
 /// What is wrong with a text, with the first growth refused; `None` where one is.
-fn fault_without_memory<B: Allocator>(scarce: &Scarce<B>, text: &[u8]) -> Option<DumpFault> {
-    scarce.refuse(1);
-    let fault = fault_of(scarce, text);
-    if scarce.was_refused() { None } else { fault }
+fn fault_without_memory<B: Allocator>(limited: &Limited<B>, text: &[u8]) -> Option<DumpFault> {
+    limited.refuse(1);
+    let fault = fault_of(limited, text);
+    if limited.was_refused() { None } else { fault }
 }
 
 #[test]
-fn a_faulty_text_is_told_without_memory(rt: HostRuntime) {
-    let scarce = Scarce::new(rt.alloc());
+fn a_faulty_text_is_reported_without_memory(rt: HostRuntime) {
+    let limited = Limited::new(rt.alloc());
     for (text, wanted) in NO_DUMPS {
-        assert_eq!(rt; fault_without_memory(&scarce, text), Some(*wanted));
+        assert_eq!(rt; fault_without_memory(&limited, text), Some(*wanted));
     }
 }

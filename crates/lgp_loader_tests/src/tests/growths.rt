@@ -3,7 +3,7 @@
 
 use super::*;
 use lgp_flexo::read_tape_text;
-use lgp_scarce::Scarce;
+use lgp_limited::Limited;
 use linked_list_allocator::LocalHeap;
 
 /// More growths than any of these calls has.
@@ -22,18 +22,18 @@ const PROGRAMS: [(&[u8], Way<'static>, u64); 5] = [
 /// How often the tape of an image is refused before it is there; `None` where a growth is refused and the answer is another than
 /// `Memory`, or where none is and the tape is another than this.
 fn refused_tapes<B: Allocator>(
-    scarce: &Scarce<B>,
+    limited: &Limited<B>,
     image: &Image,
     way: Way,
     ample: &[Code],
 ) -> Option<u64> {
     for nth in 0..MOST {
-        scarce.refuse(nth + 1);
-        match tape_by(scarce, image, way) {
-            Ok(tape) if !scarce.was_refused() => {
+        limited.refuse(nth + 1);
+        match tape_by(limited, image, way) {
+            Ok(tape) if !limited.was_refused() => {
                 return (tape.as_slice() == ample).then_some(nth);
             }
-            Err(CutFault::Memory) if scarce.was_refused() => {}
+            Err(CutFault::Memory) if limited.was_refused() => {}
             _ => return None,
         }
     }
@@ -42,22 +42,22 @@ fn refused_tapes<B: Allocator>(
 
 /// The same for the tape that a source has with ample memory.
 fn tapes_of<B: Allocator>(
-    scarce: &Scarce<B>,
+    limited: &Limited<B>,
     global: Global,
     source: &[u8],
     way: Way,
 ) -> Result<Option<u64>, Fail> {
     let image = image(global, source)?;
     let ample = tape_by(global, &image, way)?;
-    Ok(refused_tapes(scarce, &image, way, ample.as_slice()))
+    Ok(refused_tapes(limited, &image, way, ample.as_slice()))
 }
 
 #[test]
 fn each_growth_of_a_tape_is_refused(rt: HostRuntime) -> Result<(), Fail> {
     let heap = LocalHeap::new(rt.alloc(), 4096)?;
-    let scarce = Scarce::new(&heap);
+    let limited = Limited::new(&heap);
     for (source, way, _) in PROGRAMS {
-        let often = tapes_of(&scarce, rt.alloc(), source, way)?;
+        let often = tapes_of(&limited, rt.alloc(), source, way)?;
         assert_eq!(rt; (often >= Some(1), heap.used()), (true, 0));
     }
     Ok(())
@@ -65,21 +65,21 @@ fn each_growth_of_a_tape_is_refused(rt: HostRuntime) -> Result<(), Fail> {
 
 /// What a tape of two words in blocks of such lengths answers with the first growth refused; `None` where one is.
 fn cut_without_memory<B: Allocator>(
-    scarce: &Scarce<B>,
+    limited: &Limited<B>,
     image: &Image,
     counts: &[usize],
 ) -> Option<CutFault> {
-    scarce.refuse(1);
-    let fault = tape_by(scarce, image, Way::Cut(counts)).err();
-    if scarce.was_refused() { None } else { fault }
+    limited.refuse(1);
+    let fault = tape_by(limited, image, Way::Cut(counts)).err();
+    if limited.was_refused() { None } else { fault }
 }
 
 #[test]
-fn lengths_that_are_no_cutting_are_told_without_memory(rt: HostRuntime) -> Result<(), Fail> {
+fn lengths_that_are_no_cutting_are_reported_without_memory(rt: HostRuntime) -> Result<(), Fail> {
     let image = image(rt.alloc(), TWO_WORDS)?;
-    let scarce = Scarce::new(rt.alloc());
+    let limited = Limited::new(rt.alloc());
     for counts in NO_CUTS {
-        let found = cut_without_memory(&scarce, &image, counts);
+        let found = cut_without_memory(&limited, &image, counts);
         assert_eq!(rt; found, Some(CutFault::BadCut));
     }
     Ok(())
@@ -134,7 +134,7 @@ fn mount_five<A: Allocator + Copy>(alloc: A, machine: &mut Machine<A>) -> Result
     }
 }
 
-/// Performs so many orders.
+/// Performs a given number of orders.
 fn perform<A: Allocator>(machine: &mut Machine<A>, orders: u8) -> Result<(), Fail> {
     for _ in 0..orders {
         machine.next_order()?;
@@ -155,16 +155,16 @@ fn within_a_tape<A: Allocator + Copy>(alloc: A) -> Result<Machine<A>, Fail> {
 /// How often a load is refused before it is done, and how many orders it then takes; `None` where a growth is refused and the answer
 /// is another than `Memory` or the machine is no longer the same as this one, or where none is and it is not loaded.
 fn refused_loads<B: Allocator, A: Allocator + Copy>(
-    (scarce, alloc): (&Scarce<B>, A),
+    (limited, alloc): (&Limited<B>, A),
     machine: &mut Machine<A>,
     before: &Machine,
     (image, way): (&Image, Way),
 ) -> Option<(u64, u64)> {
     for nth in 0..MOST {
-        scarce.refuse(nth + 1);
+        limited.refuse(nth + 1);
         match load_by(alloc, machine, image, way) {
-            Ok(orders) if !scarce.was_refused() => return Some((nth, orders)),
-            Err(LoadFault::Memory) if scarce.was_refused() && are_same(machine, before) => {}
+            Ok(orders) if !limited.was_refused() => return Some((nth, orders)),
+            Err(LoadFault::Memory) if limited.was_refused() && are_same(machine, before) => {}
             _ => return None,
         }
     }
@@ -173,28 +173,28 @@ fn refused_loads<B: Allocator, A: Allocator + Copy>(
 
 /// The same, and then with ample memory on the other machine; `None` also where both machines are not the same then.
 fn refused_and_loaded<B: Allocator, A: Allocator + Copy>(
-    (scarce, alloc, global): (&Scarce<B>, A, Global),
+    (limited, alloc, global): (&Limited<B>, A, Global),
     machine: &mut Machine<A>,
     other: &mut Machine,
     (image, way): (&Image, Way),
 ) -> Option<(u64, u64)> {
-    let found = refused_loads((scarce, alloc), machine, other, (image, way))?;
+    let found = refused_loads((limited, alloc), machine, other, (image, way))?;
     let answer = load_by(global, other, image, way);
     (answer == Ok(found.1) && are_same(machine, other)).then_some(found)
 }
 
 /// The same on machines that have read a tape. Whether it is refused at least once, and how many orders it takes.
 fn loads_of<B: Allocator>(
-    scarce: &Scarce<B>,
+    limited: &Limited<B>,
     global: Global,
     source: &[u8],
     way: Way,
 ) -> Result<Option<(bool, u64)>, Fail> {
     let image = image(global, source)?;
-    scarce.refuse(0);
-    let mut machine = within_a_tape(scarce)?;
+    limited.refuse(0);
+    let mut machine = within_a_tape(limited)?;
     let mut other = within_a_tape(global)?;
-    let allocs = (scarce, scarce, global);
+    let allocs = (limited, limited, global);
     let found = refused_and_loaded(allocs, &mut machine, &mut other, (&image, way));
     Ok(found.map(|(often, orders)| (often > 0, orders)))
 }
@@ -202,15 +202,15 @@ fn loads_of<B: Allocator>(
 #[test]
 fn each_growth_of_a_load_is_refused(rt: HostRuntime) -> Result<(), Fail> {
     let heap = LocalHeap::new(rt.alloc(), 262144)?;
-    let scarce = Scarce::new(&heap);
+    let limited = Limited::new(&heap);
     for (source, way, orders) in PROGRAMS {
-        let found = loads_of(&scarce, rt.alloc(), source, way)?;
+        let found = loads_of(&limited, rt.alloc(), source, way)?;
         assert_eq!(rt; (found, heap.used()), (Some((true, orders)), 0));
     }
     Ok(())
 }
 
-/// Where a machine stands: within an order, at rest, or one word time before the clock's end.
+/// Where a machine is: within an order, at rest, or one word time before the clock's end.
 #[derive(Clone, Copy, Debug, PartialEq, Eq)]
 enum Stand {
     Within,
@@ -218,8 +218,8 @@ enum Stand {
     AtEnd,
 }
 
-/// A machine that stands so.
-fn standing<A: Allocator + Copy>(alloc: A, stand: Stand) -> Result<Machine<A>, Fail> {
+/// A machine in this state.
+fn machine_as<A: Allocator + Copy>(alloc: A, stand: Stand) -> Result<Machine<A>, Fail> {
     let clock = if stand == Stand::AtEnd {
         CLOCK_END - 1
     } else {
@@ -238,27 +238,27 @@ fn standing<A: Allocator + Copy>(alloc: A, stand: Stand) -> Result<Machine<A>, F
 type Answer = (Result<u64, LoadFault>, bool, bool);
 
 fn first_refused<B: Allocator, A: Allocator + Copy>(
-    (scarce, alloc): (&Scarce<B>, A),
+    (limited, alloc): (&Limited<B>, A),
     machine: &mut Machine<A>,
     before: &Machine,
     (image, way): (&Image, Way),
 ) -> Answer {
-    scarce.refuse(1);
+    limited.refuse(1);
     let answer = load_by(alloc, machine, image, way);
-    (answer, scarce.was_refused(), are_same(machine, before))
+    (answer, limited.was_refused(), are_same(machine, before))
 }
 
-/// That of a program that is loaded so on a machine that stands so.
+/// That of a program that is loaded so on a machine in this state.
 fn answer_of<B: Allocator>(
-    scarce: &Scarce<B>,
+    limited: &Limited<B>,
     global: Global,
     image: &Image,
     (stand, way): (Stand, Way),
 ) -> Result<Answer, Fail> {
-    scarce.refuse(0);
-    let mut machine = standing(scarce, stand)?;
-    let before = standing(global, stand)?;
-    Ok(first_refused((scarce, scarce), &mut machine, &before, (image, way)))
+    limited.refuse(0);
+    let mut machine = machine_as(limited, stand)?;
+    let before = machine_as(global, stand)?;
+    Ok(first_refused((limited, limited), &mut machine, &before, (image, way)))
 }
 
 /// What loads of two words answer with the first growth refused, and whether that growth is asked for.
@@ -272,15 +272,15 @@ const ANSWERS: [(Stand, Way<'static>, LoadFault, bool); 7] = [
     (Stand::AtEnd, Way::Single, LoadFault::Memory, true),
 ];
 
-/// Only the refusal for the clock's end comes behind that for memory.
+/// Only the refusal for the clock's end comes after that for memory.
 #[test]
 fn a_load_asks_for_memory_before_it_presses(rt: HostRuntime) -> Result<(), Fail> {
     let image = image(rt.alloc(), TWO_WORDS)?;
-    let scarce = Scarce::new(rt.alloc());
+    let limited = Limited::new(rt.alloc());
     for (stand, way, fault, refused) in ANSWERS {
-        let found = answer_of(&scarce, rt.alloc(), &image, (stand, way))?;
+        let found = answer_of(&limited, rt.alloc(), &image, (stand, way))?;
         let answer = (Err(fault), refused, true);
-        assert_eq!(rt; (found, scarce.blocks_out()), (answer, 0), "{stand:?}");
+        assert_eq!(rt; (found, limited.blocks_out()), (answer, 0), "{stand:?}");
     }
     Ok(())
 }

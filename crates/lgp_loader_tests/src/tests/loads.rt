@@ -2,7 +2,7 @@
 
 use super::*;
 
-/// A load on a new machine, and what it leaves: how many orders it takes, the counter behind the loader's end cell, the clock, and
+/// A load on a new machine, and what it leaves: how many orders it takes, the counter after the loader's end cell, the clock, and
 /// words of the drum.
 #[derive(Clone, Copy)]
 struct Load<'a> {
@@ -169,7 +169,7 @@ fn start_loader(machine: &mut Machine, base: Address, tape: Vec<Code>) -> Result
     Ok(())
 }
 
-/// Lets so many orders end, word time by word time.
+/// Lets a given number of orders end, word time by word time.
 fn let_orders_end(machine: &mut Machine, wanted: u32) -> Result<(), Fail> {
     let mut orders = 0;
     for _ in 0..20000 {

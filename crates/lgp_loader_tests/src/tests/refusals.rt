@@ -1,4 +1,4 @@
-//! Loads that are refused, and where the machine then stands.
+//! Loads that are refused, and where the machine is then.
 
 use super::*;
 

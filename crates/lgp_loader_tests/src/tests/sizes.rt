@@ -2,7 +2,7 @@
 
 use super::*;
 
-/// A source of 4,074 words, each of which is four times its place: all places before the loader's and all behind it.
+/// A source of 4,074 words, each of which is four times its place: all places before the loader's and all after it.
 fn full_source(alloc: Global) -> Result<Vec<u8>, AllocError> {
     let mut source = Vec::new(alloc);
     for _ in 0..4032u16 {

@@ -103,7 +103,7 @@ fn a_tape_is_read_to_its_stop(rt: HostRuntime) -> Result<(), Fail> {
     Ok(())
 }
 
-/// Whether an input reads three codes, waits behind them, and ends where the stop code is struck.
+/// Whether an input reads three codes, waits after them, and ends where the stop code is struck.
 fn waits_for_a_stop<A: Allocator>(machine: &mut Machine<A>) -> bool {
     status_after(machine) == Ok(Status::Going)
         && status_after(machine) == Ok(Status::Waiting)
@@ -121,7 +121,7 @@ fn a_tape_without_a_stop_leaves_it_waiting(rt: HostRuntime) -> Result<(), Fail> 
     Ok(())
 }
 
-/// What becomes of the press of 6 BIT INPUT, the statuses after two orders behind it, and the accumulator then.
+/// What becomes of the press of 6 BIT INPUT, the statuses after two orders after it, and the accumulator then.
 type SixBits = (
     Result<Pressed, PressFault>,
     [Result<Status, OrderFault>; 2],
@@ -164,16 +164,16 @@ fn struck<A: Allocator>(
     machine: &mut Machine<A>,
     number: u8,
 ) -> (Option<bool>, Result<Pressed, PressFault>, Option<u32>) {
-    let foretold = live(machine, key(number));
+    let predicted = live(machine, key(number));
     let answer = press(machine, key(number));
-    (foretold, answer, accumulator(machine))
+    (predicted, answer, accumulator(machine))
 }
 
 /// The place of the first key in the table that does something else than the table says.
 fn first_other_key<A: Allocator>(machine: &mut Machine<A>) -> Option<usize> {
     for (place, (number, answer, accumulator)) in KEYS.into_iter().enumerate() {
-        let foretold = answer == Pressed::Live;
-        if struck(machine, number) != (Some(foretold), Ok(answer), Some(accumulator)) {
+        let predicted = answer == Pressed::Live;
+        if struck(machine, number) != (Some(predicted), Ok(answer), Some(accumulator)) {
             return Some(place);
         }
     }
@@ -213,7 +213,7 @@ fn a_code_is_printed(rt: HostRuntime) -> Result<(), Fail> {
     Ok(())
 }
 
-/// Mounts a tape of so many codes.
+/// Mounts a tape of a given number of codes.
 fn mount_codes<A: Allocator + Copy>(
     machine: &mut Machine<A>,
     alloc: A,
@@ -341,7 +341,7 @@ fn a_tape_above_the_limit_is_handed_back(rt: HostRuntime) -> Result<(), Fail> {
     Ok(())
 }
 
-/// Mounts a tape of so many codes, and tells how many of them are left then.
+/// Mounts a tape of a given number of codes, and tells how many of them are left then.
 fn mounted_and_left(
     machine: &mut Machine,
     alloc: Global,

@@ -5,8 +5,8 @@ use super::{
     within_an_order,
 };
 use lgp_flexo::Code;
+use lgp_limited::Limited;
 use lgp_machine::{Look, Machine, PlayFault, PressFault, Pressed, TurnFault};
-use lgp_scarce::Scarce;
 use lgp_table::{Action, Cause, Event, Mode, Status, Which};
 use std::alloc::{AllocError, Allocator};
 use std::test::Fail;
@@ -97,30 +97,30 @@ fn printing<A: Allocator + Copy>(alloc: A) -> Result<Machine<A>, Fail> {
 
 /// What becomes of a play whose first growth is refused, and whether it came to one.
 fn play_refused<B: Allocator>(
-    scarce: &Scarce<B>,
-    machine: &mut Machine<&Scarce<B>>,
+    limited: &Limited<B>,
+    machine: &mut Machine<&Limited<B>>,
     events: &[Event],
 ) -> (Result<(), PlayFault>, bool) {
-    scarce.refuse(1);
-    (play(machine, events), scarce.was_refused())
+    limited.refuse(1);
+    (play(machine, events), limited.was_refused())
 }
 
 /// Plays two word times before the clock's end, with the first growth refused.
 fn play_at_the_end<B: Allocator>(
-    scarce: &Scarce<B>,
+    limited: &Limited<B>,
     events: &[Event],
 ) -> Result<(Result<(), PlayFault>, bool), Fail> {
-    let mut machine = printing(scarce)?;
+    let mut machine = printing(limited)?;
     if rest(&mut machine, CLOCK_END - 2).is_err() {
         return Err(Fail::from("no rest"));
     }
-    Ok(play_refused(scarce, &mut machine, events))
+    Ok(play_refused(limited, &mut machine, events))
 }
 
 #[test]
 fn a_play_stops_at_the_clocks_end(rt: HostRuntime) -> Result<(), Fail> {
     let events = events_of(rt.alloc(), &[], 2)?;
-    let played = play_at_the_end(&Scarce::new(rt.alloc()), events.as_slice())?;
+    let played = play_at_the_end(&Limited::new(rt.alloc()), events.as_slice())?;
     let stopped = PlayFault {
         done: 3,
         fault: TurnFault::ClockEnd,
@@ -130,7 +130,7 @@ fn a_play_stops_at_the_clocks_end(rt: HostRuntime) -> Result<(), Fail> {
 }
 
 /// What a play without room for a code comes to and whether a growth was refused, what is printed and shows then, what becomes of a
-/// word time more, and what is printed behind it.
+/// word time more, and what is printed after it.
 type Unprinted = (
     (Result<(), PlayFault>, bool),
     ((usize, Option<Code>), Option<Look>),
@@ -140,11 +140,11 @@ type Unprinted = (
 
 /// Plays so, and a word time more.
 fn play_without_room<B: Allocator>(
-    scarce: &Scarce<B>,
-    machine: &mut Machine<&Scarce<B>>,
+    limited: &Limited<B>,
+    machine: &mut Machine<&Limited<B>>,
     events: &[Event],
 ) -> Unprinted {
-    let first = play_refused(scarce, machine, events);
+    let first = play_refused(limited, machine, events);
     let before = (printed(machine), look(machine));
     let second = play(machine, &[Event::WordTime]);
     (first, before, second, printed(machine))
@@ -152,24 +152,24 @@ fn play_without_room<B: Allocator>(
 
 /// The same of a print.
 fn print_without_room<B: Allocator>(
-    scarce: &Scarce<B>,
+    limited: &Limited<B>,
     events: &[Event],
 ) -> Result<Unprinted, Fail> {
-    let mut machine = printing(scarce)?;
-    Ok(play_without_room(scarce, &mut machine, events))
+    let mut machine = printing(limited)?;
+    Ok(play_without_room(limited, &mut machine, events))
 }
 
 #[test]
 fn a_play_stops_where_there_is_no_room(rt: HostRuntime) -> Result<(), Fail> {
     let events = events_of(rt.alloc(), &[], 450)?;
-    let scarce = Scarce::new(rt.alloc());
-    let unprinted = print_without_room(&scarce, events.as_slice())?;
+    let limited = Limited::new(rt.alloc());
+    let unprinted = print_without_room(&limited, events.as_slice())?;
     let stopped = PlayFault {
         done: 451,
         fault: TurnFault::Memory,
     };
     assert_eq!(rt;
-        (unprinted, scarce.blocks_out()),
+        (unprinted, limited.blocks_out()),
         (
             (
                 (Err(stopped), true),

@@ -6,8 +6,8 @@ use super::{
 };
 use lgp_drum::Drum;
 use lgp_flexo::Code;
+use lgp_limited::Limited;
 use lgp_machine::{Look, Machine, OrderFault, TurnFault};
-use lgp_scarce::Scarce;
 use lgp_table::{Cause, Status};
 use lgp_word::Word;
 use linked_list_allocator::LocalHeap;
@@ -66,11 +66,11 @@ fn opening(words: (u16, [u32; 3])) -> Option<Whole> {
 
 /// Makes a machine with each growth refused in turn. What it has; `None` where a growth is refused and it is made, or where none
 /// is and it is not.
-fn made<B: Allocator>(scarce: &Scarce<B>) -> Option<Whole> {
+fn made<B: Allocator>(limited: &Limited<B>) -> Option<Whole> {
     for nth in 1..MOST {
-        scarce.refuse(nth);
-        let made = Machine::new(scarce);
-        if made.is_ok() == scarce.was_refused() {
+        limited.refuse(nth);
+        let made = Machine::new(limited);
+        if made.is_ok() == limited.was_refused() {
             return None;
         }
         if let Ok(machine) = made {
@@ -83,8 +83,8 @@ fn made<B: Allocator>(scarce: &Scarce<B>) -> Option<Whole> {
 #[test]
 fn each_growth_of_a_new_machine_is_refused(rt: HostRuntime) -> Result<(), Fail> {
     let heap = LocalHeap::new(rt.alloc(), 262144)?;
-    let scarce = Scarce::new(&heap);
-    assert_eq!(rt; (made(&scarce), heap.used()), (opening((0, [0; 3])), 0));
+    let limited = Limited::new(&heap);
+    assert_eq!(rt; (made(&limited), heap.used()), (opening((0, [0; 3])), 0));
     Ok(())
 }
 
@@ -98,16 +98,19 @@ fn drum_of_two<A: Allocator + Copy>(alloc: A) -> Result<Drum<A>, AllocError> {
 
 /// Makes a machine that begins with a drum, with each growth refused in turn; a drum that is handed back is tried again. What it
 /// has; `None` as above.
-fn made_with<'s, B: Allocator>(scarce: &'s Scarce<B>, drum: Drum<&'s Scarce<B>>) -> Option<Whole> {
+fn made_with<'s, B: Allocator>(
+    limited: &'s Limited<B>,
+    drum: Drum<&'s Limited<B>>,
+) -> Option<Whole> {
     let mut drum = drum;
     for nth in 1..MOST {
-        scarce.refuse(nth);
-        match Machine::with_drum(scarce, drum) {
-            Ok(machine) if nth > 1 && !scarce.was_refused() => return whole(&machine),
+        limited.refuse(nth);
+        match Machine::with_drum(limited, drum) {
+            Ok(machine) if nth > 1 && !limited.was_refused() => return whole(&machine),
             Ok(_) => return None,
             Err(refused) => drum = refused.value,
         }
-        if !scarce.was_refused() {
+        if !limited.was_refused() {
             return None;
         }
     }
@@ -116,10 +119,10 @@ fn made_with<'s, B: Allocator>(scarce: &'s Scarce<B>, drum: Drum<&'s Scarce<B>>)
 
 #[test]
 fn each_growth_beside_a_drum_is_refused(rt: HostRuntime) -> Result<(), Fail> {
-    let scarce = Scarce::new(rt.alloc());
-    let drum = drum_of_two(&scarce)?;
-    let made = made_with(&scarce, drum);
-    assert_eq!(rt; (made, scarce.blocks_out()), (opening((2, [0, 4, 0])), 0));
+    let limited = Limited::new(rt.alloc());
+    let drum = drum_of_two(&limited)?;
+    let made = made_with(&limited, drum);
+    assert_eq!(rt; (made, limited.blocks_out()), (opening((2, [0, 4, 0])), 0));
     Ok(())
 }
 
@@ -165,11 +168,11 @@ fn shown_within_a_tape() -> Option<Whole> {
 
 /// Copies a machine with each growth refused in turn. What the copy has; `None` as above, and where the machine is another one
 /// after a refusal.
-fn copied<B: Allocator>(scarce: &Scarce<B>, machine: &Machine<&Scarce<B>>) -> Option<Whole> {
+fn copied<B: Allocator>(limited: &Limited<B>, machine: &Machine<&Limited<B>>) -> Option<Whole> {
     for nth in 1..MOST {
-        scarce.refuse(nth);
+        limited.refuse(nth);
         let copied = machine.copy();
-        if copied.is_ok() == scarce.was_refused() || whole(machine) != shown_within_a_tape() {
+        if copied.is_ok() == limited.was_refused() || whole(machine) != shown_within_a_tape() {
             return None;
         }
         if let Ok(copy) = copied {
@@ -181,12 +184,12 @@ fn copied<B: Allocator>(scarce: &Scarce<B>, machine: &Machine<&Scarce<B>>) -> Op
 
 #[test]
 fn each_growth_of_a_copy_is_refused(rt: HostRuntime) -> Result<(), Fail> {
-    let scarce = Scarce::new(rt.alloc());
-    let machine = within_a_tape(&scarce)?;
-    let before = scarce.blocks_out();
-    let copied = copied(&scarce, &machine);
+    let limited = Limited::new(rt.alloc());
+    let machine = within_a_tape(&limited)?;
+    let before = limited.blocks_out();
+    let copied = copied(&limited, &machine);
     assert_eq!(rt;
-        (copied, scarce.blocks_out()),
+        (copied, limited.blocks_out()),
         (shown_within_a_tape(), before)
     );
     Ok(())
@@ -199,26 +202,29 @@ type Answer = Result<(u64, Status, Option<Code>), OrderFault>;
 type Refused = (Answer, Option<Whole>, (u64, Result<bool, TurnFault>), bool);
 
 /// Prints in one call and then by its word times, with the first growth refused.
-fn print_refused<B: Allocator>(scarce: &Scarce<B>, machine: &mut Machine<&Scarce<B>>) -> Refused {
-    scarce.refuse(1);
+fn print_refused<B: Allocator>(
+    limited: &Limited<B>,
+    machine: &mut Machine<&Limited<B>>,
+) -> Refused {
+    limited.refuse(1);
     let answer = next_order(machine);
     let after = whole(machine);
-    scarce.refuse(1);
+    limited.refuse(1);
     let turned = turns(machine, 500);
-    (answer, after, turned, scarce.was_refused())
+    (answer, after, turned, limited.was_refused())
 }
 
 /// The last word time of the print with the second growth refused, which does not come; and what the machine has then.
 fn print_ended<B: Allocator>(
-    scarce: &Scarce<B>,
-    machine: &mut Machine<&Scarce<B>>,
+    limited: &Limited<B>,
+    machine: &mut Machine<&Limited<B>>,
 ) -> (Result<bool, TurnFault>, bool, Option<Whole>) {
-    scarce.refuse(2);
+    limited.refuse(2);
     let answer = turn(machine);
-    (answer, scarce.was_refused(), whole(machine))
+    (answer, limited.was_refused(), whole(machine))
 }
 
-/// A machine that is started on a print, and has printed so many codes.
+/// A machine that is started on a print, and has printed a given number of codes.
 fn shown_at_print(printed: usize, look: Option<Look>) -> Option<Whole> {
     let codes = (printed, if printed > 0 { [57, 0, 0] } else { [0; 3] });
     Some((look?, (1, [PRINT, 0, 0]), codes, (0, [0; 3]), (0, [0; 3])))
@@ -226,17 +232,17 @@ fn shown_at_print(printed: usize, look: Option<Look>) -> Option<Whole> {
 
 #[test]
 fn a_code_without_room_is_not_printed(rt: HostRuntime) -> Result<(), Fail> {
-    let scarce = Scarce::new(rt.alloc());
-    let mut machine = started(&scarce, &[(0, PRINT)])?;
-    let refused = print_refused(&scarce, &mut machine);
+    let limited = Limited::new(rt.alloc());
+    let mut machine = started(&limited, &[(0, PRINT)])?;
+    let refused = print_refused(&limited, &mut machine);
     let still = (printed(&machine), look(&machine));
-    let ended = print_ended(&scarce, &mut machine);
+    let ended = print_ended(&limited, &mut machine);
     drop(machine);
     let before = shown_at_print(0, shown(0, 0, 0, Status::Going, 0));
     let after = shown_at_print(1, shown(1, 0, PRINT, Status::Going, 451));
     let by_turns = (451, Err(TurnFault::Memory));
     assert_eq!(rt;
-        (refused, still, ended, scarce.blocks_out()),
+        (refused, still, ended, limited.blocks_out()),
         (
             (Err(OrderFault::Memory), before, by_turns, true),
             ((0, None), None),

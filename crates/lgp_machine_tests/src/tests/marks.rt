@@ -12,7 +12,7 @@ use lgp_word::{Address, Word};
 use std::alloc::Allocator;
 use std::test::Fail;
 
-/// A load, an address stored into the order behind, and that order.
+/// A load, an address stored into the order after it, and that order.
 const ADDRESS: [(u16, u32); 5] = [
     (0, 0x0001_00c8),
     (1, 0x0002_0008),
@@ -40,7 +40,7 @@ fn order<A: Allocator>(machine: &mut Machine<A>, in_one_call: bool) -> bool {
     matches!(turns(machine, 1000), (_, Ok(true)))
 }
 
-/// What shows after so many orders, and a word.
+/// What shows after a given number of orders, and a word.
 fn after_orders<A: Allocator>(
     machine: &mut Machine<A>,
     orders: u64,
@@ -55,7 +55,7 @@ fn after_orders<A: Allocator>(
     Some((look(machine), word_at(machine, at)))
 }
 
-/// What shows after so many orders of a program, by their word times and in one call each, and a word.
+/// What shows after a given number of orders of a program, by their word times and in one call each, and a word.
 fn both_ways<A: Allocator + Copy>(
     alloc: A,
     words: &[(u16, u32)],
@@ -150,14 +150,14 @@ fn before_input() -> Reading {
     (shown_at_input(), Some(0), Some(5))
 }
 
-/// Behind it.
+/// After it.
 fn after_input() -> Reading {
     let look = shown(2, 0x123, 0x0004_0000, Status::Going, 1996);
     (look, Some(5), Some(0))
 }
 
 /// The order before an input, the input, its tape going back, and the same input again: the status after each, and what shows before
-/// the input, after it, behind the way back and after the second.
+/// the input, after it, after the way back and after the second.
 type Inputs = ([Result<Status, OrderFault>; 3], [Reading; 4]);
 
 /// Performs an order and then an input twice, going back between them.
@@ -201,7 +201,7 @@ fn before_print() -> Paper {
     (shown(0, 0, 0, Status::Going, 0), (0, None))
 }
 
-/// Behind it.
+/// After it.
 fn after_print() -> Paper {
     (shown(1, 0, PRINT, Status::Going, 451), (1, Code::new(57)))
 }
@@ -236,8 +236,8 @@ fn a_printed_code_goes_back(rt: HostRuntime) -> Result<(), Fail> {
     Ok(())
 }
 
-/// The first order, and the mark behind it; `None` where it was refused.
-fn mark_behind_first<A: Allocator>(machine: &mut Machine<A>, in_one_call: bool) -> Option<Mark> {
+/// The first order, and the mark after it; `None` where it was refused.
+fn mark_after_first<A: Allocator>(machine: &mut Machine<A>, in_one_call: bool) -> Option<Mark> {
     if order(machine, in_one_call) {
         mark(machine)
     } else {
@@ -253,7 +253,7 @@ fn back_to<A: Allocator>(machine: &mut Machine<A>, mark: &Mark) -> bool {
 
 /// What shows three orders after the first of them, and again after going back to it.
 fn run_again<A: Allocator>(machine: &mut Machine<A>, in_one_call: bool) -> Option<[After; 2]> {
-    let mark = mark_behind_first(machine, in_one_call)?;
+    let mark = mark_after_first(machine, in_one_call)?;
     let first = after_orders(machine, 3, 1, in_one_call);
     if !back_to(machine, &mark) {
         return None;
@@ -276,7 +276,7 @@ fn an_order_is_read_again_after_going_back(rt: HostRuntime) -> Result<(), Fail> 
     Ok(())
 }
 
-/// Sets the tape of a text of which so many codes count as passed; false, and nothing changes, where that is no such tape or the
+/// Sets the tape of a text of which a given number of codes count as passed; false, and nothing changes, where that is no such tape or the
 /// machine is within an activity.
 fn set_text<A: Allocator + Copy>(
     machine: &mut Machine<A>,

@@ -13,7 +13,7 @@ use std::test::Fail;
 /// A print, and a transfer back to it.
 const PRINTS: [(u16, u32); 2] = [(0, PRINT), (1, TRANSFER)];
 
-/// How many orders of so many are performed before one is refused.
+/// How many of a given number of orders are performed before one is refused.
 fn performed<A: Allocator>(machine: &mut Machine<A>, orders: u32) -> u32 {
     for count in 0..orders {
         if next_order(machine).is_err() {

@@ -1,4 +1,4 @@
-//! A processor on a bench: how it stands before worked orders, and how after each.
+//! A processor on a bench: its state before worked orders and after each.
 
 use lgp_drum::Drum;
 use lgp_flexo::{Code, read_tape_text};
@@ -25,7 +25,7 @@ pub enum Way {
 /// A word on the drum: its address and its digits.
 pub type Cell = ([u8; 4], [u8; 8]);
 
-/// How a machine stands before worked orders, how after each, and a word that is then on the drum. The reader is on where the
+/// The state of a machine before worked orders and after each, and a word that is then on the drum. The reader is on where the
 /// tape is read from the console.
 #[derive(Clone, Copy)]
 pub struct Case<'a, 'b> {
@@ -41,7 +41,7 @@ pub struct Case<'a, 'b> {
     pub stored: Cell,
 }
 
-/// How a machine stands after an activity.
+/// The state of a machine after an activity.
 #[derive(Clone, Copy, Debug, PartialEq, Eq)]
 pub struct End {
     pub clock: u64,
@@ -273,7 +273,7 @@ impl<A: Allocator> Bench<A> {
         progress
     }
 
-    /// All but the last of so many word times, if each answers that the activity goes on and none prints.
+    /// All but the last of a given number of word times, if each answers that the activity goes on and none prints.
     pub fn turns_before(&mut self, cost: u64) -> bool {
         for _ in 1..cost {
             if self.prints_next() || self.turn() != Progress::More || self.processor.is_idle() {
@@ -283,16 +283,16 @@ impl<A: Allocator> Bench<A> {
         true
     }
 
-    /// One activity by its word times, if it is as it was foretold and prints in the last of them.
+    /// One activity by its word times, if it is as it was predicted and prints in the last of them.
     fn order(&mut self) -> Option<Outcome> {
-        let foretold = self.ahead();
-        if !self.turns_before(foretold.cost) || self.prints_next() != foretold.prints.is_some() {
+        let predicted = self.ahead();
+        if !self.turns_before(predicted.cost) || self.prints_next() != predicted.prints.is_some() {
             return None;
         }
         match self.turn() {
             Progress::Done(outcome)
-                if outcome.cost == foretold.cost
-                    && outcome.printed == foretold.prints
+                if outcome.cost == predicted.cost
+                    && outcome.printed == predicted.prints
                     && outcome.status == self.panel.status
                     && self.processor.is_idle() => { Some(outcome) }
             _ => None,
@@ -305,7 +305,7 @@ impl<A: Allocator> Bench<A> {
         Ok(self.drum.word(at(&address)?) == word(&digits)?)
     }
 
-    /// How the machine stands after an activity of this outcome.
+    /// The state of the machine after an activity of this outcome.
     fn end(&self, outcome: &Outcome) -> End {
         End {
             clock: self.clock,
@@ -320,7 +320,7 @@ impl<A: Allocator> Bench<A> {
     }
 }
 
-/// Performs the activities of a case, compares how the machine stands after each, and looks for the word that is then on the drum.
+/// Performs the activities of a case, compares the machine's state after each, and looks for the word that is then on the drum.
 fn perform_to<A: Allocator>(
     rt: &impl Abort,
     bench: &mut Bench<A>,

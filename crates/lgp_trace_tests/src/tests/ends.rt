@@ -1,14 +1,14 @@
-//! Runs that are told, drawn and profiled up to the clock's end.
+//! Runs that are reported, drawn and profiled up to the clock's end.
 
 use super::steps::{debugger, put_all};
 use lgp_debugger::{Debugger, Ran, RunFault, RunRefusal};
 use lgp_history::{History, Origins};
 use lgp_table::Action;
-use lgp_trace::{NoLabels, Phases, Profile, draw_run, profile_run, trace_run};
+use lgp_trace::{Form, NoLabels, Phases, Profile, draw_run, profile_run, trace_run};
 use std::alloc::Allocator;
 use std::test::Fail;
 
-/// At 0000 y 0001, and behind it u 0005, whose address becomes 0000.
+/// At 0000 y 0001, and after it u 0005, whose address becomes 0000.
 const PROGRAM: &[(u16, u32)] = &[(0, 0x0002_0004), (1, 0x000a_0014)];
 
 /// The clock at which the program is started, 100 word times before the end. There 0000, at position 0, is read at the 36th word
@@ -40,17 +40,17 @@ const AT_END: Stopped = (
     54,
 );
 
-/// The run told, gone back and drawn; how both end.
-fn told_and_drawn<H: Origins<A>, A: Allocator, B: Allocator>(
+/// The run reported, gone back and drawn; how both end.
+fn reported_and_drawn<H: Origins<A>, A: Allocator, B: Allocator>(
     lab: &mut Debugger<H, A>,
     lines: &mut Vec<u8, B>,
     signs: &mut Vec<u8, B>,
 ) -> Option<[Stopped; 2]> {
-    let traced = trace_run(lab, 9, lines, &NoLabels);
-    let told = stopped_at(lab, traced);
+    let traced = trace_run(lab, 9, Form::Columns, lines, &NoLabels);
+    let reported = stopped_at(lab, traced);
     lab.back(1).ok()?;
     let drawn = draw_run(lab, 9, signs);
-    Some([told, stopped_at(lab, drawn)])
+    Some([reported, stopped_at(lab, drawn)])
 }
 
 /// Of the one order its lines, with where it came from.
@@ -65,12 +65,12 @@ const SIGNS: &[u8] = b"...................................F
 4611686018427387840  i.......Wx";
 
 #[test]
-fn told_up_to_the_clocks_end(rt: HostRuntime) -> Result<(), Fail> {
+fn reported_up_to_the_clocks_end(rt: HostRuntime) -> Result<(), Fail> {
     let mut lab = debugger(rt.alloc())?;
     let mut lines = Vec::new(rt.alloc());
     let mut signs = Vec::new(rt.alloc());
     let started = start_near_end(&mut lab);
-    let seen = told_and_drawn(&mut lab, &mut lines, &mut signs);
+    let seen = reported_and_drawn(&mut lab, &mut lines, &mut signs);
     let texts = (lines.as_slice() == LINES, signs.as_slice() == SIGNS);
     assert_eq!(rt;
         (started, seen, texts),

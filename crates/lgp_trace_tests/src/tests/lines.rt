@@ -32,7 +32,7 @@ impl Labels for AddTable {
 }
 
 /// Appends an account; false where it is refused.
-fn told<L: Labels, A: Allocator>(text: &mut Vec<u8, A>, account: &Account, labels: &L) -> bool {
+fn reported<L: Labels, A: Allocator>(text: &mut Vec<u8, A>, account: &Account, labels: &L) -> bool {
     is_few(account.phases) && push_account(text, account, labels).is_ok()
 }
 
@@ -43,12 +43,12 @@ fn tell_next<L: Labels, A: Allocator, B: Allocator>(
     labels: &L,
 ) -> bool {
     match take(machine) {
-        Ok(account) => told(text, &account, labels),
+        Ok(account) => reported(text, &account, labels),
         Err(_) => false,
     }
 }
 
-/// Starts the machine, and appends so many accounts under their heading; how many.
+/// Starts the machine, and appends a given number of accounts under their heading; how many.
 fn tell<L: Labels, A: Allocator, B: Allocator>(
     machine: &mut Machine<A>,
     text: &mut Vec<u8, B>,
@@ -159,7 +159,7 @@ fn lines_of_a_profile(rt: HostRuntime) -> Result<(), Fail> {
     let mut machine = with_words(rt.alloc(), SUM_OF_A_TABLE)?;
     let mut profile = Profile::new(rt.alloc())?;
     let mut text = Vec::new(rt.alloc());
-    let told = tell_profile(&mut machine, &mut profile, &mut text);
-    assert_eq!(rt; (told, text.as_slice() == PROFILE), (true, true));
+    let reported = tell_profile(&mut machine, &mut profile, &mut text);
+    assert_eq!(rt; (reported, text.as_slice() == PROFILE), (true, true));
     Ok(())
 }

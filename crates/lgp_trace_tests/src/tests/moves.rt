@@ -1,4 +1,4 @@
-//! Words that really stand elsewhere: programs whose sources place them at other sectors, assembled and run, take as long as was told.
+//! Words that really are elsewhere: programs whose sources place them at other sectors, assembled and run, take as long as was reported.
 
 use super::address;
 use super::steps::debugger;
@@ -35,7 +35,7 @@ impl Chance {
     }
 }
 
-/// A loop of orders that name words, and where the words stand.
+/// A loop of orders that name words, and where the words are.
 #[derive(Clone, Copy)]
 struct Program {
     /// The letter of each order, and the number of its word.
@@ -47,7 +47,7 @@ struct Program {
 /// The letters of the orders that wait for a word, but for d, with which most programs would end.
 const LETTERS: &[u8; 10] = b"bhcaseymnr";
 
-/// A program made by chance. Each word stands on a track of its own.
+/// A program made by chance. Each word is on a track of its own.
 fn by_chance(chance: &mut Chance) -> Program {
     let mut orders = [(b'b', 0); ORDERS];
     for order in orders.iter_mut() {
@@ -135,14 +135,14 @@ fn place(program: &Program, word: usize) -> u16 {
     (track % 64 * 64 + sector % 64) as u16
 }
 
-/// A word of a program, and a sector at which it may stand.
+/// A word of a program, and a sector at which it may be.
 #[derive(Clone, Copy)]
 struct Move {
     word: usize,
     sector: usize,
 }
 
-/// The program with a word at another sector, on a track where no word stands.
+/// The program with a word at another sector, on a track where no word is.
 fn moved(program: &Program, there: &Move) -> Program {
     let mut moved = *program;
     moved.places[there.word % WORDS] = (40 + there.word % WORDS, there.sector);
@@ -162,8 +162,8 @@ fn noted<A: Allocator + Copy>(alloc: A, program: &Program) -> Option<Optimum<A>>
     Some(optimum)
 }
 
-/// What was told of a program with a word at another sector; none where it may not stand there.
-fn told<A: Allocator>(optimum: &Optimum<A>, program: &Program, there: &Move) -> Option<u128> {
+/// What was reported of a program with a word at another sector; none where it may not be there.
+fn reported<A: Allocator>(optimum: &Optimum<A>, program: &Program, there: &Move) -> Option<u128> {
     let word = address(place(program, there.word));
     match optimum.freedom(word) {
         Freedom::Free | Freedom::Unnamed => optimum
@@ -174,20 +174,25 @@ fn told<A: Allocator>(optimum: &Optimum<A>, program: &Program, there: &Move) -> 
     }
 }
 
-/// Whether a program takes as long as was told.
+/// Whether a program takes as long as was reported.
 fn takes<A: Allocator + Copy>(alloc: A, program: &Program, times: Option<u128>) -> bool {
     let taken = run(alloc, program).map(u128::from);
     taken.is_some() && taken == times
 }
 
 /// Whether it does as it is, with one word elsewhere, with another one, and with both, where what they save adds up.
-fn is_as_told<A: Allocator + Copy>(alloc: A, program: &Program, one: &Move, other: &Move) -> bool {
+fn is_as_reported<A: Allocator + Copy>(
+    alloc: A,
+    program: &Program,
+    one: &Move,
+    other: &Move,
+) -> bool {
     let Some(optimum) = noted(alloc, program) else {
         return false;
     };
     let took = u128::from(optimum.took());
-    let with_one = told(&optimum, program, one);
-    let with_other = told(&optimum, program, other);
+    let with_one = reported(&optimum, program, one);
+    let with_other = reported(&optimum, program, other);
     let with_both = together(took, with_one, with_other);
     takes(alloc, program, Some(took))
         && takes(alloc, &moved(program, one), with_one)
@@ -200,8 +205,8 @@ fn together(took: u128, one: Option<u128>, other: Option<u128>) -> Option<u128> 
     one?.checked_add(other?)?.checked_sub(took)
 }
 
-/// How many programs made by chance are as they were told, one after another.
-fn programs_as_told<A: Allocator + Copy>(alloc: A, programs: u32) -> u32 {
+/// How many programs made by chance are as they were reported, one after another.
+fn programs_as_reported<A: Allocator + Copy>(alloc: A, programs: u32) -> u32 {
     let mut chance = Chance { state: 1956 };
     for number in 0..programs {
         let program = by_chance(&mut chance);
@@ -214,7 +219,7 @@ fn programs_as_told<A: Allocator + Copy>(alloc: A, programs: u32) -> u32 {
             word: word % WORDS + 1 + chance.below(5) % WORDS,
             sector: chance.below(64),
         };
-        if !is_as_told(alloc, &program, &one, &other) {
+        if !is_as_reported(alloc, &program, &one, &other) {
             return number;
         }
     }
@@ -222,7 +227,7 @@ fn programs_as_told<A: Allocator + Copy>(alloc: A, programs: u32) -> u32 {
 }
 
 #[test]
-fn programs_take_as_long_as_was_told(rt: HostRuntime) -> Result<(), Fail> {
-    assert_eq!(rt; programs_as_told(rt.alloc(), 200), 200);
+fn programs_take_as_long_as_was_reported(rt: HostRuntime) -> Result<(), Fail> {
+    assert_eq!(rt; programs_as_reported(rt.alloc(), 200), 200);
     Ok(())
 }

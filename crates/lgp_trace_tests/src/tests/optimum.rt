@@ -7,16 +7,16 @@ use super::steps::{debugger, debugger_of, put_all};
 use super::{SUM_OF_A_TABLE, address, is_few, press, take, with_words};
 use lgp_debugger::{Debugger, RunFault, RunRefusal};
 use lgp_history::History;
+use lgp_limited::Limited;
 use lgp_machine::Machine;
-use lgp_scarce::Scarce;
 use lgp_table::Action;
-use lgp_trace::optimum_laws::{own_sector, savings_add_up};
+use lgp_trace::optimum_laws::{all_save_the_sum, own_sector, savings_add_up};
 use lgp_trace::{Account, Freedom, Optimum, optimum_run};
 use std::alloc::Allocator;
 use std::test::Fail;
 
-/// Starts a program, and notes at most so many of its orders. How many word times they took.
-fn noted<H: History<A>, A: Allocator, B: Allocator>(
+/// Starts a program, and notes at most a given number of its orders. How many word times they took.
+pub(super) fn noted<H: History<A>, A: Allocator, B: Allocator>(
     lab: &mut Debugger<H, A>,
     words: &[(u16, u32)],
     limit: u64,
@@ -28,10 +28,10 @@ fn noted<H: History<A>, A: Allocator, B: Allocator>(
     Some(optimum.took())
 }
 
-/// What an optimum tells of a word: whether it may stand elsewhere, its best sector, and what it saves there.
-type Told = (Freedom, u16, u64);
+/// What an optimum tells of a word: whether it may be elsewhere, its best sector, and what it saves there.
+type Reported = (Freedom, u16, u64);
 
-fn told<A: Allocator>(optimum: &Optimum<A>, number: u16) -> Told {
+fn reported<A: Allocator>(optimum: &Optimum<A>, number: u16) -> Reported {
     let best = optimum.best(address(number));
     (optimum.freedom(address(number)), best.sector, best.saved)
 }
@@ -49,7 +49,7 @@ fn sectors_as<A: Allocator>(optimum: &Optimum<A>, number: u16, wanted: &[u128; 6
 /// b 0100, z 0000.
 const TWO_ORDERS: &[(u16, u32)] = &[(0, 0x0001_0100), (1, 0)];
 
-/// The b is read at clock 64, and taken at 65. The z stands at position 9 and is read at 73, if the b has acted at 72 at the latest: so
+/// The b is read at clock 64, and taken at 65. The z is at position 9 and is read at 73, if the b has acted at 72 at the latest: so
 /// its word has to be read from 66 to 71, at the positions 2 to 7. Those are the sectors 50, 43, 36, 29, 22 and 15. The z ends three
 /// word times after it is read.
 fn of_two_orders() -> [u128; 64] {
@@ -67,7 +67,12 @@ fn two_orders(rt: HostRuntime) -> Result<(), Fail> {
     let took = noted(&mut lab, TWO_ORDERS, 9, &mut optimum);
     let as_wanted = sectors_as(&optimum, 64, &of_two_orders());
     assert_eq!(rt;
-        (took, as_wanted, told(&optimum, 64), told(&optimum, 1)),
+        (
+            took,
+            as_wanted,
+            reported(&optimum, 64),
+            reported(&optimum, 1)
+        ),
         (
             Some(140),
             64,
@@ -94,14 +99,14 @@ fn one_order(rt: HostRuntime) -> Result<(), Fail> {
     let took = noted(&mut lab, TWO_ORDERS, 1, &mut optimum);
     let as_wanted = sectors_as(&optimum, 64, &of_one_order());
     assert_eq!(rt;
-        (took, as_wanted, told(&optimum, 64)),
+        (took, as_wanted, reported(&optimum, 64)),
         (Some(129), 64, (Freedom::Free, 50, 62))
     );
     Ok(())
 }
 
-/// A word of the program that sums a table: what is told of it, and the sum of its 64 numbers.
-type Row = (u16, Told, u128);
+/// A word of the program that sums a table: what is reported of it, and the sum of its 64 numbers.
+type Row = (u16, Reported, u128);
 
 /// The words that its orders name, and two that none does.
 const NAMED: &[Row] = &[
@@ -121,14 +126,14 @@ const NAMED: &[Row] = &[
     (4095, (Freedom::Unnamed, 63, 0), 186240),
 ];
 
-/// The first row that is not told so, or how many there are.
+/// The first row that is not reported so, or how many there are.
 fn rows_as<A: Allocator>(optimum: &Optimum<A>, rows: &[Row]) -> usize {
     for (row, (number, wanted, sum)) in rows.iter().enumerate() {
         let mut together: u128 = 0;
         for times in optimum.at(address(*number)) {
             together = together.saturating_add(times);
         }
-        if (told(optimum, *number), together) != (*wanted, *sum) {
+        if (reported(optimum, *number), together) != (*wanted, *sum) {
             return row;
         }
     }
@@ -192,13 +197,13 @@ fn many_orders(rt: HostRuntime) -> Result<(), Fail> {
     let mut optimum = Optimum::new(rt.alloc())?;
     let took = noted(&mut lab, LOOP, 100_000, &mut optimum);
     assert_eq!(rt;
-        (took, told(&optimum, 64)),
+        (took, reported(&optimum, 64)),
         (Some(6_400_012), (Freedom::Free, 15, 3_200_000))
     );
     Ok(())
 }
 
-/// An attempt at which no growth was refused, one of which a run says so and has stood still before the order, and any other.
+/// An attempt at which no growth was refused, one of which a run says so and has stopped before the order, and any other.
 #[derive(Clone, Copy, Debug, PartialEq, Eq)]
 enum Attempt {
     Done,
@@ -208,18 +213,18 @@ enum Attempt {
 
 /// The program from its start with the nth growth refused.
 fn run_refused<H: History<A>, A: Allocator, B: Allocator>(
-    scarce: &Scarce<B>,
+    limited: &Limited<B>,
     nth: u64,
     lab: &mut Debugger<H, A>,
 ) -> Attempt {
-    scarce.refuse(nth);
-    let Ok(mut optimum) = Optimum::new(scarce) else {
+    limited.refuse(nth);
+    let Ok(mut optimum) = Optimum::new(limited) else {
         return Attempt::Refused;
     };
     let ran = optimum_run(lab, 100, &mut optimum);
     let stands = optimum.took() == lab.look().clock;
     match ran {
-        Ok(ran) if ran.orders == 42 && !scarce.was_refused() && stands => Attempt::Done,
+        Ok(ran) if ran.orders == 42 && !limited.was_refused() && stands => Attempt::Done,
         Err(
             RunFault {
                 orders,
@@ -235,13 +240,13 @@ fn run_refused<H: History<A>, A: Allocator, B: Allocator>(
 
 /// How many growths were refused one after another before all went well; none where an attempt ended otherwise.
 fn in_turn<H: History<A>, A: Allocator, B: Allocator>(
-    scarce: &Scarce<B>,
+    limited: &Limited<B>,
     lab: &mut Debugger<H, A>,
 ) -> Option<u64> {
     put_all(lab, SUM_OF_A_TABLE);
     let _live = lab.press(Action::Start);
     for nth in 1..40 {
-        match run_refused(scarce, nth, lab) {
+        match run_refused(limited, nth, lab) {
             Attempt::Done => return Some(nth - 1),
             Attempt::Refused => {}
             Attempt::Otherwise => return None,
@@ -253,10 +258,10 @@ fn in_turn<H: History<A>, A: Allocator, B: Allocator>(
 /// Three growths make room for no word, and some more for the words that are named.
 #[test]
 fn each_growth_refused(rt: HostRuntime) -> Result<(), Fail> {
-    let scarce = Scarce::new(rt.alloc());
+    let limited = Limited::new(rt.alloc());
     let mut lab = debugger_of(rt.alloc(), 100)?;
-    let growths = in_turn(&scarce, &mut lab);
-    assert_eq!(rt; (growths > Some(3), scarce.blocks_out()), (true, 0));
+    let growths = in_turn(&limited, &mut lab);
+    assert_eq!(rt; (growths > Some(3), limited.blocks_out()), (true, 0));
     Ok(())
 }
 
@@ -264,4 +269,5 @@ fn each_growth_refused(rt: HostRuntime) -> Result<(), Fail> {
 fn the_laws_do_nothing(_rt: HostRuntime) {
     own_sector();
     savings_add_up();
+    all_save_the_sum();
 }

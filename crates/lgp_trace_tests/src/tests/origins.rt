@@ -5,11 +5,11 @@ use super::steps::{debugger, put_all};
 use lgp_debugger::Debugger;
 use lgp_history::Origins;
 use lgp_table::Action;
-use lgp_trace::{NoLabels, push_why, trace_run};
+use lgp_trace::{Form, NoLabels, push_why, trace_run};
 use std::alloc::{AllocError, Allocator};
 use std::test::Fail;
 
-/// At 0000 y 0001, which puts the accumulator's address, 0000, into the order behind it: at 0001 u 0005.
+/// At 0000 y 0001, which puts the accumulator's address, 0000, into the order after it: at 0001 u 0005.
 pub const PROGRAM: &[(u16, u32)] = &[(0, 0x0002_0004), (1, 0x000a_0014)];
 
 /// Why the words at 0000, 0001 and 0002 are as they are; or a refused growth.
@@ -22,15 +22,15 @@ pub fn push_words<H: Origins<A>, A: Allocator, B: Allocator>(
     push_why(lab, text, address(2), &NoLabels)
 }
 
-/// The program put on the drum and started: two orders told, and then why three words are as they are. Whether all was told.
-fn told<H: Origins<A>, A: Allocator, B: Allocator>(
+/// The program put on the drum and started: two orders reported, and then why three words are as they are. Whether all was reported.
+fn reported<H: Origins<A>, A: Allocator, B: Allocator>(
     lab: &mut Debugger<H, A>,
     orders: &mut Vec<u8, B>,
     words: &mut Vec<u8, B>,
 ) -> bool {
     put_all(lab, PROGRAM);
     let _live = lab.press(Action::Start);
-    let ran = trace_run(lab, 2, orders, &NoLabels);
+    let ran = trace_run(lab, 2, Form::Columns, orders, &NoLabels);
     ran.is_ok() && push_words(lab, words).is_ok()
 }
 
@@ -56,7 +56,7 @@ fn an_order_that_was_changed(rt: HostRuntime) -> Result<(), Fail> {
     let mut lab = debugger(rt.alloc())?;
     let mut orders = Vec::new(rt.alloc());
     let mut words = Vec::new(rt.alloc());
-    let whole = told(&mut lab, &mut orders, &mut words);
+    let whole = reported(&mut lab, &mut orders, &mut words);
     let texts = (orders.as_slice() == ORDERS, words.as_slice() == WORDS);
     assert_eq!(rt; (whole, texts), (true, (true, true)));
     Ok(())

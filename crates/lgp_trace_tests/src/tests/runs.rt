@@ -1,12 +1,12 @@
-//! Runs of a debugger that are profiled, told and drawn.
+//! Runs of a debugger that are profiled, reported and drawn.
 
 use super::steps::{debugger, put_all};
 use super::{SUM_OF_A_TABLE, Shown, shown};
 use lgp_debugger::{Debugger, Ran, Reason, RunFault, RunRefusal};
 use lgp_history::{History, Origins};
-use lgp_scarce::Scarce;
+use lgp_limited::Limited;
 use lgp_table::Action;
-use lgp_trace::{NoLabels, Profile, profile_run, trace_run};
+use lgp_trace::{Form, NoLabels, Profile, profile_run, trace_run};
 use std::alloc::Allocator;
 use std::test::Fail;
 
@@ -35,29 +35,29 @@ fn a_run_is_profiled(rt: HostRuntime) -> Result<(), Fail> {
 }
 
 /// The program started; what its trace comes to where the first growth of the text is refused, and the clock then.
-fn told_without_memory<H: Origins<A>, A: Allocator, B: Allocator, C: Allocator>(
-    scarce: &Scarce<B>,
+fn reported_without_memory<H: Origins<A>, A: Allocator, B: Allocator, C: Allocator>(
+    limited: &Limited<B>,
     lab: &mut Debugger<H, A>,
     text: &mut Vec<u8, C>,
 ) -> (Result<Ran, RunFault>, u64) {
     put_all(lab, SUM_OF_A_TABLE);
     let _live = lab.press(Action::Start);
-    scarce.refuse(1);
-    let ran = trace_run(lab, 100, text, &NoLabels);
+    limited.refuse(1);
+    let ran = trace_run(lab, 100, Form::Columns, text, &NoLabels);
     (ran, lab.look().clock)
 }
 
-/// The order whose lines found no room stands: the clock is that after it.
+/// The order whose lines found no room remains: the clock is that after it.
 #[test]
 fn a_trace_without_memory(rt: HostRuntime) -> Result<(), Fail> {
-    let scarce = Scarce::new(rt.alloc());
+    let limited = Limited::new(rt.alloc());
     let mut lab = debugger(rt.alloc())?;
-    let mut text = Vec::new(&scarce);
+    let mut text = Vec::new(&limited);
     let refused = RunFault {
         orders: 1,
         fault: RunRefusal::Memory,
     };
-    let seen = told_without_memory(&scarce, &mut lab, &mut text);
-    assert_eq!(rt; (seen, scarce.blocks_out()), ((Err(refused), 90), 0));
+    let seen = reported_without_memory(&limited, &mut lab, &mut text);
+    assert_eq!(rt; (seen, limited.blocks_out()), ((Err(refused), 90), 0));
     Ok(())
 }

@@ -47,7 +47,7 @@ fn mount<A: Allocator>(machine: &mut Machine<A>, codes: Vec<Code, A>) -> bool {
 /// p 0000 switches the reader on, i 0000 passes three digits and a conditional stop, p 5700 prints code 57.
 const READ_AND_PRINT: &[(u16, u32)] = &[(0, 0x0008_0000), (1, 0x0004_0000), (2, 0x0008_3900)];
 
-/// The three orders, and the clock behind them.
+/// The three orders, and the clock after them.
 fn read_and_printed<A: Allocator>(machine: &mut Machine<A>) -> ([Option<Said>; 3], u64) {
     press(machine, Action::Start);
     let first = next_said(machine).ok();

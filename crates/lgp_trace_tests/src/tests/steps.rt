@@ -17,7 +17,7 @@ pub fn debugger<A: Allocator + Copy>(alloc: A) -> Result<Debugger<Records<A>, A>
     debugger_of(alloc, 30)
 }
 
-/// A debugger over a new machine, which keeps so many steps.
+/// A debugger over a new machine, which keeps a given number of steps.
 pub fn debugger_of<A: Allocator + Copy>(
     alloc: A,
     steps: usize,
@@ -68,8 +68,8 @@ fn goes_back<H: History<A>, A: Allocator>(lab: &mut Debugger<H, A>, orders: u64)
     lab.back(orders).is_ok()
 }
 
-/// Presses START, performs as many orders as there are rows, goes so many back, and performs those again. How many were as their
-/// rows say, the first time and again; how many steps were kept behind each; and how one more is refused.
+/// Presses START, performs as many orders as there are rows, goes back as many, and performs those again. How many were as their
+/// rows say, the first time and again; how many steps were kept after each; and how one more is refused.
 fn there_and_back<H: History<A>, A: Allocator>(
     lab: &mut Debugger<H, A>,
     rows: &[Row],

@@ -5,7 +5,7 @@ use Rattle.lgp_assembler.specs.Fields.{fields_of}
 use Rattle.lgp_assembler.specs.Places.{names_of}
 use Rattle.lgp_assembler.specs.Image.{line_cell, all_lines, image_of}
 use Rattle.lgp_listing.specs.Listing.{listing_of}
-use Rattle.lgp_assembler.proofs.LineCells.{cells_behind}
+use Rattle.lgp_assembler.proofs.LineCells.{cells_after}
 use Rattle.lgp_listing.proofs.ListingSteps.{IsListedSo, taken_first, listed_none, no_cell, first_cell, listed_more, no_more, listed_all}
 use Rattle.lgp_listing.proofs.listed.listing_from_image.Goals as goal
 use Rattle.lgp_listing.proofs.listed.listing_from_image.Goals.{then-has_word, else-has_word}
@@ -36,8 +36,8 @@ loop-line-preserved g c =
     let fields = fields_of line in
     let cells = c.loop-line.cells.iter.rest.now in
     let so_far = subst (λ ls. IsListedSo names before.earlier ls cells c.loop-line.text.items (listing_of source)) c.in-Some.ensures.steps before.so_far in
-    let behind = cells_behind names (fields ∷ before.earlier) (map fields_of c.next.new.self) in
-    let step : (c.if-has_word.cell ≡ line_cell names before.earlier fields) × (c.if-has_word.cells.iter.rest.now ≡ behind) = elim c.if-has_word.branch [
+    let after = cells_after names (fields ∷ before.earlier) (map fields_of c.next.new.self) in
+    let step : (c.if-has_word.cell ≡ line_cell names before.earlier fields) × (c.if-has_word.cells.iter.rest.now ≡ after) = elim c.if-has_word.branch [
       | then-has_word w ↦ (
           let found = first_cell names before.earlier line c.next.new.self cells c.loop-line.text.items (listing_of source) so_far (sym c.has_word.ensures ∙ w.if-has_word.true) in
           let next = w.next-cell.ensures.steps in

@@ -2,9 +2,9 @@ use Rattle.std.proofs.Common.{arith, sym, ap, ◌∙◌, ◌≡◌, ◌+◌, ◌
 use Rattle.std.proofs.lemmas.List.{drop-drop, drop_all, length-drop}
 use Rattle.lgp_monitor.proofs.closing.pass_lines.Goals as goal
 
--- behind an item that comes next, and where none is left
-behind : {X : Type 0} (n : ℕ) (xs : List X) (x : X) (rest : List X) → drop n xs ≡ x ∷ rest → drop (n + 1) xs ≡ rest
-behind n xs x rest e = sym (drop-drop 1 n xs) ∙ ap (drop 1) e
+-- after an item that comes next, and where none is left
+after_item : {X : Type 0} (n : ℕ) (xs : List X) (x : X) (rest : List X) → drop n xs ≡ x ∷ rest → drop (n + 1) xs ≡ rest
+after_item n xs x rest e = sym (drop-drop 1 n xs) ∙ ap (drop 1) e
 
 none-left : {X : Type 0} (n count : ℕ) (xs : List X) → drop n xs ≡ [] → n ≤ count → drop count xs ≡ []
 none-left n count xs e few =
@@ -17,4 +17,4 @@ returns-in_default c =
 
 pub loop-passed-preserved : goal.loop-passed-preserved
 loop-passed-preserved c =
-    sym (behind c.loop-passed._passed c.args.lines.now _ c.next.new.self (sym c.loop-passed.invariant ∙ c.in-Some.ensures.steps))
+    sym (after_item c.loop-passed._passed c.args.lines.now _ c.next.new.self (sym c.loop-passed.invariant ∙ c.in-Some.ensures.steps))

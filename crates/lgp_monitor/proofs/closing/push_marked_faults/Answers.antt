@@ -5,7 +5,7 @@ use Rattle.lgp_assembler.specs.declared.refusal.Fault.{Fault}
 use Rattle.lgp_monitor.specs.Closing.{marked_fault}
 use Rattle.lgp_monitor.proofs.closing.push_marked_faults.Goals as goal
 
--- the first of the faults that are left, and what is left behind it
+-- the first of the faults that are left, and what is left after it
 first-left : (lines : List SourceLine) (faults : List Fault) (i : ℕ) (d : Fault) → i < length faults → flat_map (marked_fault lines) (drop i faults) ≡ marked_fault lines (get_or faults i d) ++ flat_map (marked_fault lines) (drop (i + 1) faults)
 first-left lines faults i d within = ap (flat_map (marked_fault lines)) (drop_more faults i d within)
 

@@ -1,4 +1,4 @@
-use Rattle.lgp_monitor.proofs.BlockLemmas.{drum_is_dumped}
+use Rattle.lgp_monitor.proofs.RestoreLemmas.{drum_is_dumped}
 use Rattle.lgp_monitor.proofs.laws.restored_words_have_the_dump.Goals as goal
 
 pub returns : goal.returns

@@ -6,8 +6,8 @@ use Rattle.lgp_monitor.specs.Monitor.{go_lines, jump_line}
 use Rattle.lgp_monitor.proofs.GoLemmas.{after-three, replies-three}
 use Rattle.lgp_monitor.proofs.monitor.go.Goals as goal
 
-abbrev lines_behind_jump : List (List ℕ)
-lines_behind_jump = codes "press fill" ∷ codes "press oneop" ∷ codes "press execute" ∷ codes "orders 1" ∷ codes "press normal" ∷ codes "press start" ∷ []
+abbrev lines_after_jump : List (List ℕ)
+lines_after_jump = codes "press fill" ∷ codes "press oneop" ∷ codes "press execute" ∷ codes "orders 1" ∷ codes "press normal" ∷ codes "press start" ∷ []
 
 pub returns-clause-reply : goal.returns-clause-reply
 unfolding go_lines
@@ -17,7 +17,7 @@ returns-clause-reply g c =
     (λ is. replies-three _ _ _ _ _ _ _
     _ _ _ _
     c.in_ok-answer_line.ensures.after c.in_ok-answer_line-2.ensures.after c.in_ok-answer_line.ensures.reply c.in_ok-answer_line-2.ensures.reply is
-    ∙ ap (λ (line : List ℕ). c.args.reply.now.items ++ replies_text script_language c.args.recorder.now (codes "press manual" ∷ line ∷ lines_behind_jump)) jump)
+    ∙ ap (λ (line : List ℕ). c.args.reply.now.items ++ replies_text script_language c.args.recorder.now (codes "press manual" ∷ line ∷ lines_after_jump)) jump)
     c.answer_lines.ensures.reply
 
 pub returns-clause-after : goal.returns-clause-after
@@ -27,5 +27,5 @@ returns-clause-after g c =
     on_ok_weaker c.answer_lines.result
     (λ is. after-three _ _ _ _ _ _ _ _
     c.in_ok-answer_line.ensures.after c.in_ok-answer_line-2.ensures.after is
-    ∙ ap (λ (line : List ℕ). after_lines script_language c.args.recorder.now (codes "press manual" ∷ line ∷ lines_behind_jump)) jump)
+    ∙ ap (λ (line : List ℕ). after_lines script_language c.args.recorder.now (codes "press manual" ∷ line ∷ lines_after_jump)) jump)
     c.answer_lines.ensures.after

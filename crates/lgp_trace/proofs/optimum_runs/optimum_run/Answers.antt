@@ -9,7 +9,7 @@ use Rattle.lgp_debugger.proofs.RunLemmas.{run_begun, run_limited, run_refused_at
 use Rattle.lgp_trace.proofs.OptimumLemmas.{shows_same, took_within}
 use Rattle.lgp_trace.proofs.optimum_runs.optimum_run.Goals as goal
 
--- the debugger stands where so many orders lead
+-- the debugger is where a given number of orders lead
 stands : (g : _) (c : goal.In-Ok-None g) → c.loop-orders.debugger.state ≡ after c.args.debugger.now.state c.loop-orders.orders
 stands g c = ap (λ (d : Debugging). d.state) c.loop-orders.invariant.run.reached ∙ performed_state _ _
 

@@ -1,4 +1,4 @@
--- The orders of a hit are kept, so the history goes back so many.
+-- The orders of a hit are kept, so the history goes back that many.
 use Rattle.std.proofs.Common.{◌∙◌, Err, ap, arith, sym}
 use Rattle.lgp_debugger.proofs.HitLemmas.{last_hit-within}
 use Rattle.lgp_debugger.proofs.debugger.Debugger.last_hit.Goals as goal

@@ -1,7 +1,7 @@
 -- Where the loop ends, the run has ended so, and what was seen is kept.
-use Rattle.std.proofs.Common.{◌≡◌, ◌∙◌, ◌+◌, ℕ, Ok, Err, None, Some, ap, arith, refl, rules, subst, sym}
+use Rattle.std.proofs.Common.{◌≡◌, ◌∙◌, ℕ, Ok, Err, ap, arith, refl, rules, subst}
 use Rattle.lgp_debugger.specs.Watching.{AreSeen, IsWatchedRun}
-use Rattle.lgp_debugger.specs.declared.fault.Reason.TheVariants.{Limit, Rest}
+use Rattle.lgp_debugger.specs.declared.fault.Reason.TheVariants.{Rest}
 use Rattle.lgp_debugger.specs.declared.fault.StepFault.TheVariants.{AtRest, ClockEnd, Memory}
 use Rattle.lgp_debugger.specs.declared.watcher.WatchFault.TheVariants.{Refused}
 use Rattle.lgp_debugger.proofs.RunLemmas.{run_begun, run_limited, run_refused_at_clock_end, run_refused_at_rest, run_refused_memory, run_rested, run_step, run_stopped}

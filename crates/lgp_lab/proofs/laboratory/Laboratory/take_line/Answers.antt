@@ -1,7 +1,7 @@
 use Rattle.std.proofs.Common.{◌≡◌, ◌∙◌, ◌++◌, ap, codes, sym, true}
 use Rattle.std.proofs.lemmas.Result.{on_ok_weaker}
 use Rattle.std.specs.Str.{bytes_eq}
-use Rattle.lgp_lab.specs.Standing.{Answer}
+use Rattle.lgp_lab.specs.LabState.{Answer}
 use Rattle.lgp_lab.proofs.KeptLemmas.{point_ends}
 use Rattle.lgp_lab.proofs.laboratory.Laboratory.take_line.Goals as goal
 

@@ -5,11 +5,11 @@ use Rattle.lgp_monitor.specs.ClosingInside.{PassedLines}
 use Rattle.lgp_monitor.specs.Closing.{text_at}
 use Rattle.lgp_monitor.proofs.closing.Passed.next_text.Goals as goal
 
--- the first of what is left behind so many lines
-text-behind : (n : ℕ) (lines : List SourceLine) → text_at (drop n lines) 0 ≡ text_at lines n
-text-behind zero lines = refl
-text-behind (suc n) [] = refl
-text-behind (suc n) (line ∷ lines) = text-behind n _
+-- the first of what is left after a given number of lines
+text-after : (n : ℕ) (lines : List SourceLine) → text_at (drop n lines) 0 ≡ text_at lines n
+text-after zero lines = refl
+text-after (suc n) [] = refl
+text-after (suc n) (line ∷ lines) = text-after n _
 
 pub invariant_of-self : goal.invariant_of-self
 invariant_of-self c =
@@ -19,5 +19,5 @@ pub returns-clause-text : goal.returns-clause-text
 returns-clause-text c =
     c.next_text-text.ensures.text
     ∙ ap (λ (lines : List SourceLine). text_at lines 0) c.self.invariant
-    ∙ text-behind c.self.inside.count (lines_of c.self.inside.source.now)
+    ∙ text-after c.self.inside.count (lines_of c.self.inside.source.now)
     ∙ ap (λ (passed : PassedLines). text_at passed.all passed.count) c.self.view_is

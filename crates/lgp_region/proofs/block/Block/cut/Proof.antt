@@ -1,4 +1,4 @@
--- `cut` takes the bytes apart: the first of them lie at the block's place, and the others that many bytes behind it.
+-- `cut` takes the bytes apart: the first of them lie at the block's place, and the others that many bytes after it.
 use Rattle.std.proofs.Common.{◌≡◌, ◌+◌, ◌-◌, ◌%◌, ◌≤◌, List, [], ◌∷◌, ◌++◌, refl, ap, ◌∙◌, arith, w64}
 use Rattle.std.proofs.raw_atomic.Walks.{proved_at, leaves}
 use Rattle.std.proofs.alloc.Calls.{Goes-blank}
@@ -63,12 +63,12 @@ cut_spec 𝓤 𝓛 𝓜 𝓡 wired =
     sets ! (agg ! (and_then ! (get ! refl) (no_more !))) refl (tt, (tt, tt)) $
     sets ! (agg ! (and_then ! (get ! refl) (and_then ! (get ! refl) (no_more !)))) refl (tt, ((tt, tt), ((tt, tt), tt))) $
     returns ! (look_at ! 0 refl) $ free_all ! refl $
-    -- [the first bytes; those behind them; the tokens]
-    let front : (block.the_row).Denot = record { at = here; size = n } in let behind : (block.the_row).Denot = record { at = there; size = all - n } in
+    -- [the first bytes; those after them; the tokens]
+    let front : (block.the_row).Denot = record { at = here; size = n } in let rest : (block.the_row).Denot = record { at = there; size = all - n } in
     use1 𝓛 (‵ (block_at here n)) (block_made 𝓛 here n) $ move ! (1 ∷ []) $ use1 𝓛 (‵ (block_at there (all - n))) (block_made 𝓛 there (all - n)) $
     nothing ! $ move ! (1 ∷ 0 ∷ []) $ fjoin ! $ move ! (1 ∷ 0 ∷ []) $ fjoin ! $
-    use1 𝓛 (‵ ((Tuple (block.the_row ∷ block.the_row ∷ [])).own_val (front, behind) (pair ∷ []))) (own_shut 𝓛 (tuple_type (block.the_row ∷ block.the_row ∷ [])) (block_laws, (block_laws, tt)) (front, (behind, tt))) $
+    use1 𝓛 (‵ ((Tuple (block.the_row ∷ block.the_row ∷ [])).own_val (front, rest) (pair ∷ []))) (own_shut 𝓛 (tuple_type (block.the_row ∷ block.the_row ∷ [])) (block_laws, (block_laws, tt)) (front, (rest, tt))) $
     use0 𝓛 (raw (fact 𝓤 (all - n ≡ all - n))) (fact_i 𝓤 (all - n ≡ all - n) (emp 𝓤) refl) $
     use0 𝓛 (raw (fact 𝓤 (n ≡ n))) (fact_i 𝓤 (n ≡ n) (emp 𝓤) refl) $ join ! $
     nothing ! $ nothing ! $ fjoin ! $ nothing ! $ fjoin ! $ move ! (3 ∷ 0 ∷ 2 ∷ 1 ∷ []) $
-    by ! (leaves 𝓛 f.ended stayed c z _ (front, behind) _ _))))))
+    by ! (leaves 𝓛 f.ended stayed c z _ (front, rest) _ _))))))

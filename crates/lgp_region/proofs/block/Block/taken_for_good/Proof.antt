@@ -63,7 +63,7 @@ taken_for_good_spec 𝓤 𝓛 𝓜 𝓡 wired A laws g d drops met _ =
     regoal ! (λ (us : List Val). prop (WpFn 𝓤 𝓛.H 𝓣.C 𝓣.Λ fn us Post)) (λ i. are.0.0 i ++ (are.1.0.0 i ++ [])) refl $
     enter ! 𝓣.C 𝓣.Λ fn (vptr at.0 at.1 ∷ vint w64 n ∷ []) Post $
     alloc_all ! (λ l. pass_all ! refl ((tt, tt), ((tt, record { fits = are.1.0.1 }), tt)) $
-    -- the allocator is asked for so many units
+    -- the allocator is asked for a given number of units
     use2 𝓛 (raw ((Takes B 𝓛 𝓜.mem 𝓡.returns).pre asks)) (Takes-goes B 𝓛 𝓜.mem 𝓡.returns κ q at a.0.now (⊑_trans κ z.0.0.1.0 A.lives z.0.2.0 outlived)
     n 16 type (capped_is (n / 16 * 16) (omega arith) ∙ omega arith) refl are.1.0.1 (lit< tt)) $
     calls_at ! (framed 𝓤 𝓛.H 𝓜 𝓣) (Takes B 𝓛 𝓜.mem 𝓡.returns) (met.allocate drops) asks (and_then ! (get ! refl) (and_then ! (get ! refl) (and_then ! (lit ! tt) (no_more !)))) (λ v.

@@ -71,8 +71,8 @@ allocate_spec 𝓤 𝓛 𝓜 𝓡 wired =
     (and_then ! (get ! refl) (and_then ! (get ! refl) (and_then ! (get ! refl) (no_more !)))) (λ v.
     use1 𝓛 (later (some (λ (answer : Answered.Denot). (raw (alive 𝓛 f.signature z.0.0 z.0.1) ⊛ ‵ (Answered.own_val answer (v ∷ []))) ⊛
     some (λ (ls : Lasts callee.ended z.0.0 a). ‵ (lasts callee.ended z.0.0 a ls) ⊛ raw (fact 𝓤 (IsFor n alignment answer)))))) (id⊢ 𝓤 (Take.post y v)) $
-    await ! tt $ pick ! (λ answer. split ! $ move ! (1 ∷ []) $ pick ! (λ _. split ! $ drop ! $ heard ! (IsFor n alignment answer) (λ told. split ! $ move ! (1 ∷ []) $
-    taken ! type n alignment answer v asked.0 told
+    await ! tt $ pick ! (λ answer. split ! $ move ! (1 ∷ []) $ pick ! (λ _. split ! $ drop ! $ heard ! (IsFor n alignment answer) (λ known. split ! $ move ! (1 ∷ []) $
+    taken ! type n alignment answer v asked.0 known
     (λ b o is. let p : Ptr = block_ptr b o in
     lands_as ! is refl (tt, (record { fits = lit< tt }, ((tt, tt), tt))) $
     first ! $ switches_on ! (get_tag ! (vrt ! refl (fld ! refl (stop !))) (whole !)) $

@@ -14,8 +14,8 @@ unfolding replies_text
 returns-clause-reply g c = λ text kept.
     let line = stand_in c.args.line.now in
     on_ok_weaker c.answer.result
-    (λ is. is ∙ (ap (λ (r : Recorded g.row.L.Denot). c.args.reply.now.items ++ g.L.Answers.language.reply r.standing line) c.self.view_is
-    ∙ ap (λ (more : List ℕ). c.args.reply.now.items ++ more) (sym (append-nil (g.L.Answers.language.reply c.args.self.now.standing line)))))
+    (λ is. is ∙ (ap (λ (r : Recorded g.row.L.Denot). c.args.reply.now.items ++ g.L.Answers.language.reply r.state line) c.self.view_is
+    ∙ ap (λ (more : List ℕ). c.args.reply.now.items ++ more) (sym (append-nil (g.L.Answers.language.reply c.args.self.now.state line)))))
     (c.answer.ensures.reply line (kept_alike c.args.line.now text kept))
 
 pub returns-clause-after : goal.returns-clause-after
@@ -23,8 +23,8 @@ unfolding after_lines
 returns-clause-after g c = λ text kept.
     let line = stand_in c.args.line.now in
     on_ok_weaker c.answer.result
-    (λ is. ap (λ (s : g.row.L.Denot). record { standing = s; transcript = c.push_stand_in.new.text.items }) is
-    ∙ (ap (λ (t : List ℕ). record { standing = g.L.Answers.language.after c.self.inside.answers line; transcript = t })
+    (λ is. ap (λ (s : g.row.L.Denot). record { state = s; transcript = c.push_stand_in.new.text.items }) is
+    ∙ (ap (λ (t : List ℕ). record { state = g.L.Answers.language.after c.self.inside.answers line; transcript = t })
     (c.in_ok-push_stand_in.ensures ∙ ap (λ (more : List ℕ). c.self.inside.transcript.items ++ more) (sym (append-nil (ended _))))
-    ∙ ap (λ (r : Recorded g.row.L.Denot). record { standing = g.L.Answers.language.after r.standing line; transcript = r.transcript ++ (ended line ++ []) }) c.self.view_is))
+    ∙ ap (λ (r : Recorded g.row.L.Denot). record { state = g.L.Answers.language.after r.state line; transcript = r.transcript ++ (ended line ++ []) }) c.self.view_is))
     (c.answer.ensures.after line (kept_alike c.args.line.now text kept))

@@ -6,7 +6,7 @@ use Rattle.lgp_trace.specs.Account.{found_of, operand_in}
 use Rattle.lgp_trace.specs.OptimumInside.{seek_with}
 use Rattle.lgp_trace.specs.OptimumKept.{AreUsesOf, Kept, seek_of, turns_at}
 use Rattle.lgp_trace.specs.Phases.{all_phases, phases_of}
-use Rattle.lgp_trace.specs.TurnsInside.{is_behind, one_turn_if}
+use Rattle.lgp_trace.specs.TurnsInside.{is_last_late, one_turn_if}
 use Rattle.lgp_trace.specs.declared.account.Operand.{Operand}
 use Rattle.lgp_trace.specs.declared.phases.Phases.{Phases}
 use Rattle.lgp_trace.specs.declared.uses.Use.{Use}
@@ -28,6 +28,6 @@ returns g c = record {
       subst (λ (u : List Use). AreUsesOf u s count) (sym (ap (λ (k : Kept). k.uses) c.self.view_is ∙ c.settle.ensures.uses)) h.uses in
       optimum_more c.args.self.now _ s count h works took
       (λ word sector on_drum on_track. ap (λ (k : Kept). turns_at k.turned word sector) c.self.view_is ∙ c.settle.ensures.turns word sector on_drum on_track
-      ∙ ap (λ (p : Option ℕ). turns_at c.args.self.now.turned word sector + one_turn_if (is_behind c.args.self.now.last p word sector)) place)
+      ∙ ap (λ (p : Option ℕ). turns_at c.args.self.now.turned word sector + one_turn_if (is_last_late c.args.self.now.last p word sector)) place)
       last (c.note.ensures s count uses place operand);
 }

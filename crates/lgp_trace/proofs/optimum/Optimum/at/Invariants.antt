@@ -5,5 +5,5 @@ use Rattle.lgp_trace.proofs.optimum.Optimum.at.Given as goal
 abbrev pub invariant-loop-sector : goal.invariant-loop-sector
 invariant-loop-sector g l = record {
   long : length l.times ≡ 64;
-  told : (k : ℕ) → k < l.sector → slice_index l.times k ≡ times_at l.self l.word k;
+  reported : (k : ℕ) → k < l.sector → slice_index l.times k ≡ times_at l.self l.word k;
 }

@@ -1,0 +1,9 @@
+use Rattle.std.proofs.Common.{◌≡◌, Err, ap}
+use Rattle.lgp_flexo.specs.Archive.{codes_of_archive}
+use Rattle.lgp_desk.proofs.FormLemmas.{tape-bad}
+use Rattle.lgp_desk.proofs.file_forms.checked_archive.Goals as goal
+
+pub returns-in-Err-BadSign : goal.returns-in-Err-BadSign
+returns-in-Err-BadSign g c =
+    let bad : codes_of_archive c.args.text.now ≡ Err c.in-Err-BadSign.place = (c.in-Err-BadSign.ensures.bad_sign c.in-Err-BadSign.place).0 (ap Err c.in-Err-BadSign.field-0-is) in
+    rw (c.tape_trouble.ensures, c.in-Err-BadSign.place-is) (tape-bad _ c.in-Err-BadSign.place c.args.text.now bad)

@@ -1,0 +1,38 @@
+-- Part of the public promise: what is said of a file that is refused, or kept.
+use Rattle.std.specs.Prelude.{ℕ, List, [], ◌++◌, codes, decimal}
+use Rattle.lgp_desk.specs.declared.files.FileTrouble.{FileTrouble}
+use Rattle.lgp_desk.specs.declared.files.FileTrouble.TheVariants as troubles
+
+-- why a file is refused
+abbrev pub fixed_trouble : FileTrouble → List ℕ
+fixed_trouble troubles.NotOpened = codes "it cannot be opened"
+fixed_trouble troubles.NotRead = codes "it cannot be read"
+fixed_trouble troubles.TooLong = codes "it has more than 16777216 bytes"
+fixed_trouble troubles.NotNamed = codes "this is no name of a file"
+fixed_trouble troubles.TooDeep = codes "16 files are open within one another"
+fixed_trouble troubles.HasPoint = codes "a line that is a point alone would end the source"
+fixed_trouble troubles.LongTape = codes "it has more than 1048576 codes"
+fixed_trouble troubles.NotWritten = codes "it cannot be written, and is as it was"
+fixed_trouble trouble = []
+
+abbrev pub counted_trouble : FileTrouble → List ℕ
+counted_trouble (troubles.BadSign place line) =
+    codes "the byte at place " ++ (decimal place ++ (codes ", counted from 0, in line "
+    ++ (decimal line ++ codes ", begins no sign of a tape")))
+counted_trouble trouble = []
+
+-- the refusal of a file
+unfoldable pub trouble_text : List ℕ → FileTrouble → List ℕ
+trouble_text name trouble =
+    codes "? 13 File " ++ (name ++ (codes ": "
+    ++ (fixed_trouble trouble ++ (counted_trouble trouble ++ codes "\n"))))
+
+-- that the drum was kept
+unfoldable pub kept_text : List ℕ → List ℕ
+kept_text name = codes "saved " ++ (name ++ codes "\n")
+
+-- ---- where a line comes from: nothing is said of one that is typed
+
+-- a line of a file, by its number counted from 1
+unfoldable pub line_note : ℕ → List ℕ → List ℕ
+line_note number name = codes "line " ++ (decimal number ++ (codes " of " ++ name))

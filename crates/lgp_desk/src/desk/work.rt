@@ -1,0 +1,343 @@
+//! What the desk does for a line that names a file: each work's reply, and where the monitor stands after it.
+
+ghost use Rattle.std.specs.Prelude.{◌≡◌, ◌++◌, ◌∷◌, [], IfErr, IfOk, IsTrue, List, OnOk, Result, Some, ℕ, codes, false, is_some};
+ghost use Rattle.std.specs.Result.{result_map_both};
+ghost use Rattle.std.specs.Str.Lines.{lines};
+ghost use Rattle.lgp_flexo.specs.TapeText.{written_tape};
+ghost use Rattle.lgp_stream.specs.Language.{HasCause};
+ghost use Rattle.lgp_listing.specs.Dump.{dump_of};
+ghost use Rattle.lgp_desk.specs.Files.{Drawer, IsKept};
+ghost use Rattle.lgp_desk.specs.Desk.{all_answered, answered, dump_lines, long_tape, mounted, own, restored, saved, source_said, tape_or_refused, text_at, used, used_or_refused, within};
+ghost use Rattle.lgp_desk.specs.DeskInside.{HasSaid, IsOfText};
+ghost use Rattle.lgp_desk.specs.Troubles.{kept_text};
+ghost use Rattle.lgp_desk.specs.declared.files.FileTrouble.{FileTrouble};
+
+use super::Desk;
+use crate::file_forms::{checked_archive, checked_tape, dump_of_lines, has_point};
+use crate::files::{FileTrouble, Files};
+use crate::request::Work;
+use crate::trouble::{note_within, push_kept};
+use crate::writing::{push_shown_kind, push_written};
+use lgp_monitor::Progress;
+use lgp_stream::{Sink, StreamFault, Tally};
+use std::alloc::{AllocError, Allocator};
+
+/// How many bytes of a tape's text a line has room for, after `mount` and its space.
+const MOUNT_LIMIT: usize = 4090;
+
+impl<A: Allocator + Copy, P: Progress, F: Files> Desk<A, P, F> {
+    /// The text for a dump that is restored.
+    #[tactic(auto, unfolding(crate::specs::Desk::restored))]
+    fn restore_text(
+        &mut self,
+        note: &[u8],
+        name: &[u8],
+        dump: &[u8],
+    ) -> Result<Vec<u8, A>, AllocError>
+        ensures text { IfOk result (λ made.
+            made.items ∷ [] ≡ (restored note.now self.old name.now dump.now).texts) }
+        ensures after { OnOk result (self.new
+            ≡ (restored note.now self.old name.now dump.now).seat) }
+    {
+        let note = note_within(self.alloc, name, note)?;
+        let mut reply = Vec::new(self.alloc);
+        self.monitor.restore(dump, &mut reply)?;
+        let mut text = Vec::new(self.alloc);
+        push_shown_kind(&mut text, self.manner, b"restore ", name, &reply)?;
+        push_written(&mut text, &note, &reply)?;
+        Ok(text)
+    }
+
+    /// Puts the words of a dump on the drum.
+    #[tactic(auto, unfolding(crate::specs::Desk::restored))]
+    fn restore<W: Sink>(
+        &mut self,
+        note: &[u8],
+        name: &[u8],
+        dump: &[u8],
+        writer: &mut W,
+        tally: &mut Tally,
+    ) -> Result<(), StreamFault>
+        ensures said { IsTrue (is_some self.old.drawer)
+            → HasSaid self.new (W.contents writer.old) (W.contents writer.new) tally.old tally.new
+            result (restored note.now self.old name.now dump.now) }
+        ensures cause { IfErr result (λ fault. HasCause fault false (W.failed writer.new)) }
+    {
+        let Ok(text) = self.restore_text(note, name, dump) else {
+            return Err(StreamFault::Memory);
+        };
+        tally.deliver(writer, &text)
+    }
+
+    /// Puts the words of a file of a dump on the drum.
+    #[tactic(auto, unfolding(crate::specs::Desk::restored))]
+    fn restore_lines<W: Sink>(
+        &mut self,
+        note: &[u8],
+        name: &[u8],
+        text: &[u8],
+        writer: &mut W,
+        tally: &mut Tally,
+    ) -> Result<(), StreamFault>
+        ensures said { IsTrue (is_some self.old.drawer)
+            → HasSaid self.new (W.contents writer.old) (W.contents writer.new) tally.old tally.new
+            result (restored note.now self.old name.now (dump_lines (lines text.now))) }
+        ensures cause { IfErr result (λ fault. HasCause fault false (W.failed writer.new)) }
+    {
+        let Ok(dump) = dump_of_lines(self.alloc, text) else {
+            return Err(StreamFault::Memory);
+        };
+        self.restore(note, name, &dump, writer, tally)
+    }
+
+    /// The text for a tape for whose text no line has room.
+    #[tactic(auto, unfolding(crate::specs::Desk::long_tape))]
+    fn long_tape_text(
+        &mut self,
+        note: &[u8],
+        name: &[u8],
+        tape: &[u8],
+    ) -> Result<Vec<u8, A>, AllocError>
+        ensures text { IfOk result (λ made.
+            made.items ∷ [] ≡ (long_tape note.now self.old name.now tape.now).texts) }
+        ensures after { OnOk result (self.new
+            ≡ (long_tape note.now self.old name.now tape.now).seat) }
+    {
+        let note = note_within(self.alloc, name, note)?;
+        let mut reply = Vec::new(self.alloc);
+        self.monitor.mount_tape(name, tape, &mut reply)?;
+        let mut text = Vec::new(self.alloc);
+        push_shown_kind(&mut text, self.manner, b"tape ", name, &reply)?;
+        push_written(&mut text, &note, &reply)?;
+        Ok(text)
+    }
+
+    /// The line that mounts a tape.
+    fn mount_line(&self, tape: &[u8]) -> Result<Vec<u8, A>, AllocError>
+        ensures { IfOk result (λ line. line.items ≡ codes "mount " ++ tape.now) }
+    {
+        let mut line = Vec::new(self.alloc);
+        line.extend_from_slice(b"mount ")?;
+        line.extend_from_slice(tape)?;
+        Ok(line)
+    }
+
+    /// Mounts a tape by a line.
+    fn mount_by_line<W: Sink>(
+        &mut self,
+        note: &[u8],
+        name: &[u8],
+        tape: &[u8],
+        writer: &mut W,
+        tally: &mut Tally,
+    ) -> Result<(), StreamFault>
+        ensures said { IsTrue (is_some self.old.drawer)
+            → HasSaid self.new (W.contents writer.old) (W.contents writer.new) tally.old tally.new
+            result (answered (within name.now note.now) self.old (codes "mount " ++ tape.now)) }
+        ensures cause { IfErr result (λ fault. HasCause fault false (W.failed writer.new)) }
+    {
+        let (Ok(note), Ok(line)) = (note_within(self.alloc, name, note), self.mount_line(tape))
+        else {
+            return Err(StreamFault::Memory);
+        };
+        self.answer_bytes(&note, &line, writer, tally)
+    }
+
+    /// Mounts a tape.
+    #[tactic(auto, unfolding(crate::specs::Desk::mounted, crate::specs::Desk::long_tape))]
+    fn mount<W: Sink>(
+        &mut self,
+        note: &[u8],
+        name: &[u8],
+        tape: &[u8],
+        writer: &mut W,
+        tally: &mut Tally,
+    ) -> Result<(), StreamFault>
+        ensures said { IsTrue (is_some self.old.drawer)
+            → HasSaid self.new (W.contents writer.old) (W.contents writer.new) tally.old tally.new
+            result (mounted note.now self.old name.now tape.now) }
+        ensures cause { IfErr result (λ fault. HasCause fault false (W.failed writer.new)) }
+    {
+        if tape.len() <= MOUNT_LIMIT {
+            return self.mount_by_line(note, name, tape, writer, tally);
+        }
+        let Ok(text) = self.long_tape_text(note, name, tape) else {
+            return Err(StreamFault::Memory);
+        };
+        tally.deliver(writer, &text)
+    }
+
+    /// Mounts a tape that was checked, or refuses its file.
+    fn mount_checked<W: Sink>(
+        &mut self,
+        note: &[u8],
+        name: &[u8],
+        checked: Result<Result<Vec<u8, A>, FileTrouble>, AllocError>,
+        writer: &mut W,
+        tally: &mut Tally,
+    ) -> Result<(), StreamFault>
+        ensures said { (tape : Result (List ℕ) FileTrouble) → IsTrue (is_some self.old.drawer)
+            → IfOk checked (λ it. result_map_both (λ text. text.items) (λ trouble. trouble) it
+            ≡ result_map_both written_tape (λ trouble. trouble) tape)
+            → HasSaid self.new (W.contents writer.old) (W.contents writer.new) tally.old tally.new
+            result (tape_or_refused note.now self.old name.now tape) }
+        ensures cause { IfErr result (λ fault. HasCause fault false (W.failed writer.new)) }
+    {
+        match checked {
+            Ok(Ok(tape)) => self.mount(note, name, &tape, writer, tally),
+            Ok(Err(trouble)) => self.refuse(note, name, trouble, writer, tally),
+            Err(_) => Err(StreamFault::Memory),
+        }
+    }
+
+    /// Has the monitor answer the lines of a source, with those that open and close it.
+    fn answer_source<W: Sink>(
+        &mut self,
+        note: &[u8],
+        text: &[u8],
+        writer: &mut W,
+        tally: &mut Tally,
+    ) -> Result<(), StreamFault>
+        ensures said { IsTrue (is_some self.old.drawer)
+            → HasSaid self.new (W.contents writer.old) (W.contents writer.new) tally.old tally.new
+            result (all_answered note.now self.old
+            (codes "source" ∷ (lines text.now ++ codes "." ∷ []))) }
+        ensures cause { IfErr result (λ fault. HasCause fault false (W.failed writer.new)) }
+    {
+        self.answer_bytes(note, b"source", writer, tally)?;
+        self.answer_all(note, text, writer, tally)?;
+        self.answer_bytes(note, b".", writer, tally)
+    }
+
+    /// Takes a source.
+    #[tactic(auto, unfolding(crate::specs::Desk::source_said))]
+    fn take_source<W: Sink>(
+        &mut self,
+        note: &[u8],
+        name: &[u8],
+        text: &[u8],
+        writer: &mut W,
+        tally: &mut Tally,
+    ) -> Result<(), StreamFault>
+        ensures said { IsTrue (is_some self.old.drawer)
+            → HasSaid self.new (W.contents writer.old) (W.contents writer.new) tally.old tally.new
+            result (source_said note.now self.old name.now text.now) }
+        ensures cause { IfErr result (λ fault. HasCause fault false (W.failed writer.new)) }
+    {
+        if has_point(text) {
+            return self.refuse(note, name, FileTrouble::HasPoint, writer, tally);
+        }
+        let Ok(note) = note_within(self.alloc, name, note) else {
+            return Err(StreamFault::Memory);
+        };
+        self.answer_source(&note, text, writer, tally)
+    }
+
+    /// Says that the drum was kept.
+    fn give_kept<W: Sink>(
+        &self,
+        note: &[u8],
+        name: &[u8],
+        writer: &mut W,
+        tally: &mut Tally,
+    ) -> Result<(), StreamFault>
+        ensures said { IsTrue (is_some self.now.drawer)
+            → HasSaid self.now (W.contents writer.old) (W.contents writer.new) tally.old tally.new
+            result (own note.now self.now (kept_text name.now)) }
+        ensures cause { IfErr result (λ fault. HasCause fault false (W.failed writer.new)) }
+    {
+        let mut reply = Vec::new(self.alloc);
+        let Ok(()) = push_kept(&mut reply, name) else {
+            return Err(StreamFault::Memory);
+        };
+        self.give(note, &reply, writer, tally)
+    }
+
+    /// Keeps the drum's dump under a name; answers whether it is kept.
+    fn keep_drum(&mut self, name: &[u8]) -> Result<bool, AllocError>
+        ensures kept { (known : Drawer) → self.old.drawer ≡ Some known → IfOk result (λ kept.
+            IsKept known name.now (dump_of self.old.recorded.state.debugger.state.core.words)
+            kept self.new.drawer) }
+        ensures recorded { self.new.recorded ≡ self.old.recorded }
+        ensures manner { self.new.manner ≡ self.old.manner }
+        ensures left { self.new.has_left ≡ self.old.has_left }
+    {
+        let dump = self.monitor.laboratory().drum_dump()?;
+        self.files.keep(name, &dump)
+    }
+
+    /// Keeps the drum's dump under a name.
+    #[tactic(auto, unfolding(crate::specs::Desk::saved))]
+    pub(super) fn save<W: Sink>(
+        &mut self,
+        note: &[u8],
+        name: &[u8],
+        writer: &mut W,
+        tally: &mut Tally,
+    ) -> Result<(), StreamFault>
+        ensures said { IsTrue (is_some self.old.drawer)
+            → HasSaid self.new (W.contents writer.old) (W.contents writer.new) tally.old tally.new
+            result (saved note.now self.old name.now) }
+        ensures cause { IfErr result (λ fault. HasCause fault false (W.failed writer.new)) }
+    {
+        match self.keep_drum(name) {
+            Ok(true) => self.give_kept(note, name, writer, tally),
+            Ok(false) => self.refuse(note, name, FileTrouble::NotWritten, writer, tally),
+            Err(_) => Err(StreamFault::Memory),
+        }
+    }
+
+    /// Uses a text of a file as its work says.
+    fn use_text<W: Sink>(
+        &mut self,
+        work: Work,
+        note: &[u8],
+        name: &[u8],
+        text: &[u8],
+        writer: &mut W,
+        tally: &mut Tally,
+    ) -> Result<(), StreamFault>
+        ensures said { IsTrue (is_some self.old.drawer)
+            → HasSaid self.new (W.contents writer.old) (W.contents writer.new) tally.old tally.new
+            result (used work note.now self.old name.now text.now) }
+        ensures cause { IfErr result (λ fault. HasCause fault false (W.failed writer.new)) }
+    {
+        match work {
+            Work::Source => self.take_source(note, name, text, writer, tally),
+            Work::Tape => {
+                self.mount_checked(note, name, checked_tape(self.alloc, text), writer, tally)
+            }
+            Work::Archive => self.mount_checked(
+                note,
+                name,
+                checked_archive(self.alloc, text),
+                writer,
+                tally,
+            ),
+            Work::Restore => self.restore_lines(note, name, text, writer, tally),
+            Work::Lines | Work::Save => Ok(()),
+        }
+    }
+
+    /// Uses a file as its work says, or refuses it.
+    pub(super) fn use_file<W: Sink>(
+        &mut self,
+        work: Work,
+        note: &[u8],
+        name: &[u8],
+        writer: &mut W,
+        tally: &mut Tally,
+    ) -> Result<(), StreamFault>
+        requires { IsOfText work }
+        ensures said { IsTrue (is_some self.old.drawer)
+            → HasSaid self.new (W.contents writer.old) (W.contents writer.new) tally.old tally.new
+            result (used_or_refused work note.now self.old name.now (text_at self.old name.now)) }
+        ensures cause { IfErr result (λ fault. HasCause fault false (W.failed writer.new)) }
+    {
+        match self.files.read(self.alloc, name) {
+            Ok(Ok(text)) => self.use_text(work, note, name, &text, writer, tally),
+            Ok(Err(trouble)) => self.refuse(note, name, trouble, writer, tally),
+            Err(_) => Err(StreamFault::Memory),
+        }
+    }
+}

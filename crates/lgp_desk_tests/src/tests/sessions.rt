@@ -1,0 +1,222 @@
+//! What the monitor's program does with the words of its command line.
+
+ghost use Rattle.std.specs.Prelude.{◌≡◌, false};
+
+use lgp_desk::{FilesOf, Filing, Manner, obey_session};
+use lgp_lab::{Feed, FeedOf, READS, Sink, SinkOf, WordFault};
+use lgp_monitor::Silence;
+use std::alloc::{AllocError, Global};
+use std::process::Abort;
+
+/// One file, and none that can be kept.
+#[derive(Clone, Copy, Drop)]
+struct OneFile;
+
+impl Filing for OneFile {
+    type Reader = FeedOf<&'static [u8]>;
+
+    fn open(&self, name: &str) -> Option<FeedOf<&'static [u8]>> {
+        if name != "lesson.txt" {
+            return None;
+        }
+        Some(FeedOf::new(b"put 0001 = 2\nfoo".as_slice(), READS))
+    }
+
+    fn keep(&self, _name: &str, _text: &[u8]) -> bool {
+        false
+    }
+}
+
+/// Words as the runtime gives them.
+fn words_of(alloc: Global, typed: &[&str]) -> Result<Vec<String>, AllocError> {
+    let mut words = Vec::new(alloc);
+    for word in typed {
+        words.push(String::from_str(alloc, word)?)?;
+    }
+    Ok(words)
+}
+
+/// The status for words, with these files and this input.
+fn obeyed<F: Filing + Drop, R: Feed, W: Sink, M: Sink>(
+    alloc: Global,
+    words: Result<&[String], WordFault>,
+    manner: Manner,
+    filing: F,
+    input: &mut R,
+    output: &mut W,
+    messages: &mut M,
+) -> u8
+    requires output { W.failed output.old ≡ false }
+    requires messages { M.failed messages.old ≡ false }
+{
+    obey_session(
+        alloc,
+        alloc,
+        words,
+        manner,
+        FilesOf::new(filing),
+        Silence,
+        input,
+        output,
+        messages,
+    )
+}
+
+/// The status for words, where standard input is a line that puts a word and one that is no command.
+fn status_for(
+    alloc: Global,
+    words: Result<&[String], WordFault>,
+    manner: Manner,
+    output: &mut Vec<u8>,
+    messages: &mut Vec<u8>,
+) -> u8 {
+    let mut input = FeedOf::new(b"put 0000 = 1\nbar".as_slice(), READS);
+    let mut output = SinkOf::new(&mut *output);
+    let mut messages = SinkOf::new(&mut *messages);
+    obeyed(
+        alloc,
+        words,
+        manner,
+        OneFile,
+        &mut input,
+        &mut output,
+        &mut messages,
+    )
+}
+
+/// The status for words that are typed.
+fn status_typed(
+    alloc: Global,
+    typed: &[&str],
+    manner: Manner,
+    output: &mut Vec<u8>,
+    messages: &mut Vec<u8>,
+) -> Option<u8> {
+    match words_of(alloc, typed) {
+        Ok(words) => Some(status_for(alloc, Ok(&words), manner, output, messages)),
+        Err(_) => None,
+    }
+}
+
+/// Whether anything is written to the output and to the messages, and the status.
+fn reported_for(alloc: Global, typed: &[&str]) -> (bool, bool, Option<u8>) {
+    let mut output = Vec::new(alloc);
+    let mut messages = Vec::new(alloc);
+    let status = status_typed(alloc, typed, Manner::Bare, &mut output, &mut messages);
+    (!output.is_empty(), !messages.is_empty(), status)
+}
+
+#[test]
+fn help_is_no_message_and_a_mistake_is_one(rt: HostRuntime) {
+    let alloc = rt.alloc();
+    let reported = [
+        reported_for(alloc, &["lgp_monitor"]),
+        reported_for(alloc, &["lgp_monitor", "--help"]),
+        reported_for(alloc, &["lgp_monitor", "--version"]),
+        reported_for(alloc, &["lgp_monitor", "--bare"]),
+        reported_for(alloc, &["lgp_monitor", "--echo=no"]),
+    ];
+    let held = (true, false, Some(1));
+    let help = (true, false, Some(0));
+    let mistake = (false, true, Some(64));
+    assert_eq!(rt; reported, [held, help, help, mistake, mistake]);
+}
+
+/// Expects what is written in this manner for a session and for the version.
+fn expect_in(rt: &impl Abort, alloc: Global, typed: &[&str], manner: Manner, wanted: (&[u8], u8)) {
+    let mut output = Vec::new(alloc);
+    let mut messages = Vec::new(alloc);
+    let status = status_typed(alloc, typed, manner, &mut output, &mut messages);
+    assert_eq!(rt; (output.as_slice(), status), (wanted.0, Some(wanted.1)));
+}
+
+/// Expects what is written for a session and for the version where no prompt is asked for.
+fn expect_output(rt: &impl Abort, alloc: Global, typed: &[&str], wanted: (&[u8], u8)) {
+    expect_in(rt, alloc, typed, Manner::Bare, wanted);
+}
+
+/// What is written for the lines on standard input.
+const HELD: &[u8] = b"ok\n? 1 Form: there is no such command, help lists them\n";
+
+/// What is written where the lines of a file come first.
+const TAUGHT: &[u8] =
+    b"ok\n? 1 Form: there is no such command, help lists them\n        line 2 of lesson.txt\n\
+    ok\n? 1 Form: there is no such command, help lists them\n";
+
+/// What is written where a file is not there.
+const LACKING: &[u8] =
+    b"? 13 File none.txt: it cannot be opened\n        named on the command line\n\
+    ok\n? 1 Form: there is no such command, help lists them\n";
+
+/// What is written where each line is above its reply.
+const ECHOED: &[u8] =
+    b"> put 0000 = 1\nok\n? bar\n? 1 Form: there is no such command, help lists them\n";
+
+#[test]
+fn a_session_is_held(rt: HostRuntime) {
+    expect_output(&rt, rt.alloc(), &["lgp_monitor"], (HELD, 1));
+    expect_output(&rt, rt.alloc(), &["lgp_monitor", "lesson.txt"], (TAUGHT, 1));
+    expect_output(&rt, rt.alloc(), &["lgp_monitor", "none.txt"], (LACKING, 1));
+    expect_output(&rt, rt.alloc(), &["lgp_monitor", "--echo"], (ECHOED, 1));
+    let version = b"lgp_monitor 0.1.0\n";
+    expect_output(&rt, rt.alloc(), &["lgp_monitor", "--version"], (version, 0));
+}
+
+/// What is written with prompts: for the lines on standard input alone, after those of a file, after a file that is not there, and
+/// after three files.
+const PROMPTED: [(&[&str], &[u8]); 5] = [
+    (
+        &["lgp_monitor"],
+        b"0000 halted operator> ok\n0000 halted operator> ? 1 Form: there is no such command, help lists them\n0000 halted operator> \n",
+    ),
+    (
+        &["lgp_monitor", "lesson.txt"],
+        b"ok\n? 1 Form: there is no such command, help lists them\n        line 2 of lesson.txt\n\
+        0000 halted operator> ok\n0000 halted operator> ? 1 Form: there is no such command, help lists them\n0000 halted operator> \n",
+    ),
+    (
+        &["lgp_monitor", "none.txt"],
+        b"? 13 File none.txt: it cannot be opened\n        named on the command line\n\
+        0000 halted operator> ok\n0000 halted operator> ? 1 Form: there is no such command, help lists them\n0000 halted operator> \n",
+    ),
+    (
+        &["lgp_monitor", "lesson.txt", "none.txt", "lesson.txt"],
+        b"ok\n? 1 Form: there is no such command, help lists them\n        line 2 of lesson.txt\n\
+        ? 13 File none.txt: it cannot be opened\n        named on the command line\n\
+        ok\n? 1 Form: there is no such command, help lists them\n        line 2 of lesson.txt\n\
+        0000 halted operator> ok\n0000 halted operator> ? 1 Form: there is no such command, help lists them\n0000 halted operator> \n",
+    ),
+    (&["lgp_monitor", "--echo", "lesson.txt"], TAUGHT_ECHOED),
+];
+
+/// What is written where the lines of a file come first and each line is above its reply.
+const TAUGHT_ECHOED: &[u8] =
+    b"> put 0001 = 2\nok\n? foo\n? 1 Form: there is no such command, help lists them\n\
+    \x20       line 2 of lesson.txt\n\
+    > put 0000 = 1\nok\n? bar\n? 1 Form: there is no such command, help lists them\n";
+
+#[test]
+fn a_prompt_comes_after_the_lines_of_files(rt: HostRuntime) {
+    for (typed, written) in PROMPTED {
+        expect_in(&rt, rt.alloc(), typed, Manner::Prompting, (written, 1));
+    }
+}
+
+/// What is reported of words that are not there, whether there is no output, and the status.
+fn expect_unread(rt: &impl Abort, alloc: Global, fault: WordFault, wanted: (&[u8], u8)) {
+    let mut output = Vec::new(alloc);
+    let mut messages = Vec::new(alloc);
+    let status = status_for(alloc, Err(fault), Manner::Bare, &mut output, &mut messages);
+    let silent = output.is_empty();
+    assert_eq!(rt;
+        (messages.as_slice(), silent, status),
+        (wanted.0, true, wanted.1)
+    );
+}
+
+#[test]
+fn words_that_are_not_there_are_reported(rt: HostRuntime) {
+    let unread = b"error: the words of the command line are not UTF-8 text\n";
+    expect_unread(&rt, rt.alloc(), WordFault::NotText, (unread, 64));
+    expect_unread(&rt, rt.alloc(), WordFault::Memory, (b"", 3));
+}

@@ -1,5 +1,0 @@
-use Rattle.lgp_monitor.proofs.ScaleLaws.{text-behind_place_30}
-use Rattle.lgp_monitor.proofs.laws.numbers_behind_place_30_are_whole.Goals as goal
-
-pub returns : goal.returns
-returns c = text-behind_place_30

@@ -1,0 +1,171 @@
+-- Part of the public promise: what a typed line asks for.
+use Rattle.std.specs.Prelude.{ℕ, ◌==◌, ◌||◌, Bool, if◌then◌else◌, is_some, Option, Some, None}
+use Rattle.std.specs.Prelude.{List, codes, slice_index, pos, ◌*ℤ◌, option_and_then, option_map}
+use Rattle.std.specs.Prelude.{unwrap_or}
+use Rattle.std.specs.Option.{option_map_or, option_or}
+use Rattle.std.specs.Result.{result_ok}
+use Rattle.std.specs.Str.{byte, bytes_eq}
+use Rattle.lgp_word.specs.Digits.{word_of_digits}
+use Rattle.lgp_fraction.specs.Arithmetic.{low_bits}
+use Rattle.lgp_fraction.specs.Decimal.{decimal_fraction}
+use Rattle.lgp_assembler.specs.AddressOperands.{address_operand}
+use Rattle.lgp_assembler.specs.Patch.{operation_word}
+use Rattle.lgp_stream.specs.KeptLine.{Kept}
+use Rattle.lgp_stream.specs.LineWords.{after_word, first_word, has_no_word}
+use Rattle.lgp_text.specs.NamedValues.{named}
+use Rattle.lgp_lab.specs.Command.{command_of, lone_number}
+use Rattle.lgp_lab.specs.Span.{WordRange, range_of}
+use Rattle.lgp_monitor.specs.Scaled.{point_of}
+use Rattle.lgp_monitor.specs.Verbs.{verb_names}
+use Rattle.lgp_monitor.specs.declared.question.Question.TheVariants as questions
+use Rattle.lgp_monitor.specs.declared.telling.Telling.TheVariants as tellings
+use Rattle.lgp_monitor.specs.declared.verb.AddressCommand.{AddressCommand}
+use Rattle.lgp_monitor.specs.declared.verb.AddressCommand.TheVariants as address_commands
+use Rattle.lgp_monitor.specs.declared.verb.LoneCommand.{LoneCommand}
+use Rattle.lgp_monitor.specs.declared.verb.LoneCommand.TheVariants as lone_commands
+use Rattle.lgp_monitor.specs.declared.verb.NumberCommand.{NumberCommand}
+use Rattle.lgp_monitor.specs.declared.verb.NumberCommand.TheVariants as number_commands
+use Rattle.lgp_monitor.specs.declared.verb.Verb.{Verb}
+use Rattle.lgp_monitor.specs.declared.verb.Verb.TheVariants as verbs
+use Rattle.lgp_monitor.specs.declared.entry.Entry.{Entry}
+use Rattle.lgp_monitor.specs.declared.entry.Entry.TheVariants as entry
+
+-- ---- words of operands
+
+-- the first of some operands
+abbrev pub operand_at : List ℕ → Option (List ℕ)
+operand_at operands = if has_no_word operands then None else Some (first_word operands)
+
+-- what comes after a command's name, where it is one word at most
+abbrev pub lone_word : List ℕ → Option (List ℕ)
+lone_word operands = if has_no_word (after_word operands) then Some (first_word operands) else None
+
+-- the place after which a number's point is, 30 where none is given
+abbrev pub point_at : List ℕ → List ℕ
+point_at operands = unwrap_or (operand_at operands) (codes "30")
+
+-- eight digits or a fraction
+unfoldable pub digits_or_fraction : List ℕ → Option ℕ
+digits_or_fraction text =
+    option_or (word_of_digits text)
+    (option_map (λ steps. low_bits (pos 2 *ℤ steps)) (result_ok (decimal_fraction text)))
+
+-- ---- the word after `put ttss`, with the names of the last source and the place of the word
+
+module _ (names : List (List ℕ × ℕ)) (place : ℕ) where
+  -- an operation of the last source with at most two operands, of which `*` is the place
+  unfoldable pub operation_at : List ℕ → Option ℕ
+  operation_at line =
+      if has_no_word (after_word (after_word (after_word line)))
+      then result_ok (operation_word names place (first_word line) (operand_at (after_word line))
+      (operand_at (after_word (after_word line))))
+      else None
+
+  -- after `=` a whole number and the place after which its point is
+  unfoldable pub whole_at : List ℕ → Option ℕ
+  whole_at operands =
+      if has_no_word (after_word (after_word operands))
+      then result_ok (operation_word names place (codes "int") (Some (first_word operands))
+      (Some (point_at (after_word operands))))
+      else None
+
+  -- `=` and a number, eight digits, a fraction, or an operation
+  unfoldable pub value_at : List ℕ → Option ℕ
+  value_at operands =
+      if bytes_eq (first_word operands) (codes "=") then whole_at (after_word operands)
+      else option_or (option_and_then digits_or_fraction (lone_word operands))
+      (operation_at operands)
+
+-- ---- the commands
+
+-- what is asked for with what was read of the operands; nothing where they are not in form
+abbrev pub asked_by : {T : Type 0} → (T → Entry) → Option T → Entry
+asked_by ask read = option_map_or ask read entry.Misformed
+
+-- what a command asks for with an address; one of scripts has there its `ttss`
+abbrev pub asked_at : AddressCommand → ℕ → Entry
+asked_at address_commands.Script address = entry.Placed address
+asked_at address_commands.Go address = entry.Go address
+asked_at address_commands.Why address = entry.Asked (questions.Why address)
+
+-- what a command asks for with a number; one of scripts as it is
+abbrev pub asked_with : NumberCommand → ℕ → Entry
+asked_with number_commands.Script number = entry.Itself
+asked_with (number_commands.Trace form) limit = entry.Reported (tellings.Trace form) limit
+asked_with (number_commands.Profile form) limit = entry.Reported (tellings.Profile form) limit
+asked_with number_commands.Drum limit = entry.Reported tellings.Drum limit
+
+-- what a command asks for by itself; one of scripts as it is
+abbrev pub asked_alone : LoneCommand → Entry
+asked_alone lone_commands.Script = entry.Itself
+asked_alone lone_commands.ScriptQuestion = entry.Itself
+asked_alone lone_commands.Rules = entry.Asked questions.Rules
+asked_alone lone_commands.Labels = entry.Asked questions.Labels
+asked_alone lone_commands.Live = entry.Asked questions.Live
+asked_alone lone_commands.Commands = entry.Asked questions.Commands
+asked_alone lone_commands.PanelData = entry.Asked questions.PanelData
+asked_alone lone_commands.Transcript = entry.Transcript
+asked_alone lone_commands.New = entry.New
+
+-- with the names of the last source and the counter
+module _ (names : List (List ℕ × ℕ)) (counter : ℕ) where
+  -- an address is written as an operand of the last source: as ttss, by a name, or by `*`, which is
+  -- here the counter, and perhaps with a sign and a number after it
+  unfoldable pub address_at : List ℕ → Option ℕ
+  address_at text = result_ok (address_operand names counter text)
+
+  -- a range of words, by an address and a number
+  unfoldable pub range_at : List ℕ → List ℕ → Option WordRange
+  range_at address count =
+      option_and_then (λ first. option_and_then (range_of first) (lone_number count))
+      (address_at address)
+
+  -- a range of words as numbers, and the place after which their point is
+  unfoldable pub numbers_entry : List ℕ → Entry
+  numbers_entry operands =
+      let count = after_word operands in
+      let point = after_word count in
+      if has_no_word (after_word point)
+      then asked_by (λ range. asked_by (λ place. entry.Asked (questions.Numbers range place))
+      (point_of (point_at point))) (range_at (first_word operands) (first_word count))
+      else entry.Misformed
+
+  -- a run of which the words with most to gain are reported, or the word whose address comes after
+  -- its number
+  unfoldable pub optimum_entry : List ℕ → Entry
+  optimum_entry operands =
+      let place = after_word operands in
+      if has_no_word place then asked_by (entry.Reported tellings.Optimum) (lone_number operands)
+      else (if has_no_word (after_word place)
+      then asked_by (λ word. asked_by (entry.Reported (tellings.OptimumOf word))
+      (lone_number (first_word operands))) (address_at (first_word place))
+      else entry.Misformed)
+
+  -- a command with its operands, by what comes after its name; of some the script's own form is
+  -- the only one
+  unfoldable pub entry_by : List ℕ → Verb → Entry
+  entry_by operands (verbs.Lone command) =
+      if has_no_word operands then asked_alone command else entry.Misformed
+  entry_by operands (verbs.Address command) =
+      asked_by (asked_at command) (option_and_then address_at (lone_word operands))
+  entry_by operands (verbs.Number command) = asked_by (asked_with command) (lone_number operands)
+  entry_by operands verbs.NumberAddress = optimum_entry operands
+  entry_by operands verbs.Range =
+      asked_by (λ range. entry.Placed range.first)
+      (range_at (first_word operands) (after_word operands))
+  entry_by operands verbs.ScaledRange = numbers_entry operands
+  entry_by operands verbs.Word =
+      asked_by (λ place. asked_by (entry.Put place) (value_at names place (after_word operands)))
+      (address_at (first_word operands))
+  entry_by operands verbs.Command =
+      if has_no_word operands then entry.Help
+      else asked_by entry.HelpOf (option_and_then (named verb_names) (lone_word operands))
+  entry_by operands verb = entry.Misformed
+
+  -- what a line asks for: those are taken as they are that are an open source's, too long, in the
+  -- form of a script's command, or without anything that is asked
+  unfoldable pub entry_of : Bool → Kept → Entry
+  entry_of is_open kept =
+      if is_open || kept.longer || kept.blank || (slice_index kept.front 0 == byte ";")
+      || is_some (command_of kept.front) then entry.Itself
+      else asked_by (entry_by (after_word kept.front)) (named verb_names (first_word kept.front))

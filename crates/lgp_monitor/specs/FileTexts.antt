@@ -1,0 +1,75 @@
+-- Part of the public promise: how the monitor answers a text that no line has room for, and where
+-- that leaves it. A dump is restored, by lines of a script that put its words on the drum; a tape is
+-- mounted.
+use Rattle.std.specs.Prelude.{ℕ, ◌+◌, ◌==◌, ◌&&◌, Bool, if◌then◌else◌, is_none, List, [], ◌∷◌}
+use Rattle.std.specs.Prelude.{◌++◌, codes, decimal, fold, length, map, slice_set}
+use Rattle.std.specs.Option.{option_map_or}
+use Rattle.bstr.specs.Text.{lines_of}
+use Rattle.lgp_word.specs.Drum.{blank_words}
+use Rattle.lgp_table.specs.Console.{is_at_rest}
+use Rattle.lgp_stream.specs.Transcript.{Recorded, after_lines, with_line, with_state}
+use Rattle.lgp_listing.specs.Dump.{cell_in, first_fault}
+use Rattle.lgp_listing.specs.declared.reading.DumpFault.{DumpFault}
+use Rattle.lgp_listing.specs.declared.reading.DumpFault.TheVariants as faults
+use Rattle.lgp_lab.specs.Script.{script_language}
+use Rattle.lgp_lab.specs.LabState.{LabState}
+use Rattle.lgp_lab.specs.TapeCommands.{answer_to_tape_text}
+use Rattle.lgp_monitor.specs.Monitor.{panel_at, put_line}
+use Rattle.lgp_monitor.specs.Reasons.{reasoned}
+
+-- ---- restore
+
+-- the words of a dump's drum: those of its lines at their addresses, and zeros
+unfoldable pub dumped_words : List ℕ → List ℕ
+dumped_words dump =
+    fold (λ words line. option_map_or (λ cell. slice_set words cell.0 cell.1) (cell_in line) words)
+    blank_words (lines_of dump)
+
+-- the addresses, from one on, that have other words than before, each with its new word
+unfoldable pub changed_cells : ℕ → List ℕ → List ℕ → List (ℕ × ℕ)
+changed_cells address (old ∷ before) (new ∷ after) =
+    (if old == new then [] else (address, new) ∷ []) ++ changed_cells (address + 1) before after
+changed_cells address before after = []
+
+abbrev pub put_cell : ℕ × ℕ → List ℕ
+put_cell cell = put_line cell.0 cell.1
+
+-- why a text is no dump
+unfoldable pub dump_fault_text : DumpFault → List ℕ
+dump_fault_text (faults.Form line) =
+    codes "? 1 Form: line " ++ (decimal line ++ codes " is no line of a dump\n")
+dump_fault_text (faults.Order line) =
+    codes "? 1 Form: the address of line "
+    ++ (decimal line ++ codes " is not above that of the line before it\n")
+dump_fault_text faults.Memory = []
+
+module _ (recorded : Recorded LabState) where
+  -- the words that a dump changes
+  abbrev pub cells_changed : List ℕ → List (ℕ × ℕ)
+  cells_changed dump =
+      changed_cells 0 recorded.state.debugger.state.core.words (dumped_words dump)
+
+  abbrev pub rests_at : Bool
+  rests_at = is_at_rest (panel_at recorded.state).status
+
+  unfoldable pub restore_reply : List ℕ → List ℕ
+  restore_reply dump =
+      option_map_or dump_fault_text (first_fault dump) (if rests_at
+      then codes "restored " ++ (decimal (length (cells_changed dump)) ++ codes "\n")
+      else reasoned (codes "? 2 Moving\n"))
+
+  -- the lines of a script that it stands for
+  unfoldable pub restore_lines : List ℕ → List (List ℕ)
+  restore_lines dump =
+      if is_none (first_fault dump) && rests_at then map put_cell (cells_changed dump) else []
+
+  -- ---- a tape for whose text no line of a script has room: no line says which tape it is, so its
+  -- name is in the transcript
+
+  unfoldable pub tape_reply : List ℕ → List ℕ
+  tape_reply text = reasoned (answer_to_tape_text recorded.state text).reply
+
+  unfoldable pub after_tape : List ℕ → List ℕ → Recorded LabState
+  after_tape name text =
+      with_state (with_line recorded (codes "tape " ++ name))
+      (answer_to_tape_text recorded.state text).after

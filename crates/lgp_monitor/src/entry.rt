@@ -1,0 +1,457 @@
+//! What a typed line asks for.
+
+ghost use Rattle.std.specs.Prelude.{◌≡◌, ◌==◌, ◌||◌, ◌*ℤ◌, codes, if◌then◌else◌, is_some, option_and_then, option_map, pos, slice_index, unwrap_or};
+ghost use Rattle.std.specs.Option.{option_copied};
+ghost use Rattle.std.specs.Result.{result_ok};
+ghost use Rattle.std.specs.Str.{byte};
+ghost use Rattle.lgp_fraction.specs.Arithmetic.{low_bits};
+ghost use Rattle.lgp_fraction.specs.Decimal.{decimal_fraction};
+ghost use Rattle.lgp_lab.specs.Command.{command_of, lone_number};
+ghost use Rattle.lgp_lab.specs.Span.{range_of};
+ghost use Rattle.lgp_stream.specs.LineWords.{after_word, first_word, has_no_word};
+ghost use Rattle.lgp_text.specs.NamedValues.{named};
+ghost use Rattle.lgp_monitor.specs.Verbs.{verb_names};
+ghost use Rattle.lgp_monitor.specs.Entry.{address_at, asked_alone, asked_at, asked_by, asked_with, digits_or_fraction, lone_word, numbers_entry, operand_at, operation_at, point_at, optimum_entry, range_at, entry_by, entry_of, value_at, whole_at};
+
+use crate::question::Question;
+use crate::scaled::Point;
+use crate::telling::Telling;
+use crate::verb::{AddressCommand, LoneCommand, NumberCommand, Verb, verb_named};
+use lgp_assembler::{Name, OperandFault, Symbols, address_operand, operation_word};
+use lgp_fraction::Fraction;
+use lgp_lab::{Span, is_command, is_comment, lone_number};
+use lgp_stream::{LineBytes, Split, has_no_word, split_word};
+use lgp_word::{Address, Word, read_digits};
+
+/// What a typed line asks for.
+#[derive(Clone, Copy)]
+pub enum Entry {
+    /// What it says as a line of a script.
+    Itself,
+    /// It is in no command's form.
+    Misformed,
+    /// What it says as a line of a script, with this address in the place of its first operand.
+    Placed(Address),
+    /// The machine started at an address.
+    Go(Address),
+    /// A word put at an address.
+    Put(Address, Word),
+    /// A run of at most a given number of orders that is reported.
+    Reported(Telling, u64),
+    /// Something that is shown and changes nothing.
+    Asked(Question),
+    /// The script lines so far.
+    Transcript,
+    /// A new laboratory.
+    New,
+    /// The commands.
+    Help,
+    /// The form of a command.
+    HelpOf(Verb),
+}
+
+/// The address that a text is, by the names of the last source and the counter.
+#[tactic(auto, unfolding(crate::specs::Entry::address_at))]
+fn address_at(names: &[(Name, u16)], counter: Address, text: &[u8]) -> Option<Address>
+    ensures { result ≡ address_at names.now counter text.now }
+{
+    let symbols = Symbols { names };
+    match address_operand(&symbols, u64::from(counter.number()), text) {
+        Ok(address) => Some(address),
+        Err(_) => None,
+    }
+}
+
+/// A word, where there is one.
+fn word_by(word: Result<Word, OperandFault>) -> Option<Word>
+    ensures { result ≡ result_ok word }
+{
+    match word {
+        Ok(word) => Some(word),
+        Err(_) => None,
+    }
+}
+
+/// The first of some operands.
+fn operand_at(operands: &[u8]) -> Option<&[u8]>
+    ensures { option_copied result ≡ operand_at operands.now }
+{
+    if has_no_word(operands) {
+        return None;
+    }
+    Some(split_word(operands).word)
+}
+
+/// The word of an operation, in the place of the word.
+#[tactic(auto, unfolding(crate::specs::Entry::operation_at))]
+fn operation_at(names: &[(Name, u16)], place: Address, line: &[u8]) -> Option<Word>
+    ensures { result ≡ operation_at names.now place line.now }
+{
+    let operation = split_word(line);
+    let first = split_word(operation.rest);
+    let second = split_word(first.rest);
+    if !has_no_word(second.rest) {
+        return None;
+    }
+    word_by(operation_word(
+        &Symbols { names },
+        u64::from(place.number()),
+        operation.word,
+        operand_at(operation.rest),
+        operand_at(first.rest),
+    ))
+}
+
+/// The place after which a number's point is.
+fn point_at(operands: &[u8]) -> &[u8]
+    ensures { result.now ≡ point_at operands.now }
+{
+    if has_no_word(operands) {
+        return b"30";
+    }
+    split_word(operands).word
+}
+
+/// The word of a whole number.
+#[tactic(auto, unfolding(crate::specs::Entry::whole_at))]
+fn whole_at(names: &[(Name, u16)], place: Address, operands: &[u8]) -> Option<Word>
+    ensures { result ≡ whole_at names.now place operands.now }
+{
+    let number = split_word(operands);
+    let point = split_word(number.rest);
+    if !has_no_word(point.rest) {
+        return None;
+    }
+    word_by(operation_word(
+        &Symbols { names },
+        u64::from(place.number()),
+        b"int",
+        Some(number.word),
+        Some(point_at(number.rest)),
+    ))
+}
+
+/// The word of a fraction's text.
+fn fraction_at(text: &[u8]) -> Option<Word>
+    ensures { result
+        ≡ option_map (λ steps. low_bits (pos 2 *ℤ steps)) (result_ok (decimal_fraction text.now)) }
+{
+    match Fraction::from_decimal(text) {
+        Ok(fraction) => Some(fraction.word()),
+        Err(_) => None,
+    }
+}
+
+/// The word of eight digits or of a fraction.
+#[tactic(auto, unfolding(crate::specs::Entry::digits_or_fraction))]
+fn digits_or_fraction(text: &[u8]) -> Option<Word>
+    ensures { result ≡ digits_or_fraction text.now }
+{
+    match read_digits(text) {
+        Some(word) => Some(word),
+        None => fraction_at(text),
+    }
+}
+
+/// The word that comes after an address.
+#[tactic(auto, unfolding(crate::specs::Entry::value_at))]
+fn value_at(names: &[(Name, u16)], place: Address, operands: &[u8]) -> Option<Word>
+    ensures { result ≡ value_at names.now place operands.now }
+{
+    let first = split_word(operands);
+    if first.word == b"=".as_slice() {
+        return whole_at(names, place, first.rest);
+    }
+    if !has_no_word(first.rest) {
+        return operation_at(names, place, operands);
+    }
+    match digits_or_fraction(first.word) {
+        Some(word) => Some(word),
+        None => operation_at(names, place, operands),
+    }
+}
+
+/// A word for an address.
+fn put_by(names: &[(Name, u16)], address: Option<Address>, operands: &[u8]) -> Entry
+    ensures { result ≡ asked_by (λ place. asked_by (Entry.Put place)
+        (value_at names.now place operands.now)) address }
+{
+    let Some(address) = address else {
+        return Entry::Misformed;
+    };
+    match value_at(names, address, operands) {
+        Some(word) => Entry::Put(address, word),
+        None => Entry::Misformed,
+    }
+}
+
+/// The operands of `put`.
+fn put_typed(names: &[(Name, u16)], counter: Address, operands: &[u8]) -> Entry
+    ensures { result ≡ asked_by (λ place. asked_by (Entry.Put place)
+        (value_at names.now place (after_word operands.now)))
+        (address_at names.now counter (first_word operands.now)) }
+{
+    let Split { word, rest } = split_word(operands);
+    put_by(names, address_at(names, counter, word), rest)
+}
+
+/// What a command asks for with an address.
+fn asked_at(command: AddressCommand, address: Address) -> Entry
+    ensures { result ≡ asked_at command address }
+{
+    match command {
+        AddressCommand::Script => Entry::Placed(address),
+        AddressCommand::Go => Entry::Go(address),
+        AddressCommand::Why => Entry::Asked(Question::Why(address)),
+    }
+}
+
+/// The operand of a command that takes an address.
+fn address_typed(
+    names: &[(Name, u16)],
+    counter: Address,
+    command: AddressCommand,
+    operands: &[u8],
+) -> Entry
+    ensures { result ≡ asked_by (asked_at command)
+        (option_and_then (address_at names.now counter) (lone_word operands.now)) }
+{
+    let Split { word, rest } = split_word(operands);
+    if !has_no_word(rest) {
+        return Entry::Misformed;
+    }
+    match address_at(names, counter, word) {
+        Some(address) => asked_at(command, address),
+        None => Entry::Misformed,
+    }
+}
+
+/// A given number of words from an address on.
+fn range_by(address: Option<Address>, count: Option<u64>) -> Option<Span>
+    ensures { result
+        ≡ option_and_then (λ first. option_and_then (range_of first) count) address }
+{
+    match (address, count) {
+        (Some(address), Some(count)) => Span::new(address, count),
+        _ => None,
+    }
+}
+
+/// A range of words.
+#[tactic(auto, unfolding(crate::specs::Entry::range_at))]
+fn range_at(names: &[(Name, u16)], counter: Address, operands: &[u8]) -> Option<Span>
+    ensures { result ≡ range_at names.now counter
+        (first_word operands.now) (after_word operands.now) }
+{
+    let Split { word, rest } = split_word(operands);
+    range_by(address_at(names, counter, word), lone_number(rest))
+}
+
+/// The operands of a script's command that takes a range of words.
+fn placed_range(names: &[(Name, u16)], counter: Address, operands: &[u8]) -> Entry
+    ensures { result ≡ asked_by (λ range. Entry.Placed range.first)
+        (range_at names.now counter (first_word operands.now) (after_word operands.now)) }
+{
+    match range_at(names, counter, operands) {
+        Some(range) => Entry::Placed(range.first()),
+        None => Entry::Misformed,
+    }
+}
+
+/// The range of words of the first two operands.
+#[tactic(auto, unfolding(crate::specs::Entry::range_at))]
+fn first_range(names: &[(Name, u16)], counter: Address, operands: &[u8]) -> Option<Span>
+    ensures { result ≡ range_at names.now counter
+        (first_word operands.now) (first_word (after_word operands.now)) }
+{
+    let Split { word, rest } = split_word(operands);
+    range_by(
+        address_at(names, counter, word),
+        lone_number(split_word(rest).word),
+    )
+}
+
+/// A range of words as numbers with this point.
+fn numbers_by(range: Option<Span>, point: Option<Point>) -> Entry
+    ensures { result ≡ asked_by (λ words. asked_by (λ place.
+        Entry.Asked (Question.Numbers words place)) point) range }
+{
+    match (range, point) {
+        (Some(range), Some(point)) => Entry::Asked(Question::Numbers(range, point)),
+        _ => Entry::Misformed,
+    }
+}
+
+/// The operands of `numbers`.
+#[tactic(auto, unfolding(crate::specs::Entry::numbers_entry))]
+fn numbers_entry(names: &[(Name, u16)], counter: Address, operands: &[u8]) -> Entry
+    ensures { result ≡ numbers_entry names.now counter operands.now }
+{
+    let address = split_word(operands);
+    let count = split_word(address.rest);
+    let point = split_word(count.rest);
+    if !has_no_word(point.rest) {
+        return Entry::Misformed;
+    }
+    numbers_by(
+        first_range(names, counter, operands),
+        Point::read(point_at(count.rest)),
+    )
+}
+
+/// What a command asks for with a number.
+fn asked_with(command: NumberCommand, number: u64) -> Entry
+    ensures { result ≡ asked_with command number }
+{
+    match command {
+        NumberCommand::Script => Entry::Itself,
+        NumberCommand::Trace(form) => Entry::Reported(Telling::Trace(form), number),
+        NumberCommand::Profile(form) => Entry::Reported(Telling::Profile(form), number),
+        NumberCommand::Drum => Entry::Reported(Telling::Drum, number),
+    }
+}
+
+/// The operand of a command that takes a number.
+fn number_typed(command: NumberCommand, operands: &[u8]) -> Entry
+    ensures { result ≡ asked_by (asked_with command) (lone_number operands.now) }
+{
+    match lone_number(operands) {
+        Some(number) => asked_with(command, number),
+        None => Entry::Misformed,
+    }
+}
+
+/// The operand of `help`.
+fn help_typed(operands: &[u8]) -> Entry
+    ensures { result ≡ (if has_no_word operands.now then Entry.Help
+        else asked_by Entry.HelpOf (option_and_then (named verb_names) (lone_word operands.now))) }
+{
+    if has_no_word(operands) {
+        return Entry::Help;
+    }
+    let Split { word, rest } = split_word(operands);
+    if !has_no_word(rest) {
+        return Entry::Misformed;
+    }
+    match verb_named(word) {
+        Some(verb) => Entry::HelpOf(verb),
+        None => Entry::Misformed,
+    }
+}
+
+/// A run that is reported in this way, where its number is known.
+fn reported_so(telling: Telling, limit: Option<u64>) -> Entry
+    ensures { result ≡ asked_by (Entry.Reported telling) limit }
+{
+    match limit {
+        Some(limit) => Entry::Reported(telling, limit),
+        None => Entry::Misformed,
+    }
+}
+
+/// The word of whom a run tells, and the run's number.
+fn reported_word(names: &[(Name, u16)], counter: Address, word: &[u8], number: &[u8]) -> Entry
+    ensures { result ≡ asked_by (λ place. asked_by (Entry.Reported (Telling.OptimumOf place))
+        (lone_number number.now)) (address_at names.now counter word.now) }
+{
+    match address_at(names, counter, word) {
+        Some(place) => reported_so(Telling::OptimumOf(place), lone_number(number)),
+        None => Entry::Misformed,
+    }
+}
+
+/// The operands of `optimum`.
+#[tactic(auto, unfolding(crate::specs::Entry::optimum_entry))]
+fn optimum_entry(names: &[(Name, u16)], counter: Address, operands: &[u8]) -> Entry
+    ensures { result ≡ optimum_entry names.now counter operands.now }
+{
+    let number = split_word(operands);
+    if has_no_word(number.rest) {
+        return reported_so(Telling::Optimum, lone_number(operands));
+    }
+    let place = split_word(number.rest);
+    if !has_no_word(place.rest) {
+        return Entry::Misformed;
+    }
+    reported_word(names, counter, place.word, number.word)
+}
+
+/// What a command asks for by itself.
+fn asked_alone(command: LoneCommand) -> Entry
+    ensures { result ≡ asked_alone command }
+{
+    match command {
+        LoneCommand::Script | LoneCommand::ScriptQuestion => Entry::Itself,
+        LoneCommand::Rules => Entry::Asked(Question::Rules),
+        LoneCommand::Labels => Entry::Asked(Question::Labels),
+        LoneCommand::Live => Entry::Asked(Question::Live),
+        LoneCommand::Commands => Entry::Asked(Question::Commands),
+        LoneCommand::PanelData => Entry::Asked(Question::PanelData),
+        LoneCommand::Transcript => Entry::Transcript,
+        LoneCommand::New => Entry::New,
+    }
+}
+
+/// A command that takes no operand.
+fn lone_typed(command: LoneCommand, operands: &[u8]) -> Entry
+    ensures { result
+        ≡ (if has_no_word operands.now then asked_alone command else Entry.Misformed) }
+{
+    if has_no_word(operands) {
+        asked_alone(command)
+    } else {
+        Entry::Misformed
+    }
+}
+
+/// A command with its operands, by what comes after its name. Of some the script's own form is the only one.
+#[tactic(auto, unfolding(crate::specs::Entry::entry_by))]
+fn entry_by(names: &[(Name, u16)], counter: Address, verb: Option<Verb>, operands: &[u8]) -> Entry
+    ensures { result ≡ asked_by (entry_by names.now counter operands.now) verb }
+{
+    match verb {
+        Some(Verb::Lone(command)) => lone_typed(command, operands),
+        Some(Verb::Address(command)) => address_typed(names, counter, command, operands),
+        Some(Verb::Number(command)) => number_typed(command, operands),
+        Some(Verb::NumberAddress) => optimum_entry(names, counter, operands),
+        Some(Verb::Range) => placed_range(names, counter, operands),
+        Some(Verb::ScaledRange) => numbers_entry(names, counter, operands),
+        Some(Verb::Word) => put_typed(names, counter, operands),
+        Some(Verb::Command) => help_typed(operands),
+        Some(Verb::Text | Verb::Key | Verb::Source | Verb::File | Verb::End) | None => {
+            Entry::Misformed
+        }
+    }
+}
+
+/// What a line asks for where it is not taken as it is.
+fn typed_line(names: &[(Name, u16)], counter: Address, line: &[u8]) -> Entry
+    ensures { result ≡ (if is_some (command_of line.now) then Entry.Itself
+        else asked_by (entry_by names.now counter (after_word line.now))
+        (named verb_names (first_word line.now))) }
+{
+    if is_command(line) {
+        return Entry::Itself;
+    }
+    let Split { word, rest } = split_word(line);
+    entry_by(names, counter, verb_named(word), rest)
+}
+
+/// Whether a line is taken as it is.
+fn stands_for_itself(is_open: bool, line: &LineBytes) -> bool
+    ensures { result ≡ (is_open || line.now.longer || line.now.blank
+        || (slice_index line.now.front 0 == byte ";")) }
+{
+    is_open || line.is_longer() || line.has_no_word() || is_comment(line.front())
+}
+
+/// What a line asks for, where a source is open and where none is, with the names of the last source and the counter.
+#[tactic(auto, unfolding(crate::specs::Entry::entry_of))]
+pub fn entry_of(is_open: bool, names: &[(Name, u16)], counter: Address, line: &LineBytes) -> Entry
+    ensures { result ≡ entry_of names.now counter is_open line.now }
+{
+    if stands_for_itself(is_open, line) {
+        return Entry::Itself;
+    }
+    typed_line(names, counter, line.front())
+}

@@ -1,0 +1,174 @@
+//! Texts that no line has room for: a dump to restore, and a long tape.
+
+ghost use Rattle.std.specs.Prelude.{◌≡◌, ◌≢◌, ◌++◌, ◌==◌, ◌∷◌, [], if◌then◌else◌, length, map, decimal, codes, IfErr, IfOk, OnOk, Some, None};
+ghost use Rattle.lgp_listing.specs.Dump.{IsDrum, first_fault};
+ghost use Rattle.lgp_stream.specs.Transcript.{after_lines};
+ghost use Rattle.lgp_lab.specs.Script.{script_language};
+ghost use Rattle.lgp_monitor.specs.FileTexts.{after_tape, changed_cells, dump_fault_text, put_cell, restore_lines, restore_reply, rests_at, tape_reply};
+ghost use Rattle.lgp_monitor.specs.Reasons.{reasoned};
+
+use crate::monitor::put_line;
+use crate::reason::push_reasoned;
+use lgp_drum::Drum;
+use lgp_lab::Laboratory;
+use lgp_listing::{DumpFault, read_dump};
+use lgp_machine::Machine;
+use lgp_stream::Recorder;
+use lgp_text::{Piece, push_pieces};
+use lgp_word::{Address, Word};
+use std::alloc::{AllocError, Allocator};
+
+/// Appends why a text is no dump.
+#[tactic(auto, unfolding(crate::specs::FileTexts::dump_fault_text))]
+fn push_dump_fault<A: Allocator>(text: &mut Vec<u8, A>, fault: DumpFault) -> Result<(), AllocError>
+    ensures { OnOk result (text.new.items ≡ text.old.items ++ dump_fault_text fault) }
+{
+    match fault {
+        DumpFault::Form(line) => push_pieces(
+            text,
+            &[
+                Piece::Text(b"? 1 Form: line "),
+                Piece::Number(line),
+                Piece::Text(b" is no line of a dump\n"),
+            ],
+        ),
+        DumpFault::Order(line) => push_pieces(
+            text,
+            &[
+                Piece::Text(b"? 1 Form: the address of line "),
+                Piece::Number(line),
+                Piece::Text(b" is not above that of the line before it\n"),
+            ],
+        ),
+        DumpFault::Memory => Ok(()),
+    }
+}
+
+/// Appends an address and its word, where another one was there.
+fn push_changed<A: Allocator>(
+    cells: &mut Vec<(Address, Word), A>,
+    address: Address,
+    old: Word,
+    new: Word,
+) -> Result<(), AllocError>
+    ensures { OnOk result (cells.new.items
+        ≡ cells.old.items ++ (if old == new then [] else (address, new) ∷ [])) }
+{
+    if old.get() == new.get() {
+        return Ok(());
+    }
+    cells.push((address, new))?;
+    Ok(())
+}
+
+/// The words of a drum that are not those of a machine, with their addresses.
+fn changed_cells<A: Allocator, B: Allocator, C: Allocator>(
+    alloc: A,
+    machine: &Machine<B>,
+    drum: &Drum<C>,
+) -> Result<Vec<(Address, Word), A>, AllocError>
+    ensures { IfOk result (λ cells. cells.items
+        ≡ changed_cells 0 machine.now.state.core.words drum.now) }
+{
+    let mut cells = Vec::new(alloc);
+    for number in 0..4096 {
+        let address = Address::new(number).unwrap();
+        push_changed(
+            &mut cells,
+            address,
+            machine.word(address),
+            drum.word(address),
+        )?;
+    }
+    Ok(cells)
+}
+
+/// Puts words by lines of a script, whose replies are thrown away.
+fn put_cells<A: Allocator + Copy>(
+    alloc: A,
+    recorder: &mut Recorder<Laboratory<A>, A>,
+    cells: &[(Address, Word)],
+) -> Result<(), AllocError>
+    ensures { OnOk result (recorder.new
+        ≡ after_lines script_language recorder.old (map put_cell cells.now)) }
+{
+    let mut replies = Vec::new(alloc);
+    for cell in cells {
+        let line = put_line(alloc, cell.0, cell.1)?;
+        recorder.answer_line(&line, &mut replies)?;
+    }
+    Ok(())
+}
+
+/// Puts the words of a drum, of a machine at rest, where they differ; appends how many these are.
+fn restore_drum<A: Allocator + Copy, B: Allocator>(
+    alloc: A,
+    recorder: &mut Recorder<Laboratory<A>, A>,
+    drum: &Drum<A>,
+    reply: &mut Vec<u8, B>,
+) -> Result<(), AllocError>
+    ensures reply { OnOk result (reply.new.items ≡ reply.old.items
+        ++ (if rests_at recorder.old then codes "restored " ++ (decimal (length
+        (changed_cells 0 recorder.old.state.debugger.state.core.words drum.now)) ++ codes "\n")
+        else reasoned (codes "? 2 Moving\n"))) }
+    ensures after { OnOk result (recorder.new ≡ after_lines script_language recorder.old
+        (if rests_at recorder.old then map put_cell
+        (changed_cells 0 recorder.old.state.debugger.state.core.words drum.now) else [])) }
+{
+    let debugger = recorder.answers().debugger();
+    if !debugger.look().status.is_at_rest() {
+        return push_reasoned(reply, b"? 2 Moving\n");
+    }
+    let cells = changed_cells(alloc, debugger.machine(), drum)?;
+    put_cells(alloc, recorder, &cells)?;
+    push_pieces(
+        reply,
+        &[
+            Piece::Text(b"restored "),
+            Piece::Number(cells.len() as u64),
+            Piece::Text(b"\n"),
+        ],
+    )
+}
+
+/// Puts the words of a dump on the drum.
+pub(crate) fn restore<A: Allocator + Copy, B: Allocator>(
+    alloc: A,
+    recorder: &mut Recorder<Laboratory<A>, A>,
+    dump: &[u8],
+    reply: &mut Vec<u8, B>,
+) -> Result<(), AllocError>
+    ensures reply { OnOk result (reply.new.items
+        ≡ reply.old.items ++ restore_reply recorder.old dump.now) }
+    ensures after { OnOk result (recorder.new
+        ≡ after_lines script_language recorder.old (restore_lines recorder.old dump.now)) }
+{
+    match read_dump(alloc, dump) {
+        Ok(drum) => restore_drum(alloc, recorder, &drum, reply),
+        Err(DumpFault::Form(line)) => push_dump_fault(reply, DumpFault::Form(line)),
+        Err(DumpFault::Order(line)) => push_dump_fault(reply, DumpFault::Order(line)),
+        Err(DumpFault::Memory) => Err(AllocError),
+    }
+}
+
+/// Mounts a tape, with its name in the transcript.
+#[tactic(auto, unfolding(crate::specs::FileTexts::tape_reply, crate::specs::FileTexts::after_tape))]
+pub(crate) fn mount_tape<A: Allocator + Copy, B: Allocator>(
+    alloc: A,
+    recorder: &mut Recorder<Laboratory<A>, A>,
+    name: &[u8],
+    text: &[u8],
+    reply: &mut Vec<u8, B>,
+) -> Result<(), AllocError>
+    ensures reply { OnOk result (reply.new.items
+        ≡ reply.old.items ++ tape_reply recorder.old text.now) }
+    ensures after { OnOk result (recorder.new ≡ after_tape recorder.old name.now text.now) }
+{
+    let mut line = Vec::new(alloc);
+    line.extend_from_slice(b"tape ")?;
+    line.extend_from_slice(name)?;
+    recorder.keep_line(&line)?;
+    let mut said = Vec::new(alloc);
+    recorder.answers_mut().mount_text(text, &mut said)?;
+    push_reasoned(reply, &said)
+}

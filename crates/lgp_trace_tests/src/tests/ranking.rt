@@ -1,0 +1,232 @@
+//! The words with most to gain, against numbers made by hand.
+
+use super::growths::{Attempt, MOST, ended};
+use super::optimum::noted;
+use super::steps::debugger;
+use super::{SUM_OF_A_TABLE, address};
+use lgp_limited::Limited;
+use lgp_trace::{Best, Freedom, Gain, NoLabels, Optimum, push_optimum, push_word_optimum};
+use std::alloc::{AllocError, Allocator};
+use std::test::Fail;
+
+/// A word, its best sector, and what it saves there.
+type Row = (u16, u16, u64);
+
+/// What an optimum has noted of the program that sums a table, 42 orders; of none where a growth is refused.
+fn of_a_sum<A: Allocator + Copy>(alloc: A) -> Result<Optimum<A>, AllocError> {
+    let mut optimum = Optimum::new(alloc)?;
+    if let Ok(mut lab) = debugger(alloc) {
+        noted(&mut lab, SUM_OF_A_TABLE, 100, &mut optimum);
+    }
+    Ok(optimum)
+}
+
+fn gain_of(row: &Row) -> Gain {
+    let (word, sector, saved) = *row;
+    Gain {
+        word: address(word),
+        best: Best { sector, saved },
+    }
+}
+
+/// Whether these are the words of a freedom with most to gain, at most a given number.
+fn are_ranked<A: Allocator + Copy, B: Allocator>(
+    alloc: A,
+    optimum: &Optimum<B>,
+    (wanted, most): (Freedom, u64),
+    rows: &[Row],
+) -> bool {
+    let Ok(words) = optimum.ranking(alloc, wanted, most) else {
+        return false;
+    };
+    for (at, row) in rows.iter().enumerate() {
+        if words.get(at) != Some(&gain_of(row)) {
+            return false;
+        }
+    }
+    words.len() == rows.len()
+}
+
+/// Those that save most first, and of those that save as much the one at the lower address.
+const FREE: &[Row] = &[
+    (21, 0, 256),
+    (22, 27, 256),
+    (24, 23, 256),
+    (20, 19, 64),
+    (23, 21, 64),
+    (25, 17, 64),
+];
+
+const PERFORMED: &[Row] = &[(9, 26, 256), (17, 15, 64)];
+
+/// The first two of four words of the table.
+const NAMED_BY_CHANGED: &[Row] = &[(64, 24, 64), (65, 24, 64)];
+
+/// Which rankings are as made by hand.
+fn rankings<A: Allocator + Copy, B: Allocator>(alloc: A, optimum: &Optimum<B>) -> [bool; 5] {
+    [
+        are_ranked(alloc, optimum, (Freedom::Free, 4096), FREE),
+        are_ranked(alloc, optimum, (Freedom::Performed, 10), PERFORMED),
+        are_ranked(
+            alloc,
+            optimum,
+            (Freedom::NamedByChanged, 2),
+            NAMED_BY_CHANGED,
+        ),
+        are_ranked(alloc, optimum, (Freedom::Unnamed, 10), &[]),
+        are_ranked(alloc, optimum, (Freedom::Free, 0), &[]),
+    ]
+}
+
+#[test]
+fn the_words_of_a_sum(rt: HostRuntime) -> Result<(), Fail> {
+    let optimum = of_a_sum(rt.alloc())?;
+    let seen = (
+        rankings(rt.alloc(), &optimum),
+        optimum.together(Freedom::Free),
+    );
+    assert_eq!(rt; seen, ([true; 5], 960));
+    Ok(())
+}
+
+/// What is reported of its 42 orders. A part in per cent is cut off: 256 of 2,910 are 8.79.
+const REPORTED: &[u8] = b"orders 42, word times 2910, turns of the drum 45.4
+the ten words with most to gain
+  0021              sector 21, best  0       256    8 %
+  0022              sector 22, best 27       256    8 %
+  0024              sector 24, best 23       256    8 %
+  0020              sector 20, best 19        64    2 %
+  0023              sector 23, best 21        64    2 %
+  0025              sector 25, best 17        64    2 %
+  all words that may be moved together       960   32 %
+not to be moved, since they were performed as orders
+  0009              sector  9, best 26       256    8 %
+  0017              sector 17, best 15        64    2 %
+not to be moved, since a changed order named them, or one in the register alone
+  0100              sector  0, best 24        64    2 %
+  0101              sector  1, best 24        64    2 %
+  0102              sector  2, best 24        64    2 %
+  0103              sector  3, best 24        64    2 %
+";
+
+const NO_ORDER: &[u8] = b"no order was performed, so no word was named\n";
+
+/// Of an order in the register alone nothing is reported here; of a word that no order named, that it may be anywhere.
+const NAMED_BY_NONE: &[u8] = b"orders 42, word times 2910, turns of the drum 45.4
+0008
+  no order named it: wherever it stands, they take as long
+";
+
+/// How what is reported of a run begins and ends, with a line for each sector between them.
+const BEGINS: &[u8] = b"orders 42, word times 2910, turns of the drum 45.4
+0020
+  sector  0         ";
+
+const ENDS: &[u8] = b"
+  it may be moved, and saves 64 word times at sector 19
+";
+
+/// What is reported of a run, or of one of its words.
+#[derive(Clone, Copy)]
+enum Part {
+    Words,
+    Word(u16),
+}
+
+fn push_part<A: Allocator + Copy, B: Allocator>(
+    alloc: A,
+    text: &mut Vec<u8, A>,
+    (part, orders): (Part, u64),
+    optimum: &Optimum<B>,
+) -> bool {
+    let reported = match part {
+        Part::Words => push_optimum(alloc, text, orders, optimum, &NoLabels),
+        Part::Word(word) => push_word_optimum(text, orders, optimum, address(word), &NoLabels),
+    };
+    reported.is_ok()
+}
+
+/// How many lines are reported, and how they begin and end.
+fn lines_reported<A: Allocator + Copy, B: Allocator>(
+    alloc: A,
+    optimum: &Optimum<B>,
+    word: u16,
+) -> (usize, bool, bool) {
+    let mut text = Vec::new(alloc);
+    push_part(alloc, &mut text, (Part::Word(word), 42), optimum);
+    let mut lines: usize = 0;
+    for byte in text.as_slice() {
+        if *byte == b'\n' {
+            lines = lines.saturating_add(1);
+        }
+    }
+    (
+        lines,
+        text.as_slice().starts_with(BEGINS),
+        text.as_slice().ends_with(ENDS),
+    )
+}
+
+/// Whether this is reported.
+fn is_reported<A: Allocator + Copy, B: Allocator>(
+    alloc: A,
+    optimum: &Optimum<B>,
+    part: (Part, u64),
+    wanted: &[u8],
+) -> bool {
+    let mut text = Vec::new(alloc);
+    push_part(alloc, &mut text, part, optimum) && text.as_slice() == wanted
+}
+
+#[test]
+fn lines_of_a_sum(rt: HostRuntime) -> Result<(), Fail> {
+    let alloc = rt.alloc();
+    let optimum = of_a_sum(alloc)?;
+    let seen = (
+        is_reported(alloc, &optimum, (Part::Words, 42), REPORTED),
+        is_reported(alloc, &optimum, (Part::Words, 0), NO_ORDER),
+        is_reported(alloc, &optimum, (Part::Word(20), 0), NO_ORDER),
+        is_reported(alloc, &optimum, (Part::Word(8), 42), NAMED_BY_NONE),
+        lines_reported(alloc, &optimum, 20),
+    );
+    assert_eq!(rt; seen, (true, true, true, true, (67, true, true)));
+    Ok(())
+}
+
+/// The words of a run reported with the nth growth refused.
+fn reported_refused<A: Allocator, B: Allocator>(
+    limited: &Limited<A>,
+    nth: u64,
+    optimum: &Optimum<B>,
+) -> Attempt {
+    let mut text = Vec::new(limited);
+    limited.refuse(nth);
+    let reported = push_part(limited, &mut text, (Part::Words, 42), optimum);
+    ended(
+        limited.was_refused(),
+        !reported,
+        text.as_slice() == REPORTED,
+    )
+}
+
+/// How many growths were refused before the words were reported, if each of them was answered so.
+fn in_turn<A: Allocator, B: Allocator>(limited: &Limited<A>, optimum: &Optimum<B>) -> Option<u64> {
+    for nth in 1..MOST {
+        match reported_refused(limited, nth, optimum) {
+            Attempt::Reported => return Some(nth - 1),
+            Attempt::Refused => {}
+            Attempt::Otherwise => return None,
+        }
+    }
+    None
+}
+
+/// Of each of the three freedoms the gains and the ranking take memory, and the text some more.
+#[test]
+fn each_growth_refused(rt: HostRuntime) -> Result<(), Fail> {
+    let limited = Limited::new(rt.alloc());
+    let optimum = of_a_sum(rt.alloc())?;
+    let growths = in_turn(&limited, &optimum);
+    assert_eq!(rt; (growths > Some(6), limited.blocks_out()), (true, 0));
+    Ok(())
+}
