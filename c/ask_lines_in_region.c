@@ -3,7 +3,7 @@
  *
  *     printf 'put 0100 z 0000\ngo 0100\n' | ./ask_lines_in_region
  */
-#include "lgp30_region.h"
+#include "lgp30.h"
 #include "lines.h"
 
 static _Alignas(16) uint8_t memory[16 << 20];

@@ -1,6 +1,6 @@
 /* Runs the script on standard input over 16 megabytes that are handed over, writes the replies and ends
  * with the status. It calls no malloc. A script and its replies may have a megabyte each. */
-#include "lgp30_region.h"
+#include "lgp30.h"
 
 #include <stdio.h>
 

@@ -3,7 +3,7 @@
  * of the memory is one array, of which each session has a part of its own, since what was handed over
  * does not come back. With a word on the command line it does a hundredth of the rounds, for whoever
  * watches it by a slow tool. Ends with 0 where all is as promised. */
-#include "lgp30_region.h"
+#include "lgp30.h"
 #include "trial.h"
 
 #include <stdio.h>

@@ -1,25 +1,11 @@
-"""Accounts of orders, as the monitor's `trace` tells them: what each did, and how long each of its phases took."""
+"""Accounts of orders, as the monitor's `trace-data` tells them: what each did, and how long each of its phases took."""
 
 import dataclasses
-import re
-from typing import Optional
 
-_HEADING = "  clock  at           order           find take seek  act   sum  accumulator"
-_LINE = re.compile(
-    r" *(?P<clock>\d+)  (?:(?P<at>\d{4})(?: (?P<label>\S+))?)? +"
-    r"(?P<order>-?[a-z] \d{4}(?: \S+)?|[a-z][a-z ]*[a-z]) +"
-    r"(?P<find>\d+) +(?P<take>\d+) +(?P<seek>\d+) +(?P<act>\d+) +\d+  "
-    r"(?P<before>\S{8})(?: -> (?P<after>\S{8}))?"
-)
-_WORD = r"(\S{8})(?: (-?[a-z] \d{4}(?: \S+)?))? = (-?\d+)"
-_STORED = re.compile(rf" {{8}}(\d{{4}})(?: (\S+))?: {_WORD} -> {_WORD}")
-_PRINTED = re.compile(r' {8}printed code (\d+)(?:, sign "(.)")?')
-_PASSED = re.compile(r" {8}codes passed: (\d+)")
-_PUT_THERE = re.compile(
-    rf" {{8}}this order was put there by (?:hand|(?P<order>-?[a-z] \d{{4}}(?: \S+)?) (?:in the instruction register|at (?P<at>\d{{4}})(?: \S+)?))"
-    rf", clock (?P<clock>\d+)(?:, (?P<ago>\d+) orders? ago)?; before it was (?P<lost>.+)"
-)
-_IN_REGISTER = "        the order stood in the instruction register"
+from condugwa.records import number_of, place_of, records_of, value_of
+from condugwa.tables import html_table
+
+_IN_REGISTER = "register"
 
 
 @dataclasses.dataclass(frozen=True)
@@ -29,7 +15,7 @@ class Word:
     digits: str
     """Its eight digits of base 16."""
 
-    order: Optional[str]
+    order: "str | None"
     """The order that it is, or None where it is none."""
 
     number: int
@@ -43,7 +29,7 @@ class Stored:
     address: str
     """Where, as `ttss`."""
 
-    label: Optional[str]
+    label: "str | None"
     """The label of that place."""
 
     before: Word
@@ -54,16 +40,16 @@ class Stored:
 class PutThere:
     """What put an order where it stands, since the steps that are kept begin."""
 
-    order: Optional[str]
+    order: "str | None"
     """The order that did, such as `y 0009`, with a label behind its address where there is one; None where it was put by hand."""
 
-    at: Optional[str]
+    at: "str | None"
     """Where that order stood, as `ttss`; None where it stood in the instruction register, and for a put by hand."""
 
     clock: int
     """The word times that had passed then."""
 
-    orders_ago: Optional[int]
+    orders_ago: "int | None"
     """How many orders ago that was; None for a put by hand."""
 
     lost: str
@@ -77,10 +63,10 @@ class Account:
     clock: int
     """The word times that had passed when it began."""
 
-    at: Optional[str]
+    at: "str | None"
     """Where the order stood, as `ttss`; None where it stood at no address."""
 
-    label: Optional[str]
+    label: "str | None"
     """The label of that place."""
 
     order: str
@@ -107,11 +93,11 @@ class Account:
     in_register: bool = False
     """Whether the order stood in the instruction register."""
 
-    put_there: Optional[PutThere] = None
+    put_there: "PutThere | None" = None
     """What put the order there; None where no kept step has changed it."""
 
-    stored: Optional[Stored] = None
-    printed: Optional[int] = None
+    stored: "Stored | None" = None
+    printed: "int | None" = None
     """The code that it has printed."""
 
     passed: int = 0
@@ -122,53 +108,69 @@ class Account:
         """All its word times."""
         return self.find + self.take + self.seek + self.act
 
+    def _repr_html_(self) -> str:
+        """A table for notebooks."""
+        return html_table(
+            [
+                ("clock", self.clock),
+                ("at", " ".join(filter(None, (self.at, self.label))) or ("instruction register" if self.in_register else None)),
+                ("order", self.order),
+                ("put there by", self.put_there and (self.put_there.order or "hand")),
+                ("find, take, seek, act", f"{self.find}, {self.take}, {self.seek}, {self.act}"),
+                ("word times", self.cost),
+                ("accumulator before", self.before),
+                ("accumulator after", self.after),
+                ("stored", self.stored and f"{self.stored.after.digits} at {self.stored.address}"),
+                ("printed", self.printed),
+            ]
+        )
 
-def _account(line: str) -> Account:
-    match = _LINE.fullmatch(line)
-    if match is None:
-        raise ValueError(f"no account: {line!r}")
-    found = match.groupdict()
+
+def _word(record: "dict[str, str]", name: str) -> Word:
+    return Word(value_of(record, name), record.get(f"{name}-order"), number_of(record, f"{name}-number"))
+
+
+def _stored(record: "dict[str, str]") -> "Stored | None":
+    if "stored" not in record:
+        return None
+    return Stored(*place_of(record["stored"]), _word(record, "found"), _word(record, "left"))
+
+
+def _standing(record: "dict[str, str]", key: str) -> "tuple[str | None, str | None]":
+    """Where an order stood, with the label there; nowhere where it stood in the instruction register or there is none."""
+    return place_of(record[key]) if record.get(key, _IN_REGISTER) != _IN_REGISTER else (None, None)
+
+
+def _put_there(record: "dict[str, str]") -> "PutThere | None":
+    if "put-by" not in record:
+        return None
+    clock, lost = number_of(record, "put-clock"), value_of(record, "put-over")
+    if record["put-by"] == "hand":
+        return PutThere(None, None, clock, None, lost)
+    return PutThere(record["put-by"], _standing(record, "put-at")[0], clock, number_of(record, "put-ago"), lost)
+
+
+def _account(record: "dict[str, str]") -> Account:
+    at, label = _standing(record, "at")
     return Account(
-        int(found["clock"]),
-        found["at"],
-        found["label"],
-        found["order"],
-        *(int(found[phase]) for phase in ("find", "take", "seek", "act")),
-        found["before"],
-        found["after"] or found["before"],
+        clock=number_of(record, "clock"),
+        at=at,
+        label=label,
+        order=record["order"] if "order" in record else value_of(record, "status"),
+        find=number_of(record, "find"),
+        take=number_of(record, "take"),
+        seek=number_of(record, "seek"),
+        act=number_of(record, "act"),
+        before=value_of(record, "before"),
+        after=value_of(record, "after"),
+        in_register=record.get("at") == _IN_REGISTER,
+        put_there=_put_there(record),
+        stored=_stored(record),
+        printed=int(record["printed"]) if "printed" in record else None,
+        passed=int(record.get("passed", "0")),
     )
 
 
-def _word(digits: str, order: Optional[str], number: str) -> Word:
-    return Word(digits, order, int(number))
-
-
-def _with_detail(account: Account, line: str) -> Account:
-    """The account with what a line below it says."""
-    if line == _IN_REGISTER:
-        return dataclasses.replace(account, in_register=True)
-    if put := _PUT_THERE.fullmatch(line):
-        found = put.groupdict()
-        ago = int(found["ago"]) if found["ago"] else None
-        return dataclasses.replace(account, put_there=PutThere(found["order"], found["at"], int(found["clock"]), ago, found["lost"]))
-    if stored := _STORED.fullmatch(line):
-        address, label, *words = stored.groups()
-        return dataclasses.replace(account, stored=Stored(address, label, _word(*words[:3]), _word(*words[3:])))
-    if printed := _PRINTED.fullmatch(line):
-        return dataclasses.replace(account, printed=int(printed[1]))
-    if passed := _PASSED.fullmatch(line):
-        return dataclasses.replace(account, passed=int(passed[1]))
-    raise ValueError(f"no line of an account: {line!r}")
-
-
 def accounts_of(lines: "list[str]") -> "list[Account]":
-    """The accounts that lines tell, with or without the heading above them. Raises ValueError at a line that is none of theirs."""
-    accounts: "list[Account]" = []
-    for line in lines:
-        if line == _HEADING:
-            continue
-        if line.startswith(" " * 8) and accounts and _LINE.fullmatch(line) is None:
-            accounts[-1] = _with_detail(accounts[-1], line)
-        else:
-            accounts.append(_account(line))
-    return accounts
+    """The accounts that lines tell. Raises ValueError where they tell none, or one that lacks something."""
+    return [_account(record) for record in records_of(lines, "clock")]

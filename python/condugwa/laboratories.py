@@ -1,9 +1,10 @@
 """Laboratories that answer one line after another."""
 
 import dataclasses
+import html
 import types
 
-from condugwa import accounts, library, panels, profiles, refusals, scripts
+from condugwa import accounts, library, optima, panels, profiles, refusals, scripts
 
 
 @dataclasses.dataclass(frozen=True)
@@ -37,9 +38,9 @@ class Laboratory:
     'ok\\n'
     {'0050': '00000006'}
 
-    The lines are those of scripts and of docs/MONITOR.md. A refusal is raised as an exception of its name, and has changed nothing, but
-    that the orders in front of a ClockEnd were performed.
-    Where there is not enough memory OutOfMemory is raised, and the laboratory is closed then. A laboratory is used by one thread at a
+    The lines are those of scripts and of docs/USING.md. A refusal is raised as an exception of its name, such as `FormError`. It has
+    changed nothing, but for a ClockEndError: the orders before it were performed.
+    Where there is not enough memory OutOfMemoryError is raised, and the laboratory is closed then. A laboratory is used by one thread at a
     time.
 
     From the line `source` on each line is the source's, up to a point alone. `answer` and `answers` take these lines; every other call that
@@ -61,10 +62,22 @@ class Laboratory:
     ) -> None:
         self.close()
 
+    def __repr__(self) -> str:
+        if self._session.is_closed:
+            return "<Laboratory: closed>"
+        if self._in_source:
+            return "<Laboratory: a source is open>"
+        panel = self.panel()
+        return f"<Laboratory: {panel.status}, counter {panel.counter}, accumulator {panel.accumulator}, clock {panel.clock}>"
+
+    def _repr_html_(self) -> str:
+        """The panel as a table for notebooks, where it can be asked for."""
+        return html.escape(repr(self)) if self._session.is_closed or self._in_source else self.panel()._repr_html_()
+
     def answer(self, line: "str | bytes") -> str:
         """The reply to a line, with a line feed behind each of its lines; the empty text where the line has none.
 
-        Raises the refusal that the reply tells, ValueError where the line has a line feed or the laboratory is closed, and OutOfMemory.
+        Raises the refusal that the reply tells, ValueError where the line has a line feed or the laboratory is closed, and OutOfMemoryError.
         """
         text = scripts.encoded(line)
         if b"\n" in text:
@@ -85,7 +98,7 @@ class Laboratory:
 
     def panel(self) -> panels.Panel:
         """What the panel shows."""
-        return panels.Panel.of(self._asked("panel"))
+        return panels.Panel.of_data(self._asked("panel-data"))
 
     def words(self, address: str, count: int = 1) -> "dict[str, str]":
         """So many words from an address on, 64 at most, each by its address."""
@@ -97,11 +110,19 @@ class Laboratory:
 
     def trace(self, limit: int) -> "list[accounts.Account]":
         """Performs orders as `run` does, and tells the account of each."""
-        return accounts.accounts_of(self._told("trace", limit))
+        return accounts.accounts_of(self._told("trace-data", limit))
 
     def profile(self, limit: int) -> profiles.Profile:
         """Performs orders as `run` does, and tells where their word times went."""
-        return profiles.profile_of(self._told("profile", limit))
+        return profiles.profile_of(self._told("profile-data", limit))
+
+    def optimum(self, limit: int) -> optima.Optimum:
+        """Performs orders as `run` does, and tells which words would have cost less at other sectors."""
+        return optima.optimum_of(self._told("optimum", limit))
+
+    def optimum_of(self, limit: int, address: str) -> optima.WordOptimum:
+        """Performs orders as `run` does, and tells what they would have taken with one word at each sector."""
+        return optima.word_optimum_of(self._told("optimum", limit, address))
 
     def drum(self, limit: int) -> "list[str]":
         """Performs orders as `run` does, and draws them: a row a turn of the drum, a sign a word time."""
@@ -113,9 +134,9 @@ class Laboratory:
             raise ValueError("a source is open, and takes each line up to a point alone")
         return self.answer(command)
 
-    def _told(self, command: str, limit: int) -> "list[str]":
+    def _told(self, command: str, limit: int, *operands: str) -> "list[str]":
         """What stands in front of the reply of the run. Where the clock's end has broken the run off, that refusal is raised."""
-        lines = self._asked(f"{command} {limit}").removesuffix("\n").split("\n")
+        lines = self._asked(" ".join([command, str(limit), *operands])).removesuffix("\n").split("\n")
         while len(lines) > 1 and lines[-1].startswith(" "):
             lines.pop()  # what the monitor says behind the reply
         *told, end = lines
@@ -124,7 +145,7 @@ class Laboratory:
         return told
 
     def back(self, orders: int) -> int:
-        """Goes back to where the last of so many orders began, and tells the clock there. Raises TooFar where fewer are kept."""
+        """Goes back a number of orders, and gives the clock there. Raises TooFarError where fewer are kept."""
         return int(self._asked(f"back {orders}").split()[1])
 
     def transcript(self) -> str:

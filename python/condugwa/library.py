@@ -4,6 +4,7 @@ import ctypes
 import functools
 import os
 import pathlib
+import typing
 
 _UNREAD = 2
 _NO_MEMORY = 3
@@ -12,12 +13,17 @@ _FIRST_ROOM = 65536
 _SESSION_ROOM = 4096
 
 
-class OutOfMemory(MemoryError):
+class OutOfMemoryError(MemoryError):
     """The library was refused memory. A script has changed nothing; a laboratory is closed then."""
 
 
-class Unread(OSError):
+class UnreadError(OSError):
     """The script could not be read, which none of less than 2^32 bytes meets."""
+
+
+# the names without `Error`, which programs may use as well
+OutOfMemory = OutOfMemoryError
+Unread = UnreadError
 
 
 class _Outcome(ctypes.Structure):
@@ -26,6 +32,12 @@ class _Outcome(ctypes.Structure):
 
 class _Session(ctypes.Structure):
     _fields_ = [("is_open", ctypes.c_bool), ("laboratory", ctypes.c_void_p)]
+
+
+def _declare(call: typing.Any, arguments: "list[typing.Any]") -> None:
+    """Tells ctypes what a call takes; each gives back a status."""
+    call.restype = ctypes.c_uint32
+    call.argtypes = arguments
 
 
 @functools.lru_cache(maxsize=None)
@@ -41,25 +53,22 @@ def _library() -> ctypes.CDLL:
             f"the shared library {path} was not loaded ({reason}): docs/EMBEDDING.md says how it is made, "
             "and the variable CONDUGWA_LIBRARY names one that lies elsewhere"
         ) from None
-    library.lgp_run_script.restype = ctypes.c_uint32
-    library.lgp_run_script.argtypes = [
-        ctypes.c_char_p,
-        ctypes.c_size_t,
-        ctypes.c_void_p,
-        ctypes.c_size_t,
-        ctypes.POINTER(_Outcome),
-    ]
     reply = [ctypes.c_void_p, ctypes.c_size_t, ctypes.POINTER(_Outcome)]
+    _declare(library.lgp_run_script, [ctypes.c_char_p, ctypes.c_size_t, *reply])
     session = ctypes.POINTER(_Session)
-    for call, arguments in (
-        (library.lgp_open, [session]),
-        (library.lgp_answer, [session, ctypes.c_char_p, ctypes.c_size_t, *reply]),
-        (library.lgp_reply, [session, *reply]),
-        (library.lgp_close, [session, *reply]),
-    ):
-        call.restype = ctypes.c_uint32
-        call.argtypes = arguments
+    _declare(library.lgp_open, [session])
+    _declare(library.lgp_answer, [session, ctypes.c_char_p, ctypes.c_size_t, *reply])
+    _declare(library.lgp_reply, [session, *reply])
+    _declare(library.lgp_close, [session, *reply])
+    library.lgp_version.restype = ctypes.c_char_p
+    library.lgp_version.argtypes = []
     return library
+
+
+def version() -> str:
+    """The version of the library."""
+    text: bytes = _library().lgp_version()
+    return text.decode()
 
 
 def run(script: bytes) -> "tuple[bytes, int]":
@@ -67,7 +76,7 @@ def run(script: bytes) -> "tuple[bytes, int]":
 
     A first call has room for 65,536 bytes; where the replies have more, a second one has enough.
 
-    Raises OutOfMemory, or Unread.
+    Raises OutOfMemoryError, or UnreadError.
     """
     room = _FIRST_ROOM
     while True:
@@ -75,9 +84,9 @@ def run(script: bytes) -> "tuple[bytes, int]":
         outcome = _Outcome()
         status = _library().lgp_run_script(script, len(script), replies, room, ctypes.byref(outcome))
         if status == _NO_MEMORY:
-            raise OutOfMemory("the library was refused memory")
+            raise OutOfMemoryError("the library was refused memory")
         if status >= _UNREAD:
-            raise Unread("the script could not be read")
+            raise UnreadError("the script could not be read")
         if outcome.length <= room:
             return ctypes.string_at(replies, outcome.length), outcome.questions
         room = outcome.length
@@ -90,8 +99,13 @@ class Session:
         room = ctypes.create_string_buffer(_SESSION_ROOM)
         self._session = _Session()
         if _library().lgp_open(ctypes.byref(self._session)) == _NO_MEMORY:
-            raise OutOfMemory("the library was refused memory")
+            raise OutOfMemoryError("the library was refused memory")
         self._room = room
+
+    @property
+    def is_closed(self) -> bool:
+        """Whether it answers no line any more."""
+        return not self._session.is_open
 
     def __del__(self) -> None:
         if hasattr(self, "_room"):
@@ -102,14 +116,14 @@ class Session:
 
         Where the reply does not fit into the room, that is made as large and the reply taken once more.
 
-        Raises OutOfMemory, and then the session is closed, or ValueError where it is closed.
+        Raises OutOfMemoryError, and then the session is closed, or ValueError where it is closed.
         """
         outcome = _Outcome()
         status = _library().lgp_answer(
             ctypes.byref(self._session), line, len(line), self._room, len(self._room), ctypes.byref(outcome)
         )
         if status == _NO_MEMORY:
-            raise OutOfMemory("the library was refused memory")
+            raise OutOfMemoryError("the library was refused memory")
         if status == _NOT_OPEN:
             raise ValueError("the laboratory is closed")
         if outcome.length > len(self._room):

@@ -1,12 +1,12 @@
 """What a panel shows, and words of the drum, as replies tell them."""
 
 import dataclasses
-import re
 
-_PANEL = re.compile(
-    r"counter (\d{4}) accumulator (\S{8}) register (\S{8}) status (.+) mode (.+) "
-    r"switches ([ud]{6}) reader (on|off) tape (\d+) clock (\d+)"
-)
+from condugwa.records import number_of, records_of, value_of
+from condugwa.tables import html_table
+
+_KEYS = ("counter", "accumulator", "register", "status", "mode", "switches", "reader", "tape", "clock")
+_SWITCHES = ("bp32", "bp16", "bp8", "bp4", "transfer", "sixbit")
 _DIGITS = {digit: value for value, digit in enumerate("0123456789fgjkqw")}
 
 
@@ -46,14 +46,44 @@ class Panel:
     clock: int
     """How many word times have passed."""
 
+    def _repr_html_(self) -> str:
+        """A table for notebooks."""
+        return html_table(dataclasses.asdict(self).items())
+
     @classmethod
     def of(cls, reply: str) -> "Panel":
         """The panel that a reply of `panel` tells. Raises ValueError where it is none."""
-        match = _PANEL.fullmatch(reply.rstrip("\n"))
-        if match is None:
+        record: "dict[str, str]" = {}
+        key = ""
+        for word in reply.rstrip("\n").split(" "):
+            if word in _KEYS and word not in record:
+                key = word
+                record[key] = ""
+            else:
+                record[key] = f"{record.get(key, '')} {word}".lstrip(" ")
+        return cls._of(record, value_of(record, "switches"))
+
+    @classmethod
+    def of_data(cls, reply: str) -> "Panel":
+        """The panel that a reply of `panel-data` tells. Raises ValueError where it is none."""
+        records = records_of(reply.splitlines(), "counter")
+        if len(records) != 1:
             raise ValueError(f"no panel: {reply!r}")
-        counter, accumulator, register, status, mode, switches, reader, tape, clock = match.groups()
-        return cls(counter, accumulator, register, status, mode, switches, reader == "on", int(tape), int(clock))
+        return cls._of(records[0], "".join(value_of(records[0], switch)[0] for switch in _SWITCHES))
+
+    @classmethod
+    def _of(cls, record: "dict[str, str]", switches: str) -> "Panel":
+        return cls(
+            counter=value_of(record, "counter"),
+            accumulator=value_of(record, "accumulator"),
+            register=value_of(record, "register"),
+            status=value_of(record, "status"),
+            mode=value_of(record, "mode"),
+            switches=switches,
+            reading=value_of(record, "reader") == "on",
+            tape=number_of(record, "tape"),
+            clock=number_of(record, "clock"),
+        )
 
 
 def words_of(reply: str) -> "dict[str, str]":

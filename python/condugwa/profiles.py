@@ -1,13 +1,8 @@
-"""Profiles of runs, as the monitor's `profile` tells them: where the word times went."""
+"""Profiles of runs, as the monitor's `profile-data` tells them: where the word times went."""
 
 import dataclasses
-import re
-from typing import Optional
 
-_TOTALS = re.compile(r"orders (\d+), word times (\d+), turns of the drum (\d+\.\d)")
-_PART = re.compile(r"  (waiting for orders|into the register|waiting for words|acting|at no address) +(\d+) +\d+ %")
-_PLACES = "the ten places with most word times"
-_PLACE = re.compile(r"  (\d{4})(?: (\S+))? +(\d+) +\d+ %")
+from condugwa.records import number_of, place_of, records_of, value_of
 
 
 @dataclasses.dataclass(frozen=True)
@@ -17,7 +12,7 @@ class Place:
     address: str
     """As `ttss`."""
 
-    label: Optional[str]
+    label: "str | None"
     times: int
 
 
@@ -48,32 +43,23 @@ class Profile:
     """The places with most word times, at most ten, the dearest first."""
 
 
-def _numbers(pattern: "re.Pattern[str]", line: str) -> "re.Match[str]":
-    match = pattern.fullmatch(line)
-    if match is None:
-        raise ValueError(f"no line of a profile: {line!r}")
-    return match
-
-
-def _place(line: str) -> Place:
-    address, label, times = _numbers(_PLACE, line).groups()
-    return Place(address, label, int(times))
+def _place(record: "dict[str, str]") -> Place:
+    return Place(*place_of(value_of(record, "place")), number_of(record, "times"))
 
 
 def profile_of(lines: "list[str]") -> Profile:
     """The profile that lines tell. Raises ValueError where they tell none."""
-    if len(lines) < 6:
-        raise ValueError("no profile: too few lines")
-    totals = _numbers(_TOTALS, lines[0])
-    parts = {match[1]: int(match[2]) for match in (_numbers(_PART, line) for line in lines[1:6])}
-    places = tuple(_place(line) for line in lines[6:] if line != _PLACES)
+    records = records_of(lines, "orders", "place")
+    if not records:
+        raise ValueError("no profile: no line")
+    whole, *places = records
     return Profile(
-        int(totals[1]),
-        int(totals[2]),
-        parts["waiting for orders"],
-        parts["into the register"],
-        parts["waiting for words"],
-        parts["acting"],
-        parts["at no address"],
-        places,
+        orders=number_of(whole, "orders"),
+        times=number_of(whole, "times"),
+        find=number_of(whole, "find"),
+        take=number_of(whole, "take"),
+        seek=number_of(whole, "seek"),
+        act=number_of(whole, "act"),
+        elsewhere=number_of(whole, "elsewhere"),
+        places=tuple(_place(place) for place in places),
     )

@@ -1,11 +1,11 @@
-"""The refusals of the script language, as exceptions named as they are."""
+"""The refusals of the script language, as exceptions: each has the refusal's name, with `Error` after it, and its bare name too."""
 
 
-class Refusal(Exception):
+class RefusalError(Exception):
     """A reply that begins with a question mark.
 
-    `reply` is its line without the line feed, and `detail` the number that TooFar, NoHit and BadSign tell, or None. The reason that a
-    laboratory gives behind them stands in the reply alone.
+    `reply` is its line without the line feed. `detail` is the number that TooFarError, NoHitError and BadSignError report, or None. The reason
+    that a laboratory gives after them stands in the reply alone.
     """
 
     number = 0
@@ -17,73 +17,73 @@ class Refusal(Exception):
         self.detail = int(words[3]) if len(words) > 3 and words[3].isdecimal() else None
 
 
-class Form(Refusal):
+class FormError(RefusalError):
     """There is no such command, or its operands are not in form."""
 
     number = 1
 
 
-class Moving(Refusal):
+class MovingError(RefusalError):
     """`put` or `mount`, while the machine is neither halted nor waiting."""
 
     number = 2
 
 
-class AtWork(Refusal):
+class AtWorkError(RefusalError):
     """`turn`, while the machine is neither halted nor waiting."""
 
     number = 3
 
 
-class ClockEnd(Refusal):
+class ClockEndError(RefusalError):
     """The clock would pass its end."""
 
     number = 4
 
 
-class Full(Refusal):
+class FullError(RefusalError):
     """`break` or `watch`, with as many rules as there may be."""
 
     number = 5
 
 
-class NoRule(Refusal):
+class NoRuleError(RefusalError):
     """`drop`, where there is no rule of that number."""
 
     number = 6
 
 
-class TooFar(Refusal):
+class TooFarError(RefusalError):
     """`back`, with fewer orders kept; `detail` says how many."""
 
     number = 7
 
 
-class NoHit(Refusal):
+class NoHitError(RefusalError):
     """`last`, where no rule hits any kept order; `detail` says how many are kept."""
 
     number = 8
 
 
-class Faulty(Refusal):
+class FaultyError(RefusalError):
     """The source has faults."""
 
     number = 9
 
 
-class NoImage(Refusal):
+class NoImageError(RefusalError):
     """`list` or `load`, before a source has assembled."""
 
     number = 10
 
 
-class TooLong(Refusal):
+class TooLongError(RefusalError):
     """The line or the source is too long."""
 
     number = 11
 
 
-class BadSign(Refusal):
+class BadSignError(RefusalError):
     """The tape text has a sign that is none; `detail` is its place."""
 
     number = 12
@@ -91,10 +91,38 @@ class BadSign(Refusal):
 
 _BY_NUMBER = {
     kind.number: kind
-    for kind in (Form, Moving, AtWork, ClockEnd, Full, NoRule, TooFar, NoHit, Faulty, NoImage, TooLong, BadSign)
+    for kind in (
+        FormError,
+        MovingError,
+        AtWorkError,
+        ClockEndError,
+        FullError,
+        NoRuleError,
+        TooFarError,
+        NoHitError,
+        FaultyError,
+        NoImageError,
+        TooLongError,
+        BadSignError,
+    )
 }
 
+# the names without `Error`, which programs may use as well
+Refusal = RefusalError
+Form = FormError
+Moving = MovingError
+AtWork = AtWorkError
+ClockEnd = ClockEndError
+Full = FullError
+NoRule = NoRuleError
+TooFar = TooFarError
+NoHit = NoHitError
+Faulty = FaultyError
+NoImage = NoImageError
+TooLong = TooLongError
+BadSign = BadSignError
 
-def refusal_in(line: str) -> Refusal:
-    """The refusal that a line of replies tells."""
+
+def refusal_in(line: str) -> RefusalError:
+    """The refusal that a line of replies reports."""
     return _BY_NUMBER[int(line.split()[1].rstrip(":"))](line)

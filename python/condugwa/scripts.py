@@ -29,7 +29,7 @@ class Replies:
         """The lines of the replies, without their line feeds."""
         return self.text.split("\n")[:-1]
 
-    def refusals(self) -> "list[refusals.Refusal]":
+    def refusals(self) -> "list[refusals.RefusalError]":
         """The refusals among the lines, the first one first."""
         return [refusals.refusal_in(line) for line in self.lines() if line.startswith("?")]
 
@@ -43,7 +43,7 @@ class Replies:
 def run_script(script: "str | bytes") -> Replies:
     """Runs a script from a machine in its opening state.
 
-    Raises OutOfMemory, or Unread where the script has 2^32 bytes or more.
+    Raises OutOfMemoryError, or UnreadError where the script has 2^32 bytes or more.
     """
     text, questions = library.run(encoded(script))
     return Replies(decoded(text), questions)

@@ -1,90 +1,131 @@
-"""Accounts and profiles are read from the lines that docs/EXPLAINING.md shows, which the whole check compares with the program's."""
+"""Accounts, panels and profiles are read from the replies of examples/for-programs.told, which the whole check compares with the program's."""
 
 import pathlib
 
 import pytest
 
-from condugwa import accounts, profiles
+from condugwa import accounts, panels, profiles, records
 
-PAGE = (pathlib.Path(__file__).resolve().parents[2] / "docs" / "EXPLAINING.md").read_text()
+TOLD = (pathlib.Path(__file__).resolve().parents[2] / "examples" / "for-programs.told").read_text().split("\n")
 
 
-def block(first: str) -> "list[str]":
-    """The indented block of the page whose first line begins so."""
-    lines = PAGE.split("\n")
-    begin = next(at for at, line in enumerate(lines) if line.startswith("    " + first))
-    end = next(at for at in range(begin, len(lines)) if not lines[at].startswith("    "))
-    return [line[4:] for line in lines[begin:end]]
+def reply_from(first: str, following: str) -> "list[str]":
+    """The lines of the session's reply that begins so, up to the line that comes after them."""
+    begin = TOLD.index(first)
+    return TOLD[begin : TOLD.index(following, begin)]
 
 
 def test_accounts_are_read():
-    first, second, third, fourth = accounts.accounts_of(block("  clock  at"))
-    assert (first.clock, first.at, first.order) == (0, "0000", "r 0017")
-    assert (first.find, first.take, first.seek, first.act, first.cost) == (64, 1, 24, 1, 90)
-    assert first.stored == accounts.Stored(
-        "0017", None, accounts.Word("000f0000", "u 0000", 327680), accounts.Word("000f0008", "u 0002", 327684)
-    )
-    assert (second.stored, second.before, second.after) == (None, "00000000", "00000000")
-    assert (third.before, third.after) == ("00000000", "00000100")
-    assert fourth.clock + fourth.cost == 274
-    assert not any(account.in_register for account in (first, second, third, fourth))
+    first, second, third = accounts.accounts_of(reply_from("clock 0", "ran 3 rest"))
+    assert (first.clock, first.at, first.label, first.order) == (0, "0000", None, "b 0003")
+    assert (first.find, first.take, first.seek, first.act, first.cost) == (64, 1, 26, 1, 92)
+    assert (first.before, first.after, first.stored) == ("00000000", "00000008", None)
+    assert second.stored == accounts.Stored("0004", None, accounts.Word("00000000", "z 0000", 0), accounts.Word("00000008", "z 0002", 4))
+    assert second.put_there == accounts.PutThere(None, None, 0, None, "z 0000")
+    assert third.clock + third.cost == 213
+    assert (third.put_there, third.printed, third.passed) == (None, None, 0)
+    assert not any(account.in_register for account in (first, second, third))
+
+
+ORDER = ["clock 228868", "find 31", "take 1", "seek 42", "act 1", "before 0000000q", "after 00000054"]
+
+
+def account_with(*lines: str) -> accounts.Account:
+    (account,) = accounts.accounts_of([*ORDER, *lines])
+    return account
 
 
 def test_labels_and_details_are_read():
-    (account,) = accounts.accounts_of(
-        [
-            " 228868  1011 get1    b 1130 table      31    1   42    1    75  0000000q -> 00000054",
-            "        the order stood in the instruction register",
-            "        1131 table+1: 00000006 z 0001 = 3 -> 80000000 = -1073741824",
-            '        printed code 33, sign "b"',
-            "        codes passed: 4",
-        ]
+    account = account_with(
+        "at 1011 get1",
+        "order b 1130 table",
+        "stored 1131 table+1",
+        "found 00000006",
+        "found-order z 0001",
+        "found-number 3",
+        "left 80000000",
+        "left-number -1073741824",
+        "printed 3",
+        "sign  ",
+        "passed 4",
     )
-    assert (account.at, account.label, account.order) == ("1011", "get1", "b 1130 table")
-    assert (account.in_register, account.printed, account.passed) == (True, 33, 4)
+    assert (account.at, account.label, account.order, account.cost) == ("1011", "get1", "b 1130 table", 75)
+    assert (account.in_register, account.printed, account.passed) == (False, 3, 4)
     assert account.stored is not None
     assert (account.stored.label, account.stored.after) == ("table+1", accounts.Word("80000000", None, -1073741824))
 
 
 @pytest.mark.parametrize(
-    ("said", "put_there"),
+    ("lines", "put_there"),
     [
-        ("y 0001 at 0000, clock 0, 1 order ago; before it was u 0005", ("y 0001", "0000", 0, 1, "u 0005")),
-        ("r 0017 exit at 0064 call, clock 90, 12 orders ago; before it was z 0000", ("r 0017 exit", "0064", 90, 12, "z 0000")),
-        ("h 0136 in the instruction register, clock 69, 2 orders ago; before it was 00000008 = 4", ("h 0136", None, 69, 2, "00000008 = 4")),
-        ("hand, clock 5; before it was z 0000", (None, None, 5, None, "z 0000")),
+        (["put-by y 0001", "put-at 0000", "put-clock 0", "put-ago 1", "put-over u 0005"], ("y 0001", "0000", 0, 1, "u 0005")),
+        (
+            ["put-by r 0017 exit", "put-at 0064 call", "put-clock 90", "put-ago 12", "put-over z 0000"],
+            ("r 0017 exit", "0064", 90, 12, "z 0000"),
+        ),
+        (
+            ["put-by h 0136", "put-at register", "put-clock 69", "put-ago 2", "put-over 00000008 = 4"],
+            ("h 0136", None, 69, 2, "00000008 = 4"),
+        ),
+        (["put-by hand", "put-clock 5", "put-over z 0000"], (None, None, 5, None, "z 0000")),
     ],
 )
-def test_what_put_an_order_there_is_read(said, put_there):
-    (account,) = accounts.accounts_of(
-        [
-            "     74  0001         u 0000            63    1    1    1    66  00000000",
-            f"        this order was put there by {said}",
-        ]
-    )
+def test_what_put_an_order_there_is_read(lines, put_there):
+    account = account_with("at 0001", "order u 0000", *lines)
     assert account.put_there == accounts.PutThere(*put_there)
 
 
 def test_what_stood_at_no_address_is_read():
-    (account,) = accounts.accounts_of(["      7               reading            0    0    0  768   768  00000000"])
-    assert (account.at, account.order, account.act) == (None, "reading", 768)
+    reading = account_with("status reading")
+    assert (reading.at, reading.order, reading.in_register) == (None, "reading", False)
+    executing = account_with("at register", "order z 0000")
+    assert (executing.at, executing.label, executing.in_register) == (None, None, True)
 
 
-@pytest.mark.parametrize("line", ["", "ran 3 rest", "        no such detail", "? 1 Form"])
-def test_another_line_is_no_account(line):
+def test_a_key_that_is_not_known_is_passed_over():
+    assert account_with("order z 0000", "later 5") == account_with("order z 0000")
+
+
+@pytest.mark.parametrize("lines", [["order z 0000"], ["clock 0"], ["clock"], [""], ["clock 0", "clock"], [*ORDER, "at 0000"]])
+def test_other_lines_are_no_account(lines):
     with pytest.raises(ValueError):
-        accounts.accounts_of([line])
+        accounts.accounts_of(lines)
+
+
+def test_records_are_read():
+    lines = ["orders 2", "times 9", "place 0000 a b", "times 6", "place 0001", "times 3"]
+    assert records.records_of(lines, "orders", "place") == [
+        {"orders": "2", "times": "9"},
+        {"place": "0000 a b", "times": "6"},
+        {"place": "0001", "times": "3"},
+    ]
+    assert records.records_of([], "orders") == []
+    with pytest.raises(ValueError):
+        records.records_of(["orders 2", "times 9", "times 9"], "orders")
+
+
+def test_a_panel_is_read():
+    reply = "\n".join(reply_from("counter 0003", "clock 0")) + "\n"
+    assert panels.Panel.of_data(reply) == panels.Panel("0003", "00000008", "00000000", "halted stop", "normal", "uuuuuu", False, 0, 213)
+    moved = reply.replace("bp8 up", "bp8 down").replace("reader off", "reader on").replace("tape 0", "tape 17")
+    panel = panels.Panel.of_data(moved)
+    assert (panel.switches, panel.reading, panel.tape) == ("uuduuu", True, 17)
+
+
+@pytest.mark.parametrize("reply", ["", "clock 94\n", "counter 0000\ncounter 0000\n", "counter 0000\nbp8 down\n"])
+def test_another_reply_is_no_panel(reply):
+    with pytest.raises(ValueError):
+        panels.Panel.of_data(reply)
 
 
 def test_a_profile_is_read():
-    profile = profiles.profile_of(block("orders 42,"))
-    assert (profile.orders, profile.times) == (42, 2910)
+    profile = profiles.profile_of(reply_from("orders 3", "ran 3 rest"))
+    assert (profile.orders, profile.times, profile.elsewhere) == (3, 213, 0)
     assert profile.find + profile.take + profile.seek + profile.act == profile.times
-    assert profile.places[0] == profiles.Place("0014", None, 432)
-    assert len(profile.places) == 10
+    assert profile.places == (profiles.Place("0000", None, 92), profiles.Place("0001", None, 73), profiles.Place("0002", None, 48))
 
 
-@pytest.mark.parametrize("lines", [[], ["ran 3 rest"] * 6])
+@pytest.mark.parametrize("lines", [[], ["ran 3 rest"] * 6, ["place 0000", "times 3"], ["orders 3"]])
 def test_other_lines_are_no_profile(lines):
     with pytest.raises(ValueError):
         profiles.profile_of(lines)

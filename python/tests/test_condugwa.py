@@ -157,7 +157,7 @@ def test_a_run_is_told(laboratory):
     assert (bring.clock, bring.at, bring.order, bring.after) == (clock, "0100", "b 0102", "0000000f")
     assert (stop.at, stop.order, stop.clock) == ("0101", "z 0000", bring.clock + bring.cost)
     assert laboratory.panel().clock == stop.clock + stop.cost
-    assert laboratory.transcript().endswith("\nrun 10\npanel\n")
+    assert laboratory.transcript().endswith("\npress start\nrun 10\n")
     assert laboratory.back(2) == clock
     profile = laboratory.profile(10)
     assert (profile.orders, profile.times) == (2, bring.cost + stop.cost)
@@ -166,6 +166,15 @@ def test_a_run_is_told(laboratory):
     signs = "".join(row[9:].lstrip(" ") for row in laboratory.drum(10))
     assert len(signs) == profile.times
     assert (signs.count("F"), signs.count("R")) == (2, 1)
+    assert laboratory.back(2) == clock
+    word = laboratory.optimum_of(10, "0102")
+    assert (word.orders, word.times, word.by_sector[2]) == (2, profile.times, profile.times)
+    assert laboratory.back(2) == clock
+    optimum = laboratory.optimum(10)
+    assert (optimum.orders, optimum.times) == (2, profile.times)
+    assert (optimum.free[0].address, optimum.free[0].best, optimum.free[0].saved) == ("0102", word.best, word.saved)
+    assert optimum.together == word.saved == profile.times - min(word.by_sector)
+    assert laboratory.transcript().endswith("\nrun 10\nback 2\nrun 10\n")
 
 
 def test_a_told_run_that_the_clock_breaks_off_is_refused(laboratory, monkeypatch):
@@ -184,6 +193,8 @@ def test_a_rule_stops_a_run(laboratory):
 def test_a_run_at_rest_performs_nothing(laboratory):
     assert laboratory.run(10) == condugwa.Run(0, "rest", None)
     assert laboratory.trace(10) == []
+    assert laboratory.optimum(10) == condugwa.Optimum(0, 0, (), 0, (), ())
+    assert laboratory.optimum_of(10, "0000") == condugwa.WordOptimum(0, 0, (), None, 0)
 
 
 def test_a_refusal_is_raised_and_changes_nothing(laboratory):
@@ -225,6 +236,8 @@ ASKED = {
     "trace": lambda laboratory: laboratory.trace(1),
     "profile": lambda laboratory: laboratory.profile(1),
     "drum": lambda laboratory: laboratory.drum(1),
+    "optimum": lambda laboratory: laboratory.optimum(1),
+    "optimum_of": lambda laboratory: laboratory.optimum_of(1, "0000"),
     "back": lambda laboratory: laboratory.back(1),
     "transcript": lambda laboratory: laboratory.transcript(),
 }
