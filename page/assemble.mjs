@@ -1,9 +1,9 @@
-// Puts the one file together: node assemble.mjs TEMPLATE STYLE LACKING MAIN WORKER MODULE EXAMPLES FORMATS, written to standard output.
+// Puts the one file together: node assemble.mjs TEMPLATE STYLE LACKING MAIN WORKER MODULE EXAMPLES LESSONS, written to standard output.
 import { readFileSync, readdirSync } from "node:fs";
 import { join } from "node:path";
-import { questionsIn } from "./lines.mjs";
+import { lessonsBelow } from "./documents.mjs";
 
-const [template, style, lacking, main, worker, module, shelf, formats] = process.argv.slice(2);
+const [template, style, lacking, main, worker, module, shelf, lessons] = process.argv.slice(2);
 const text = (path) => readFileSync(path, "utf8");
 
 /** All scripts below a folder, by their names without the ending. */
@@ -19,9 +19,11 @@ function scriptsBelow(folder, name = "") {
 /** Text that may stand within a script element: nothing in it ends that element. */
 const inert = (script) => script.replaceAll("</", "<\\/").replaceAll("<!--", "<\\!--");
 
+/** The same of what is parsed as JSON. */
+const inertJson = (value) => inert(JSON.stringify(value)).replaceAll("<\\!--", "\\u003c!--");
+
 const parts = {
     STYLE: text(style), LACKING: inert(text(lacking)), MAIN: inert(text(main)), WORKER: inert(text(worker)), MODULE: readFileSync(module).toString("base64"),
-    EXAMPLES: inert(JSON.stringify(Object.fromEntries(scriptsBelow(shelf)))).replaceAll("<\\!--", "\\u003c!--"),
-    QUESTIONS: JSON.stringify(questionsIn(text(formats))),
+    EXAMPLES: inertJson(Object.fromEntries(scriptsBelow(shelf))), LESSONS: inertJson(lessonsBelow(lessons)),
 };
 process.stdout.write(text(template).replace(/@([A-Z]+)@/g, (whole, name) => parts[name] ?? whole));

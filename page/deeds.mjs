@@ -28,6 +28,11 @@ export class Deeds {
         return sum(this.#done);
     }
 
+    /** How many orders were done since the operator's last deed. */
+    get unbroken() {
+        return this.#done.at(-1)?.orders ?? 0;
+    }
+
     /** How many orders were undone. */
     get ahead() {
         return sum(this.#undone);

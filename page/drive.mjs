@@ -1,5 +1,4 @@
 // Drives the machine in a pace: what is asked of the laboratory, and when. An order is done at once, and then played from its account.
-import { wayOn } from "./learn.mjs";
 import { rewrittenBy } from "./views/says.mjs";
 
 /** The paces by their names: word times a second, how many times faster an act of more than a turn passes, and the rest between two orders. A word time of 0.26
@@ -128,8 +127,8 @@ export class Drive extends EventTarget {
     }
 
     get #isOn() {
-        const { notice, live, panel } = this.#laboratory;
-        return notice === null && wayOn(live, panel).kind === "go";
+        const { notice, way } = this.#laboratory;
+        return notice === null && way.kind === "go";
     }
 
     /** As many orders as there are word times due. Whether the machine can go on. */

@@ -1,7 +1,6 @@
 // The controller. All that the page does is lines to the monitor, and all that it knows are their replies.
 import { SECTORS, addressIn, addressOf, isAmong, numberOf, windowAt } from "./addresses.mjs";
 import { Deeds } from "./deeds.mjs";
-import { learnLive } from "./learn.mjs";
 import { commentsIn, isIdle, linesIn, setUp } from "./lines.mjs";
 import * as replies from "./module/replies.mjs";
 import { ROOM, Room } from "./room.mjs";
@@ -19,6 +18,7 @@ const TELL_EVERY = 250;
 const NEW = /^ *new *$/;
 const IN_DIGITS = /^ *put +\d{4} +[0-9fgjkqw]{8} *$/;
 const STEPS = new Set(["put", "mount", "press", "type", "turn"]);
+const RUNS = new Set(["run", "trace", "profile", "drum", "optimum", "trace-data", "profile-data"]);
 
 /** A deed that was not begun, and the notice that says why. */
 class Held extends Error {
@@ -40,6 +40,8 @@ export class Laboratory extends EventTarget {
     accounts = [];
     rows = [];
     profile = null;
+    /** What the last orders would have taken with one word at each sector, as long as nothing is done after it was asked; or null. */
+    costs = null;
     /** Lines and their replies, the newest last. */
     talk = [];
     /** The lines of the source that is open, or null. All that is sent goes into it until a point alone. */
@@ -67,8 +69,9 @@ export class Laboratory extends EventTarget {
 
     #link;
     #first = "0000";
-    #live = new Map();
-    #commands = new Set();
+    #live = { live: new Set(), way: { kind: "go" } };
+    #commands = new Map();
+    #questions = new Set();
     #tail = Promise.resolve();
     #stops = false;
     #said = [];
@@ -76,6 +79,7 @@ export class Laboratory extends EventTarget {
     #isInScript = false;
     #isRuleOfScript = [];
     #hit = null;
+    #costsOfLine = null;
     #isTouched = false;
 
     constructor(link) {
@@ -83,20 +87,34 @@ export class Laboratory extends EventTarget {
         this.#link = link;
     }
 
-    /** Learns what is live when and which commands there are, and opens a new laboratory. */
+    /** Opens the laboratory, and asks which commands there are. */
     open() {
         return this.#act(async () => {
             await this.#link.opened;
-            this.#live = await learnLive((line) => this.#link.ask(line));
-            this.#commands = replies.commandsOf(await this.#link.ask("help"));
-            await this.#link.anew();
+            this.#commands = replies.commandsOf(await this.#link.ask("commands"));
+            this.#questions = new Set([...this.#commands].filter(([, { asks }]) => asks).map(([name]) => name));
             await this.#look();
         });
     }
 
-    /** The table of what is live when. */
+    /** The names of what is live now, as the monitor said when the page last looked. */
     get live() {
-        return this.#live;
+        return this.#live.live;
+    }
+
+    /** What lets the machine go on, in the same way. */
+    get way() {
+        return this.#live.way;
+    }
+
+    /** The commands that only ask. */
+    get questions() {
+        return this.#questions;
+    }
+
+    /** How many lines have been said where the reader has done something that a script had not, else none. */
+    get doings() {
+        return this.#isTouched ? this.#said.length : 0;
     }
 
     /** Whether the monitor has a command. */
@@ -204,7 +222,7 @@ export class Laboratory extends EventTarget {
         this.deeds.clear();
         this.#isTouched = false;
         this.#hit = null;
-        Object.assign(this, { openSource: null, accounts: [], rows: [], profile: null, assembled: null, labels: new Map(), rules: [] });
+        Object.assign(this, { openSource: null, accounts: [], rows: [], profile: null, costs: null, assembled: null, labels: new Map(), rules: [] });
         this.#isRuleOfScript = [];
         this.#said = [];
     }
@@ -214,14 +232,14 @@ export class Laboratory extends EventTarget {
         return this.#link.ask(line);
     }
 
-    /** Asks a line that the reader sees, and notes what it did. */
-    async #say(line, isAgain = false) {
+    /** Asks a line that the reader sees, and notes what it did. Of a line that the page asks for itself the end of the reply alone is shown. */
+    async #say(line, isAgain = false, isOwn = false) {
         if (this.openSource === null && await this.#isLongRun(line)) return this.#longRun(line);
         const before = this.openSource === null && NEW.test(line) ? await this.#offer() : null;
         this.#said.push(line);
         this.#isTouched ||= !this.#isInScript && !this.isOnShow;
         const reply = await this.#ask(line);
-        this.talk = [...this.talk, { line, reply }].slice(-TALK_KEPT);
+        this.talk = [...this.talk, { line, reply: isOwn ? `${replies.toldOf(reply).end}\n` : reply }].slice(-TALK_KEPT);
         if (this.openSource !== null) await this.#sourceLine(line, reply);
         else if (replies.isRefusal(reply)) this.#refused(line, reply);
         else if (line.trim() === "source") this.openSource = [];
@@ -233,7 +251,7 @@ export class Laboratory extends EventTarget {
     /** Holds a line for which memory may not be enough. Whether it is a run that is to be done in portions. */
     async #isLongRun(line) {
         if (this.#room.isUsedUp || this.#room.mostIn(line) !== null) await this.#lookAtPaper();
-        if (this.#room.isUsedUp && !Room.isAlwaysTaken(line)) throw new Held({ kind: "usedUp" });
+        if (this.#room.isUsedUp && !Room.isAlwaysTaken(line, this.#questions)) throw new Held({ kind: "usedUp" });
         if (this.#room.longRunIn(line) !== null) return true;
         const most = this.#room.mostIn(line);
         if (most !== null) throw new Held({ kind: "tooMany", line, most });
@@ -272,7 +290,7 @@ export class Laboratory extends EventTarget {
         const [verb, operand] = line.trim().split(/ +/);
         if (STEPS.has(verb)) await this.#noteStep(verb, line, isAgain);
         else if (verb === "orders") this.#noteOrders(replies.ordersOf(reply).orders, isAgain);
-        else if (["run", "trace", "profile", "drum"].includes(verb)) this.#noteRun(verb, reply, isAgain);
+        else if (RUNS.has(verb)) await this.#noteRun(line, reply, isAgain);
         else if (verb === "go") await this.#noteGo(reply);
         else if (verb === "back") this.#noteBack(Number(operand));
         else if (verb === "last") this.#noteBack(replies.lastOf(reply).orders);
@@ -303,14 +321,28 @@ export class Laboratory extends EventTarget {
         if (count > 0) Object.assign(this, { accounts: [], rows: [] });
     }
 
-    #noteRun(verb, reply, isAgain) {
+    async #noteRun(line, reply, isAgain) {
+        const [verb, , word] = line.trim().split(/ +/);
         const { told, end } = replies.toldOf(reply);
         const before = this.accounts;
-        if (replies.isRefusal(end)) this.#forgetDeeds();
+        const isRefused = replies.isRefusal(end);
+        if (isRefused) this.#forgetDeeds();
         else this.#noteEnd(replies.runOf(end), isAgain);
-        if (verb === "profile") this.profile = replies.profileOf(told);
-        if (verb === "trace") this.accounts = [...before, ...replies.accountsOf(told)].slice(-ACCOUNTS_KEPT);
+        if (verb === "profile-data") this.profile = replies.profileOf(told);
+        if (verb === "trace-data") this.accounts = [...before, ...replies.accountsOf(told)].slice(-ACCOUNTS_KEPT);
         if (verb === "drum") this.rows = replies.drumRowsOf(told);
+        if (verb === "optimum" && word !== undefined) this.#costsOfLine = costsIn(reply);
+        if (verb === "profile") this.profile = null;
+        if (!isRefused && ["trace", "profile"].includes(verb)) await this.#tellAgain(verb, replies.runOf(end).orders, before);
+    }
+
+    /** What has been told for the reader, told for the page as well: the orders are gone back over, as far as they are kept. */
+    async #tellAgain(verb, orders, before) {
+        const count = verb === "trace" ? Math.min(orders, ACCOUNTS_KEPT) : orders;
+        if (replies.isRefusal(await this.#ask(`back ${count}`))) return;
+        const { told } = replies.toldOf(await this.#ask(`${verb}-data ${count}`));
+        if (verb === "profile") this.profile = replies.profileOf(told);
+        else this.accounts = [...before, ...replies.accountsOf(told)].slice(-ACCOUNTS_KEPT);
     }
 
     /** A run that a rule has stopped, or that found the machine at rest, is told, but for one that a script asks for or that is done again. */
@@ -339,17 +371,23 @@ export class Laboratory extends EventTarget {
         Object.assign(this, { accounts: [], rows: [] });
     }
 
-    /** Looks at the machine: its panel, and then, asked at once, words around the counter, their track, what is printed, and the rules. In an open source there is no looking. */
+    /** Looks at the machine: its panel, and then, asked at once, what is live, words around the counter, their track, what is printed, and the rules. In an open source there is no looking. */
     async #look() {
         if (this.openSource !== null) return;
-        this.panel = replies.panelOf(await this.#ask("panel"));
+        this.panel = replies.panelOf(await this.#ask("panel-data"));
+        this.costs = this.#costsOfLine;
+        this.#costsOfLine = null;
         this.accounts = this.accounts.filter(({ clock }) => clock < this.panel.clock);
         const last = this.accounts.at(-1);
         if (last !== undefined && last.register === undefined) Object.assign(last, { register: this.panel.register, next: this.panel.counter, status: this.panel.status });
         if (!isAmong(this.panel.counter, this.#first, SHOWN - 1)) this.#first = windowAt(this.panel.counter, SHOWN);
-        await Promise.all([this.#lookAtWords(), this.#lookAtTrack(), this.#lookAtPaper(), this.#lookAtRules()]);
+        await Promise.all([this.#lookAtLive(), this.#lookAtWords(), this.#lookAtTrack(), this.#lookAtPaper(), this.#lookAtRules()]);
         if (this.#hit !== null) this.notice = { kind: "rule", number: this.#hit, rule: this.rules[this.#hit], isOfScript: this.#isRuleOfScript[this.#hit] ?? false };
         this.#hit = null;
+    }
+
+    async #lookAtLive() {
+        this.#live = replies.liveOf(await this.#ask("live"));
     }
 
     async #lookAtTrack() {
@@ -430,7 +468,7 @@ export class Laboratory extends EventTarget {
 
     /** Traces, and, where rows are wanted, goes back over the same orders and draws them. */
     async #tell(limit, isAgain, withRows = true) {
-        const reply = await this.#say(`trace ${limit}`, isAgain);
+        const reply = await this.#say(`trace-data ${limit}`, isAgain, true);
         if (replies.isRefusal(replies.toldOf(reply).end)) return 0;
         const { orders } = replies.runOf(reply);
         if (withRows && this.wantsRows && orders > 0) await this.#draw(orders);
@@ -608,6 +646,15 @@ export class Laboratory extends EventTarget {
         return this.#act(() => this.#openScript(name, text, false));
     }
 
+    /** The same with all lines of the script, so that the machine is where it was when they were saved. */
+    openSaved(name, text) {
+        return this.#act(async () => {
+            await this.#openScript(name, text, false);
+            await this.#scriptTo(Infinity);
+            await this.#look();
+        });
+    }
+
     /** The same before the machine's start and without the script's rules, so that Start sets it going and nothing but itself ends a run. */
     openForShow(name, text) {
         return this.#act(async () => {
@@ -662,6 +709,34 @@ export class Laboratory extends EventTarget {
         });
     }
 
+    /** Asks what the last orders would have taken with a word at each sector: those since the operator's last deed, as far as they are kept. They are gone
+     * back over and performed again, with the rules taken out meanwhile, so that none of these stops them earlier. */
+    askCosts(address) {
+        return this.#question(async () => {
+            if (!this.knows("optimum")) return;
+            if (this.#room.isUsedUp) throw new Held({ kind: "usedUp" });
+            const rules = this.rules.map((rule) => rule.split(" ").slice(0, 2).join(" "));
+            await this.#askAll(rules.map(() => "drop 0"));
+            const orders = await this.#backOver(this.deeds.unbroken);
+            const reply = await this.#ask(`optimum ${orders} ${address}`);
+            await this.#askAll(rules);
+            this.costs = costsIn(reply);
+        });
+    }
+
+    async #askAll(lines) {
+        for (const line of lines) await this.#ask(line);
+    }
+
+    /** Goes back over a number of orders, or over as many of them as are kept. Gives how many. */
+    async #backOver(orders) {
+        const reply = await this.#ask(`back ${orders}`);
+        if (!replies.isRefusal(reply)) return orders;
+        const { number } = replies.refusalOf(reply);
+        await this.#ask(`back ${number}`);
+        return number;
+    }
+
     /** The order that changed a shown word last, or null where no order that is kept has, or a hand did later. */
     writerOf(address) {
         const origin = this.words.find((word) => word.address === address)?.origin ?? null;
@@ -685,6 +760,12 @@ export class Laboratory extends EventTarget {
         const next = this.words.find(({ address }) => address === this.panel?.counter);
         return next === undefined || next.order.startsWith("word") ? null : addressIn(next.order);
     }
+}
+
+/** What a reply of `optimum` tells of one word, and why its run was refused, where that was so. */
+function costsIn(reply) {
+    const { told, end } = replies.toldOf(reply);
+    return { ...replies.costsOf(told), refusal: replies.isRefusal(end) ? end : null };
 }
 
 /** What a run asks that has stopped before its end, or null. */

@@ -30,7 +30,7 @@ export function commentsIn(lines) {
     }));
 }
 
-const RUNS = /^ *(run|orders|trace|profile|drum)( |$)/;
+const RUNS = /^ *(run|orders|trace|profile|drum|optimum|trace-data|profile-data)( |$)/;
 const SOURCE = /^ *source *$/;
 const STARTS = /^ *press +start *$/;
 
@@ -54,14 +54,13 @@ export function setUp(lines, isBeforeStart = false) {
 /** Whether a line of a script asks for nothing. */
 export const isIdle = (line) => BLANK.test(line) || COMMENT.test(line);
 
-/** The commands that only ask: those of which the table of commands in docs/FORMATS.md, this text, says that they do nothing. */
-export const questionsIn = (formats) => [...formats.matchAll(/^\| `([a-z]+)[^|]*` \| +\| [^|]+ \|$/gm)].map(([, name]) => name);
+/** The first word of a line; blanks alone separate words. */
+export const commandIn = (line) => line.split(" ").find((word) => word !== "") ?? "";
 
-/** A script without the lines that only ask, by the names of their commands. What stands in a source is no command, and stays. */
+/** A script without the lines that only ask, by the set of their commands. What stands in a source is no command, and stays. */
 export function withoutQuestions(script, questions) {
-    const asks = new RegExp(`^ *(${questions.join("|")})( |$)`);
     const written = script.match(/[^\n]*\n|[^\n]+$/g) ?? [];
     const lines = written.map((line) => line.replace(/\r?\n?$/, ""));
     const inSource = areInSource(lines);
-    return written.filter((unused, place) => inSource[place] || !asks.test(lines[place])).join("");
+    return written.filter((unused, place) => inSource[place] || !questions.has(commandIn(lines[place]))).join("");
 }

@@ -1,17 +1,20 @@
 // Puts the page together: the laboratory, its views, and what the address asks for.
 import { Drive } from "./drive.mjs";
+import { Kept, keepFrom, linkOf } from "./kept.mjs";
 import { Laboratory } from "./laboratory.mjs";
-import { wayOn } from "./learn.mjs";
 import { headOf, linesIn, withoutQuestions } from "./lines.mjs";
 import { Link } from "./link.mjs";
+import { version } from "./module/package.json";
 import { askedIn } from "./opening.mjs";
 import { Player } from "./player.mjs";
 import { Sound, follow } from "./sound.mjs";
 import { makeAccounts, makeTime } from "./views/accounts.mjs";
+import { makeCosts } from "./views/costs.mjs";
 import { makeConsole, makeKeyboard } from "./views/console.mjs";
 import { button, h, part } from "./views/dom.mjs";
 import { addressOfDoor, behind, makeDoors, makeHall, showDoor } from "./views/doors.mjs";
 import { makeDrum } from "./views/drum.mjs";
+import { hearDrops, makeOffer, makeOpen, openFile } from "./views/keep.mjs";
 import { KIOSK, makeKiosk, watchIdle } from "./views/kiosk.mjs";
 import { makeLesson } from "./views/lesson.mjs";
 import { makeListing } from "./views/listing.mjs";
@@ -36,9 +39,12 @@ const sound = new Sound(() => new AudioContext());
 const clocks = { now: () => performance.now(), sleep: (milliseconds) => new Promise((resolve) => setTimeout(resolve, milliseconds)) };
 const inlined = (id) => document.getElementById(id).textContent;
 const examples = new Map(Object.entries(JSON.parse(inlined("examples"))));
-const questions = JSON.parse(inlined("questions"));
 const bytesOf = (base64) => Uint8Array.from(atob(base64), (sign) => sign.charCodeAt(0));
 const asked = askedIn(location);
+const kept = new Kept(() => localStorage);
+
+// lessons that have a document have their texts from there
+for (const [code, lessons] of Object.entries(JSON.parse(inlined("lessons")))) Object.assign(LANGUAGES[code].lessons, lessons);
 
 let texts = textsIn(asked.language ?? (navigator.language ?? "en").slice(0, 2));
 let isKiosk = asked.isKiosk;
@@ -82,10 +88,19 @@ function openExample(name) {
     return laboratory.openScript(name, examples.get(name));
 }
 
+/** Opens what was saved: all its lines are done. */
+function openSaved(name, script) {
+    drive.halt();
+    if (door !== "work") goTo("work");
+    return laboratory.openSaved(name, script);
+}
+
+const openDropped = (file) => openFile(file, laboratory, openSaved);
+
 /** Opens an example that the page shows by itself, and sets it going. */
 async function openShown(name) {
     await laboratory.openForShow(name, examples.get(name));
-    if (wayOn(laboratory.live, laboratory.panel).kind === "start") await laboratory.command("press start");
+    if (laboratory.way.kind === "start") await laboratory.command("press start");
 }
 
 /** Goes through a door. The machine stays as it is, but that what moves in the hall stops. */
@@ -115,20 +130,22 @@ async function save() {
     const whole = await laboratory.transcript();
     if (whole === undefined) return;
     const place = h("pre", { class: "transcript", tabindex: "0", role: "group", "aria-label": text("script") });
-    const below = h("p", { role: "status" });
+    const [below, address] = [h("p", { role: "status" }), h("p")];
     const show = () => {
-        const script = wanted.checked ? whole : withoutQuestions(whole, questions);
+        const script = wanted.checked ? whole : withoutQuestions(whole, laboratory.questions);
         place.textContent = script;
         below.replaceChildren(linkTo(script), ` ${text("lineCount", { count: counted(script === "" ? 0 : linesIn(script).length, code) })}`);
+        const link = linkOf(script, location);
+        address.replaceChildren(...(link === null ? [text("noLink")] : [h("a", { href: link, id: "link" }, text("linkThat"))]));
     };
     const wanted = h("input", { type: "checkbox", id: "with-questions", onchange: show });
     show();
-    dialog(text("save"), h("p", {}, text("saveHint")), place, h("p", {}, h("label", {}, wanted, ` ${text("withQuestions")}`)), below);
+    dialog(text("save"), h("p", {}, text("saveHint")), place, h("p", {}, h("label", {}, wanted, ` ${text("withQuestions")}`)), below, address);
 }
 
 function about() {
     const wanted = h("input", { type: "checkbox", id: "short-keys", checked: hasShortKeys, onchange: () => { hasShortKeys = wanted.checked; } });
-    dialog(texts.text("about"), ...texts.table.aboutText.map((paragraph) => h("p", {}, paragraph)), h("p", {}, h("label", {}, wanted, ` ${texts.text("shortKeys")}`)));
+    dialog(texts.text("about"), ...texts.table.aboutText.map((paragraph) => h("p", {}, paragraph)), h("p", {}, texts.text("version", { version })), h("p", {}, h("label", {}, wanted, ` ${texts.text("shortKeys")}`)));
 }
 
 /** What is played, as long as it leads to where the machine stands; in slow motion up to the next order. */
@@ -181,7 +198,7 @@ function makeBar() {
         ...[...examples].map(([name, script]) => h("option", { value: name }, `${name}: ${headOf(script).title}`)));
     const language = h("select", { id: "language", "aria-label": "Language, Sprache", onchange: () => { texts = textsIn(language.value); layFor("language"); } },
         ...Object.entries(LANGUAGES).map(([code, table]) => h("option", { value: code, selected: code === texts.code }, table.language)));
-    const view = { node: h("div", { class: "line choices", role: "toolbar", "aria-label": text("choices") }, choice, behind("work", button(text("new"), () => laboratory.new(), { title: text("newHint") })), behind("work", button(text("save"), save, { title: text("saveHint"), id: "save" })),
+    const view = { node: h("div", { class: "line choices", role: "toolbar", "aria-label": text("choices") }, choice, behind("work", button(text("new"), () => laboratory.new(), { title: text("newHint") })), behind("work", button(text("save"), save, { title: text("saveHint"), id: "save" })), behind("work", makeOpen(texts, openDropped)),
         makeSoundSwitch(), button(text("kiosk"), () => setKiosk(true), { id: "kiosk" }), button(text("about"), about, { id: "about" }), language),
         show: () => { choice.value = laboratory.script?.name ?? ""; } };
     return view;
@@ -198,15 +215,15 @@ function makeExplanation() {
     return { node, show: showIt };
 }
 
-/** What the views ask: what is played, what it has not done yet, whether the drum turns too fast to be read, and the pace. */
-const showing = { playing, held, isFast: () => drive.pace === "own" || drive.pace === "fast", pace: () => drive.pace, isAttract: () => isAttract };
+/** What the views ask: what is played, what it has not done yet, whether the drum turns too fast to be read, the pace, and whether the costs of a word are seen. */
+const showing = { playing, held, isFast: () => drive.pace === "own" || drive.pace === "fast", pace: () => drive.pace, isAttract: () => isAttract, hasCosts: () => ["learn", "work"].includes(door) };
 
 /** All parts but the header, and the element that holds them in the order in which they are seen. */
 function makeWork() {
     const made = {
         hall: makeHall(texts, goTo, drive), tales: makeTales(laboratory, texts, drive, openShown), lesson: makeLesson(laboratory, texts, openShown), drum: makeDrum(laboratory, texts, showing), plate: makePlate(laboratory, texts), scope: makeScope(laboratory, texts, showing), panel: makePanel(laboratory, texts), console: makeConsole(laboratory, texts),
         paper: makePaper(laboratory, texts, showing), tape: makeTape(laboratory, texts), keyboard: makeKeyboard(laboratory, texts),
-        pace: makePace(laboratory, texts, drive), time: makeTime(laboratory, texts, showing), story: makeStory(laboratory, texts, showing), accounts: makeAccounts(laboratory, texts, showing), listing: makeListing(laboratory, texts, showing),
+        pace: makePace(laboratory, texts, drive), time: makeTime(laboratory, texts, showing), story: makeStory(laboratory, texts, showing), accounts: makeAccounts(laboratory, texts, showing), listing: makeListing(laboratory, texts, showing), costs: makeCosts(laboratory, texts),
         explanation: makeExplanation(), script: makeScript(laboratory, texts), source: makeSource(laboratory, texts), lines: makeLines(laboratory, texts),
         profile: makeProfile(laboratory, texts), turns: makeTurns(laboratory, texts),
     };
@@ -237,10 +254,11 @@ function lay() {
     document.title = texts.text("title");
     document.body.className = isKiosk ? "kiosk" : "";
     const made = isKiosk ? makeExhibit() : makePage();
-    notices = makeNotices(laboratory, texts, isKiosk, { run: () => drive.go("fast"), save, anew: () => (isKiosk ? openKiosk() : laboratory.new()), linkTo: (lines) => linkTo(withoutQuestions(lines, questions)) });
+    notices = makeNotices(laboratory, texts, isKiosk, { run: () => drive.go("fast"), save, anew: () => (isKiosk ? openKiosk() : laboratory.new()), linkTo: (lines) => linkTo(withoutQuestions(lines, laboratory.questions)) });
     views = [...made.views, follow(laboratory, sound, showing)];
     picture.views = views.filter(({ frame }) => frame !== undefined);
     document.getElementById("page").replaceChildren(...made.nodes);
+    makeOffer(kept, texts, !isKiosk, (script) => openSaved(texts.text("lastSession"), script));
     if (isKiosk) delete document.body.dataset.door;
     else { showDoor(door); arrange(); }
     show();
@@ -274,7 +292,7 @@ async function attract() {
 async function playOn(round) {
     const isOn = () => isAttract && round === attractRound;
     while (isOn()) {
-        if (wayOn(laboratory.live, laboratory.panel).kind === "start") await laboratory.command("press start");
+        if (laboratory.way.kind === "start") await laboratory.command("press start");
         if (isOn()) await drive.go("show");
         if (isOn()) await clocks.sleep(KIOSK.restMilliseconds);
         if (isOn()) await openKiosk();
@@ -336,6 +354,8 @@ async function begin() {
     player.isStill = still.matches;
     laboratory.isOnShow = door === "hall" || door === "look";
     lay();
+    keepFrom(laboratory, kept, () => !isKiosk, (script) => withoutQuestions(script, laboratory.questions));
+    hearDrops(() => !isKiosk, openDropped);
     addEventListener("keydown", onKey);
     addEventListener("popstate", () => goTo(askedIn(location).door, false));
     await openAsked();

@@ -2,14 +2,16 @@
 // the bytes of the lines that its transcript keeps, and the codes that it has printed. The bounds leave room to spare for what `transcript`,
 // `printed`, a source and a told run need for a moment; page/tests/room.test.mjs fills a session up to them, and asks all that.
 
+import { commandIn } from "./lines.mjs";
+
 /** The bytes of lines and the codes that a session may reach; how many codes short of that no more is begun; the codes after which a run asks; the
  * most orders that one line tells, and the most signs of a source that is sent at once. */
 export const ROOM = { lines: 3_000_000, codes: 1_000_000, last: 10_000, asksAfter: 20_000, told: 10_000, source: 1_500_000 };
 
-const PERFORMS = /^ *(run|orders|profile|trace|drum) +(\d+) *$/;
+const PERFORMS = /^ *(run|orders|profile|trace|drum|optimum|profile-data|trace-data) +(\d+)(?: +\S+)? *$/;
+const TELL_EACH = ["trace", "drum", "trace-data"];
 const RUN = /^ *run +(\d{1,15}) *$/;
-const STANDS_FOR_NO_LINE = /^ *(why|numbers|labels|rules|transcript|help)( |$)/;
-const ALWAYS = /^ *(new|back|last|transcript|why|printed|panel|words|show|numbers|labels|rules|help)( |$)/;
+const GIVE_ROOM = ["new", "back", "last"];
 const USED_LITTLE = 100_000;
 
 const lengthOf = (text) => new TextEncoder().encode(text).length;
@@ -20,9 +22,9 @@ export class Room {
     #codes = 0;
     #unasked = 0;
 
-    /** A line was sent. */
+    /** A line was sent. Each is counted, though some of those that only ask stand in no transcript. */
     sent(line) {
-        if (!STANDS_FOR_NO_LINE.test(line)) this.#lines += lengthOf(line) + 1;
+        this.#lines += lengthOf(line) + 1;
     }
 
     /** So many codes are printed, as the monitor has said. */
@@ -56,15 +58,16 @@ export class Room {
         return this.#lines + this.codesAtMost < USED_LITTLE;
     }
 
-    /** Whether a line may be sent although no more is to be begun: it takes little, or gives room. */
-    static isAlwaysTaken(line) {
-        return ALWAYS.test(line);
+    /** Whether a line may be sent although no more is to be begun: it only asks, by the set of such commands, or gives room. */
+    static isAlwaysTaken(line, questions) {
+        const command = commandIn(line);
+        return questions.has(command) || GIVE_ROOM.includes(command);
     }
 
     /** The most orders that may stand in a line where it names more than that, else null. */
     mostIn(line) {
         const [, verb, number] = PERFORMS.exec(line) ?? [];
-        const most = ["trace", "drum"].includes(verb) ? Math.min(ROOM.told, this.orders) : this.orders;
+        const most = TELL_EACH.includes(verb) ? Math.min(ROOM.told, this.orders) : this.orders;
         return verb !== undefined && Number(number) > most ? most : null;
     }
 

@@ -1,4 +1,4 @@
-// The desk of docs/MONITOR.md: lines for a program that types, and above all the lines of the monitor, each perhaps above its reply.
+// The monitor at a desk: lines that are typed until `quit`, each perhaps above its reply.
 import { frontOf, isLonger, linesIn, wordsOf } from "./lines.mjs";
 import { isRefusal } from "./replies.mjs";
 
@@ -24,11 +24,8 @@ export class Desk {
     #recorded;
     #openBeside;
     #isEchoing;
-    #note = null;
-    #block = null;
     #hasLeft = false;
     #isRefused = false;
-    #awaits = true;
 
     /** A desk over a session, with what opens another one, for what is tried beside it. */
     constructor(recorded, openBeside, isEchoing = false) {
@@ -39,7 +36,7 @@ export class Desk {
 
     /** Whether the next line is a command. */
     get takesCommands() {
-        return this.#block === null && !this.#recorded.isSourceOpen;
+        return !this.#recorded.isSourceOpen;
     }
 
     /** Whether `quit` was typed. */
@@ -52,37 +49,35 @@ export class Desk {
         return this.#isRefused;
     }
 
-    /** The prompt after the last line; empty where none is due. */
+    /** The prompt after the last line. */
     get prompt() {
-        if (!this.#awaits || this.#note !== null) return "";
         if (this.#recorded.isSourceOpen) return "source> ";
         const [, counter, status] = /^counter (\d{4}) .* status (.+) mode /.exec(this.#recorded.ask("panel"));
         return `${counter} ${status}> `;
     }
 
-    /** What is written for a line. */
-    line(line) {
-        this.#awaits = true;
-        if (this.#block !== null) return line === "#." ? this.#closeBlock() : this.#keepLine(line);
-        if (!this.#recorded.isSourceOpen) {
-            if (wordsOf(line).join(" ") === "quit" && !isLonger(line)) return this.#leave(line);
-            if (/^# *$/.test(frontOf(line))) return this.#take(null, true);
-            if (line.startsWith("# ")) return this.#take(frontOf(line).slice(2), false);
-            if (line.startsWith("#> ")) return this.#answered(`${frontOf(line).slice(3)}\n`);
-            if (line.startsWith("#< ")) return this.#openBlock(line);
-        }
+    /** What is written for a line; the note says where it comes from, and is empty for one that is typed. */
+    line(line, note) {
+        if (!this.#recorded.isSourceOpen && wordsOf(line).join(" ") === "quit" && !isLonger(line)) return this.#leave(line);
         const reply = this.#recorded.answer(line);
-        return this.#echo(frontOf(line) + (isLonger(line) ? " .." : ""), reply) + this.#answered(reply);
+        return this.#echo(frontOf(line) + (isLonger(line) ? " .." : ""), reply) + this.own(reply, note);
+    }
+
+    /** A reply as it is written, with the note after a refusal. */
+    own(reply, note) {
+        const isRefused = isRefusal(reply);
+        this.#isRefused ||= isRefused;
+        return reply + (isRefused && note !== "" ? `${INDENT}${note}\n` : "");
+    }
+
+    /** What is written for a dump that is restored. */
+    restore(name, dump, note) {
+        const reply = this.#restored(dump);
+        return this.#echo(`restore ${name}`, reply) + this.own(reply, note);
     }
 
     #echo(shown, reply) {
         return this.#isEchoing ? `${isRefusal(reply) ? "?" : ">"} ${shown}\n` : "";
-    }
-
-    #answered(reply) {
-        const isRefused = isRefusal(reply);
-        this.#isRefused ||= isRefused;
-        return reply + (isRefused && this.#note !== null ? `${INDENT}${this.#note}\n` : "");
     }
 
     #leave(line) {
@@ -90,46 +85,7 @@ export class Desk {
         return this.#echo(line, "");
     }
 
-    #take(note, awaits) {
-        this.#note = note;
-        this.#awaits = awaits;
-        return "";
-    }
-
-    #openBlock(line) {
-        this.#awaits = false;
-        this.#block = { kind: frontOf(line).slice(3) + (isLonger(line) ? "\0" : ""), text: "" };
-        return "";
-    }
-
-    #keepLine(line) {
-        this.#awaits = false;
-        this.#block.text += `${frontOf(line)}${isLonger(line) ? "\0" : ""}\n`;
-        return "";
-    }
-
-    #closeBlock() {
-        const { kind, text } = this.#block;
-        this.#block = null;
-        const reply = this.#blockReply(kind, text);
-        return this.#echo(kind, reply) + this.#answered(reply);
-    }
-
-    #blockReply(kind, text) {
-        const [word] = wordsOf(kind);
-        if (word === "restore") return this.#restore(text);
-        if (word === "tape") return this.#mount(kind, text);
-        return "? 1 Form: there is no such block\n";
-    }
-
-    /** Mounts a tape, with its name in the transcript. */
-    #mount(kind, text) {
-        const tape = text.replaceAll("\n", "\r");
-        if (tape.length > MOUNT_LIMIT) return `? 11 TooLong: ${LONG_TAPE}\n`;
-        return this.#recorded.answerAs(`mount ${tape}`, kind);
-    }
-
-    #restore(text) {
+    #restored(text) {
         const beside = this.#openBeside();
         const { words, refusal } = dumpedIn(text, (line) => !isRefusal(beside.answer(`put ${line}`)));
         if (refusal !== undefined) return refusal;
@@ -146,23 +102,22 @@ export class Desk {
         return tracks.flatMap((track) => linesIn(this.#recorded.answer(`numbers ${track}00 64`)).map((line) => line.split(" ", 2)));
     }
 
-    /** The drum's dump. */
+    /** The drum's dump, which leaves no trace in the transcript. */
     dump() {
-        return this.#recorded.answer("dump").replace(/^.*\n/, "");
+        return this.#recorded.ask("dump").replace(/^.*\n/, "");
     }
 
     /** What is written at the end, before the line feed that stands in place of a prompt. */
     close() {
         if (this.#hasLeft) return "";
-        const lost = this.#block === null ? "" : "? 1 Form: no line #. ends the block\n";
-        const text = lost + this.#recorded.close();
+        const text = this.#recorded.close();
         this.#isRefused ||= isRefusal(text);
         return text;
     }
 
     /** Whether a line feed stands in place of a prompt at the end. */
     get endsPrompt() {
-        return !this.#hasLeft && this.#note === null;
+        return !this.#hasLeft;
     }
 }
 

@@ -102,6 +102,7 @@ export interface Profile {
     orders: number;
     times: number;
     turns: number;
+    /** By their names `find`, `take`, `seek` and `act`, and `elsewhere` for what stood at no address. */
     parts: Share[];
     /** The places with most word times, ten at most. */
     places: Share[];
@@ -114,7 +115,7 @@ export interface DrumRow {
 }
 
 /**
- * A machine with its debugger and assembler, which answers the lines of the monitor: those of scripts and of docs/MONITOR.md. A refusal is
+ * A machine with its debugger and assembler, which answers the lines of the monitor: those of scripts and of docs/USING.md. A refusal is
  * thrown, and has changed nothing, but that the orders before a ClockEnd were performed. A line without enough memory throws NoMemory.
  */
 export class Laboratory {

@@ -52,7 +52,7 @@ export class Laboratory {
     }
 
     panel() {
-        return replies.panelOf(this.answer("panel"));
+        return replies.panelOf(this.answer("panel-data"));
     }
 
     words(address, count = 1) {
@@ -64,11 +64,11 @@ export class Laboratory {
     }
 
     trace(limit) {
-        return replies.accountsOf(this.#told("trace", limit));
+        return replies.accountsOf(this.#told("trace-data", limit));
     }
 
     profile(limit) {
-        return replies.profileOf(this.#told("profile", limit));
+        return replies.profileOf(this.#told("profile-data", limit));
     }
 
     drum(limit) {

@@ -10,8 +10,8 @@ const isWord = (line, word) => {
 export class Recorded {
     #session;
     #isSourceOpen = false;
-    /** What stands in the transcript in place of its lines, by their numbers: another line, or nothing. */
-    #shown = new Map();
+    /** The numbers of the transcript's lines that are left out where it is written. */
+    #asked = new Set();
 
     constructor(session) {
         this.#session = session;
@@ -33,25 +33,20 @@ export class Recorded {
             return this.#reply(line);
         }
         if (isWord(line, "transcript")) return this.#transcript();
-        if (isWord(line, "new")) this.#shown.clear();
+        if (isWord(line, "new")) this.#asked.clear();
         this.#isSourceOpen = isWord(line, "source");
         return this.#reply(line);
     }
 
     #transcript() {
         const lines = linesIn(this.#reply("transcript"));
-        return lines.map((line, number) => this.#shown.get(number) ?? `${line}\n`).join("");
-    }
-
-    /** The reply to a line that stands for itself, with another line in its place in the transcript, or none. No source is open. */
-    answerAs(line, shown) {
-        this.#shown.set(linesIn(this.#reply("transcript")).length, shown === null ? "" : `${shown}\n`);
-        return this.#reply(line);
+        return lines.map((line, number) => (this.#asked.has(number) ? "" : `${line}\n`)).join("");
     }
 
     /** The reply to a line that only asks, which leaves no trace. No source is open. */
     ask(line) {
-        return this.answerAs(line, null);
+        this.#asked.add(linesIn(this.#reply("transcript")).length);
+        return this.#reply(line);
     }
 
     /** The reply to the end. */

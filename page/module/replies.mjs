@@ -1,7 +1,7 @@
 // Reads the monitor's replies. What a page knows of the machine stands in them, and is read here.
 //
 // Each function takes a reply, or lines of one, and throws ReplyError where the text is not what it should be. The forms are those of
-// docs/FORMATS.md, docs/MONITOR.md and docs/EXPLAINING.md.
+// docs/FORMATS.md, docs/EMBEDDING.md and docs/ACCOUNTS.md.
 
 /** A reply that is not in the form that was asked for. */
 export class ReplyError extends Error {}
@@ -50,23 +50,59 @@ export const fractionOf = (digits) => signedOf(digits) / 2 ** 31;
 /** A word read as a whole number with the point behind place 30: half of its bits. */
 export const wholeOf = (digits) => Math.floor(signedOf(digits) / 2);
 
-const PANEL =
-    /^counter (\d{4}) accumulator (\S{8}) register (\S{8}) status (.+) mode (.+) switches ([ud]{6}) reader (on|off) tape (\d+) clock (\d+)$/;
+/** Lines of a key, a blank and a value as records, each a value by its key. A record begins at each line whose key is among the first ones. */
+export function recordsOf(lines, ...firsts) {
+    const records = [];
+    for (const line of lines) {
+        const end = line.indexOf(" ");
+        const key = line.slice(0, Math.max(end, 0));
+        if (firsts.includes(key)) records.push(new Map());
+        const record = records.at(-1);
+        if (end < 0 || record === undefined || record.has(key)) throw misread("line of a key and a value", line);
+        record.set(key, line.slice(end + 1));
+    }
+    return records;
+}
 
-/** The switches of a panel, in the order of its letters, by their names in `press`. */
+/** The value of a key. */
+function valueOf(record, key) {
+    if (!record.has(key)) throw misread(`value of ${key}`, [...record].join("\n"));
+    return record.get(key);
+}
+
+const numberOf = (record, key) => Number(valueOf(record, key));
+
+/** An address, and the label after it where there is one. */
+function placeOf(value) {
+    const [address, label] = value.split(" ");
+    return { address, label: label ?? null };
+}
+
+/** The switches of a panel by their names in `press`. */
 export const SWITCHES = ["bp32", "bp16", "bp8", "bp4", "transfer", "sixbit"];
 
-/** What a panel shows. The clock is a BigInt, since it may have 62 bits. */
+/** What a panel shows, of a reply of `panel-data`. The clock is a BigInt, since it may have 62 bits. */
 export function panelOf(reply) {
-    const [, counter, accumulator, register, status, mode, switches, reader, tape, clock] = matched(
-        PANEL, linesOf(reply)[0] ?? "", "panel");
+    const [record] = recordsOf(linesOf(reply), "counter");
+    if (record === undefined) throw misread("panel", reply);
+    const texts = ["counter", "accumulator", "register", "status", "mode"].map((key) => [key, valueOf(record, key)]);
     return {
-        counter, accumulator, register, status, mode,
-        down: Object.fromEntries(SWITCHES.map((name, place) => [name, switches[place] === "d"])),
-        readerOn: reader === "on",
-        tape: Number(tape),
-        clock: BigInt(clock),
+        ...Object.fromEntries(texts),
+        down: Object.fromEntries(SWITCHES.map((name) => [name, valueOf(record, name) === "down"])),
+        readerOn: valueOf(record, "reader") === "on",
+        tape: numberOf(record, "tape"),
+        clock: BigInt(valueOf(record, "clock")),
     };
+}
+
+/** The names of what is live, and what lets the machine go on: its kind is `go` where orders are performed, `keys`, `start`, or `mode` where the button of a
+ * mode comes first. */
+export function liveOf(reply) {
+    const [record] = recordsOf(linesOf(reply), "live");
+    if (record === undefined) throw misread("reply of live", reply);
+    const [first, second] = valueOf(record, "way").split(" ");
+    const way = second === undefined ? { kind: first === "orders" ? "go" : first } : { kind: "mode", mode: first };
+    return { live: new Set(valueOf(record, "live").split(" ")), way };
 }
 
 /** Lines of an address and what stands behind it, as `words` and `show` write them. */
@@ -112,22 +148,7 @@ export function printedOf(reply) {
     return { count: Number(count), text: text ?? "" };
 }
 
-const ACCOUNT = new RegExp(
-    "^ *(?<clock>\\d+)  (?:(?<at>\\d{4})(?: (?<label>\\S+))?)? +" +
-    "(?<order>-?[a-z] \\d{4}(?: \\S+)?|[a-z][a-z ]*[a-z]) +" +
-    "(?<find>\\d+) +(?<take>\\d+) +(?<seek>\\d+) +(?<act>\\d+) +(?<sum>\\d+)  " +
-    "(?<before>\\S{8})(?: -> (?<after>\\S{8}))?$");
-const WORD = "(\\S{8})(?: (-?[a-z] \\d{4}(?: \\S+)?))? = (-?\\d+)";
-const STORED = new RegExp(`^ {8}(\\d{4})(?: (\\S+))?: ${WORD} -> ${WORD}$`);
-const PRINTED = /^ {8}printed code (\d+)(?:, sign "(.)")?$/;
-const PASSED = /^ {8}codes passed: (\d+)$/;
-const IN_REGISTER = "        the order stood in the instruction register";
-const ACCOUNT_HEADING = "  clock  at           order           find take seek  act   sum  accumulator";
-
-const wordOf = (digits, order, number) => ({ digits, order: order ?? null, number: Number(number) });
-
 const PUT = "put there by (?:hand|(?<order>.*?)(?: at (?<at>\\d{4})(?: \\S+)?| in the instruction register)), clock (?<clock>\\d+)(?:, \\d+ orders? ago)?; before it was (?<lost>.*)$";
-const PUT_THERE = new RegExp(`^ {8}this order was ${PUT}`);
 const WHY = new RegExp(`^(?<address>\\d{4})(?: \\S+)?: .*?, ${PUT}`);
 
 /** What put a word where it stands: an order, whose place is null where that was in the register, or a hand, whose order is null. */
@@ -141,50 +162,49 @@ export function originsOf(reply) {
     return new Map(told.map((groups) => [groups.address, originOf(groups)]));
 }
 
-/** Adds to an account what a line below it says. A line of another form is kept as it is: later monitors may say more. */
-function addDetail(account, line) {
-    const stored = STORED.exec(line);
-    const printed = PRINTED.exec(line);
-    const passed = PASSED.exec(line);
-    const putThere = PUT_THERE.exec(line);
-    if (putThere !== null) {
-        account.origin = originOf(putThere.groups);
-    } else if (stored !== null) {
-        account.stored = {
-            address: stored[1], label: stored[2] ?? null,
-            before: wordOf(...stored.slice(3, 6)), after: wordOf(...stored.slice(6, 9)),
-        };
-    } else if (printed !== null) {
-        account.printed = { code: Number(printed[1]), sign: printed[2] ?? null };
-    } else if (passed !== null) {
-        account.passed = Number(passed[1]);
-    } else if (line === IN_REGISTER) {
-        account.inRegister = true;
-    } else {
-        account.notes.push(line.trim());
-    }
+const IN_REGISTER = "register";
+
+/** The keys of an account that are read; what other ones say is kept as it is: later monitors may say more. */
+const ACCOUNT_KEYS = new Set([
+    "clock", "at", "order", "status", "find", "take", "seek", "act", "before", "after", "put-by", "put-at", "put-clock", "put-ago", "put-over",
+    "stored", "found", "found-order", "found-number", "left", "left-order", "left-number", "printed", "sign", "passed",
+]);
+
+const wordOf = (record, name) => (
+    { digits: valueOf(record, name), order: record.get(`${name}-order`) ?? null, number: numberOf(record, `${name}-number`) });
+
+/** Where an order stood, with the label there; nowhere where that was in the register. */
+function standingOf(record, key) {
+    const value = record.get(key) ?? IN_REGISTER;
+    return value === IN_REGISTER ? { address: null, label: null } : placeOf(value);
 }
 
-function accountOf(line) {
-    const { clock, at, label, order, find, take, seek, act, sum, before, after } = matched(ACCOUNT, line, "account").groups;
+function putThereOf(record) {
+    if (!record.has("put-by")) return null;
+    const by = record.get("put-by");
+    const [order, at] = by === "hand" ? [undefined, undefined] : [by, standingOf(record, "put-at").address];
+    return originOf({ order, at, clock: valueOf(record, "put-clock"), lost: valueOf(record, "put-over") });
+}
+
+const storedOf = (record) => (
+    record.has("stored") ? { ...placeOf(record.get("stored")), before: wordOf(record, "found"), after: wordOf(record, "left") } : null);
+
+function accountOf(record) {
+    const [find, take, seek, act] = ["find", "take", "seek", "act"].map((phase) => numberOf(record, phase));
+    const { address: at, label } = standingOf(record, "at");
     return {
-        clock: BigInt(clock), at: at ?? null, label: label ?? null, order,
-        find: Number(find), take: Number(take), seek: Number(seek), act: Number(act), sum: Number(sum),
-        before, after: after ?? before,
-        inRegister: false, origin: null, stored: null, printed: null, passed: 0, notes: [],
+        clock: BigInt(valueOf(record, "clock")), at, label, order: record.get("order") ?? valueOf(record, "status"),
+        find, take, seek, act, sum: find + take + seek + act,
+        before: valueOf(record, "before"), after: valueOf(record, "after"),
+        inRegister: record.get("at") === IN_REGISTER, origin: putThereOf(record), stored: storedOf(record),
+        printed: record.has("printed") ? { code: numberOf(record, "printed"), sign: record.get("sign") ?? null } : null,
+        passed: Number(record.get("passed") ?? 0),
+        notes: [...record].filter(([key]) => !ACCOUNT_KEYS.has(key)).map((line) => line.join(" ")),
     };
 }
 
-/** The accounts in front of the line that ends a reply of `trace`. */
-export function accountsOf(lines) {
-    const accounts = [];
-    for (const line of lines) {
-        if (line === ACCOUNT_HEADING) continue;
-        if (accounts.length > 0 && /^ {8}/.test(line) && !ACCOUNT.test(line)) addDetail(accounts.at(-1), line);
-        else accounts.push(accountOf(line));
-    }
-    return accounts;
-}
+/** The accounts in front of the line that ends a reply of `trace-data`. */
+export const accountsOf = (lines) => recordsOf(lines, "clock").map(accountOf);
 
 const DRUM_ROW = /^ *(\d+)  ([.FiRWx -]*)$/;
 
@@ -196,22 +216,51 @@ export function drumRowsOf(lines) {
     });
 }
 
-const TOTALS = /^orders (\d+), word times (\d+), turns of the drum (\d+\.\d)$/;
-const SHARE = /^ {2}(\S.*?) +(\d+) +(\d+) %$/;
+const PARTS = ["find", "take", "seek", "act", "elsewhere"];
 
-/** The lines of `profile`: the totals, the parts of an order by their names, and the places with most word times. */
+/** The lines of `profile-data`: the totals, the parts of an order by their keys, and the places with most word times. Per cents are rounded down. */
 export function profileOf(lines) {
-    if (lines.length < 6) throw misread("profile", lines.join("\n"));
-    const [, orders, times, turns] = matched(TOTALS, lines[0], "profile");
-    const share = (line) => {
-        const [, name, count, percent] = matched(SHARE, line, "line of a profile");
-        return { name, times: Number(count), percent: Number(percent) };
-    };
+    const [whole, ...places] = recordsOf(lines, "orders", "place");
+    if (whole === undefined) throw misread("profile", "");
+    const times = numberOf(whole, "times");
+    const share = (name, part) => ({ name, times: part, percent: times === 0 ? 0 : Math.floor((100 * part) / times) });
     return {
-        orders: Number(orders), times: Number(times), turns: Number(turns),
-        parts: lines.slice(1, 6).map(share),
-        places: lines.slice(7).map(share),
+        orders: numberOf(whole, "orders"), times, turns: numberOf(whole, "turns"),
+        parts: PARTS.map((name) => share(name, numberOf(whole, name))),
+        places: places.map((place) => share(valueOf(place, "place"), numberOf(place, "times"))),
     };
+}
+
+const TOTALS = /^orders (\d+), word times (\d+), turns of the drum (\d+\.\d)$/;
+const COST = /^ {2}sector +(\d+) +(\d+) {2}(#+)( own)?( best)?$/;
+const SAVES = /^ {2}it may be moved, and saves (\d+) word times at sector (\d+)$/;
+
+/** Why a word has no best sector, or why that is of no use, by the monitor's sentences. */
+const REASONS = new Map([
+    ["no order was performed, so no word was named", "none"],
+    ["no order named it: wherever it stands, they take as long", "unnamed"],
+    ["it is not to be moved, since it was performed as an order", "performed"],
+    ["it is not to be moved, since a changed order named it, or one in the register alone", "changed"],
+]);
+
+function reasonOf(line) {
+    const reason = line.trim();
+    if (!REASONS.has(reason)) throw misread("reason of an optimum", line);
+    return { kind: REASONS.get(reason), reason };
+}
+
+/** What orders would have taken with one word at each sector, of the lines of `optimum NUMBER ttss`. The sectors are in the order in which they pass the
+ * head, each with its word times and the length of the line that the monitor draws. `kind` is `free` where the word may be moved; else `reason` says why not. */
+export function costsOf(lines) {
+    if (lines.length === 1) return { orders: 0, times: 0, turns: 0, address: null, label: null, sectors: [], saved: 0, ...reasonOf(lines[0]) };
+    const [, orders, times, turns] = matched(TOTALS, lines[0] ?? "", "total of an optimum").map(Number);
+    const sectors = lines.slice(2, -1).map((line) => {
+        const [, sector, taken, drawn, own, best] = matched(COST, line, "sector of an optimum");
+        return { sector: Number(sector), times: Number(taken), length: drawn.length, isOwn: own !== undefined, isBest: best !== undefined };
+    });
+    const last = lines.at(-1);
+    const free = SAVES.exec(last);
+    return { orders, times, turns, ...placeOf(lines[1] ?? ""), sectors, saved: Number(free?.[1] ?? 0), ...(free === null ? reasonOf(last) : { kind: "free", reason: null }) };
 }
 
 /** What a run tells of its orders, and the line that ends it. What the monitor says behind that line begins with a blank. */
@@ -252,8 +301,11 @@ export function labelsOf(reply) {
 /** The rules in the order of their numbers, each by the command that made it. */
 export const rulesOf = (reply) => linesOf(reply).map((line) => matched(/^rule \d+ (.+)$/, line, "rule")[1]);
 
-/** The commands that `help` names: the first words of its lines. */
-export const commandsOf = (reply) => new Set(linesOf(reply).flatMap((line) => line.split(/ or | +/).slice(0, 1)));
+/** The commands by their names, of a reply of `commands`: whether each only asks, and what it takes. */
+export const commandsOf = (reply) => new Map(linesOf(reply).map((line) => {
+    const [, name, asks, takes] = matched(/^(\S+) (asks|does) (.+)$/, line, "line of a command");
+    return [name, { asks: asks === "asks", takes }];
+}));
 
 // The signs of codes, as docs/FORMATS.md lists them. A group such as [16] is a code that has no sign.
 const SIGNS = new Map([

@@ -163,7 +163,7 @@ function completions(recorded, line) {
 }
 
 /** The commands that `help` names, each with a space after it. */
-const commandWords = (recorded) => [...commandsOf(recorded.answer("help"))].map((word) => `${word.replace(/,$/, "")} `);
+const commandWords = (recorded) => [...commandsOf(recorded.answer("commands")).keys()].map((word) => `${word} `);
 
 /** The labels of the last source with their addresses, and the addresses of the rules. */
 const addressWords = (recorded) => [

@@ -1,7 +1,7 @@
 // Who types at a desk what files hold, for a line that names one.
 import { LONG_TAPE, MOUNT_LIMIT } from "./desk.mjs";
 import { FileTrouble, keepFile, readFile } from "./files.mjs";
-import { LINE_LIMIT, endedText, hasLine, linesIn, withoutReturn, wordsOf } from "./lines.mjs";
+import { LINE_LIMIT, endedText, frontOf, hasLine, isLonger, linesIn, withoutReturn, wordsOf } from "./lines.mjs";
 import { codesOf, isRefusal, refusalOf, tapeTextOf } from "./replies.mjs";
 
 const DEPTH = 16;
@@ -11,16 +11,20 @@ const WORKS = ["do", "source", "tape", "archive", "save", "restore"];
 /** What a line asks for, with the name of a file, or null. */
 function requestIn(line) {
     const [word] = wordsOf(line);
-    const name = line.slice(line.indexOf(word) + word?.length).replace(/^[ \r]+|[ \r]+$/g, "");
+    const name = line.slice(line.indexOf(word) + word?.length).replace(/^ +| +$/g, "");
     return WORKS.includes(word) && name !== "" ? { word, name } : null;
 }
+
+/** Where the lines of a file come from, which a line names that comes from there itself. */
+const within = (name, note) => (note === "" ? name : `${name}, ${note}`);
+
+/** The lines of a dump: of a line that is longer than is kept its front, and a byte 0, which no dump has. */
+const dumpLines = (text) => linesIn(endedText(text)).map((line) => `${frontOf(withoutReturn(line))}${isLonger(withoutReturn(line)) ? "\0" : ""}\n`);
 
 export class Typist {
     #desk;
     #openBeside;
     #write;
-    #depth = 0;
-    #hasNote = false;
 
     /** A typist at a desk, with what opens another session, in which a tape is tried, and with what writes. */
     constructor(desk, openBeside, write) {
@@ -29,61 +33,42 @@ export class Typist {
         this.#write = write;
     }
 
-    #type(line) {
-        this.#write(this.#desk.line(withoutReturn(line)));
-    }
-
     /** Types the files that the command line names, one after another. */
     typeFirst(names) {
-        for (const name of names) {
-            if (this.#desk.hasLeft) return;
-            if (this.#desk.takesCommands) this.#note("named on the command line");
-            this.#workOn("do", name, true);
-        }
-        this.#endNote();
+        for (const name of names) if (!this.#desk.hasLeft) this.#workOn("do", name, "named on the command line", DEPTH);
     }
 
     /** Types a line of a person; one without a line feed keeps its carriage return. */
     typeLine(line, hasEnd = true) {
+        this.#say(hasEnd ? withoutReturn(line) : line, "", DEPTH);
+    }
+
+    /** A line, with the note that says where it comes from; this many files more may be opened within one another. */
+    #say(line, note, depth) {
         const request = this.#desk.takesCommands && line.length <= LINE_LIMIT ? requestIn(line) : null;
-        if (request !== null) this.#workOn(request.word, request.name, false);
-        else if (hasEnd) this.#type(line);
-        else this.#write(this.#desk.line(line));
-        this.#endNote();
+        if (request !== null) this.#workOn(request.word, request.name, note, depth);
+        else this.#write(this.#desk.line(line, note));
     }
 
-    #note(note) {
-        this.#hasNote = true;
-        this.#type(`# ${note}`);
-    }
-
-    #endNote() {
-        if (!this.#hasNote || !this.#desk.takesCommands || this.#desk.hasLeft) return;
-        this.#hasNote = false;
-        this.#type("#");
-    }
-
-    #workOn(word, name, hasLineNote) {
+    #workOn(word, name, note, depth) {
         try {
-            const text = this.#textFor(word, name);
-            this.#hasNote = true;
-            if (!hasLineNote && word !== "do") this.#note(name);
-            this.#typeText(word, name, text);
+            this.#write(this.#worked(word, name, note, depth));
         } catch (trouble) {
             if (!(trouble instanceof FileTrouble)) throw trouble;
-            this.#type(`#> ? 13 File ${name}: ${trouble.message}`);
+            this.#write(this.#desk.own(`? 13 File ${name}: ${trouble.message}\n`, note));
         }
     }
 
-    /** The text of a file, where it is in order. */
-    #textFor(word, name) {
-        if (word === "save") return "";
-        if (word === "do" && this.#depth >= DEPTH) throw new FileTrouble(`${DEPTH} files are open within one another`);
+    /** Does what a line asks for; gives what is written for it that is not written yet. */
+    #worked(word, name, note, depth) {
+        if (word === "save") return this.#save(name, note);
+        if (word === "do" && depth === 0) throw new FileTrouble(`${DEPTH} files are open within one another`);
         const text = readFile(name);
-        if (word === "source" && hasLine(text, ".")) throw new FileTrouble("a line that is a point alone would end the source");
-        if (word === "restore" && hasLine(text, "#.")) throw new FileTrouble("a line that is #. would end the block");
+        if (word === "do") return this.#typeFile(name, text, depth - 1);
+        if (word === "source") return this.#source(text, within(name, note));
+        if (word === "restore") return this.#desk.restore(name, dumpLines(text).join(""), within(name, note));
         if (word === "archive") throw new FileTrouble(ARCHIVE);
-        return word === "tape" ? this.#tapeIn(text) : text;
+        return this.#desk.line(`mount ${this.#tapeIn(text)}`, within(name, note));
     }
 
     /** The tape text of a file, if it is one: the module says whether. */
@@ -96,33 +81,23 @@ export class Typist {
         throw new FileTrouble(`the byte at place ${place}, counted from 0, in line ${line}, begins no sign of a tape`);
     }
 
-    #typeText(word, name, text) {
-        if (word === "do") return this.#typeFile(name, text);
-        if (word === "save") return this.#save(name);
-        if (word === "tape") return this.#type(`mount ${text}`);
-        const [head, end] = word === "source" ? ["source", "."] : [`#< restore ${name}`, "#."];
-        for (const line of [head, ...linesIn(endedText(text)), end]) this.#type(line);
-    }
-
     /** Types the lines of a file. */
-    #typeFile(name, text) {
-        this.#depth += 1;
+    #typeFile(name, text, depth) {
         for (const [at, line] of linesIn(text).entries()) {
             if (this.#desk.hasLeft) break;
-            this.#typeFileLine(line, `line ${at + 1} of ${name}`);
+            this.#say(withoutReturn(line), `line ${at + 1} of ${name}`, depth);
         }
-        this.#depth -= 1;
+        return "";
     }
 
-    #typeFileLine(line, place) {
-        const request = this.#desk.takesCommands ? requestIn(line) : null;
-        if (this.#desk.takesCommands) this.#note(request === null || ["do", "save"].includes(request.word) ? place : `${request.name}, ${place}`);
-        if (request === null) this.#type(line);
-        else this.#workOn(request.word, request.name, true);
+    /** Types a source, with the lines that open and close it. */
+    #source(text, note) {
+        if (hasLine(text, ".")) throw new FileTrouble("a line that is a point alone would end the source");
+        return ["source", ...linesIn(endedText(text)), "."].map((line) => this.#desk.line(withoutReturn(line), note)).join("");
     }
 
-    #save(name) {
+    #save(name, note) {
         keepFile(name, this.#desk.dump());
-        this.#type(`#> saved ${name}`);
+        return this.#desk.own(`saved ${name}\n`, note);
     }
 }

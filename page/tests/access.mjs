@@ -105,24 +105,43 @@ export const noteMouse = (browser) => browser.preload(`
         return addEventListener.call(this, kind, ...rest);
     };`);
 
-/** Goes through the whole page by Tab, past its end to its beginning: what a mouse can press and Tab does not reach. */
-export async function unreached(browser) {
+/** Goes once through the page by Tab, past its end to its beginning, and notes what the focus comes to. */
+async function goAround(browser) {
     await browser.value(`(() => {
         const begin = Object.assign(document.createElement("button"), { id: "before-all" });
         document.body.prepend(begin);
         begin.focus();
-        globalThis.reachedByTab = new Set([begin]);
+        globalThis.passedByTab = new Set([begin]);
     })()`);
     for (let count = 0, isNew = true; isNew && count < 500; count += 1) {
         await browser.strike("Tab");
-        isNew = await browser.value("(() => { const it = document.activeElement; const isNew = !reachedByTab.has(it); reachedByTab.add(it); return isNew; })()");
+        isNew = await browser.value(`(() => {
+            const it = document.activeElement;
+            const isNew = !passedByTab.has(it);
+            passedByTab.add(it);
+            reachedByTab.add(it);
+            return isNew;
+        })()`);
     }
-    return browser.value(`(() => {
-        document.querySelector("#before-all").remove();
-        const wanted = [...document.querySelectorAll("a[href], button, input, select, textarea, summary, [tabindex='0']"), ...heardByMouse];
-        const missed = wanted.filter((it) => it.isConnected && it.checkVisibility() && !it.disabled && !reachedByTab.has(it)).map((it) => "Tab does not reach " + it.outerHTML.slice(0, 100));
-        return [...new Set(missed)];
-    })()`);
+    await browser.value("document.querySelector('#before-all').remove()");
+}
+
+/**
+ * What a mouse can press and Tab does not reach. What the page draws anew while the focus goes around is reached the next time, so it goes
+ * around up to three times.
+ */
+export async function unreached(browser) {
+    await browser.value("void (globalThis.reachedByTab = new Set())");
+    let missed = [];
+    for (let count = 0; count < 3 && (count === 0 || missed.length > 0); count += 1) {
+        await goAround(browser);
+        missed = await browser.value(`(() => {
+            const wanted = [...document.querySelectorAll("a[href], button, input, select, textarea, summary, [tabindex='0']"), ...heardByMouse];
+            const isMissed = (it) => it.isConnected && it.checkVisibility() && !it.disabled && !reachedByTab.has(it);
+            return [...new Set(wanted.filter(isMissed).map((it) => "Tab does not reach " + it.outerHTML.slice(0, 100)))];
+        })()`);
+    }
+    return missed;
 }
 
 /** Presses each button that a selector names by the key Enter: those behind whose press the focus is lost. */

@@ -10,11 +10,12 @@ const account = { clock: 0n, order: "b 0020", at: "0004", find: 24, take: 1, see
 function madeUp(orders = Infinity) {
     const done = { orders: 0, rests: 0, runs: 0 };
     const laboratory = {
-        notice: null, live: new Map(), panel: { status: "going", mode: "normal", clock: 0n }, deeds: { get behind() { return done.orders; } }, stop: () => {},
+        notice: null, way: { kind: "go" }, panel: { clock: 0n }, deeds: { get behind() { return done.orders; } }, stop: () => {},
         step: async (count, withRows, whenDone = () => {}) => {
             if (done.orders >= orders) return 0;
             done.orders += 1;
-            laboratory.panel = { ...laboratory.panel, status: done.orders < orders ? "going" : "halted stop", clock: laboratory.panel.clock + 41n };
+            laboratory.panel = { clock: laboratory.panel.clock + 41n };
+            laboratory.way = { kind: done.orders < orders ? "go" : "start" };
             whenDone(account);
             return 1;
         },

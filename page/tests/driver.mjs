@@ -3,6 +3,9 @@ import { writeFileSync } from "node:fs";
 
 const KEYS = { Tab: "\ue004", Enter: "\ue007", Escape: "\ue00c" };
 
+/** How long is waited for something at most; beside other work a browser may be slow. */
+const LONGEST_WAIT = Number(process.env.LONGEST_WAIT ?? 30_000);
+
 const pause = (milliseconds) => new Promise((resolve) => setTimeout(resolve, milliseconds));
 
 /** A page of some engine. Each has `navigate`, `run`, `size`, `perform`, `pixels` and `end`, and perhaps `preload`. */
@@ -24,7 +27,7 @@ export class Driver {
     }
 
     /** Waits until an expression holds in the page. */
-    async waitFor(expression, milliseconds = 30_000) {
+    async waitFor(expression, milliseconds = LONGEST_WAIT) {
         const end = Date.now() + milliseconds;
         while (Date.now() < end) {
             if (await this.value(`Boolean(${expression})`).catch(() => false)) return;

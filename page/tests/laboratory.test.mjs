@@ -6,7 +6,6 @@ import { dirname, join } from "node:path";
 import { test } from "node:test";
 import { fileURLToPath } from "node:url";
 import { Laboratory } from "../laboratory.mjs";
-import { isLive, wayOn } from "../learn.mjs";
 import { ROOM } from "../room.mjs";
 import { NoMemory } from "../module/session.mjs";
 import { ModuleLink } from "./module.mjs";
@@ -37,11 +36,16 @@ const live = (name, body, links = LINKS) => {
     });
 };
 
-live("what is live when is that of docs/MACHINE.md", (laboratory) => {
-    const at = (status, mode, name) => isLive(laboratory.live, { status, mode }, name);
-    assert.deepEqual([at("halted operator", "normal", "start"), at("halted operator", "manual", "start"), at("halted step", "oneop", "execute")], [true, false, true]);
-    assert.deepEqual([at("going", "normal", "clear"), at("waiting", "normal", "compute"), at("halted operator", "manual", "read")], [false, true, true]);
-    assert.deepEqual([at("waiting", "normal", "key"), at("halted operator", "normal", "key"), at("halted operator", "manual", "stop key")], [true, false, false]);
+live("what is live is what the monitor says at each look", async (laboratory) => {
+    const after = async (...lines) => {
+        await laboratory.say(...lines);
+        return [...laboratory.live].join(" ");
+    };
+    assert.equal(await after(), "normal oneop manual start clear fill");
+    assert.equal(await after("press manual"), "normal oneop manual clear fill read keys");
+    assert.equal(await after("press oneop"), "normal oneop manual start clear fill execute");
+    assert.equal(await after("press normal", "put 0000 i", "press start"), "normal oneop manual");
+    assert.equal(await after("orders 1"), "normal oneop manual compute read keys stop");
 });
 
 live("a step is told, gone back over and performed again", async (laboratory) => {
@@ -172,7 +176,7 @@ live("before memory ends nothing more is begun, and all can be saved", async (la
         await deed();
         assert.equal(laboratory.notice.kind, "usedUp");
     }
-    assert.ok(link.sent.slice(sent).every((line) => /^(panel|words|show|why|printed|rules)/.test(line)));
+    assert.ok(link.sent.slice(sent).every((line) => /^(panel-data|live|words|show|why|printed|rules)/.test(line)));
     assert.match(await laboratory.transcript(), /\nput 0000 00083100\n/);
     assert.equal(await laboratory.say("words 0000 1"), "0000 00083100\n");
     const { behind } = laboratory.deeds;
@@ -213,7 +217,7 @@ live("so do lines, and the questions of a long session count", async (laboratory
     const comment = `; ${"x".repeat(4000)}`;
     await laboratory.say("put 0050 = 3", ...Array(800).fill(comment));
     assert.equal(laboratory.notice.kind, "usedUp");
-    assert.match(await laboratory.transcript(), /^(panel|words|show|printed)[^]*\nput 0050 00000006\n; xx/);
+    assert.match(await laboratory.transcript(), /^(words|show|printed)[^]*\nput 0050 00000006\n; xx/);
     await laboratory.say("new");
     await laboratory.say(comment);
     assert.equal(laboratory.notice, null);
@@ -221,7 +225,7 @@ live("so do lines, and the questions of a long session count", async (laboratory
 
 live("a line that could print or tell more than memory holds is not begun", async (laboratory) => {
     await laboratory.say("put 0000 p =h", "put 0001 u 0000", "press start");
-    for (const [line, most] of [["orders 2000000", ROOM.codes], ["profile 1000001", ROOM.codes], ["trace 20000", ROOM.told], [" drum  20000 ", ROOM.told]]) {
+    for (const [line, most] of [["orders 2000000", ROOM.codes], ["profile 1000001", ROOM.codes], ["trace 20000", ROOM.told], [" drum  20000 ", ROOM.told], ["trace-data 10001", ROOM.told], ["profile-data 1000001", ROOM.codes]]) {
         await laboratory.say(line);
         assert.deepEqual(laboratory.notice, { kind: "tooMany", line, most });
     }
@@ -311,10 +315,9 @@ live("a rule stops a walk and a profile in sight", async (laboratory) => {
 live("each example stands before something that goes on", async (laboratory) => {
     for (const name of names) for (const open of ["openScript", "openForShow"]) {
         await laboratory[open](name, exampleNamed(name));
-        const { panel, live: table, deeds: { behind } } = laboratory;
-        const { kind } = wayOn(table, panel);
+        const { live: names, way: { kind }, deeds: { behind } } = laboratory;
         assert.ok(["start", "go"].includes(kind), name);
-        assert.equal(isLive(table, panel, "start"), kind === "start", name);
+        assert.equal(names.has("start"), kind === "start", name);
         if (kind === "start") await laboratory.command("press start");
         await laboratory.step();
         assert.equal(laboratory.deeds.behind, behind + 1, name);
@@ -326,7 +329,7 @@ live("the way on from where a machine stands", async (laboratory) => {
     const way = async (...lines) => {
         await laboratory.new();
         await laboratory.say(...lines);
-        return wayOn(laboratory.live, laboratory.panel);
+        return laboratory.way;
     };
     assert.deepEqual(await way(), { kind: "start" });
     assert.deepEqual(await way("press start"), { kind: "go" });
@@ -385,6 +388,22 @@ live("an order that stores the word that is there has not changed it", async (la
     assert.deepEqual([laboratory.accounts.at(-1).stored.address, laboratory.writerOf("0005").at], ["0005", "0001"]);
 });
 
+live("what a line of the reader tells in columns, the page shows as well", async (laboratory) => {
+    await laboratory.say("put 0000 b 0003", "put 0001 h 0004", "put 0002 u 0000", "put 0003 = 4", "press start");
+    const reply = await laboratory.say("trace 2");
+    assert.deepEqual([reply, laboratory.talk.at(-1)], [laboratory.talk.at(-1).reply, { line: "trace 2", reply }]);
+    assert.match(reply, /^ {2}clock {2}at [^]*\nran 2 limit\n$/);
+    const [bring, hold] = laboratory.accounts;
+    assert.deepEqual([laboratory.accounts.length, bring.order, bring.after, hold.stored.after.number], [2, "b 0003", "00000008", 4]);
+    assert.deepEqual([laboratory.panel.clock, laboratory.deeds.behind], [165n, 2]);
+    await laboratory.say("profile 3");
+    assert.deepEqual([laboratory.profile.orders, laboratory.profile.times, laboratory.profile.places.length], [3, Number(laboratory.panel.clock) - 165, 3]);
+    await laboratory.say("profile 5000");
+    assert.deepEqual([laboratory.profile, laboratory.deeds.behind], [null, 5005]);
+    await laboratory.step();
+    assert.deepEqual(laboratory.talk.at(-1), { line: "trace-data 1", reply: "ran 1 limit\n" });
+});
+
 live("the last orders are the last ones, or none", async (laboratory) => {
     const untold = [() => laboratory.run(5), () => laboratory.say("orders 2"), () => laboratory.say("run 2"), () => laboratory.say("profile 2"), () => laboratory.say("go 0000")];
     for (const deed of untold) {
@@ -412,4 +431,71 @@ live("what is saved leads to the same place", async (laboratory) => {
     await laboratory.openScript("saved", await laboratory.transcript());
     await laboratory.scriptLines(Infinity);
     assert.deepEqual(laboratory.panel, panel);
+});
+
+/** A loop of two orders that brings a word and goes on, and in it a rule. */
+const LOOP = ["put 0000 b 0003", "put 0001 u 0000", "put 0003 = 4", "break 0001", "watch 0003", "press start"];
+
+/** The panel, all words, what is printed and the rules, and where the orders behind lead back to: what a question must not change. */
+async function standOf(laboratory, link, orders) {
+    const asked = ["panel", "dump", "printed", "rules", "live"];
+    const here = await link.askAll(asked);
+    const there = await link.askAll([`back ${orders}`, ...asked, ...asked.slice(0, 2), `orders ${orders}`]);
+    return [here, there, laboratory.panel, laboratory.deeds.behind, laboratory.deeds.ahead];
+}
+
+live("what a word would have cost is asked of the last orders, and the machine and its rules are as they were", async (laboratory, link) => {
+    await laboratory.say(...LOOP);
+    await laboratory.run();
+    await laboratory.run();
+    await laboratory.step(3);
+    const { orders, sum } = { orders: laboratory.deeds.behind, sum: Number(laboratory.panel.clock) };
+    const before = await standOf(laboratory, link, orders);
+    const accounts = laboratory.accounts.length;
+    await laboratory.askCosts("0003");
+    const { costs } = laboratory;
+    assert.deepEqual([costs.orders, costs.times, costs.address, costs.kind, costs.refusal, costs.sectors.length], [orders, sum, "0003", "free", null, 64]);
+    assert.equal(costs.sectors.find(({ isOwn }) => isOwn).times - costs.sectors.find(({ isBest }) => isBest).times, costs.saved);
+    assert.deepEqual(await standOf(laboratory, link, orders), before);
+    assert.equal(laboratory.accounts.length, accounts);
+    await laboratory.say("press manual");
+    assert.equal(laboratory.costs, null);
+    await laboratory.openScript("saved", await laboratory.transcript());
+    await laboratory.scriptLines(Infinity);
+    assert.deepEqual([laboratory.panel.clock, laboratory.rules], [BigInt(sum), ["break 0001", "watch 0003"]]);
+});
+
+live("of a long run the orders are asked for that are kept, and of none that is said", async (laboratory) => {
+    await laboratory.say("put 0000 b 0000", "put 0001 a 0003", "put 0002 u 0000", "press start");
+    await laboratory.askCosts("0003");
+    assert.deepEqual([laboratory.costs.kind, laboratory.costs.reason], ["none", "no order was performed, so no word was named"]);
+    await laboratory.run(6000);
+    const { panel } = laboratory;
+    for (const [address, kind] of [["0003", "free"], ["0005", "unnamed"], ["0002", "unnamed"], ["0000", "performed"]]) {
+        await laboratory.askCosts(address);
+        assert.deepEqual([laboratory.costs.orders, laboratory.costs.address, laboratory.costs.kind], [4096, address, kind]);
+    }
+    await laboratory.say("words 0000 1");
+    assert.deepEqual([laboratory.panel, laboratory.deeds.behind], [panel, 6000]);
+    await laboratory.say("press manual", "put 0003 = 5", "press normal", "press start");
+    await laboratory.askCosts("0003");
+    assert.equal(laboratory.costs.kind, "none");
+    await laboratory.run(10);
+    await laboratory.back(4);
+    await laboratory.askCosts("0003");
+    assert.deepEqual([laboratory.costs.orders, laboratory.deeds.ahead], [6, 4]);
+});
+
+live("a line that asks what a word would have cost is a run, and shows it", async (laboratory) => {
+    await laboratory.say(...LOOP.slice(0, 3), "press start");
+    await laboratory.say("optimum 10 0003");
+    assert.deepEqual([laboratory.costs.orders, laboratory.costs.address, laboratory.deeds.behind], [10, "0003", 10]);
+    await laboratory.say("optimum 10");
+    assert.deepEqual([laboratory.costs, laboratory.deeds.behind], [null, 20]);
+    await laboratory.say("optimum 2000000 0003");
+    assert.deepEqual([laboratory.notice.kind, laboratory.deeds.behind], ["tooMany", 20]);
+    await laboratory.say("optimum 5 none");
+    assert.deepEqual([laboratory.notice.kind, laboratory.costs], ["Form", null]);
+    await laboratory.openScript("told", `${LOOP.slice(0, 3).join("\n")}\npress start\noptimum 4 0003\n`);
+    assert.deepEqual([laboratory.script.at, laboratory.deeds.behind], [4, 0]);
 });

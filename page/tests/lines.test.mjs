@@ -1,17 +1,12 @@
-// What a script says of itself; the lines that only ask: which they are, and a script without them.
+// What a script says of itself, and a script without the lines that only ask.
 import assert from "node:assert/strict";
-import { readFileSync } from "node:fs";
-import { dirname, join } from "node:path";
 import { test } from "node:test";
-import { fileURLToPath } from "node:url";
-import { commentsIn, questionsIn, withoutQuestions } from "../lines.mjs";
+import { commandIn, commentsIn, withoutQuestions } from "../lines.mjs";
 
-const formats = readFileSync(join(dirname(fileURLToPath(import.meta.url)), "../../docs/FORMATS.md"), "utf8");
-const questions = questionsIn(formats);
+const questions = new Set(["panel", "words", "show", "printed", "dump", "list"]);
 
-test("the questions are the commands of which docs/FORMATS.md says that they do nothing", () => {
-    assert.deepEqual(questions, ["panel", "words", "show", "printed", "dump", "list"]);
-    assert.deepEqual(questionsIn("| `on ttss` | turns it on | `ok` |\n| `ask N`, `ask` | | N lines |\n| a line | | none |\n"), ["ask"]);
+test("the command of a line is its first word", () => {
+    assert.deepEqual(["run 9", "  words 0000 1", "panel\tx", "", "  "].map(commandIn), ["run", "words", "panel\tx", "", ""]);
 });
 
 test("a script without the lines that only ask", () => {

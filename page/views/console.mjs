@@ -1,7 +1,12 @@
 // The console: buttons and switches, those that are dead shown dead, and the keys of the Flexowriter.
-import { BUTTONS, KEYS, isLive } from "../learn.mjs";
 import { SWITCHES } from "../module/replies.mjs";
 import { button, guarded, h, part, showLive } from "./dom.mjs";
+
+/** The buttons, in the order of the console. */
+const BUTTONS = ["normal", "oneop", "manual", "start", "clear", "fill", "execute", "read", "compute"];
+
+/** What the monitor calls the keys that have a sign, and the key of the conditional stop. */
+const KEYS = { sign: "keys", stop: "stop" };
 
 const KEY_ROWS = ["0123456789", "fgjkqw-+;/.,", "zbyrindmpe", "uthcasvox "];
 
@@ -31,7 +36,7 @@ export function makeConsole(laboratory, { text, table }) {
         const { live, panel } = laboratory;
         for (const control of buttons) {
             const { name } = control.dataset;
-            showLive(control, isLive(live, panel, name));
+            showLive(control, live.has(name));
             control.classList.toggle("lit", isLit(panel, name));
             if (name in table.modes) control.setAttribute("aria-pressed", String(panel.mode === name));
         }
@@ -48,7 +53,7 @@ export function makeKeyboard(laboratory, { text }) {
     const stop = guarded(text("conditionalStop"), { class: "key wide", "data-name": KEYS.stop }, () => laboratory.command("type '"), tellDead(laboratory, text("conditionalStop")));
     const node = part("keyboard", text("keyboard"), ...rows, h("div", { class: "keys" }, stop));
     const show = () => {
-        for (const control of node.querySelectorAll("button")) showLive(control, isLive(laboratory.live, laboratory.panel, control.dataset.name));
+        for (const control of node.querySelectorAll("button")) showLive(control, laboratory.live.has(control.dataset.name));
     };
     return { node, show };
 }

@@ -38,13 +38,28 @@ function cell(sector) {
 const strokes = (sector, digits) => bitsOf(digits).map((bit, place) => [bit, startOf(sector) + (STEP * (place + 3)) / 38])
     .filter(([bit]) => bit).map(([, angle]) => `M ${fixed(at(angle, RING.bits[0]))} L ${fixed(at(angle, RING.bits[1]))}`).join(" ");
 
-/** The ring of sectors. `mark` lights those of the next order and of its word, `write` draws the words' bits, and `turn` turns it. */
+/** Where the bars of a ring of costs begin and end, and where its marks lie. */
+const COSTS = { from: 168, to: 254, mark: 157 };
+
+/** The bar of a sector's cost, as long as the monitor draws it: forty signs at most. */
+function costBar({ sector, length, isOwn, isBest }) {
+    const [from, to, radius] = [startOf(sector) + 0.5, startOf(sector) + STEP - 0.5, COSTS.from + ((COSTS.to - COSTS.from) * length) / 40];
+    const [x, y] = at((from + to) / 2, COSTS.mark);
+    const bar = s("path", { class: `cost ${isBest ? "best" : isOwn ? "own" : ""}`, d: `M ${fixed(at(from, radius))} ${arc(to, radius)} L ${fixed(at(to, COSTS.from))} ${arc(from, COSTS.from, 0)} Z` });
+    const own = isOwn ? s("circle", { class: "cost-mark own", cx: x, cy: y, r: 6 }) : null;
+    const best = isBest ? s("path", { class: "cost-mark best", d: "M0 -9L9 0L0 9L-9 0Z", transform: `translate(${fixed([x, y])})` }) : null;
+    return s("g", {}, bar, own, best);
+}
+
+/** The ring of sectors. `mark` lights those of the next order and of its word, `write` draws the words' bits, `cost` draws what the sectors would cost a word, and
+ * `turn` turns it. */
 function makeRing() {
     const cells = Array.from({ length: SECTORS }, (unused, sector) => cell(sector));
     const box = [X - RING.rim, Y - RING.rim, 2 * RING.rim, 2 * RING.rim].join(" ");
     const bolts = Array.from({ length: 8 }, (unused, place) => at(45 * place + 22.5, 133)).map(([cx, cy]) => s("circle", { class: "bolt", cx, cy, r: 6.5 }));
     const plates = () => [s("circle", { class: "face-plate", cx: X, cy: Y, r: RING.inner }), s("circle", { class: "hub-plate", cx: X, cy: Y, r: 146 })];
-    const svg = s("svg", { class: "ring", viewBox: box, "aria-hidden": "true" }, ...cells, ...plates(), ...bolts);
+    const costs = s("g", { class: "ring-of-costs" });
+    const svg = s("svg", { class: "ring", viewBox: box, "aria-hidden": "true" }, ...cells, ...plates(), ...bolts, costs);
     // what an eye sees of it where nothing on it can be read: it lies above, so that the ring need not be drawn anew when it comes and goes
     const blur = s("svg", { class: "blur", viewBox: box, "aria-hidden": "true" }, s("circle", { class: "rim", cx: X, cy: Y, r: RING.rim }), ...[RING.numbers, 272].map((r) => s("circle", { class: "streak", cx: X, cy: Y, r })), ...plates());
     const [drawn, marked] = [new Map(), { next: null, operand: null, written: null }];
@@ -63,7 +78,13 @@ function makeRing() {
             drawn.set(sector, digits);
         }
     };
-    return { node: h("div", { class: "well" }, svg, blur), mark, write, turn: (position) => { svg.style.transform = `rotate(${-position * STEP}deg)`; } };
+    let costsShown = null;
+    const cost = (shown) => {
+        if (shown === costsShown) return;
+        costsShown = shown;
+        costs.replaceChildren(...(shown?.sectors ?? []).map(costBar));
+    };
+    return { node: h("div", { class: "well" }, svg, blur), mark, write, cost, turn: (position) => { svg.style.transform = `rotate(${-position * STEP}deg)`; } };
 }
 
 function makePin(kind) {
@@ -226,6 +247,8 @@ export function makeDrum(laboratory, texts, { playing, held, isFast }) {
         frame();
         const stored = held()?.stored;
         ring.write(laboratory.track.map(({ address, text: digits }) => [sectorOf(address), address === stored?.address ? stored.before.digits : digits]));
+        ring.cost(laboratory.costs);
+        trail.node.classList.toggle("away", laboratory.costs !== null && laboratory.costs.sectors.length > 0);
         const { panel: { clock, counter }, operand } = laboratory;
         box.setAttribute("aria-label", isFast() ? text("drumRuns") : text("drumSays", { clock: String(clock), next: counter, operand: operand ?? "–" }));
     };

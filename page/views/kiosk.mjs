@@ -1,5 +1,4 @@
 // The kiosk: one program that plays by itself with captions until it is touched, four large buttons, and a return to the beginning after a time without input.
-import { wayOn } from "../learn.mjs";
 import { button, h, tell } from "./dom.mjs";
 import { rewrittenBy } from "./says.mjs";
 
@@ -33,8 +32,7 @@ function makeTold(laboratory, { text }, { drive, playing, isAttract }) {
     const told = h("p", { class: "kiosk-told", role: "status" });
     const captionOf = makeCaptions();
     const stands = () => {
-        const { panel, printed, live, deeds } = laboratory;
-        const { kind } = wayOn(live, panel);
+        const { printed, way: { kind }, deeds } = laboratory;
         if (drive.pace !== null) return "kioskRuns";
         if (kind === "keys") return "kioskKeys";
         if (kind === "go") return printed.count > 0 ? "kioskPrinted" : "kioskGoing";
@@ -50,7 +48,7 @@ function makeTold(laboratory, { text }, { drive, playing, isAttract }) {
 /** The large buttons. `open` begins the program anew. */
 function makeButtons(laboratory, { text }, { drive, isAttract }, open) {
     const goOn = async (deed) => {
-        if (wayOn(laboratory.live, laboratory.panel).kind === "start") await laboratory.command("press start");
+        if (laboratory.way.kind === "start") await laboratory.command("press start");
         await deed();
     };
     const start = button("", () => (drive.pace === null ? goOn(() => drive.go("show")) : drive.halt()), { id: "kiosk-start" });

@@ -12,6 +12,11 @@ const isAt = (address) => ({ panel }) => panel.counter === address;
 const wasAt = (address) => ({ accounts }) => accounts.at(-1)?.at === address;
 const lastOf = (phase) => ({ accounts }) => (accounts.length === 0 ? null : String(accounts.at(-1)[phase]));
 const hasStopped = ({ panel }) => panel.status === "halted stop";
+const isAskedOf = (address) => ({ costs }) => costs?.address === address;
+const bestOf = ({ costs }) => String(costs.sectors.find(({ isBest }) => isBest).sector).padStart(2, "0");
+
+/** In how many sectors the word that was asked for would have cost least. */
+const goodOf = ({ costs: { sectors } }) => String(sectors.filter(({ times }) => times === Math.min(...sectors.map((it) => it.times))).length);
 
 /** The lessons: the example that each opens, and its steps. A step is `done` when that holds, or asks for what `answer` gives, where `isAsked` holds. */
 export const LESSONS = [
@@ -32,18 +37,33 @@ export const LESSONS = [
         { done: (laboratory) => isOrderAt(laboratory, "0009", "a 0101") },
         { answer: (laboratory) => wordAt(laboratory, "0009")?.order ?? null, isAsked: hasStopped },
     ] },
+    { name: "where-a-word-costs-least", example: "drum/household", steps: [
+        { done: isAt("0110") },
+        { answer: lastOf("sum"), isAsked: wasAt("0111") },
+        { answer: lastOf("find"), isAsked: wasAt("0111") },
+        { done: hasStopped },
+        { answer: goodOf, isAsked: isAskedOf("0128") },
+        { answer: bestOf, isAsked: isAskedOf("0128") },
+        { answer: ({ costs }) => String(costs.saved), isAsked: isAskedOf("0128") },
+        { answer: bestOf, isAsked: isAskedOf("0129") },
+        { answer: bestOf, isAsked: isAskedOf("0132") },
+    ] },
 ];
 
-const plain = (answer) => answer.trim().toLowerCase().replace(/\s+/g, " ");
+/** An answer as it is compared: thousands may be set apart. */
+export const plain = (answer) => answer.trim().toLowerCase().replace(/\s+/g, " ").replace(/(\d)[.,](?=\d{3}$)/, "$1");
 
 /** The step in its row: its number or a tick, what is to be done, and a place for the answer where there is one. */
 function makeStep(laboratory, step, place, { steps, hints }, { text }, done) {
     const [mark, hint] = [h("span", { class: "mark", "aria-hidden": "true" }), h("span", { class: "hint", role: "status" })];
     const input = h("input", { size: 8, "aria-label": text("answer", { number: place + 1 }), autocapitalize: "off", autocomplete: "off" });
+    let wrong = 0;
     const check = () => {
         if (!step.isAsked(laboratory)) return tell(hint, text("lessonNotThere"));
-        const isRight = plain(input.value) === step.answer(laboratory);
-        tell(hint, isRight ? text("lessonRight") : hints[place]);
+        const answer = step.answer(laboratory);
+        const isRight = plain(input.value) === answer;
+        if (!isRight) wrong += 1;
+        tell(hint, isRight ? text("lessonRight") : wrong === 1 ? hints[place] : `${hints[place]} ${text("lessonWouldBe", { answer })}`);
         return isRight ? done() : undefined;
     };
     const form = step.answer === undefined ? null : h("form", { class: "line", onsubmit: (event) => { event.preventDefault(); check(); } }, input, button(text("check"), check));

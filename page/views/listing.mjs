@@ -66,7 +66,7 @@ function arrow({ start, end, height }) {
 }
 
 /** The part of the page that shows words of the drum. */
-export function makeListing(laboratory, texts, { held, isFast }) {
+export function makeListing(laboratory, texts, { held, isFast, hasCosts }) {
     const { text } = texts;
     const rewritten = h("p", { class: "rewritten", role: "status" });
     const body = h("tbody");
@@ -77,6 +77,7 @@ export function makeListing(laboratory, texts, { held, isFast }) {
     const answer = h("p", { class: "why", role: "status" });
     let askedOf = null;
     const ask = async (address) => {
+        if (hasCosts()) laboratory.askCosts(address);
         const lines = await laboratory.why(address);
         if (lines === undefined) return;
         askedOf = laboratory.words;

@@ -1,13 +1,11 @@
 // What the reader should know: a refusal or a word of the page's own, and what can be done about it; the source that is open; and the lines of
 // laboratories that were lost.
-import { wayOn } from "../learn.mjs";
 import { counted } from "../words.mjs";
 import { button, h } from "./dom.mjs";
 import { ruleText } from "./listing.mjs";
 
 /** What lets the machine go on, with the names that the controls have here. */
-export function wayText({ live, panel }, { text, table }, isKiosk) {
-    const { kind, mode } = wayOn(live, panel);
+export function wayText({ way: { kind, mode } }, { text, table }, isKiosk) {
     if (isKiosk && kind === "keys") return text("kioskKeys");
     const named = (name) => text(isKiosk ? `kiosk${name}` : name.toLowerCase());
     return text({ go: "wayGo", start: "wayStart", keys: "wayKeys", mode: "wayMode" }[kind], { step: named("Step"), run: named("Run"), mode: table.modes[mode] ?? "" });
@@ -27,6 +25,7 @@ function noticeText(notice, laboratory, texts, isKiosk) {
     if (kind === "printedMuch") return text("printedMuch", { count: counted(count, code) });
     if (kind === "tooMany") return text("tooMany", { line: line.trim(), most: counted(most, code) });
     if (kind === "broken") return text("broken", { detail });
+    if (["fileTooLong", "fileNoText", "fileNoScript"].includes(kind)) return text(kind, { detail });
     if (kind === "noExample") return text("wrongAddress", { name: detail });
     if (kind === "noKioskExample") return text("wrongKiosk", { name: detail, shown: notice.shown });
     return `${line}\n${text("refused", { kind, text: `${table.refusals[kind] ?? ""} ${reason ?? ""}` })}`;

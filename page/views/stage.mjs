@@ -14,14 +14,16 @@ export function makeStage(made) {
     const [stand, all] = ["learn work", "look learn work"];
     behind(stand, made.console.node.querySelector(".second-row"));
     behind(stand, made.story.node.querySelector(".telling-order"));
-    for (const node of made.listing.node.querySelectorAll("form, .rules")) behind("work", node);
+    behind(stand, made.listing.node.querySelector("form"));
+    for (const node of made.listing.node.querySelectorAll("form button:not(:first-of-type), .rules")) behind("work", node);
     const desk = behind(all, box("desk", made.plate, made.scope, made.console));
     const cabinet = box("cabinet", made.drum, behind("hall", made.hall.node), desk);
     const body = behind(stand, box("flexo-body", made.tape, made.keyboard));
     const typewriter = behind(all, box("flexowriter", made.paper, body));
     const told = box("column", behind("look", made.tales.node), made.story, behind(stand, made.accounts.node));
+    const words = box("column", made.listing, behind(stand, made.costs.node));
     const bench = box("bench", box("column", made.panel, made.explanation, made.script, made.turns), box("column", made.source), box("column", made.lines, made.profile));
-    return h("main", {}, box("stage", cabinet, typewriter), behind(all, box("pace", made.pace, made.time)), behind(all, box("telling", behind("learn", made.lesson.node), told, made.listing)), behind("work", bench));
+    return h("main", {}, box("stage", cabinet, typewriter), behind(all, box("pace", made.pace, made.time)), behind(all, box("telling", behind("learn", made.lesson.node), told, words)), behind("work", bench));
 }
 
 /** Puts a node where it is seen, unless it stands there. The focus stays. */

@@ -1,4 +1,5 @@
 // What is written: the source with its faults, lines for the monitor with their replies, and the lines of a script.
+import { Earlier, pasted } from "../earlier.mjs";
 import { linesIn } from "../lines.mjs";
 import { counted } from "../words.mjs";
 import { button, guarded, h, part, showLive } from "./dom.mjs";
@@ -54,12 +55,29 @@ export function makeLines(laboratory, { text, code }) {
     const log = h("pre", { class: "log", tabindex: "0", role: "log", "aria-label": text("lines") });
     const input = h("input", { class: "wide", "aria-label": text("typeLine"), placeholder: "words 0050 2", autocapitalize: "off", spellcheck: "false" });
     const shown = new Map();
+    const earlier = new Earlier();
     const send = async (event) => {
         event.preventDefault();
         const line = input.value;
         input.value = "";
+        earlier.add(line);
         await laboratory.say(line);
     };
+    input.addEventListener("keydown", (event) => {
+        const line = event.key === "ArrowUp" ? earlier.back(input.value) : event.key === "ArrowDown" ? earlier.forward() : null;
+        if (line === null) return;
+        event.preventDefault();
+        input.value = line;
+    });
+    input.addEventListener("paste", (event) => {
+        const { value, selectionStart, selectionEnd } = input;
+        const text = pasted(event.clipboardData.getData("text"), value.slice(0, selectionStart), value.slice(selectionEnd));
+        if (text === null) return;
+        event.preventDefault();
+        input.value = text.stays;
+        for (const line of text.lines) earlier.add(line);
+        laboratory.say(...text.lines);
+    });
     const show = () => {
         const talk = laboratory.talk.slice(-LOGGED);
         for (const said of [...shown.keys()].filter((said) => !talk.includes(said))) {

@@ -2,15 +2,36 @@ import assert from "node:assert/strict";
 import { test } from "node:test";
 import * as replies from "../replies.mjs";
 
+test("records of lines with a key and a value", () => {
+    const records = replies.recordsOf(["place 0000 a", "times 3", "sign  ", "place 0001", "times 4"], "place");
+    assert.deepEqual(records.map((record) => [...record]), [[["place", "0000 a"], ["times", "3"], ["sign", " "]], [["place", "0001"], ["times", "4"]]]);
+    assert.deepEqual(replies.recordsOf([], "place"), []);
+    for (const lines of [["times 3"], ["place"], [""], ["place 0000", "times 3", "times 3"]]) assert.throws(() => replies.recordsOf(lines, "place"), replies.ReplyError);
+});
+
+const PANEL = "counter 0002\naccumulator 00000012\nregister 00040000\nstatus halted stop\nmode normal\nbp32 up\nbp16 up\nbp8 up\nbp4 down\ntransfer up\nsixbit up\nreader off\ntape 0\nclock 1612\n";
+
 test("a panel", () => {
-    const panel = replies.panelOf(
-        "counter 0002 accumulator 00000012 register 00040000 status halted stop mode normal switches uuuduu reader off tape 0 clock 1612\n");
-    assert.deepEqual([panel.counter, panel.accumulator, panel.status, panel.mode, panel.down.bp4, panel.down.transfer, panel.clock],
-        ["0002", "00000012", "halted stop", "normal", true, false, 1612n]);
+    const panel = replies.panelOf(PANEL);
+    assert.deepEqual([panel.counter, panel.accumulator, panel.status, panel.mode, panel.down.bp4, panel.down.transfer, panel.readerOn, panel.clock],
+        ["0002", "00000012", "halted stop", "normal", true, false, false, 1612n]);
 });
 
 test("a text that is no panel", () => {
-    assert.throws(() => replies.panelOf("ok\n"), replies.ReplyError);
+    for (const text of ["ok\n", "", "counter 0002\n", PANEL.replace("bp8 up\n", "")]) assert.throws(() => replies.panelOf(text), replies.ReplyError, text);
+});
+
+test("what is live, and what lets the machine go on", () => {
+    const said = (live, way) => replies.liveOf(`live ${live}\nway ${way}\n`);
+    assert.deepEqual(said("normal keys stop", "keys"), { live: new Set(["normal", "keys", "stop"]), way: { kind: "keys" } });
+    assert.deepEqual(["orders", "start", "normal start"].map((way) => said("normal", way).way), [{ kind: "go" }, { kind: "start" }, { kind: "mode", mode: "normal" }]);
+    assert.throws(() => replies.liveOf("live\n"), replies.ReplyError);
+});
+
+test("the commands, and which only ask", () => {
+    assert.deepEqual([...replies.commandsOf("put does address word\nwhy asks address\n")],
+        [["put", { asks: false, takes: "address word" }], ["why", { asks: true, takes: "address" }]]);
+    assert.throws(() => replies.commandsOf("put ttss WORD\n"), replies.ReplyError);
 });
 
 test("readings of a word", () => {
@@ -32,31 +53,34 @@ test("refusals", () => {
     assert.deepEqual(replies.refusalOf("? 1 Form: go ttss\n"), { code: 1, kind: "Form", number: null, reason: "go ttss" });
 });
 
+const TIMES = ["find 45", "take 1", "seek 26", "act 1"];
 const TRACE = [
-    "  clock  at           order           find take seek  act   sum  accumulator",
-    "      0  0000         b 0003            64    1   26    1    92  00000000 -> 00000008",
-    "     92  0001 put1    h 0004 sum        45    1   26    1    73  00000008",
-    "        0004 sum: 00000000 z 0000 = 0 -> 00000008 z 0002 = 4",
-    "    165               reading            0    0    0  385   385  00000008",
-    "        codes passed: 1",
-    "    550  0002         p 3300             1    1    1  385   388  00000008",
-    "        printed code 33, sign \"p\"",
+    "clock 0", "at 0000", "order b 0003", ...TIMES, "before 00000000", "after 00000008",
+    "clock 92", "at 0001 put1", "order h 0004 sum", ...TIMES, "before 00000008", "after 00000008",
+    "stored 0004 sum", "found 00000000", "found-order z 0000", "found-number 0", "left 80000000", "left-number -1073741824",
+    "clock 165", "status reading", "find 0", "take 0", "seek 0", "act 385", "before 00000008", "after 00000008", "passed 1",
+    "clock 550", "at register", "order p 0300", ...TIMES, "before 00000008", "after 00000008", "printed 3", "sign  ",
 ];
 
 test("accounts", () => {
     const accounts = replies.accountsOf(TRACE);
-    assert.deepEqual(accounts.map(({ at, order, find, after }) => [at, order, find, after]), [
-        ["0000", "b 0003", 64, "00000008"], ["0001", "h 0004 sum", 45, "00000008"],
-        [null, "reading", 0, "00000008"], ["0002", "p 3300", 1, "00000008"],
+    assert.deepEqual(accounts.map(({ clock, at, label, order, find, sum, after, inRegister }) => [clock, at, label, order, find, sum, after, inRegister]), [
+        [0n, "0000", null, "b 0003", 45, 73, "00000008", false], [92n, "0001", "put1", "h 0004 sum", 45, 73, "00000008", false],
+        [165n, null, null, "reading", 0, 385, "00000008", false], [550n, null, null, "p 0300", 45, 73, "00000008", true],
     ]);
-    assert.deepEqual([accounts[1].stored.address, accounts[1].stored.label, accounts[1].stored.after.order, accounts[1].stored.after.number],
-        ["0004", "sum", "z 0002", 4]);
-    assert.deepEqual([accounts[2].passed, accounts[3].printed.code, accounts[3].printed.sign], [1, 33, "p"]);
+    assert.deepEqual(accounts[1].stored, {
+        address: "0004", label: "sum", before: { digits: "00000000", order: "z 0000", number: 0 }, after: { digits: "80000000", order: null, number: -1073741824 },
+    });
+    assert.deepEqual([accounts[0].stored, accounts[0].origin, accounts[2].passed, accounts[3].printed], [null, null, 1, { code: 3, sign: " " }]);
 });
 
-test("a line below an account that is not known stays as it is", () => {
-    const [account] = replies.accountsOf([TRACE[1], "        this order was put there by h 1011 at 1003, clock 228102"]);
-    assert.deepEqual(account.notes, ["this order was put there by h 1011 at 1003, clock 228102"]);
+test("a line of an account whose key is not known stays as it is", () => {
+    const [account] = replies.accountsOf([...TRACE.slice(0, 9), "later 5 a"]);
+    assert.deepEqual(account.notes, ["later 5 a"]);
+});
+
+test("lines that are no account", () => {
+    for (const lines of [["ran 3 rest"], ["clock 0"], TRACE.slice(0, 8), ["clock 0", "clock"]]) assert.throws(() => replies.accountsOf(lines), replies.ReplyError, lines.join());
 });
 
 test("rows of the drum", () => {
@@ -66,11 +90,27 @@ test("rows of the drum", () => {
 
 test("a profile", () => {
     const profile = replies.profileOf([
-        "orders 3, word times 213, turns of the drum 3.3", "  waiting for orders       154   72 %", "  into the register          3    1 %",
-        "  waiting for words         53   24 %", "  acting                     3    1 %", "  at no address              0    0 %",
-        "the ten places with most word times", "  0000                      92   43 %", "  0001 next                 73   34 %",
+        "orders 3", "times 213", "turns 3.3", "find 154", "take 3", "seek 53", "act 3", "elsewhere 0",
+        "place 0000", "times 92", "place 0001 next", "times 73",
     ]);
-    assert.deepEqual([profile.turns, profile.parts[0].times, profile.places.map((place) => place.name)], [3.3, 154, ["0000", "0001 next"]]);
+    assert.deepEqual([profile.orders, profile.times, profile.turns, profile.parts[0]], [3, 213, 3.3, { name: "find", times: 154, percent: 72 }]);
+    assert.deepEqual(profile.places, [{ name: "0000", times: 92, percent: 43 }, { name: "0001 next", times: 73, percent: 34 }]);
+    for (const lines of [[], ["orders 3"], ["place 0000", "times 3"]]) assert.throws(() => replies.profileOf(lines), replies.ReplyError, lines.join());
+});
+
+const COSTS = ["orders 3, word times 213, turns of the drum 3.3", "0003 four", "  sector  0          213  #################################", "  sector 57          149  # best", "  sector  3          213  ################################# own"];
+
+test("what one word would have cost at each sector", () => {
+    const costs = replies.costsOf([...COSTS, "  it may be moved, and saves 64 word times at sector 57"]);
+    assert.deepEqual([costs.orders, costs.times, costs.turns, costs.address, costs.label, costs.saved, costs.kind, costs.reason], [3, 213, 3.3, "0003", "four", 64, "free", null]);
+    assert.deepEqual(costs.sectors.map(({ sector, times, length, isOwn, isBest }) => [sector, times, length, isOwn, isBest]), [[0, 213, 33, false, false], [57, 149, 1, false, true], [3, 213, 33, true, false]]);
+    const kindOf = (...lines) => (({ kind, reason, sectors }) => [kind, reason, sectors.length])(replies.costsOf(lines));
+    const because = { performed: "it is not to be moved, since it was performed as an order", changed: "it is not to be moved, since a changed order named it, or one in the register alone" };
+    for (const [kind, reason] of Object.entries(because)) assert.deepEqual(kindOf(...COSTS, `  ${reason}`), [kind, reason, 3]);
+    const unnamed = "no order named it: wherever it stands, they take as long";
+    assert.deepEqual(kindOf(COSTS[0], "0003", `  ${unnamed}`), ["unnamed", unnamed, 0]);
+    assert.deepEqual(kindOf("no order was performed, so no word was named"), ["none", "no order was performed, so no word was named", 0]);
+    for (const lines of [[], ["ran 3 rest"], COSTS, [COSTS[0], "0003", "  sector", "  it may be moved"]]) assert.throws(() => replies.costsOf(lines), replies.ReplyError, lines.join());
 });
 
 test("faults of a source", () => {
@@ -108,9 +148,8 @@ test("labels, of which one lies behind the drum", () => {
 });
 
 test("what put an order where it stood", () => {
-    const row = "    147  0002         h 0005            63    1   26    1    91  00000014";
-    const originBy = (by) => replies.accountsOf([row, `        this order was put there by ${by}`])[0].origin;
-    assert.deepEqual(originBy("y 0002 at 0001 first, clock 101, 1 order ago; before it was h 0000"), { order: "y 0002", at: "0001", clock: 101n, lost: "h 0000" });
-    assert.deepEqual(originBy("h 0136 in the instruction register, clock 7, 12 orders ago; before it was 0000000j = 6"), { order: "h 0136", at: null, clock: 7n, lost: "0000000j = 6" });
-    assert.deepEqual(originBy("hand, clock 0; before it was z 0000"), { order: null, at: null, clock: 0n, lost: "z 0000" });
+    const originBy = (...lines) => replies.accountsOf([...TRACE.slice(0, 9), ...lines])[0].origin;
+    assert.deepEqual(originBy("put-by y 0002", "put-at 0001 first", "put-clock 101", "put-ago 1", "put-over h 0000"), { order: "y 0002", at: "0001", clock: 101n, lost: "h 0000" });
+    assert.deepEqual(originBy("put-by h 0136", "put-at register", "put-clock 7", "put-ago 12", "put-over 0000000j = 6"), { order: "h 0136", at: null, clock: 7n, lost: "0000000j = 6" });
+    assert.deepEqual(originBy("put-by hand", "put-clock 0", "put-over z 0000"), { order: null, at: null, clock: 0n, lost: "z 0000" });
 });

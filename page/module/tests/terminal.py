@@ -70,7 +70,7 @@ def lines_that_are_typed():
     shown = terminal.type("transcript\r", "going> ")
     assert "put 0000 000f0000\npress start\nsource\none z\n end\n.\n0000" in shown, shown
     # commands, labels and addresses are completed
-    terminal.type("pan\t", "panel ")
+    terminal.type("pri\t", "printed ")
     terminal.type("\r", "going> ")
     terminal.type("help res\t", "restore ")
     terminal.type("\r", "going> ")
@@ -83,13 +83,11 @@ def lines_that_are_typed():
     terminal.type(UP, "words 0105 1")
     terminal.type("\r", "0105 00000000\n0000 going> ")
     shown = terminal.type("transcript\r", "going> ")
-    assert "panel \nbreak 0105\nshow 0000 1\nwords 0105 1\nwords 0105 1\n0000" in shown, shown
+    assert "printed \nbreak 0105\nshow 0000 1\nwords 0105 1\nwords 0105 1\n0000" in shown, shown
     terminal.type("new\r", "new\n0000 halted operator> ")
     terminal.type("transcript\r", "transcript\n0000 halted operator> ")
-    # while a note stands there is no prompt: a blank, and the cursor on it
-    terminal.type("# a note\r", "# a note\n ")
-    terminal.type("foo\r", "help lists them\n        a note\n ")
-    terminal.type("#\r", "#\n0000 halted operator> ")
+    # a line that begins with # is a line as any other
+    terminal.type("# a note\r", "help lists them\n0000 halted operator> ")
     terminal.type(CTRL_D, "\n")
     assert terminal.status() == 1
 

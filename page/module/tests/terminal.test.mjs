@@ -132,7 +132,7 @@ const LESSON = "put 0000 b 0003\nput 0003 = 4\nsave drum\nput 0003 = 5\nput 0009
 inFolder("a dump is kept and given back, without a trace of what was asked", { lesson: LESSON, again: "press start\nrestore drum\n" }, (here) => {
     assert.equal(monitor(["lesson"], "transcript\n", here).text, [
         "ok", "ok", "saved drum", "ok", "ok", "restored 2",
-        "put 0000 0001000j", "put 0003 00000008", "dump", "put 0003 0000000f", "put 0009 00000002", "put 0003 00000008", "put 0009 00000000", "",
+        "put 0000 0001000j", "put 0003 00000008", "put 0003 0000000f", "put 0009 00000002", "put 0003 00000008", "put 0009 00000000", "",
     ].join("\n"));
     assert.equal(readFileSync(join(here.cwd, "drum"), "utf8"), "0000 0001000j\n0003 00000008\n");
     assert.deepEqual(readdirSync(here.cwd).sort(), ["again", "drum", "lesson"]);
@@ -155,7 +155,7 @@ inFolder("dumps that are none", { odd: "0000 00000001\n", zero: "0000 00000000\n
     assert.equal(monitor([], "restore odd\nrestore zero\nrestore order\nrestore end\nrestore wide\n", here).text, [
         "? 1 Form: line 1 is no line of a dump", "        odd", "? 1 Form: line 1 is no line of a dump", "        zero",
         "? 1 Form: the address of line 2 is not above that of the line before it", "        order",
-        "? 13 File end: a line that is #. would end the block", "? 1 Form: line 1 is no line of a dump", "        wide", "",
+        "? 1 Form: line 2 is no line of a dump", "        end", "? 1 Form: line 1 is no line of a dump", "        wide", "",
     ].join("\n"));
 });
 
@@ -174,8 +174,7 @@ inFolder("files that are refused", { point: " z\n.\n", self: "do self\n" }, (her
     mkdirSync(join(here.cwd, "folder"));
     assert.equal(monitor([], "source point\ndo none\ndo folder\nsave folder/none/drum\nsave folder\n", here).text, [
         "? 13 File point: a line that is a point alone would end the source", "? 13 File none: it cannot be opened", "? 13 File folder: it cannot be read",
-        "? 13 File folder/none/drum: it cannot be written, and is as it was", "        folder/none/drum",
-        "? 13 File folder: it cannot be written, and is as it was", "        folder", "",
+        "? 13 File folder/none/drum: it cannot be written, and is as it was", "? 13 File folder: it cannot be written, and is as it was", "",
     ].join("\n"));
     assert.deepEqual(readdirSync(here.cwd).sort(), ["folder", "point", "self"]);
     assert.match(monitor(["self"], "", here).text, /^\? 13 File self: 16 files are open within one another\n +line 1 of self\n$/);
@@ -184,7 +183,7 @@ inFolder("files that are refused", { point: " z\n.\n", self: "do self\n" }, (her
 
 inFolder("a source that a file leaves open takes the lines that are typed", { open: "source\n z\n" }, (here) => {
     assert.equal(monitor(["open"], "do open\n end\n.\nfoo\n", here).text, [
-        "? 9 Faults", "line 2 UnknownOrder", "        do open", "           ^^^^", "        line 1 of open",
+        "? 9 Faults", "line 2 UnknownOrder", "        do open", "           ^^^^",
         "? 1 Form: there is no such command, help lists them", "",
     ].join("\n"));
 });

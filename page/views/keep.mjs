@@ -1,0 +1,40 @@
+// Opening a file, by a button or dropped on the page, and the offer of the last session that the browser has kept.
+import { unopened } from "../kept.mjs";
+import { button, h } from "./dom.mjs";
+
+/** Opens a file of the reader's as a script. One that is none is told, and nothing is changed. */
+export async function openFile(file, laboratory, deed) {
+    const text = await file.text();
+    const kind = unopened(text, (command) => laboratory.knows(command));
+    if (kind !== null) return laboratory.tell({ kind, detail: file.name });
+    return deed(file.name, text);
+}
+
+/** The button that opens a file. */
+export function makeOpen({ text }, opened) {
+    const choice = h("input", { type: "file", hidden: true, "aria-label": text("open"), onchange: () => { if (choice.files.length > 0) opened(choice.files[0]); choice.value = ""; } });
+    return h("span", {}, button(text("open"), () => choice.click(), { id: "open", title: text("openHint") }), choice);
+}
+
+/** Files that are dropped on the page are opened, where that is wanted; the browser does not go to them. */
+export function hearDrops(isWanted, opened) {
+    document.addEventListener("dragover", (event) => event.preventDefault());
+    document.addEventListener("drop", (event) => {
+        event.preventDefault();
+        const [file] = event.dataTransfer.files;
+        if (file !== undefined && isWanted()) opened(file);
+    });
+}
+
+/** The offer of the last session. It is there until it is opened or put away, and never at the kiosk. */
+export function makeOffer(kept, { text }, isWanted, opened) {
+    const place = document.getElementById("kept");
+    const end = (deed) => () => {
+        place.hidden = true;
+        document.querySelector("#open, .doors a")?.focus();
+        deed();
+    };
+    const script = kept.offered;
+    place.replaceChildren(text("keptSession"), " ", button(text("openAgain"), end(() => { kept.offered = null; opened(script); })), " ", button(text("forget"), end(() => { kept.offered = null; kept.forget(); })));
+    place.hidden = script === null || !isWanted;
+}
