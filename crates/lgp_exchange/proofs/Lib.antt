@@ -1,0 +1,5 @@
+pub mod Archives
+pub mod Bytes
+pub mod Faults
+pub mod Lines
+pub mod Drums

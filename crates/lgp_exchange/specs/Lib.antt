@@ -1,0 +1,4 @@
+pub mod ArchiveText
+pub mod TapeBytes
+pub mod Deposits
+pub mod Examined

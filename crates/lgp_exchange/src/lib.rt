@@ -1,0 +1,13 @@
+//! Tapes and drums in the forms of other programs.
+#![tactic(auto)]
+
+pub use archive_text::write_archive_text;
+pub use code_bytes::{BytesFault, read_tape_bytes, tape_bytes};
+pub use deposits::{deposits_of, push_deposits};
+pub use examined::{ExaminedFault, read_examined};
+
+mod archive_text;
+mod code_bytes;
+mod deposits;
+mod examined;
+pub mod laws;
