@@ -103,16 +103,26 @@ fn growths<B: Allocator>(limited: &Limited<B>, call: Call) -> Option<u64> {
 }
 
 /// Whether writing a tape as text has more than one growth, and how many growths its bytes have and the tape read from these.
+fn growths_of_codes<B: Allocator>(
+    limited: &Limited<B>,
+    codes: &[Code],
+    text: &[u8],
+    numbers: &[u8],
+) -> Option<(bool, Option<u64>, Option<u64>)> {
+    let written = growths(limited, Call::Archive(codes, text))?;
+    let bytes = growths(limited, Call::Bytes(codes, numbers));
+    let read = growths(limited, Call::ReadBytes(numbers, codes));
+    Some((written > 1, bytes, read))
+}
+
+/// The same of a tape of a hundred zeros.
 fn growths_of_tape<B: Allocator>(
     limited: &Limited<B>,
     global: Global,
 ) -> Option<(bool, Option<u64>, Option<u64>)> {
-    let numbers = [2; 100];
+    let (text, numbers) = ([b'0'; 100], [2; 100]);
     let codes = codes_of(global, &numbers)?;
-    let written = growths(limited, Call::Archive(codes.as_slice(), &[b'0'; 100]))?;
-    let bytes = growths(limited, Call::Bytes(codes.as_slice(), &numbers));
-    let read = growths(limited, Call::ReadBytes(&numbers, codes.as_slice()));
-    Some((written > 1, bytes, read))
+    growths_of_codes(limited, codes.as_slice(), &text, &numbers)
 }
 
 #[test]
