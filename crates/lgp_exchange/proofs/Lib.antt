@@ -3,3 +3,4 @@ pub mod Bytes
 pub mod Faults
 pub mod Lines
 pub mod Drums
+pub mod Papers

@@ -1,8 +1,8 @@
 -- Lines that end at their line feeds, and how deposits and shown words are read.
-use Rattle.std.proofs.Common.{◌≡◌, ◌≢◌, ◌<◌, ◌+◌, ◌%◌, ◌/◌, ◌^◌, ◌&&◌, not, eqb, ℕ, Bool, true, false, List, [], ◌∷◌, ◌++◌, length, take, drop, map, Some, refl, sym, ap, subst, ◌∙◌, arith, codes, rules}
+use Rattle.std.proofs.Common.{◌≡◌, ◌≢◌, ◌<◌, ◌+◌, ◌%◌, ◌/◌, ◌&&◌, not, eqb, ℕ, Bool, true, List, [], ◌∷◌, ◌++◌, length, take, drop, map, Some, refl, sym, ap, subst, ◌∙◌, arith, codes, rules}
 use Rattle.std.specs.Char.{to_ascii_lowercase, to_ascii_uppercase}
 use Rattle.std.specs.Option.{option_or}
-use Rattle.std.proofs.lemmas.Bool.{and_parts, cond-false, eqb-true, ne_eqb, not-true}
+use Rattle.std.proofs.lemmas.Bool.{and_parts, cond-false, eqb-true, ne_eqb}
 use Rattle.std.proofs.lemmas.List.{append_assoc, take_at, drop_at, length-append, map-append}
 use Rattle.bstr.specs.Text.{line_len, lines_of, without_terminator}
 use Rattle.bstr.proofs.lemmas.LineLemmas.{lines-step}

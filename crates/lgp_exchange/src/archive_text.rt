@@ -9,7 +9,7 @@ use lgp_flexo::{Code, sign_of};
 use std::alloc::{AllocError, Allocator};
 
 /// The sign of a code as a byte, if it has a sign.
-fn sign_byte(code: Code) -> Option<u8>
+pub(crate) fn sign_byte(code: Code) -> Option<u8>
     ensures { result ≡ sign_at code }
 {
     let sign = sign_of(code)?;

@@ -24,6 +24,8 @@ enum Call<'a> {
     Deposits(&'a Drum, &'a [u8]),
     /// The drum of a text.
     Examined(&'a [u8], &'a Drum),
+    /// The paper of printed codes.
+    Paper(&'a [Code], &'a [u8]),
 }
 
 /// How a call ends: refused for memory, as with ample memory, or otherwise.
@@ -76,6 +78,13 @@ fn examined_end<A: Allocator + Copy>(alloc: A, text: &[u8], ample: &Drum) -> End
     }
 }
 
+fn paper_end<A: Allocator + Copy>(alloc: A, codes: &[Code], ample: &[u8]) -> End {
+    match paper_of(alloc, codes) {
+        Ok(text) => end_where(text.as_slice() == ample),
+        Err(_) => End::Refused,
+    }
+}
+
 fn end_of<A: Allocator + Copy>(alloc: A, call: Call) -> End {
     match call {
         Call::Archive(codes, ample) => archive_end(alloc, codes, ample),
@@ -83,6 +92,7 @@ fn end_of<A: Allocator + Copy>(alloc: A, call: Call) -> End {
         Call::ReadBytes(bytes, ample) => read_bytes_end(alloc, bytes, ample),
         Call::Deposits(drum, ample) => deposits_end(alloc, drum, ample),
         Call::Examined(text, ample) => examined_end(alloc, text, ample),
+        Call::Paper(codes, ample) => paper_end(alloc, codes, ample),
     }
 }
 
@@ -186,6 +196,27 @@ fn each_growth_over_a_full_drum_is_refused(rt: HostRuntime) {
     let limited = Limited::new(rt.alloc());
     let found = growths_of_full_drum(&limited, rt.alloc());
     assert_eq!(rt; (found, limited.blocks_out()), (Some((true, Some(1))), 0));
+}
+
+/// How many growths the paper of a row with a tab and many signs has, at least.
+fn growths_of_paper<B: Allocator>(limited: &Limited<B>, global: Global) -> Option<bool> {
+    let (mut numbers, mut text) = ([57; 93], [b'a'; 100]);
+    numbers[0] = 24;
+    text[..8].copy_from_slice(b"        ");
+    let codes = codes_of(global, &numbers)?;
+    Some(growths(limited, Call::Paper(codes.as_slice(), &text))? > 5)
+}
+
+#[test]
+fn each_growth_of_a_paper_is_refused(rt: HostRuntime) -> Result<(), Fail> {
+    let heap = LocalHeap::new(rt.alloc(), 65_536)?;
+    let limited = Limited::new(&heap);
+    let found = growths_of_paper(&limited, rt.alloc());
+    assert_eq!(rt;
+        (found, heap.used(), limited.blocks_out()),
+        (Some(true), 0, 0)
+    );
+    Ok(())
 }
 
 /// The faults of a byte above 63, of a bad line and of an address that is not above that of the line before, where the first growth is refused.

@@ -1,4 +1,4 @@
-use Rattle.std.proofs.Common.{arith, rules}
+use Rattle.std.proofs.Common.{rules}
 use Rattle.lgp_exchange.proofs.Archives.{sign-small}
 use Rattle.lgp_exchange.proofs.archive_text.sign_byte.Goals as goal
 
