@@ -1,0 +1,6 @@
+pub mod Archives
+pub mod Bytes
+pub mod Faults
+pub mod Lines
+pub mod Drums
+pub mod Papers

@@ -1,0 +1,41 @@
+use Rattle.std.proofs.Common.{◌≡◌, ◌<◌, ◌++◌, ◌∙◌, rules, ap, sym, subst, arith, drop, length, get_or, ◌+◌, refl}
+use Rattle.std.proofs.lemmas.List.{append_assoc, drop_more, take_all}
+use Rattle.std.proofs.lemmas.List.Elements.{All-more}
+use Rattle.std.specs.List.{All}
+use Rattle.lgp_word.specs.Word.{IsWord}
+use Rattle.lgp_exchange.specs.Deposits.{deposits_of, lines_from, used_deposit}
+use Rattle.lgp_exchange.proofs.deposits.push_deposits.Goals as goal
+
+pub loop-number-init : goal.loop-number-init
+unfolding deposits_of
+loop-number-init g c = record {
+  size = λ some. absurd (omega arith);
+  text = refl;
+  words = λ k d small. absurd (omega arith);
+}
+
+pub loop-number-preserved : goal.loop-number-preserved
+loop-number-preserved g c =
+    let words = c.args.drum.now in
+    let number = c.loop-number.number in
+    let here : c.unwrap-address.result ≡ number = search rules in
+    let within : number < length words = omega (arith, c.word.ensures.drum) in
+    let read : c.word.result ≡ get_or words number 0 = c.word.ensures.word ∙ ap (λ a. get_or words a 0) here in
+    let rest = lines_from used_deposit (number + 1) (drop (number + 1) words) in
+    record {
+      size = λ _. c.word.ensures.drum;
+      text = ap (λ t. t ++ rest) (c.in_ok-push_word.ensures.text
+          ∙ ap (λ a. c.loop-number.text.items ++ used_deposit a c.word.result) here ∙ ap (λ w. c.loop-number.text.items ++ used_deposit number w) read)
+          ∙ append_assoc c.loop-number.text.items (used_deposit number (get_or words number 0)) rest
+          ∙ ap (λ t. c.loop-number.text.items ++ t) (sym (ap (lines_from used_deposit number) (drop_more words number 0 within)))
+          ∙ c.loop-number.invariant.text;
+      words = All-more IsWord words number 0 within c.loop-number.invariant.words (subst IsWord read c.in_ok-push_word.ensures.word);
+    }
+
+pub returns-clause-drum : goal.returns-clause-drum
+returns-clause-drum g c =
+    let size : length c.args.drum.now ≡ 4096 = c.loop-number.invariant.size (omega arith) in
+    record {
+      size = size;
+      words_are = subst (All IsWord) (take_all c.loop-number.number c.args.drum.now (omega arith)) c.loop-number.invariant.words;
+    }

@@ -1,0 +1,14 @@
+//! Tapes and drums in the forms of other programs.
+
+use lgp_exchange::{
+    BytesFault, ExaminedFault, deposits_of, paper_of, push_deposits, push_paper, read_examined,
+    read_tape_bytes, tape_bytes, write_archive_text,
+};
+use lgp_flexo::{Code, TAPE_LIMIT, read_archive_text};
+use std::alloc::{Allocator, Global};
+use std::test::Fail;
+
+mod drums;
+mod growths;
+mod papers;
+mod tapes;
