@@ -1,9 +1,9 @@
-// Puts the one file together: node assemble.mjs TEMPLATE STYLE LACKING MAIN WORKER MODULE EXAMPLES LESSONS, written to standard output.
+// Puts the one file together: node assemble.mjs TEMPLATE STYLE LACKING MAIN WORKER MODULE EXAMPLES LESSONS TASKS, written to standard output.
 import { readFileSync, readdirSync } from "node:fs";
 import { join } from "node:path";
-import { lessonsBelow } from "./documents.mjs";
+import { lessonsBelow, tasksBelow } from "./documents.mjs";
 
-const [template, style, lacking, main, worker, module, shelf, lessons] = process.argv.slice(2);
+const [template, style, lacking, main, worker, module, shelf, lessons, tasks] = process.argv.slice(2);
 const text = (path) => readFileSync(path, "utf8");
 
 /** All scripts below a folder, by their names without the ending. */
@@ -24,6 +24,6 @@ const inertJson = (value) => inert(JSON.stringify(value)).replaceAll("<\\!--", "
 
 const parts = {
     STYLE: text(style), LACKING: inert(text(lacking)), MAIN: inert(text(main)), WORKER: inert(text(worker)), MODULE: readFileSync(module).toString("base64"),
-    EXAMPLES: inertJson(Object.fromEntries(scriptsBelow(shelf))), LESSONS: inertJson(lessonsBelow(lessons)),
+    EXAMPLES: inertJson(Object.fromEntries(scriptsBelow(shelf))), LESSONS: inertJson(lessonsBelow(lessons)), TASKS: inertJson(tasksBelow(tasks)),
 };
 process.stdout.write(text(template).replace(/@([A-Z]+)@/g, (whole, name) => parts[name] ?? whole));

@@ -1,6 +1,6 @@
 // Puts the page together: the laboratory, its views, and what the address asks for.
 import { Drive } from "./drive.mjs";
-import { Kept, keepFrom, linkOf } from "./kept.mjs";
+import { Kept, Sources, keepFrom, linkOf } from "./kept.mjs";
 import { Laboratory } from "./laboratory.mjs";
 import { headOf, linesIn, withoutQuestions } from "./lines.mjs";
 import { Link } from "./link.mjs";
@@ -27,6 +27,7 @@ import { makePlate, makeScope } from "./views/scope.mjs";
 import { arrange, makeStage } from "./views/stage.mjs";
 import { makeStory } from "./views/story.mjs";
 import { makeTales } from "./views/tales.mjs";
+import { makeTasks } from "./views/tasks.mjs";
 import { makeTurns } from "./views/turns.mjs";
 import { makeLines, makeScript, makeSource } from "./views/writing.mjs";
 import { LANGUAGES, counted, textsIn } from "./words.mjs";
@@ -42,6 +43,8 @@ const examples = new Map(Object.entries(JSON.parse(inlined("examples"))));
 const bytesOf = (base64) => Uint8Array.from(atob(base64), (sign) => sign.charCodeAt(0));
 const asked = askedIn(location);
 const kept = new Kept(() => localStorage);
+const sources = new Sources(() => localStorage);
+const openLink = () => new Link(inlined("worker"), bytesOf(inlined("module")));
 
 // lessons that have a document have their texts from there
 for (const [code, lessons] of Object.entries(JSON.parse(inlined("lessons")))) Object.assign(LANGUAGES[code].lessons, lessons);
@@ -191,16 +194,16 @@ function makeSoundSwitch() {
     return control;
 }
 
-function makeBar() {
+function makeBar(task) {
     const { text } = texts;
     const choice = h("select", { id: "example", "aria-label": text("openExample"), onchange: () => examples.has(choice.value) && openExample(choice.value) },
         h("option", { value: "" }, `${text("examples")}: ${text("chooseExample")}`),
         ...[...examples].map(([name, script]) => h("option", { value: name }, `${name}: ${headOf(script).title}`)));
     const language = h("select", { id: "language", "aria-label": "Language, Sprache", onchange: () => { texts = textsIn(language.value); layFor("language"); } },
         ...Object.entries(LANGUAGES).map(([code, table]) => h("option", { value: code, selected: code === texts.code }, table.language)));
-    const view = { node: h("div", { class: "line choices", role: "toolbar", "aria-label": text("choices") }, choice, behind("work", button(text("new"), () => laboratory.new(), { title: text("newHint") })), behind("work", button(text("save"), save, { title: text("saveHint"), id: "save" })), behind("work", makeOpen(texts, openDropped)),
+    const view = { node: h("div", { class: "line choices", role: "toolbar", "aria-label": text("choices") }, behind("learn", task), choice, behind("work", button(text("new"), () => laboratory.new(), { title: text("newHint") })), behind("work", button(text("save"), save, { title: text("saveHint"), id: "save" })), behind("work", makeOpen(texts, openDropped)),
         makeSoundSwitch(), button(text("kiosk"), () => setKiosk(true), { id: "kiosk" }), button(text("about"), about, { id: "about" }), language),
-        show: () => { choice.value = laboratory.script?.name ?? ""; } };
+        show: () => { choice.value = examples.has(laboratory.script?.name) ? laboratory.script.name : ""; } };
     return view;
 }
 
@@ -219,9 +222,9 @@ function makeExplanation() {
 const showing = { playing, held, isFast: () => drive.pace === "own" || drive.pace === "fast", pace: () => drive.pace, isAttract: () => isAttract, hasCosts: () => ["learn", "work"].includes(door) };
 
 /** All parts but the header, and the element that holds them in the order in which they are seen. */
-function makeWork() {
+function makeWork(tasks) {
     const made = {
-        hall: makeHall(texts, goTo, drive), tales: makeTales(laboratory, texts, drive, openShown), lesson: makeLesson(laboratory, texts, openShown), drum: makeDrum(laboratory, texts, showing), plate: makePlate(laboratory, texts), scope: makeScope(laboratory, texts, showing), panel: makePanel(laboratory, texts), console: makeConsole(laboratory, texts),
+        hall: makeHall(texts, goTo, drive), tales: makeTales(laboratory, texts, drive, openShown), lesson: makeLesson(laboratory, texts, openShown), tasks, drum: makeDrum(laboratory, texts, showing), plate: makePlate(laboratory, texts), scope: makeScope(laboratory, texts, showing), panel: makePanel(laboratory, texts), console: makeConsole(laboratory, texts),
         paper: makePaper(laboratory, texts, showing), tape: makeTape(laboratory, texts), keyboard: makeKeyboard(laboratory, texts),
         pace: makePace(laboratory, texts, drive), time: makeTime(laboratory, texts, showing), story: makeStory(laboratory, texts, showing), accounts: makeAccounts(laboratory, texts, showing), listing: makeListing(laboratory, texts, showing), costs: makeCosts(laboratory, texts),
         explanation: makeExplanation(), script: makeScript(laboratory, texts), source: makeSource(laboratory, texts), lines: makeLines(laboratory, texts),
@@ -243,9 +246,10 @@ function makeExhibit() {
 
 function makePage() {
     const { text } = texts;
-    const top = makeBar();
+    const tasks = makeTasks(laboratory, texts, JSON.parse(inlined("tasks")), sources, openLink);
+    const top = makeBar(tasks.choice);
     const heading = h("header", {}, behind("look learn work", h("a", { class: "skip unseen", href: "#story" }, text("skip"))), h("h1", {}, text("title")), h("p", { class: "subtitle" }, text("subtitle")), makeDoors(texts, goTo), top.node);
-    const { node, made } = makeWork();
+    const { node, made } = makeWork(tasks);
     return { nodes: [heading, node], views: [top, ...made] };
 }
 
@@ -343,7 +347,7 @@ async function openAsked() {
 }
 
 async function begin() {
-    laboratory = new Laboratory(new Link(inlined("worker"), bytesOf(inlined("module"))));
+    laboratory = new Laboratory(openLink());
     await laboratory.open();
     if (laboratory.panel === null) return globalThis.tellLacking(laboratory.notice.detail);
     drive = new Drive(laboratory, player, run, clocks);
