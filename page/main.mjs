@@ -14,6 +14,7 @@ import { makeConsole, makeKeyboard } from "./views/console.mjs";
 import { button, h, part } from "./views/dom.mjs";
 import { addressOfDoor, behind, makeDoors, makeHall, showDoor } from "./views/doors.mjs";
 import { makeDrum } from "./views/drum.mjs";
+import { GAMES, asksOf, makeHeap } from "./views/game.mjs";
 import { hearDrops, makeOffer, makeOpen, openFile } from "./views/keep.mjs";
 import { KIOSK, makeKiosk, watchIdle } from "./views/kiosk.mjs";
 import { makeLesson } from "./views/lesson.mjs";
@@ -239,9 +240,11 @@ function makeOthers() {
 }
 
 function makeExhibit() {
-    const made = { drum: makeDrum(laboratory, texts, showing), scope: makeScope(laboratory, texts, showing), paper: makePaper(laboratory, texts, showing) };
+    const game = GAMES.get(asked.example);
+    const shown = game === undefined ? makeScope(laboratory, texts, showing) : makeHeap(laboratory, texts);
+    const made = { drum: makeDrum(laboratory, texts, showing), shown, paper: makePaper(laboratory, texts, showing) };
     for (const node of [made.drum.node, made.paper.node]) node.querySelector("h2").classList.add("unseen");
-    return makeKiosk(laboratory, texts, { ...showing, drive }, openKiosk, made, makeOthers());
+    return makeKiosk(laboratory, texts, { ...showing, drive }, openKiosk, made, makeOthers(), game);
 }
 
 function makePage() {
@@ -281,6 +284,9 @@ async function openKiosk() {
     const isThere = asked.example === null || examples.has(asked.example);
     const name = isThere ? asked.example ?? KIOSK.example : KIOSK.example;
     await laboratory.openForShow(name, examples.get(name));
+    const game = GAMES.get(name);
+    laboratory.questionsToo = game === undefined ? [] : asksOf(game, laboratory.labels);
+    if (game !== undefined) await laboratory.command(...game.set);
     if (!isThere) await laboratory.tell({ kind: "noKioskExample", detail: asked.example, shown: KIOSK.example });
 }
 
@@ -316,6 +322,7 @@ async function setKiosk(wanted) {
     isAttract = false;
     endIdle();
     drive.halt();
+    laboratory.questionsToo = [];
     laboratory.isOnShow = isKiosk || door === "hall" || door === "look";
     layFor(isKiosk ? "kiosk-start" : "kiosk");
     if (!isKiosk) return;

@@ -17,6 +17,7 @@ import { bitsOf } from "../module/replies.mjs";
 import { disorder, faint, losesFocus, nameless, noteMouse, unreached } from "./access.mjs";
 import { Chromium } from "./chromium.mjs";
 import { Firefox } from "./firefox.mjs";
+import { visitsOfGames } from "./visits_game.mjs";
 import { visitsOfTasks } from "./visits_tasks.mjs";
 import { WebKit } from "./webkit.mjs";
 
@@ -134,7 +135,7 @@ async function addresses(browser) {
     await settled(browser);
     assert.match(await textOf(browser, ".paper"), /^2 3 5 7 [^]* 89 97/);
     assert.match(await textOf(browser, ".kiosk-told"), /The machine has stopped/);
-    await browser.open(`${address}?lang=en&kiosk=games/matches`);
+    await browser.open(`${address}?lang=en&kiosk=input-and-output/decimal-input`);
     assert.equal(await textOf(browser, "#notice"), "");
     await browser.press("#kiosk-run");
     await browser.waitFor("/waits for its operator's keys\\. The kiosk has none/.test(document.querySelector('.kiosk-told').textContent)");
@@ -1315,7 +1316,7 @@ async function touch(browser) {
     await browser.size(1500, 1250);
 }
 
-const all = { ...visitsOfTasks(address), kiosk, addresses, changes, thereAndBack, openSource, whatToPress, endlessPrint, firstHour, lesson, stories, scope, doors, look, learn, sound, saved, notLost, source, profile, costs, examples, badInput, usedUp, longRun, paces, forPeople, widths, everyone, byKeys, readOut, stillness, touch, withoutWebAssembly, cannotOpen };
+const all = { ...visitsOfTasks(address), ...visitsOfGames(address), kiosk, addresses, changes, thereAndBack, openSource, whatToPress, endlessPrint, firstHour, lesson, stories, scope, doors, look, learn, sound, saved, notLost, source, profile, costs, examples, badInput, usedUp, longRun, paces, forPeople, widths, everyone, byKeys, readOut, stillness, touch, withoutWebAssembly, cannotOpen };
 const wanted = process.env.VISITS?.split(" ") ?? Object.keys(all).filter((name) => !left.includes(name));
 const visits = Object.fromEntries(wanted.map((name) => [name, all[name]]));
 const browser = await Engine.start();
