@@ -1,5 +1,6 @@
 // Puts the page together: the laboratory, its views, and what the address asks for.
 import { Drive } from "./drive.mjs";
+import { withRemarks } from "./examples.mjs";
 import { Kept, Sources, keepFrom, linkOf } from "./kept.mjs";
 import { Laboratory } from "./laboratory.mjs";
 import { headOf, linesIn, withoutQuestions } from "./lines.mjs";
@@ -41,6 +42,7 @@ const sound = new Sound(() => new AudioContext());
 const clocks = { now: () => performance.now(), sleep: (milliseconds) => new Promise((resolve) => setTimeout(resolve, milliseconds)) };
 const inlined = (id) => document.getElementById(id).textContent;
 const examples = new Map(Object.entries(JSON.parse(inlined("examples"))));
+const remarks = JSON.parse(inlined("remarks"));
 const bytesOf = (base64) => Uint8Array.from(atob(base64), (sign) => sign.charCodeAt(0));
 const asked = askedIn(location);
 const kept = new Kept(() => localStorage);
@@ -83,13 +85,24 @@ function show() {
     if (panel !== null) for (const view of views) view.show();
 }
 
+/** An example with its comments in the language of the page, where that has them. */
+const exampleNamed = (name) => withRemarks(examples.get(name), remarks[texts.code]?.[name] ?? []);
+
+/** Goes on in another language; an example that is open has its comments in that as well. Where a control had the focus, the one of this name has it then. */
+function goOnIn(code, id) {
+    texts = textsIn(code);
+    const name = laboratory.script?.name;
+    if (examples.has(name)) laboratory.retold(exampleNamed(name));
+    layFor(id);
+}
+
 /** What the hall shows. */
 const HALL_EXAMPLE = "self-modifying";
 
 function openExample(name) {
     drive.halt();
     if (door === "hall") goTo("work");
-    return laboratory.openScript(name, examples.get(name));
+    return laboratory.openScript(name, exampleNamed(name));
 }
 
 /** Opens what was saved: all its lines are done. */
@@ -103,7 +116,7 @@ const openDropped = (file) => openFile(file, laboratory, openSaved);
 
 /** Opens an example that the page shows by itself, and sets it going. */
 async function openShown(name) {
-    await laboratory.openForShow(name, examples.get(name));
+    await laboratory.openForShow(name, exampleNamed(name));
     if (laboratory.way.kind === "start") await laboratory.command("press start");
 }
 
@@ -199,8 +212,8 @@ function makeBar(task) {
     const { text } = texts;
     const choice = h("select", { id: "example", "aria-label": text("openExample"), onchange: () => examples.has(choice.value) && openExample(choice.value) },
         h("option", { value: "" }, `${text("examples")}: ${text("chooseExample")}`),
-        ...[...examples].map(([name, script]) => h("option", { value: name }, `${name}: ${headOf(script).title}`)));
-    const language = h("select", { id: "language", "aria-label": "Language, Sprache", onchange: () => { texts = textsIn(language.value); layFor("language"); } },
+        ...[...examples.keys()].map((name) => h("option", { value: name }, `${name}: ${headOf(exampleNamed(name)).title}`)));
+    const language = h("select", { id: "language", "aria-label": "Language, Sprache", onchange: () => goOnIn(language.value, "language") },
         ...Object.entries(LANGUAGES).map(([code, table]) => h("option", { value: code, selected: code === texts.code }, table.language)));
     const view = { node: h("div", { class: "line choices", role: "toolbar", "aria-label": text("choices") }, behind("learn", task), choice, behind("work", button(text("new"), () => laboratory.new(), { title: text("newHint") })), behind("work", button(text("save"), save, { title: text("saveHint"), id: "save" })), behind("work", makeOpen(texts, openDropped)),
         makeSoundSwitch(), button(text("kiosk"), () => setKiosk(true), { id: "kiosk" }), button(text("about"), about, { id: "about" }), language),
@@ -235,7 +248,7 @@ function makeWork(tasks) {
 }
 
 function makeOthers() {
-    const other = button(texts.code === "de" ? "English" : "Deutsch", () => { texts = textsIn(texts.code === "de" ? "en" : "de"); layFor("other-language"); }, { id: "other-language", lang: texts.code === "de" ? "en" : "de" });
+    const other = button(texts.code === "de" ? "English" : "Deutsch", () => goOnIn(texts.code === "de" ? "en" : "de", "other-language"), { id: "other-language", lang: texts.code === "de" ? "en" : "de" });
     return [makeSoundSwitch(), button(texts.text("leaveKiosk"), () => setKiosk(false), { id: "leave-kiosk" }), other];
 }
 
@@ -283,7 +296,7 @@ async function openKiosk() {
     drive.halt();
     const isThere = asked.example === null || examples.has(asked.example);
     const name = isThere ? asked.example ?? KIOSK.example : KIOSK.example;
-    await laboratory.openForShow(name, examples.get(name));
+    await laboratory.openForShow(name, exampleNamed(name));
     const game = GAMES.get(name);
     laboratory.questionsToo = game === undefined ? [] : asksOf(game, laboratory.labels);
     if (game !== undefined) await laboratory.command(...game.set);

@@ -12,7 +12,7 @@ import { ModuleLink } from "./module.mjs";
 const top = join(dirname(fileURLToPath(import.meta.url)), "../..");
 const module = join(top, "page/module/lgp_c_region.wasm");
 const skip = !existsSync(module);
-const { tasks, sentences } = tasksBelow(join(top, "tasks"));
+const { tasks, sentences } = tasksBelow(join(top, "tasks"), join(top, "examples"));
 const solutions = join(top, "tasks/solutions");
 const read = (name) => readFileSync(join(solutions, name), "utf8");
 

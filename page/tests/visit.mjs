@@ -17,6 +17,7 @@ import { bitsOf } from "../module/replies.mjs";
 import { disorder, faint, losesFocus, nameless, noteMouse, unreached } from "./access.mjs";
 import { Chromium } from "./chromium.mjs";
 import { Firefox } from "./firefox.mjs";
+import { visitsOfExamples } from "./visits_examples.mjs";
 import { visitsOfGames } from "./visits_game.mjs";
 import { visitsOfTasks } from "./visits_tasks.mjs";
 import { WebKit } from "./webkit.mjs";
@@ -1316,7 +1317,7 @@ async function touch(browser) {
     await browser.size(1500, 1250);
 }
 
-const all = { ...visitsOfTasks(address), ...visitsOfGames(address), kiosk, addresses, changes, thereAndBack, openSource, whatToPress, endlessPrint, firstHour, lesson, stories, scope, doors, look, learn, sound, saved, notLost, source, profile, costs, examples, badInput, usedUp, longRun, paces, forPeople, widths, everyone, byKeys, readOut, stillness, touch, withoutWebAssembly, cannotOpen };
+const all = { ...visitsOfTasks(address), ...visitsOfGames(address), ...visitsOfExamples(address), kiosk, addresses, changes, thereAndBack, openSource, whatToPress, endlessPrint, firstHour, lesson, stories, scope, doors, look, learn, sound, saved, notLost, source, profile, costs, examples, badInput, usedUp, longRun, paces, forPeople, widths, everyone, byKeys, readOut, stillness, touch, withoutWebAssembly, cannotOpen };
 const wanted = process.env.VISITS?.split(" ") ?? Object.keys(all).filter((name) => !left.includes(name));
 const visits = Object.fromEntries(wanted.map((name) => [name, all[name]]));
 const browser = await Engine.start();

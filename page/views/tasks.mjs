@@ -96,7 +96,7 @@ export function makeTasks(laboratory, texts, { tasks, sentences }, sources, open
         if (name === null) return;
         read.replaceChildren(...nodesOf(tasks[name].texts[code]));
         read.scrollTop = 0;
-        area.value = sources.of(name) ?? tasks[name].given;
+        area.value = sources.of(name) ?? tasks[name].given[code];
     };
     const begin = () => { sources.keep(sources.open, null); open(sources.open); };
     const buttons = makeDeeds(laboratory, texts, now, { sentences: { ...sentences.en, ...sentences[code] }, code, openLink, answer, begin });
