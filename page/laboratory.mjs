@@ -683,10 +683,11 @@ export class Laboratory extends EventTarget {
         await this.#look();
     }
 
-    /** Has the comments of the open script in another language: the text has the same lines but for these. A run that was stopped has in its line the orders that are left. */
+    /** Has the comments of the open script in another language: the text has the same lines but for these, else nothing is done. A run that was stopped has in its line the orders that are left. */
     retold(text) {
         const lines = linesIn(text);
         const { at } = this.script;
+        if (lines.length !== this.script.lines.length) return;
         if (at < lines.length && !isIdle(lines[at])) lines[at] = this.script.lines[at];
         this.script = { ...this.script, lines };
         this.comments = commentsIn(lines);

@@ -176,7 +176,7 @@ const en = {
         "Inside this page works a program whose every function was proved to meet its contract: machine, assembler, debugger and monitor of the laboratory Condugwa for the Royal McBee LGP-30. The page sends it lines, and shows its replies.",
         "Proved is that the module answers each line exactly as its definitions say, and that the whole transcript leads to the same machine. Not proved, but trusted: the script of this page that draws the replies and, when it saves, leaves out the lines that only ask, the browser, its WebAssembly with 64-bit addresses, and the linking of the module.",
         "The words, orders, drum and waits are those of the LGP-30 Programming Manual of 1957. What the manuals leave open is this project's own choice; docs/MACHINE.md marks each of them.",
-        "The page needs no network. The browser keeps the last session on this machine, where it can, and offers it when the page is opened again; the kiosk keeps nothing.",
+        "The page needs no network. The browser keeps the last session on this machine, where it can, and offers it when the page is opened again; it keeps the sources of tasks too. The kiosk keeps nothing.",
     ],
 };
 
@@ -355,7 +355,7 @@ const de = {
         "In dieser Seite arbeitet ein Programm, von dem für jede Funktion bewiesen ist, dass sie ihren Vertrag erfüllt: Maschine, Übersetzer, Debugger und Monitor des Labors Condugwa für die Royal McBee LGP-30. Die Seite schickt ihm Zeilen und zeigt seine Antworten.",
         "Bewiesen ist, dass das Modul jede Zeile genau so beantwortet, wie seine Definitionen sagen, und dass das ganze Protokoll der Zeilen, als Skript, zur selben Maschine führt. Nicht bewiesen, nur vertraut: das Skript dieser Seite, das die Antworten zeichnet und beim Sichern die Zeilen weglässt, die nur fragen, der Browser, sein WebAssembly mit 64-Bit-Adressen und das Binden des Moduls.",
         "Wörter, Befehle, Trommel und Wartezeiten sind die des LGP-30 Programming Manual von 1957. Was die Handbücher offen lassen, ist eine Wahl dieses Projekts; docs/MACHINE.md bezeichnet jede.",
-        "Die Seite braucht kein Netz. Der Browser bewahrt die letzte Sitzung auf diesem Rechner auf, wo er kann, und bietet sie an, wenn die Seite wieder geöffnet wird; der Kiosk behält nichts.",
+        "Die Seite braucht kein Netz. Der Browser bewahrt die letzte Sitzung auf diesem Rechner auf, wo er kann, und bietet sie an, wenn die Seite wieder geöffnet wird; auch die Quelltexte der Aufgaben bewahrt er auf. Der Kiosk behält nichts.",
     ],
 };
 

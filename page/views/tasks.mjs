@@ -69,7 +69,7 @@ function makeDeeds(laboratory, { text }, now, { sentences, code, openLink, answe
             const { missing } = await assembled(link, source, say);
             return missing.length === 0 ? null : { isRight: false, verdict: say("wrong", file), missing };
         });
-        await laboratory.openScript(name, setUpOf(task, isBlank || faulty !== null ? null : source));
+        await laboratory.openScript(`tasks/${name}`, setUpOf(task, isBlank || faulty !== null ? null : source));
         if (faulty === null && name === now().name) answer.show({ isRight: null, verdict: text("taskIsPut"), missing: [] });
     };
     const save = () => {
