@@ -39,7 +39,7 @@ async function whole(browser, texts, moves, ends) {
     assert.deepEqual(await heap(browser), [0, 21]);
 }
 
-/** A visitor at the kiosk plays to win and to lose, and then begins another game by a press. */
+/** A visitor at the kiosk plays to win and to lose, and then begins another game by a press; the second press of a double one does nothing. */
 async function game(browser, address) {
     await browser.ask?.("Accessibility.enable");
     for (const code of ["en", "de"]) {
@@ -56,6 +56,9 @@ async function game(browser, address) {
             assert.deepEqual([await outside(browser), await browser.value("document.documentElement.scrollHeight <= innerHeight")], [[], true], `at ${width} by ${height}`);
         }
         await browser.size(1024, 768);
+        await browser.value("document.querySelector('#kiosk-take-1').dispatchEvent(new MouseEvent('click', { detail: 2 }))");
+        await browser.value("laboratoryOfPage().settled()");
+        assert.equal((await toldIn(browser)).slice(0, texts.turn.length), texts.turn);
         assert.deepEqual([...await disorder(browser), ...await nameless(browser), ...await faint(browser)], []);
         await whole(browser, texts, [[1, 19], [3, 15], [3, 11], [3, 7], [3, 3]], texts.won);
         await press(browser, 1);

@@ -3,7 +3,7 @@ import assert from "node:assert/strict";
 import { readFileSync, readdirSync } from "node:fs";
 import { dirname, join } from "node:path";
 import { fileURLToPath } from "node:url";
-import { disorder, faint, nameless } from "./access.mjs";
+import { disorder, faint, nameless, noteMouse, unreached } from "./access.mjs";
 
 const solutions = join(dirname(fileURLToPath(import.meta.url)), "../../tasks/solutions");
 const read = (name) => readFileSync(join(solutions, name), "utf8");
@@ -87,12 +87,16 @@ async function taskSources(browser, address) {
     assert.equal(await browser.value("document.querySelector('.tasks').checkVisibility()"), false);
 }
 
-/** The part with a task is for everyone: names, contrast and headings in light and dark; and at each width nothing has to be scrolled sideways. */
+/** The part with a task is for everyone: names, contrast and headings in light and dark, and the way by Tab, which is gone in Chromium; and at each width nothing has to be scrolled sideways. */
 async function taskForAll(browser, address) {
     await browser.ask?.("Accessibility.enable");
     for (const code of ["en", "de"]) {
+        const isByTab = browser.engine === "Chromium";
+        const endNoting = isByTab ? await noteMouse(browser) : null;
         await browser.open(`${address}?lang=${code}&door=learn`);
+        await endNoting?.();
         await choose(browser, "sum");
+        if (isByTab) assert.deepEqual(await unreached(browser), []);
         for (const kind of ["", ".wrong-2"]) {
             await checked(browser, read(`sum${kind}.source`));
             for (const scheme of browser.media === undefined ? [null] : ["light", "dark"]) {

@@ -61,7 +61,8 @@ export function makeMoves(game, laboratory, { text, table }, drive, open) {
         // a second press that came meanwhile was of dead keys, and has not to end the pace that the first one set
         return drive.pace === null && laboratory.way.kind === "go" ? drive.go("own") : undefined;
     };
-    const moves = game.moves.map((line, place) => button(table.gameTake[place], () => move(line), { id: `kiosk-take-${place + 1}` }));
+    // the second press of a double one is not meant for what the first one has led to
+    const moves = game.moves.map((line, place) => button(table.gameTake[place], ({ detail }) => (detail > 1 ? undefined : move(line)), { id: `kiosk-take-${place + 1}` }));
     const again = button(text("kioskAgain"), async () => { await open(); await hurry(); }, { id: "kiosk-again" });
     return { node: h("div", { class: "kiosk-bar moves" }, ...moves, again), show: () => {} };
 }
