@@ -5,19 +5,12 @@ import { dirname, join } from "node:path";
 import { fileURLToPath } from "node:url";
 import { SECTORS, positionOf } from "./addresses.mjs";
 import { documentOf } from "./documents.mjs";
-import { Laboratory } from "./laboratory.mjs";
 import { lessonIn } from "./lessons.mjs";
-import { ModuleLink } from "./tests/module.mjs";
-import { LESSONS } from "./views/lesson.mjs";
+import { solved } from "./solved.mjs";
 import { LANGUAGES } from "./words.mjs";
 
 const top = join(dirname(fileURLToPath(import.meta.url)), "..");
 const documents = join(top, "docs/lessons");
-
-/** What is done before each step of a lesson can be done or asked. */
-export const DEEDS = {
-    "where-a-word-costs-least": [(it) => it.step(2), (it) => it.step(2), null, (it) => it.run(), (it) => it.askCosts("0128"), null, null, (it) => it.askCosts("0129"), (it) => it.askCosts("0132")],
-};
 
 /** The word whose ring is drawn on a sheet, and how many rows of the race's table are left to a team. */
 const RING_OF = "0128";
@@ -45,23 +38,6 @@ const partsOf = (document) => document.split(/^## /m).slice(1).map((part) => {
     return { heading, paragraphs, rows: rows.length === 0 ? null : [rows[0], ...rows.slice(2)] };
 });
 
-/** The solutions of a lesson's steps, and the costs of the word whose ring is drawn, as the module has them. */
-export async function solved(name) {
-    const laboratory = new Laboratory(new ModuleLink(join(top, "page/module/lgp_c_region.wasm")));
-    await laboratory.open();
-    const { example, steps } = LESSONS.find((it) => it.name === name);
-    await laboratory.openForShow(example, readFileSync(join(top, `examples/${example}.txt`), "utf8"));
-    if (laboratory.way.kind === "start") await laboratory.command("press start");
-    const answers = [];
-    for (const [place, step] of steps.entries()) {
-        await DEEDS[name][place]?.(laboratory);
-        if (!(step.done ?? step.isAsked)(laboratory)) throw new Error(`step ${place + 1} of ${name} is not done by its deed`);
-        answers.push(step.answer?.(laboratory) ?? null);
-    }
-    await laboratory.askCosts(RING_OF);
-    return { answers, costs: laboratory.costs };
-}
-
 /** The circle of sectors, the head above: inside their numbers, outside a field for each, which the costs fill where they are given. */
 function circle(costs) {
     const at = (turn, radius) => [radius * Math.sin(2 * Math.PI * turn), -radius * Math.cos(2 * Math.PI * turn)].map((it) => it.toFixed(1)).join(" ");
@@ -86,7 +62,7 @@ function questionsOf({ paragraphs }, { question }, isSolved) {
 
 function stepsOf({ steps }, answers, isSolved) {
     const answerOf = (answer) => (answer === null ? "" : isSolved ? ` <b>${answer}</b>` : ' <span class="blank">&nbsp;</span>');
-    return `<ol>${steps.map((step, place) => `<li>${escaped(step)}${answerOf(answers[place])}</li>`).join("\n")}</ol>`;
+    return `<ol>${steps.map(({ text }, place) => `<li>${escaped(text)}${answerOf(answers[place])}</li>`).join("\n")}</ol>`;
 }
 
 function tableOf([head, ...rows], { team }, isSolved) {
@@ -110,12 +86,13 @@ function sheetOf(document, code, { answers, costs }, isSolved) {
 
 /** Writes all sheets into a folder. */
 async function writeSheets(folder) {
-    for (const name of Object.keys(DEEDS)) {
-        const answers = await solved(name);
+    for (const name of ["where-a-word-costs-least"]) {
+        const { answers, laboratory } = await solved(name);
+        await laboratory.askCosts(RING_OF);
         for (const code of Object.keys(LANGUAGES)) {
             const document = readFileSync(documentOf(documents, name, code), "utf8");
             const ending = code === "en" ? ".html" : `.${code}.html`;
-            for (const isSolved of [false, true]) writeFileSync(join(folder, `${name}${isSolved ? "-solutions" : ""}${ending}`), sheetOf(document, code, answers, isSolved));
+            for (const isSolved of [false, true]) writeFileSync(join(folder, `${name}${isSolved ? "-solutions" : ""}${ending}`), sheetOf(document, code, { answers, costs: laboratory.costs }, isSolved));
         }
     }
 }

@@ -8,6 +8,7 @@ import { version } from "./module/package.json";
 import { askedIn } from "./opening.mjs";
 import { Player } from "./player.mjs";
 import { Sound, follow } from "./sound.mjs";
+import { setUpFor } from "./steps.mjs";
 import { makeAccounts, makeTime } from "./views/accounts.mjs";
 import { makeCosts } from "./views/costs.mjs";
 import { makeConsole, makeKeyboard } from "./views/console.mjs";
@@ -43,8 +44,8 @@ const bytesOf = (base64) => Uint8Array.from(atob(base64), (sign) => sign.charCod
 const asked = askedIn(location);
 const kept = new Kept(() => localStorage);
 
-// lessons that have a document have their texts from there
-for (const [code, lessons] of Object.entries(JSON.parse(inlined("lessons")))) Object.assign(LANGUAGES[code].lessons, lessons);
+// lessons have their texts from their documents
+for (const [code, lessons] of Object.entries(JSON.parse(inlined("lessons")))) LANGUAGES[code].lessons = lessons;
 
 let texts = textsIn(asked.language ?? (navigator.language ?? "en").slice(0, 2));
 let isKiosk = asked.isKiosk;
@@ -98,9 +99,12 @@ function openSaved(name, script) {
 const openDropped = (file) => openFile(file, laboratory, openSaved);
 
 /** Opens an example that the page shows by itself, and sets it going. */
-async function openShown(name) {
-    await laboratory.openForShow(name, examples.get(name));
-    if (laboratory.way.kind === "start") await laboratory.command("press start");
+const openShown = (name) => setUpFor(laboratory, { opens: name }, (example) => examples.get(example));
+
+/** Sets the machine up for a step of a lesson. */
+function openForStep(step) {
+    drive.halt();
+    return setUpFor(laboratory, step, (example) => examples.get(example));
 }
 
 /** Goes through a door. The machine stays as it is, but that what moves in the hall stops. */
@@ -221,7 +225,7 @@ const showing = { playing, held, isFast: () => drive.pace === "own" || drive.pac
 /** All parts but the header, and the element that holds them in the order in which they are seen. */
 function makeWork() {
     const made = {
-        hall: makeHall(texts, goTo, drive), tales: makeTales(laboratory, texts, drive, openShown), lesson: makeLesson(laboratory, texts, openShown), drum: makeDrum(laboratory, texts, showing), plate: makePlate(laboratory, texts), scope: makeScope(laboratory, texts, showing), panel: makePanel(laboratory, texts), console: makeConsole(laboratory, texts),
+        hall: makeHall(texts, goTo, drive), tales: makeTales(laboratory, texts, drive, openShown), lesson: makeLesson(laboratory, texts, openForStep), drum: makeDrum(laboratory, texts, showing), plate: makePlate(laboratory, texts), scope: makeScope(laboratory, texts, showing), panel: makePanel(laboratory, texts), console: makeConsole(laboratory, texts),
         paper: makePaper(laboratory, texts, showing), tape: makeTape(laboratory, texts), keyboard: makeKeyboard(laboratory, texts),
         pace: makePace(laboratory, texts, drive), time: makeTime(laboratory, texts, showing), story: makeStory(laboratory, texts, showing), accounts: makeAccounts(laboratory, texts, showing), listing: makeListing(laboratory, texts, showing), costs: makeCosts(laboratory, texts),
         explanation: makeExplanation(), script: makeScript(laboratory, texts), source: makeSource(laboratory, texts), lines: makeLines(laboratory, texts),
