@@ -118,3 +118,24 @@ test("the languages of a lesson have the same numbers in their questions and ste
         }
     }
 });
+
+test("each row of a round of the listing is the account of its order, in each language", { skip }, async () => {
+    const laboratory = new Laboratory(new ModuleLink(module));
+    await laboratory.open();
+    await laboratory.say(...lessons.en["reading-a-listing"].steps[4].lines, "go 0200", "break 0200");
+    await laboratory.run();
+    await laboratory.step(5);
+    const accounts = laboratory.accounts.map(({ at, order, find, take, seek, act, sum }) => `| ${[at, order, find, take, seek, act, sum].join(" | ")} |`);
+    for (const code of Object.keys(LANGUAGES).filter((it) => !lackingIn(documents, it).includes("reading-a-listing"))) {
+        const document = readFileSync(documentOf(documents, "reading-a-listing", code), "utf8");
+        assert.deepEqual(document.split("\n").filter((line) => /^\| 020\d \| . \d{4} \| \d/.test(line)), accounts, code);
+    }
+});
+
+test("each lesson has a document in each language, with as many parts", () => {
+    const partsIn = (name, code) => readFileSync(documentOf(documents, name, code), "utf8").match(/^## /gm).length;
+    for (const code of Object.keys(LANGUAGES)) {
+        assert.deepEqual(lackingIn(documents, code), [], `lessons without a document in ${code}`);
+        for (const { name } of LESSONS) assert.equal(partsIn(name, code), partsIn(name, "en"), `${name} in ${code}`);
+    }
+});
