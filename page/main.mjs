@@ -17,7 +17,7 @@ import { addressOfDoor, behind, makeDoors, makeHall, showDoor } from "./views/do
 import { makeDrum } from "./views/drum.mjs";
 import { hearDrops, makeOffer, makeOpen, openFile } from "./views/keep.mjs";
 import { KIOSK, makeKiosk, watchIdle } from "./views/kiosk.mjs";
-import { makeLesson } from "./views/lesson.mjs";
+import { makeLesson, noLesson } from "./views/lesson.mjs";
 import { makeListing } from "./views/listing.mjs";
 import { makeNotices } from "./views/notice.mjs";
 import { makePace } from "./views/pace.mjs";
@@ -59,6 +59,7 @@ let isAttract = false;
 let attractRound = 0;
 let laboratory = null;
 let hasShortKeys = true;
+const pupil = noLesson();
 
 function progressOf({ orders, milliseconds }) {
     const speed = Math.round(orders / (milliseconds / 1000));
@@ -225,7 +226,7 @@ const showing = { playing, held, isFast: () => drive.pace === "own" || drive.pac
 /** All parts but the header, and the element that holds them in the order in which they are seen. */
 function makeWork() {
     const made = {
-        hall: makeHall(texts, goTo, drive), tales: makeTales(laboratory, texts, drive, openShown), lesson: makeLesson(laboratory, texts, openForStep), drum: makeDrum(laboratory, texts, showing), plate: makePlate(laboratory, texts), scope: makeScope(laboratory, texts, showing), panel: makePanel(laboratory, texts), console: makeConsole(laboratory, texts),
+        hall: makeHall(texts, goTo, drive), tales: makeTales(laboratory, texts, drive, openShown), lesson: makeLesson(laboratory, texts, openForStep, pupil), drum: makeDrum(laboratory, texts, showing), plate: makePlate(laboratory, texts), scope: makeScope(laboratory, texts, showing), panel: makePanel(laboratory, texts), console: makeConsole(laboratory, texts),
         paper: makePaper(laboratory, texts, showing), tape: makeTape(laboratory, texts), keyboard: makeKeyboard(laboratory, texts),
         pace: makePace(laboratory, texts, drive), time: makeTime(laboratory, texts, showing), story: makeStory(laboratory, texts, showing), accounts: makeAccounts(laboratory, texts, showing), listing: makeListing(laboratory, texts, showing), costs: makeCosts(laboratory, texts),
         explanation: makeExplanation(), script: makeScript(laboratory, texts), source: makeSource(laboratory, texts), lines: makeLines(laboratory, texts),

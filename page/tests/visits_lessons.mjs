@@ -163,7 +163,7 @@ export function makeLessonVisits({ address, press, settled, steps: stepped, pict
         await browser.size(1500, 1250);
     };
 
-    /** The name of a part begins it anew; a tablet and a telephone show the steps above the machine, and nothing is scrolled sideways. */
+    /** The name of a part begins it anew, and a change of the language changes the words alone; a tablet and a telephone show the steps above the machine, and nothing is scrolled sideways. */
     async function partsOfLessons(browser) {
         await browser.open(`${address}?lang=en&door=learn`);
         await press(browser, "[data-lesson='rewriting']");
@@ -175,6 +175,13 @@ export function makeLessonVisits({ address, press, settled, steps: stepped, pict
         await press(browser, ".lesson h3:nth-of-type(3) button");
         await reached(browser, 0);
         assert.deepEqual(await browser.value("[laboratoryOfPage().panel.counter, laboratoryOfPage().panel.status]"), ["0000", "going"]);
+        await stepped(browser, 3);
+        await reached(browser, 1);
+        await browser.value("(() => { const it = document.querySelector('#language'); it.value = 'de'; it.dispatchEvent(new Event('change')); })()");
+        await settled(browser);
+        await reached(browser, 1);
+        assert.equal(await textOf(browser, `${NOW} .what`), plainly(lessons.de.rewriting.steps[11].text));
+        assert.deepEqual([await doneIn(browser), await browser.value("laboratoryOfPage().panel.counter")], [1, "0005"]);
         for (const [width, height] of [[390, 800], [768, 1024], [1024, 768]]) {
             await browser.size(width, height);
             assert.deepEqual([await sideways(browser), await browser.value("document.documentElement.scrollWidth <= innerWidth")], [[], true], `at ${width}`);

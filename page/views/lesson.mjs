@@ -84,38 +84,32 @@ function rowsOf(steps, { text }, begin) {
     });
 }
 
-/** The part of the page with the lessons. `open` sets the machine up for a step. */
-export function makeLesson(laboratory, texts, open) {
-    const { text, table } = texts;
-    let [lesson, steps, at, round, isReady] = [null, [], 0, 0, false];
-    const isDone = new Set();
-    const [about, list, ended] = [h("p", { class: "about" }), h("div", { class: "steps" }), h("p", { role: "status", class: "lesson-end", tabindex: "-1" })];
-    const choices = LESSONS.map((it) => button(table.lessons[it.name].title, () => begin(it), { "data-lesson": it.name }));
-    const chosen = h("summary", {}, text("chooseLesson"));
-    const choice = h("details", { class: "choice-of-lesson", open: true }, chosen, h("div", { class: "line" }, ...choices));
-    const keepSeen = () => {
-        const { offsetTop, offsetHeight } = steps[at]?.node ?? ended;
+/** Where a pupil is: the lesson, or null, the place of its step, and the places of those that are done. It outlasts a change of the language. */
+export const noLesson = () => ({ lesson: null, at: 0, isDone: new Set() });
+
+/** The steps of the pupil's lesson, in a box that is scrolled to the one that is to be done. */
+function makeSteps(laboratory, texts, open, pupil) {
+    let [steps, round, isReady] = [[], 0, true];
+    const [list, ended] = [h("div", { class: "steps" }), h("p", { role: "status", class: "lesson-end", tabindex: "-1" })];
+    const growth = new ResizeObserver(() => {
+        const { offsetTop, offsetHeight } = steps[pupil.at]?.node ?? ended;
         list.scrollTop = Math.min(offsetTop, Math.max(list.scrollTop, offsetTop + offsetHeight - list.clientHeight));
-    };
-    const growth = new ResizeObserver(keepSeen);
-    const begin = async (wanted) => {
+    });
+    const layOut = (written) => {
+        steps = pupil.lesson.steps.map((step, place) => makeStep(laboratory, { ...step, ...written[place] }, place, texts, () => next()));
         growth.disconnect();
-        const written = table.lessons[wanted.name];
-        [lesson, steps] = [wanted, wanted.steps.map((step, place) => makeStep(laboratory, { ...step, ...written.steps[place] }, place, texts, () => next()))];
         for (const { node } of steps) growth.observe(node);
-        isDone.clear();
-        choice.open = false;
-        tell(chosen, written.title);
-        tell(about, written.about);
-        list.replaceChildren(...rowsOf(steps, texts, (first) => { for (const place of steps.keys()) if (place >= first) isDone.delete(place); reach(first); }), ended);
-        await reach(0);
+        list.replaceChildren(...rowsOf(steps, texts, again), ended);
     };
-    const next = () => { isDone.add(at); reach(at + 1); };
+    const again = (first) => {
+        for (const place of steps.keys()) if (place >= first) pupil.isDone.delete(place);
+        return reach(first);
+    };
+    const next = () => { pupil.isDone.add(pupil.at); reach(pupil.at + 1); };
     const reach = async (place) => {
-        const hadFocus = list.contains(document.activeElement);
-        [at, round] = [place, round + 1];
-        const [mine, step] = [round, steps[place]];
-        isReady = false;
+        const [hadFocus, step] = [list.contains(document.activeElement), steps[place]];
+        [pupil.at, round, isReady] = [place, round + 1, false];
+        const mine = round;
         laboratory.lookedAt = step?.looks ?? [];
         if (step?.isSetUp) await open(step);
         if (step?.shows !== undefined) await laboratory.showAt(step.shows);
@@ -127,11 +121,37 @@ export function makeLesson(laboratory, texts, open) {
         if (hadFocus) (step?.node.querySelector("input") ?? step?.node ?? ended).focus({ preventScroll: true });
     };
     const show = () => {
-        for (const control of choices) control.setAttribute("aria-pressed", String(control.dataset.lesson === lesson?.name));
-        if (lesson === null) return;
-        if (isReady && steps[at]?.done?.(laboratory)) { next(); return; }
-        steps.forEach((step, place) => step.show(isDone.has(place), isReady && place === at));
-        tell(ended, at === steps.length ? table.lessons[lesson.name].end : "");
+        if (isReady && steps[pupil.at]?.done?.(laboratory)) { next(); return; }
+        steps.forEach((step, place) => step.show(pupil.isDone.has(place), isReady && place === pupil.at));
+        tell(ended, pupil.at === steps.length ? texts.table.lessons[pupil.lesson.name].end : "");
     };
-    return { node: part("lesson", text("lessonsName"), choice, about, list), show };
+    return { node: list, layOut, reach, show };
+}
+
+/** The part of the page with the lessons, where the pupil is. `open` sets the machine up for a step. */
+export function makeLesson(laboratory, texts, open, pupil) {
+    const { text, table } = texts;
+    const about = h("p", { class: "about" });
+    const steps = makeSteps(laboratory, texts, open, pupil);
+    const choices = LESSONS.map((it) => button(table.lessons[it.name].title, () => begin(it), { "data-lesson": it.name }));
+    const chosen = h("summary", {}, text("chooseLesson"));
+    const choice = h("details", { class: "choice-of-lesson", open: true }, chosen, h("div", { class: "line" }, ...choices));
+    const begin = (wanted) => {
+        Object.assign(pupil, noLesson(), { lesson: wanted });
+        layOut();
+        return steps.reach(0);
+    };
+    const layOut = () => {
+        const written = table.lessons[pupil.lesson.name];
+        choice.open = false;
+        tell(chosen, written.title);
+        tell(about, written.about);
+        steps.layOut(written.steps);
+    };
+    const show = () => {
+        for (const control of choices) control.setAttribute("aria-pressed", String(control.dataset.lesson === pupil.lesson?.name));
+        if (pupil.lesson !== null) steps.show();
+    };
+    if (pupil.lesson !== null) layOut();
+    return { node: part("lesson", text("lessonsName"), choice, about, steps.node), show };
 }
