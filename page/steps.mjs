@@ -87,6 +87,17 @@ export const LESSONS = [
         { answer: clock, isAsked: all(hasStopped, ({ printed }) => printed.count === 4) },
         { done: ({ printed }) => printed.text.startsWith("hih") },
     ] },
+    { name: "where-a-word-costs-least", steps: [
+        { opens: "drum/household", done: isAt("0110") },
+        { answer: lastOf("sum"), isAsked: wasAt("0111") },
+        { answer: lastOf("find"), isAsked: wasAt("0111") },
+        { done: hasStopped },
+        { looks: ["0128"], answer: goodOf, isAsked: isAskedOf("0128") },
+        { looks: ["0128"], answer: bestOf, isAsked: isAskedOf("0128") },
+        { looks: ["0128"], answer: ({ costs }) => String(costs.saved), isAsked: isAskedOf("0128") },
+        { looks: ["0129"], answer: bestOf, isAsked: isAskedOf("0129") },
+        { looks: ["0132"], answer: bestOf, isAsked: isAskedOf("0132") },
+    ] },
     { name: "rewriting", steps: [
         { types: true, done: areWords("0000 00010004") },
         { answer: orderAt("0000"), isAsked: areWords("0000 00010004") },
@@ -119,17 +130,6 @@ export const LESSONS = [
         { answer: sumOf(5), isAsked: all(isAt("0200"), holds("00000010"), areTold(5)) },
         { answer: turnsOf(5), isAsked: all(isAt("0200"), holds("00000010"), areTold(5)) },
         { types: true, looks: ["0300"], answer: digitsAt("0300"), isAsked: all(hasStopped, (laboratory) => wordAt(laboratory, "0300") !== undefined) },
-    ] },
-    { name: "where-a-word-costs-least", steps: [
-        { opens: "drum/household", done: isAt("0110") },
-        { answer: lastOf("sum"), isAsked: wasAt("0111") },
-        { answer: lastOf("find"), isAsked: wasAt("0111") },
-        { done: hasStopped },
-        { looks: ["0128"], answer: goodOf, isAsked: isAskedOf("0128") },
-        { looks: ["0128"], answer: bestOf, isAsked: isAskedOf("0128") },
-        { looks: ["0128"], answer: ({ costs }) => String(costs.saved), isAsked: isAskedOf("0128") },
-        { looks: ["0129"], answer: bestOf, isAsked: isAskedOf("0129") },
-        { looks: ["0132"], answer: bestOf, isAsked: isAskedOf("0132") },
     ] },
 ];
 

@@ -74,7 +74,7 @@ test("the solutions of the lessons are what the machine says", { skip }, async (
         "reading-a-listing": [null, null, "t 0205", "z 0005", null, "295", "256", "4", "00000000"],
         "where-a-word-costs-least": [null, "73", "38", null, "6", "25", "25088", "26", "00"],
     };
-    assert.deepEqual(Object.keys(DEEDS), LESSONS.map(({ name }) => name));
+    assert.deepEqual(Object.keys(DEEDS).sort(), LESSONS.map(({ name }) => name).sort());
     for (const [name, answers] of Object.entries(wanted)) assert.deepEqual((await solved(name)).answers, answers, name);
 });
 

@@ -187,6 +187,10 @@ export function makeLessonVisits({ address, press, settled, steps: stepped, pict
             assert.deepEqual([await sideways(browser), await browser.value("document.documentElement.scrollWidth <= innerWidth")], [[], true], `at ${width}`);
             assert.equal(await browser.value(`document.querySelector("${NOW}").getBoundingClientRect().bottom < document.querySelector(".drum-box").getBoundingClientRect().top`), true, `at ${width}`);
         }
+        for (const [width, height] of [[1280, 720], [1920, 1080]]) {
+            await browser.size(width, height);
+            assert.deepEqual([await unseen(browser, [`${NOW} .what`, "#step", drum, scope, clock, ".listing form", paper]), await browser.value("document.documentElement.scrollWidth <= innerWidth")], [[], true], `at ${width}`);
+        }
         await browser.size(1500, 1250);
     }
 

@@ -3,12 +3,12 @@ import { LESSONS } from "../steps.mjs";
 import { button, h, part, tell } from "./dom.mjs";
 import { makeLineBox } from "./writing.mjs";
 
-/** The step before is seen above the one that is to be done, as far as it is no higher than this; else its end, or the name of the part. */
+/** The step before is seen above the one that is to be done, or the name of its part, as far as that is no higher than this; else as much of its end. */
 const SEEN_BEFORE = { whole: 110, end: 44 };
 
 /** How far a list is scrolled to a step. */
 function scrollOf({ node }) {
-    const before = node.previousElementSibling;
+    const before = node.previousElementSibling ?? node.parentElement.previousElementSibling;
     return before !== null && before.offsetHeight <= SEEN_BEFORE.whole ? before.offsetTop : node.offsetTop - SEEN_BEFORE.end;
 }
 
@@ -42,7 +42,7 @@ function makeControls(laboratory, step, place, texts, hint, done) {
     box?.node.classList.add("types");
     const control = step.answer === undefined ? button(text("hint"), () => tellMarked(hint, step.hint), { class: "for-hint" }) : makeAnswer(laboratory, step, place, texts, hint, done);
     const show = () => {
-        const last = laboratory.talk.at(-1);
+        const last = laboratory.talk.findLast(({ line }) => !step.lines.includes(line));
         box?.show();
         if (reply !== null) tell(reply, last === undefined ? "" : `${last.line}\n${last.reply}`.trimEnd());
     };
