@@ -2,7 +2,7 @@
 // ENGINE names the engine (chromium, firefox or webkit), and VISITS the visits, where not all are wanted.
 //
 // The page is opened from disk. A visitor of a museum sees the kiosk print; a class does what the first lesson says, and compares the
-// numbers of its tables with what the page shows; another one walks through the first steps of a later lesson; a source with a fault is
+// numbers of its tables with what the page shows; pupils do each lesson step by step (visits_lessons.mjs); a source with a fault is
 // mended; each example gives its stored replies; a long run is measured; a browser that lacks something is told; people who cannot see all, or
 // have no mouse, reach all. After each visit the script that Save gives is run, and has to end where the visit did: by the module, and by
 // the program that LAB names where it names one.
