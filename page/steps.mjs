@@ -45,12 +45,8 @@ const bestOf = ({ costs }) => inTwoDigits(costs.sectors.find(({ isBest }) => isB
 /** In how many sectors the word that was asked for would have cost least. */
 const goodOf = ({ costs: { sectors } }) => String(sectors.filter(({ times }) => times === Math.min(...sectors.map((it) => it.times))).length);
 
-/** Whether the last two orders were a bring from a place of the pupil's own and the order after it, which had not gone by. */
-function isInTime({ accounts }) {
-    const [first, second] = accounts.slice(-2);
-    const isOwn = first?.at === "0000" && /^b \d{4}$/.test(first.order) && !["b 0015", "b 0050"].includes(first.order);
-    return isOwn && second?.at === "0001" && first.sum - first.find + second.find < SECTORS;
-}
+/** Whether the order at 0000 brings a word from a place of the pupil's own, none of those that the lesson has shown. */
+const isOwnPlace = (laboratory) => /^b \d{4}$/.test(orderAt("0000")(laboratory)) && !["b 0015", "b 0050"].includes(orderAt("0000")(laboratory));
 
 /** The sheet of the lesson about a listing: addresses, and the words there. */
 const SHEET = {
@@ -77,7 +73,7 @@ export const LESSONS = [
         { answer: lastOf("find"), isAsked: wasAt("0001") },
         { answer: lastOf("find"), isAsked: wasAt("0001") },
         { answer: lastOf("find"), isAsked: wasAt("0001") },
-        { types: true, done: isInTime },
+        { types: true, done: all(hasStopped, isOwnPlace, ({ panel }) => panel.clock === 76n) },
         { answer: () => String(positionOf(1)), isAsked: always },
         { types: true, done: all(isOrderAt("0000", "p 4900"), isOrderAt("0001", "p 1700"), wasSaid("put 0002 z 0000")) },
         { answer: lastOf("act"), isAsked: wasAt("0000") },

@@ -74,13 +74,12 @@ function makeStep(laboratory, step, place, texts, done) {
     return { ...step, node, show, isSetUp: step.opens !== undefined || step.lines.length > 0 };
 }
 
-/** The rows of steps, below the names of their parts where there are several; a press of a name begins with that part. */
+/** The rows of steps, below the names of their parts; a press of a name begins with that part. */
 function rowsOf(steps, { text }, begin) {
-    const parts = [...new Set(steps.map((step) => step.part))];
-    return parts.flatMap((name) => {
+    return [...new Set(steps.map((step) => step.part))].flatMap((name) => {
         const first = steps.findIndex((step) => step.part === name);
-        const heading = parts.length === 1 ? null : h("h3", {}, button(name, () => begin(first), { class: "plain", title: text("beginPart", { part: name }) }));
-        return [heading, h("ol", {}, ...steps.filter((step) => step.part === name).map(({ node }) => node))].filter((node) => node !== null);
+        const heading = h("h3", {}, button(name, () => begin(first), { class: "plain", title: text("beginPart", { part: name }) }));
+        return [heading, h("ol", {}, ...steps.filter((step) => step.part === name).map(({ node }) => node))];
     });
 }
 
