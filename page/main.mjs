@@ -338,9 +338,16 @@ async function openHall() {
     if (!still.matches) drive.go("slow");
 }
 
+/** Begins a lesson that the address names, as its button does. */
+function openLesson(name) {
+    const control = [...document.querySelectorAll("[data-lesson]")].find(({ dataset }) => dataset.lesson === name);
+    return control === undefined ? laboratory.tell({ kind: "noLesson", detail: name }) : control.click();
+}
+
 /** Opens what the address asks for. What it names and is not there is told. */
 async function openAsked() {
     if (isKiosk) return setKiosk(true);
+    if (asked.lesson !== null) return openLesson(asked.lesson);
     if (asked.script !== null) return laboratory.openScript("#script", asked.script);
     if (asked.example === null) return door === "hall" ? openHall() : undefined;
     if (examples.has(asked.example)) return openExample(asked.example);

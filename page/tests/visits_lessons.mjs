@@ -163,11 +163,13 @@ export function makeLessonVisits({ address, press, settled, steps: stepped, pict
         await browser.size(1500, 1250);
     };
 
-    /** The name of a part begins it anew, and a change of the language changes the words alone; a tablet and a telephone show the steps above the machine, and nothing is scrolled sideways. */
+    /** The address names a lesson; the name of a part begins it anew, and a change of the language changes the words alone; a tablet and a telephone show the steps above the machine, and nothing is scrolled sideways. */
     async function partsOfLessons(browser) {
-        await browser.open(`${address}?lang=en&door=learn`);
-        await press(browser, "[data-lesson='rewriting']");
+        await browser.open(`${address}?lang=en&lesson=nonesuch`);
+        assert.equal(await textOf(browser, "#notice"), "The address of this page names no lesson: nonesuch. The lessons are a-computer-on-a-drum, where-a-word-costs-least, rewriting, reading-a-listing.");
+        await browser.open(`${address}?lang=en&lesson=rewriting`);
         await reached(browser, 0);
+        assert.equal(await textOf(browser, ".lesson summary"), lessons.en.rewriting.title);
         await press(browser, ".lesson h3:nth-of-type(3) button");
         await browser.waitFor(`document.querySelector("${NOW} .mark").textContent === "11"`);
         await stepped(browser, 3);
