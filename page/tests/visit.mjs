@@ -17,7 +17,7 @@ import { bitsOf } from "../module/replies.mjs";
 import { disorder, faint, losesFocus, nameless, noteMouse, unreached } from "./access.mjs";
 import { Chromium } from "./chromium.mjs";
 import { Firefox } from "./firefox.mjs";
-import { makeLessonVisits } from "./visits_lessons.mjs";
+import { lessonVisits } from "./visits_lessons.mjs";
 import { WebKit } from "./webkit.mjs";
 
 const [file, pictures] = process.argv.slice(2);
@@ -1226,7 +1226,7 @@ async function touch(browser) {
     await browser.size(1500, 1250);
 }
 
-const all = { kiosk, addresses, changes, thereAndBack, openSource, whatToPress, endlessPrint, firstHour, lesson, stories, scope, doors, look, ...makeLessonVisits({ address, press, settled, steps, picture, textOf, sideways }), sound, saved, notLost, source, profile, costs, examples, badInput, usedUp, longRun, paces, forPeople, widths, everyone, byKeys, readOut, stillness, touch, withoutWebAssembly, cannotOpen };
+const all = { kiosk, addresses, changes, thereAndBack, openSource, whatToPress, endlessPrint, firstHour, lesson, stories, scope, doors, look, ...lessonVisits({ address, press, settled, steps, picture, textOf, sideways }), sound, saved, notLost, source, profile, costs, examples, badInput, usedUp, longRun, paces, forPeople, widths, everyone, byKeys, readOut, stillness, touch, withoutWebAssembly, cannotOpen };
 const wanted = process.env.VISITS?.split(" ") ?? Object.keys(all).filter((name) => !left.includes(name));
 const visits = Object.fromEntries(wanted.map((name) => [name, all[name]]));
 const browser = await Engine.start();

@@ -150,64 +150,74 @@ async function goThrough(browser, calls, name, code, atStep = () => {}) {
     assert.equal(await browser.value("document.querySelector('.lesson-end').textContent"), written.end);
 }
 
-/** The visits of the lessons, with the calls of the other visits. */
-export function makeLessonVisits({ address, press, settled, steps: stepped, picture, textOf, sideways }) {
-    const calls = { press, settled, steps: stepped };
-    const inBoth = (name, then = () => {}) => async (browser) => {
-        await browser.size(1366, 768);
-        for (const code of ["de", "en"]) {
-            await browser.open(`${address}?lang=${code}&door=learn`);
-            await goThrough(browser, calls, name, code, async (place) => { if (name === "rewriting" && code === "en" && place === 14) await picture(browser, "learn"); });
-        }
-        await then(browser);
-        await browser.size(1500, 1250);
-    };
-
-    /** The address names a lesson; the name of a part begins it anew, and a change of the language changes the words alone; a tablet and a telephone show the steps above the machine, and nothing is scrolled sideways. */
-    async function partsOfLessons(browser) {
-        await browser.open(`${address}?lang=en&lesson=nonesuch`);
-        assert.equal(await textOf(browser, "#notice"), "The address of this page names no lesson: nonesuch. The lessons are a-computer-on-a-drum, where-a-word-costs-least, rewriting, reading-a-listing.");
-        await browser.open(`${address}?lang=en&lesson=rewriting`);
-        await reached(browser, 0);
-        assert.equal(await textOf(browser, ".lesson summary"), lessons.en.rewriting.title);
-        await press(browser, ".lesson h3:nth-of-type(3) button");
-        await browser.waitFor(`document.querySelector("${NOW} .mark").textContent === "11"`);
-        await stepped(browser, 3);
-        await reached(browser, 1);
-        await press(browser, ".lesson h3:nth-of-type(3) button");
-        await reached(browser, 0);
-        assert.deepEqual(await browser.value("[laboratoryOfPage().panel.counter, laboratoryOfPage().panel.status]"), ["0000", "going"]);
-        await stepped(browser, 3);
-        await reached(browser, 1);
-        await browser.value("(() => { const it = document.querySelector('#language'); it.value = 'de'; it.dispatchEvent(new Event('change')); })()");
-        await settled(browser);
-        await reached(browser, 1);
-        assert.equal(await textOf(browser, `${NOW} .what`), plainly(lessons.de.rewriting.steps[11].text));
-        assert.deepEqual([await doneIn(browser), await browser.value("laboratoryOfPage().panel.counter")], [1, "0005"]);
-        for (const [width, height] of [[390, 800], [768, 1024], [1024, 768]]) {
-            await browser.size(width, height);
-            assert.deepEqual([await sideways(browser), await browser.value("document.documentElement.scrollWidth <= innerWidth")], [[], true], `at ${width}`);
-            assert.equal(await browser.value(`document.querySelector("${NOW}").getBoundingClientRect().bottom < document.querySelector(".drum-box").getBoundingClientRect().top`), true, `at ${width}`);
-        }
-        for (const [width, height] of [[1280, 720], [1920, 1080]]) {
-            await browser.size(width, height);
-            assert.deepEqual([await unseen(browser, [`${NOW} .what`, "#step", drum, scope, clock, ".listing form", paper]), await browser.value("document.documentElement.scrollWidth <= innerWidth")], [[], true], `at ${width}`);
-        }
-        await browser.size(1500, 1250);
+/** A lesson in both languages, in the window of a usual screen, and what comes after it. */
+const inBoth = (name, then = () => {}) => async (browser, calls) => {
+    await browser.size(1366, 768);
+    for (const code of ["de", "en"]) {
+        await browser.open(`${calls.address}?lang=${code}&door=learn`);
+        await goThrough(browser, calls, name, code, async (place) => { if (name === "rewriting" && code === "en" && place === 14) await calls.picture(browser, "learn"); });
     }
+    await then(browser, calls);
+    await browser.size(1500, 1250);
+};
 
-    /** The race: five addresses are changed in the source, and the profile tells the result. */
-    async function race(browser) {
-        await press(browser, '.doors [data-door-to="work"]');
-        await browser.value(`(() => {
-            const area = document.querySelector(".source textarea");
-            const places = ["0225", "0226", "0227", "0228", "0300"];
-            area.value = ["wage", "rent", "food", "coal", "fares"].reduce((text, name, at) => text.replace(new RegExp("org \\\\d{4}\\n" + name), "org " + places[at] + "\\n" + name), area.value);
-            area.dispatchEvent(new Event("input"));
-        })()`);
-        for (const selector of [".source .line button:nth-of-type(2)", ".profile button"]) await press(browser, selector);
-        assert.match(await textOf(browser, ".profile"), /^Profile\s[^]*2,355 orders, 25,189 word times, 393\.5 turns of the drum/);
-    }
-
-    return { lessonOfADrum: inBoth("a-computer-on-a-drum"), lessonOfRewriting: inBoth("rewriting"), lessonOfAListing: inBoth("reading-a-listing"), lessonOfCosts: inBoth("where-a-word-costs-least", race), partsOfLessons };
+/** The address names a lesson; the name of a part begins it anew, and a change of the language changes the words alone. */
+async function partsOfLessons(browser, calls) {
+    const { address, press, steps: stepped, settled, textOf } = calls;
+    await browser.open(`${address}?lang=en&lesson=nonesuch`);
+    assert.equal(await textOf(browser, "#notice"), "The address of this page names no lesson: nonesuch. The lessons are a-computer-on-a-drum, where-a-word-costs-least, rewriting, reading-a-listing.");
+    await browser.open(`${address}?lang=en&lesson=rewriting`);
+    await reached(browser, 0);
+    assert.equal(await textOf(browser, ".lesson summary"), lessons.en.rewriting.title);
+    await press(browser, ".lesson h3:nth-of-type(3) button");
+    await browser.waitFor(`document.querySelector("${NOW} .mark").textContent === "11"`);
+    await stepped(browser, 3);
+    await reached(browser, 1);
+    await press(browser, ".lesson h3:nth-of-type(3) button");
+    await reached(browser, 0);
+    assert.deepEqual(await browser.value("[laboratoryOfPage().panel.counter, laboratoryOfPage().panel.status]"), ["0000", "going"]);
+    await stepped(browser, 3);
+    await reached(browser, 1);
+    await browser.value("(() => { const it = document.querySelector('#language'); it.value = 'de'; it.dispatchEvent(new Event('change')); })()");
+    await settled(browser);
+    await reached(browser, 1);
+    assert.equal(await textOf(browser, `${NOW} .what`), plainly(lessons.de.rewriting.steps[11].text));
+    assert.deepEqual([await doneIn(browser), await browser.value("laboratoryOfPage().panel.counter")], [1, "0005"]);
+    await lessonAtWidths(browser, calls);
 }
+
+/** A tablet and a telephone show the steps above the machine, and nothing is scrolled sideways; narrow and wide screens show them beside it. */
+async function lessonAtWidths(browser, { sideways }) {
+    const isWide = () => browser.value("document.documentElement.scrollWidth <= innerWidth");
+    for (const [width, height] of [[390, 800], [768, 1024], [1024, 768]]) {
+        await browser.size(width, height);
+        assert.deepEqual([await sideways(browser), await isWide()], [[], true], `at ${width}`);
+        assert.equal(await browser.value(`document.querySelector("${NOW}").getBoundingClientRect().bottom < document.querySelector(".drum-box").getBoundingClientRect().top`), true, `at ${width}`);
+    }
+    for (const [width, height] of [[1280, 720], [1920, 1080]]) {
+        await browser.size(width, height);
+        assert.deepEqual([await unseen(browser, [`${NOW} .what`, "#step", drum, scope, clock, ".listing form", paper]), await isWide()], [[], true], `at ${width}`);
+    }
+    await browser.size(1500, 1250);
+}
+
+/** The race: five addresses are changed in the source, and the profile tells the result. */
+async function race(browser, { press, textOf }) {
+    await press(browser, '.doors [data-door-to="work"]');
+    await browser.value(`(() => {
+        const area = document.querySelector(".source textarea");
+        const places = ["0225", "0226", "0227", "0228", "0300"];
+        area.value = ["wage", "rent", "food", "coal", "fares"].reduce((text, name, at) => text.replace(new RegExp("org \\\\d{4}\\n" + name), "org " + places[at] + "\\n" + name), area.value);
+        area.dispatchEvent(new Event("input"));
+    })()`);
+    for (const selector of [".source .line button:nth-of-type(2)", ".profile button"]) await press(browser, selector);
+    assert.match(await textOf(browser, ".profile"), /^Profile\s[^]*2,355 orders, 25,189 word times, 393\.5 turns of the drum/);
+}
+
+const VISITS = {
+    lessonOfADrum: inBoth("a-computer-on-a-drum"), lessonOfRewriting: inBoth("rewriting"), lessonOfAListing: inBoth("reading-a-listing"),
+    lessonOfCosts: inBoth("where-a-word-costs-least", race), partsOfLessons,
+};
+
+/** The visits of the lessons, by their names, with the calls of the other visits. */
+export const lessonVisits = (calls) => Object.fromEntries(Object.entries(VISITS).map(([name, visit]) => [name, (browser) => visit(browser, calls)]));
