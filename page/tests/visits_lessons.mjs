@@ -74,7 +74,7 @@ const DONE = {
         { first: run, isEarly: "00000000", mends: one(types("drop 0"), run, shows("0300")), says: "00000014", sees: ["#run", ".listing form input", rowOf("0300")] },
     ],
     "where-a-word-costs-least": [
-        { errs: hint, does: steps(2), sees: ["#step", scope] }, { first: steps(2), says: "9", sees: ["#step", phases] }, { says: "9", sees: [phases] }, { errs: hint, does: run, sees: ["#run"] },
+        { errs: run, does: one(presses(".lesson h3 button"), steps(2)), sees: ["#step", scope] }, { first: steps(2), says: "9", sees: ["#step", phases] }, { says: "9", sees: [phases] }, { errs: hint, does: run, sees: ["#run"] },
         { isEarly: "6", mends: asks("0128"), says: "64", sees: [".listing form input", rowOf("0128"), drum] }, { says: "28", sees: [drum] }, { says: "150,629", sees: [".costs-told"] },
         { first: asks("0129"), says: "25", sees: [rowOf("0129"), drum] }, { first: asks("0132"), says: "29", sees: [rowOf("0132"), drum] },
     ],

@@ -76,7 +76,7 @@ export function makeListing(laboratory, texts, { held, isFast, hasCosts }) {
     const arrows = h("div", { class: "arrows" });
     const list = h("div", { class: "scroll with-arrows" }, arrows, table);
     const answer = h("p", { class: "why", role: "status" });
-    let [askedOf, wanted] = [null, []];
+    let [askedOf, wanted, shownAt] = [null, [], null];
     const scroll = () => requestAnimationFrame(() => scrollTo(list, wanted));
     const ask = async (address) => {
         if (hasCosts()) laboratory.askCosts(address);
@@ -88,7 +88,10 @@ export function makeListing(laboratory, texts, { held, isFast, hasCosts }) {
     };
     const place = h("input", { size: 4, maxlength: 4, pattern: "[0-9]{4}", inputmode: "numeric", "aria-label": text("goTo"), value: "0000" });
     const form = h("form", { class: "line", onsubmit: (event) => event.preventDefault() }, h("label", {}, `${text("address")} `, place), " ",
-        button(text("show"), () => laboratory.showAt(place.value.padStart(4, "0"))), " ", button(text("startHere"), () => laboratory.command(`go ${place.value}`)), " ",
+        button(text("show"), () => {
+            shownAt = { address: place.value.padStart(4, "0"), counter: laboratory.panel.counter };
+            laboratory.showAt(shownAt.address);
+        }), " ", button(text("startHere"), () => laboratory.command(`go ${place.value}`)), " ",
         button(text("breakAt"), () => laboratory.command(`break ${place.value}`)), " ", button(text("watchAt"), () => laboratory.command(`watch ${place.value}`)));
     const rules = h("ul", { class: "rules", "aria-label": text("rules") });
     const rowOf = kept((shown) => row(shown, texts, ask));
@@ -106,7 +109,8 @@ export function makeListing(laboratory, texts, { held, isFast, hasCosts }) {
         const ends = held() === null ? arrowEnds(body, told.at(-1)) : null;
         refill(arrows, ...(ends === null ? [] : [arrowOf("arrow", ends)]));
         const rowAt = (address) => `[data-address="${address}"]`;
-        wanted = [...laboratory.lookedAt.map(rowAt), ".next", ...(ends === null ? [] : [told.at(-1).at, told.at(-1).stored.address].map(rowAt))];
+        const asked = shownAt?.counter === laboratory.panel.counter ? [shownAt.address] : [];
+        wanted = [...[...asked, ...laboratory.lookedAt].map(rowAt), ".next", ...(ends === null ? [] : [told.at(-1).at, told.at(-1).stored.address].map(rowAt))];
         scroll();
     };
     const show = () => {
