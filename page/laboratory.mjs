@@ -53,6 +53,8 @@ export class Laboratory extends EventTarget {
     /** The rules, each by the command that made it, and the lines of a script that are still to be done. */
     rules = [];
     script = null;
+    /** Addresses to which the list of words is scrolled, as far as it shows them, before it is scrolled to the next order. */
+    lookedAt = [];
     /** What the script says of the words that it puts, by their addresses. */
     comments = new Map();
     /** What a run under way has done so far, or null, and what the last one did. */
@@ -223,6 +225,7 @@ export class Laboratory extends EventTarget {
 
     #forget() {
         this.deeds.clear();
+        this.#first = "0000";
         this.#isTouched = false;
         this.#hit = null;
         Object.assign(this, { openSource: null, accounts: [], rows: [], profile: null, costs: null, assembled: null, labels: new Map(), rules: [] });
@@ -374,16 +377,18 @@ export class Laboratory extends EventTarget {
         Object.assign(this, { accounts: [], rows: [] });
     }
 
-    /** Looks at the machine: its panel, and then, asked at once, what is live, words around the counter, their track, what is printed, and the rules. In an open source there is no looking. */
+    /** Looks at the machine: its panel, and then, asked at once, what is live, words around the counter, their track, what is printed, and the rules. In an open source there is no looking.
+     * Words that the reader has asked for remain shown until the counter changes. */
     async #look() {
         if (this.openSource !== null) return;
+        const before = this.panel?.counter;
         this.panel = replies.panelOf(await this.#ask("panel-data"));
         this.costs = this.#costsOfLine;
         this.#costsOfLine = null;
         this.accounts = this.accounts.filter(({ clock }) => clock < this.panel.clock);
         const last = this.accounts.at(-1);
         if (last !== undefined && last.register === undefined) Object.assign(last, { register: this.panel.register, next: this.panel.counter, status: this.panel.status });
-        if (!isAmong(this.panel.counter, this.#first, SHOWN - 1)) this.#first = windowAt(this.panel.counter, SHOWN);
+        if (this.panel.counter !== before && !isAmong(this.panel.counter, this.#first, SHOWN - 1)) this.#first = windowAt(this.panel.counter, SHOWN);
         await Promise.all([this.#lookAtLive(), this.#lookAtWords(), this.#lookAtTrack(), this.#lookAtPaper(), this.#lookAtRules(), this.#lookAtOthers()]);
         if (this.#hit !== null) this.notice = { kind: "rule", number: this.#hit, rule: this.rules[this.#hit], isOfScript: this.#isRuleOfScript[this.#hit] ?? false };
         this.#hit = null;

@@ -9,6 +9,7 @@ import { version } from "./module/package.json";
 import { askedIn } from "./opening.mjs";
 import { Player } from "./player.mjs";
 import { Sound, follow } from "./sound.mjs";
+import { setUpFor } from "./steps.mjs";
 import { makeAccounts, makeTime } from "./views/accounts.mjs";
 import { makeCosts } from "./views/costs.mjs";
 import { makeConsole, makeKeyboard } from "./views/console.mjs";
@@ -18,7 +19,7 @@ import { makeDrum } from "./views/drum.mjs";
 import { GAMES, asksOf, makeHeap } from "./views/game.mjs";
 import { hearDrops, makeOffer, makeOpen, openFile } from "./views/keep.mjs";
 import { KIOSK, makeKiosk, watchIdle } from "./views/kiosk.mjs";
-import { makeLesson } from "./views/lesson.mjs";
+import { makeLesson, noLesson } from "./views/lesson.mjs";
 import { makeListing } from "./views/listing.mjs";
 import { makeNotices } from "./views/notice.mjs";
 import { makePace } from "./views/pace.mjs";
@@ -49,8 +50,8 @@ const kept = new Kept(() => localStorage);
 const sources = new Sources(() => localStorage);
 const openLink = () => new Link(inlined("worker"), bytesOf(inlined("module")));
 
-// lessons that have a document have their texts from there
-for (const [code, lessons] of Object.entries(JSON.parse(inlined("lessons")))) Object.assign(LANGUAGES[code].lessons, lessons);
+// lessons have their texts from their documents
+for (const [code, lessons] of Object.entries(JSON.parse(inlined("lessons")))) LANGUAGES[code].lessons = lessons;
 
 let texts = textsIn(asked.language ?? (navigator.language ?? "en").slice(0, 2));
 let isKiosk = asked.isKiosk;
@@ -64,6 +65,7 @@ let isAttract = false;
 let attractRound = 0;
 let laboratory = null;
 let hasShortKeys = true;
+const pupil = noLesson();
 
 function progressOf({ orders, milliseconds }) {
     const speed = Math.round(orders / (milliseconds / 1000));
@@ -115,9 +117,12 @@ function openSaved(name, script) {
 const openDropped = (file) => openFile(file, laboratory, openSaved);
 
 /** Opens an example that the page shows by itself, and sets it going. */
-async function openShown(name) {
-    await laboratory.openForShow(name, exampleNamed(name));
-    if (laboratory.way.kind === "start") await laboratory.command("press start");
+const openShown = (name) => setUpFor(laboratory, { opens: name }, exampleNamed);
+
+/** Sets the machine up for a step of a lesson. */
+function openForStep(step) {
+    drive.halt();
+    return setUpFor(laboratory, step, exampleNamed);
 }
 
 /** Goes through a door. The machine stays as it is, but that what moves in the hall stops. */
@@ -208,14 +213,14 @@ function makeSoundSwitch() {
     return control;
 }
 
-function makeBar(task) {
+function makeBar() {
     const { text } = texts;
     const choice = h("select", { id: "example", "aria-label": text("openExample"), onchange: () => examples.has(choice.value) && openExample(choice.value) },
         h("option", { value: "" }, `${text("examples")}: ${text("chooseExample")}`),
         ...[...examples.keys()].map((name) => h("option", { value: name }, `${name}: ${headOf(exampleNamed(name)).title}`)));
     const language = h("select", { id: "language", "aria-label": "Language, Sprache", onchange: () => goOnIn(language.value, "language") },
         ...Object.entries(LANGUAGES).map(([code, table]) => h("option", { value: code, selected: code === texts.code }, table.language)));
-    const view = { node: h("div", { class: "line choices", role: "toolbar", "aria-label": text("choices") }, behind("learn", task), choice, behind("work", button(text("new"), () => laboratory.new(), { title: text("newHint") })), behind("work", button(text("save"), save, { title: text("saveHint"), id: "save" })), behind("work", makeOpen(texts, openDropped)),
+    const view = { node: h("div", { class: "line choices", role: "toolbar", "aria-label": text("choices") }, choice, behind("work", button(text("new"), () => laboratory.new(), { title: text("newHint") })), behind("work", button(text("save"), save, { title: text("saveHint"), id: "save" })), behind("work", makeOpen(texts, openDropped)),
         makeSoundSwitch(), button(text("kiosk"), () => setKiosk(true), { id: "kiosk" }), button(text("about"), about, { id: "about" }), language),
         show: () => { choice.value = examples.has(laboratory.script?.name) ? laboratory.script.name : ""; } };
     return view;
@@ -238,7 +243,7 @@ const showing = { playing, held, isFast: () => drive.pace === "own" || drive.pac
 /** All parts but the header, and the element that holds them in the order in which they are seen. */
 function makeWork(tasks) {
     const made = {
-        hall: makeHall(texts, goTo, drive), tales: makeTales(laboratory, texts, drive, openShown), lesson: makeLesson(laboratory, texts, openShown), tasks, drum: makeDrum(laboratory, texts, showing), plate: makePlate(laboratory, texts), scope: makeScope(laboratory, texts, showing), panel: makePanel(laboratory, texts), console: makeConsole(laboratory, texts),
+        hall: makeHall(texts, goTo, drive), tales: makeTales(laboratory, texts, drive, openShown), lesson: makeLesson(laboratory, texts, openForStep, pupil, tasks), tasks, drum: makeDrum(laboratory, texts, showing), plate: makePlate(laboratory, texts), scope: makeScope(laboratory, texts, showing), panel: makePanel(laboratory, texts), console: makeConsole(laboratory, texts),
         paper: makePaper(laboratory, texts, showing), tape: makeTape(laboratory, texts), keyboard: makeKeyboard(laboratory, texts),
         pace: makePace(laboratory, texts, drive), time: makeTime(laboratory, texts, showing), story: makeStory(laboratory, texts, showing), accounts: makeAccounts(laboratory, texts, showing), listing: makeListing(laboratory, texts, showing), costs: makeCosts(laboratory, texts),
         explanation: makeExplanation(), script: makeScript(laboratory, texts), source: makeSource(laboratory, texts), lines: makeLines(laboratory, texts),
@@ -263,7 +268,7 @@ function makeExhibit() {
 function makePage() {
     const { text } = texts;
     const tasks = makeTasks(laboratory, texts, JSON.parse(inlined("tasks")), sources, openLink);
-    const top = makeBar(tasks.choice);
+    const top = makeBar();
     const heading = h("header", {}, behind("look learn work", h("a", { class: "skip unseen", href: "#story" }, text("skip"))), h("h1", {}, text("title")), h("p", { class: "subtitle" }, text("subtitle")), makeDoors(texts, goTo), top.node);
     const { node, made } = makeWork(tasks);
     return { nodes: [heading, node], views: [top, ...made] };
@@ -357,9 +362,16 @@ async function openHall() {
     if (!still.matches) drive.go("slow");
 }
 
+/** Begins a lesson that the address names, as its button does. */
+function openLesson(name) {
+    const control = [...document.querySelectorAll("[data-lesson]")].find(({ dataset }) => dataset.lesson === name);
+    return control === undefined ? laboratory.tell({ kind: "noLesson", detail: name }) : control.click();
+}
+
 /** Opens what the address asks for. What it names and is not there is told. */
 async function openAsked() {
     if (isKiosk) return setKiosk(true);
+    if (asked.lesson !== null) return openLesson(asked.lesson);
     if (asked.script !== null) return laboratory.openScript("#script", asked.script);
     if (asked.example === null) return door === "hall" ? openHall() : undefined;
     if (examples.has(asked.example)) return openExample(asked.example);

@@ -1,8 +1,8 @@
-// What the page's address asks for: an example or a script, a language, a door, the kiosk.
+// What the page's address asks for: an example or a script, a lesson, a language, a door, the kiosk.
 
 const DOORS = ["hall", "look", "learn", "work"];
 
-/** What an address says behind `?` and `#`: `?kiosk`, `?kiosk=games/matches`, `?idle=60`, `?lang=de`, `?door=work`, `#first-run`, `#kiosk`, `#script=..`. */
+/** What an address says behind `?` and `#`: `?kiosk`, `?kiosk=games/matches`, `?idle=60`, `?lang=de`, `?door=work`, `?lesson=rewriting`, `#first-run`, `#kiosk`, `#script=..`. */
 export function askedIn({ search, hash }) {
     const query = new URLSearchParams(search);
     const behind = decoded(hash.replace(/^#/, ""));
@@ -13,7 +13,8 @@ export function askedIn({ search, hash }) {
         isKiosk, script,
         example: query.get("kiosk") || example || null,
         language: query.get("lang"),
-        door: DOORS.find((door) => door === query.get("door")) ?? (example !== null || script !== null ? "work" : "hall"),
+        lesson: query.get("lesson"),
+        door: DOORS.find((door) => door === query.get("door")) ?? (query.has("lesson") ? "learn" : example !== null || script !== null ? "work" : "hall"),
         idleSeconds: Number(query.get("idle")) || null,
     };
 }

@@ -82,7 +82,7 @@ test("the head of a script, and how far it sets up", () => {
 
 test("what an address asks for", () => {
     assert.deepEqual(askedIn({ search: "?kiosk=games/matches&idle=60&lang=de", hash: "" }),
-        { isKiosk: true, script: null, example: "games/matches", language: "de", door: "hall", idleSeconds: 60 });
+        { isKiosk: true, script: null, example: "games/matches", language: "de", door: "hall", idleSeconds: 60, lesson: null });
     assert.equal(askedIn({ search: "", hash: "#script=put%200000%2000000000%0Apanel" }).script, "put 0000 00000000\npanel");
     assert.deepEqual([askedIn({ search: "", hash: "#kiosk" }).isKiosk, askedIn({ search: "", hash: "#first-run" }).example], [true, "first-run"]);
     assert.equal(askedIn({ search: "", hash: "#%E0%A4%A" }).example, "%E0%A4%A");

@@ -2,10 +2,10 @@
 // ENGINE names the engine (chromium, firefox or webkit), and VISITS the visits, where not all are wanted.
 //
 // The page is opened from disk. A visitor of a museum sees the kiosk print; a class does what the first lesson says, and compares the
-// numbers of its tables with what the page shows; another one walks through the first steps of a later lesson; pupils solve tasks, and a visitor
-// plays a game at the kiosk (visits_tasks.mjs, visits_game.mjs); a source with a fault is mended; each example gives its stored replies; a
-// long run is measured; a browser that lacks something is told; people who cannot see all, or have no mouse, reach all. After each visit the
-// script that Save gives is run, and has to end where the visit did: by the module, and by the program that LAB names where it names one.
+// numbers of its tables with what the page shows; pupils do each lesson step by step, and solve tasks, and a visitor plays a game at the kiosk
+// (visits_lessons.mjs, visits_tasks.mjs, visits_game.mjs); a source with a fault is mended; each example gives its stored replies; a long run is
+// measured; a browser that lacks something is told; people who cannot see all, or have no mouse, reach all. After each visit the script that Save
+// gives is run, and has to end where the visit did: by the module, and by the program that LAB names where it names one.
 import assert from "node:assert/strict";
 import { spawnSync } from "node:child_process";
 import { mkdtempSync, readFileSync, readdirSync, rmSync, statSync, writeFileSync } from "node:fs";
@@ -19,6 +19,7 @@ import { Chromium } from "./chromium.mjs";
 import { Firefox } from "./firefox.mjs";
 import { visitsOfExamples } from "./visits_examples.mjs";
 import { visitsOfGames } from "./visits_game.mjs";
+import { lessonVisits } from "./visits_lessons.mjs";
 import { visitsOfTasks } from "./visits_tasks.mjs";
 import { WebKit } from "./webkit.mjs";
 
@@ -489,7 +490,7 @@ async function doors(browser) {
     await press(browser, "#hall-stop");
     const before = await panelOf(browser);
     assert.deepEqual([await browser.value(isMoving), await textOf(browser, "#hall-stop")], [false, "Let it turn"]);
-    for (const [door, seen] of [["look", [".tales"]], ["learn", [".lesson", ".keyboard", ".telling-order", ".listing form"]], ["work", [".keyboard", ".telling-order", ".bench", "#save", ".listing form"]]]) {
+    for (const [door, seen] of [["look", [".tales"]], ["learn", [".lesson", ".telling-order", ".listing form"]], ["work", [".keyboard", ".telling-order", ".bench", "#save", ".listing form"]]]) {
         await press(browser, `.doors [data-door-to="${door}"]`);
         assert.deepEqual(await seenOf(browser, ".hall", ".tales", ".lesson", ".keyboard", ".telling-order", ".bench", "#save", ".listing form"), seen, door);
         assert.deepEqual(await seenOf(browser, ".scope", ".paper", ".pace", ".words-table"), [".scope", ".paper", ".pace", ".words-table"], door);
@@ -528,95 +529,6 @@ async function look(browser) {
     await browser.waitFor("document.querySelector('.paper').textContent.startsWith('good day')", 120_000);
     await browser.waitFor("laboratoryOfPage().panel.status === 'halted stop'", 60_000);
     await browser.waitFor("document.querySelectorAll('.drives [aria-pressed=true]').length === 0");
-}
-
-/** A pupil goes through the lesson: a step is ticked off where the machine or the answer tells it, and a wrong answer is met by a hint. */
-async function learn(browser) {
-    await browser.open(`${address}?lang=en&door=learn`);
-    const begin = async (name) => { await press(browser, `[data-lesson="${name}"]`); await browser.waitFor(`document.querySelector('[data-lesson="${name}"][aria-pressed=true]') !== null && document.querySelector('.lesson li.now') !== null`); };
-    await begin("change");
-    const done = () => browser.value("document.querySelectorAll('.lesson li.done').length");
-    const answer = async (text) => {
-        await browser.value(`(() => { const form = document.querySelector(".lesson .now form"); form.querySelector("input").value = ${JSON.stringify(text)}; form.requestSubmit(); })()`);
-        return done();
-    };
-    assert.equal(await done(), 0);
-    await steps(browser, 3);
-    assert.equal(await done(), 1);
-    assert.equal(await answer("24"), 1);
-    assert.match(await textOf(browser, ".lesson .now .hint"), /Not yet\. Begin with the sector .* has passed\.$/);
-    assert.equal(await answer("23"), 1);
-    assert.match(await textOf(browser, ".lesson .now .hint"), /has passed\. Right is: 56$/);
-    assert.equal(await answer(" 56 "), 2);
-    await steps(browser, 1);
-    assert.deepEqual([await answer("0005"), await answer("0009")], [2, 3]);
-    assert.equal(await answer("a 0100"), 3);
-    assert.match(await textOf(browser, ".lesson .now .hint"), /does not stand there yet/);
-    await press(browser, ".time button[aria-label='One order back']");
-    assert.deepEqual([await answer("a 0100"), await answer("A  0000")], [3, 4]);
-    await steps(browser, 9);
-    assert.equal(await done(), 5);
-    await picture(browser, "learn");
-    await press(browser, "#run");
-    await browser.waitFor("laboratoryOfPage().panel.status === 'halted stop'");
-    assert.deepEqual([await answer("a 0101"), await answer(await wordAt(browser, "0009"))], [5, 6]);
-    assert.match(await textOf(browser, ".lesson-end"), /The order has gone through the whole table/);
-    await begin("time");
-    await steps(browser, 1);
-    assert.deepEqual([await done(), await textOf(browser, ".lesson-end")], [1, ""]);
-    const [account] = await browser.value("laboratoryOfPage().accounts.map(({ find, sum }) => ({ find, sum }))");
-    assert.deepEqual([await answer(String(account.find)), await answer(String(account.sum)), await answer(String(account.find))], [1, 2, 3]);
-    // sector 01 is the ninth to pass from clock 0 on
-    const places = (9 - (account.sum % 64) + 64) % 64;
-    assert.deepEqual([await answer("1"), await answer(String(places))], [3, 4]);
-    await steps(browser, 1);
-    assert.equal(await browser.value("laboratoryOfPage().accounts.at(-1).find"), places);
-    await steps(browser, 1);
-    assert.deepEqual([await done(), await answer("00000016"), await answer("00000010")], [5, 5, 6]);
-    await press(browser, "#run");
-    await browser.waitFor("/Nearly all of the time was waiting/.test(document.querySelector('.lesson-end').textContent)");
-    await lessonOfCosts(browser, begin, answer, done);
-}
-
-/** The lesson about costs, with a usual mistake at each question, and its end. */
-async function lessonOfCosts(browser, begin, answer, done) {
-    await begin("where-a-word-costs-least");
-    assert.deepEqual(await browser.value("[...document.querySelectorAll('.listing form button')].filter((it) => it.checkVisibility()).map((it) => it.textContent)"), ["Show"]);
-    await steps(browser, 2);
-    assert.equal(await done(), 1);
-    await steps(browser, 2);
-    assert.deepEqual([await answer("9"), await answer("73"), await answer("9"), await answer("38")], [1, 2, 2, 3]);
-    await press(browser, "#run");
-    await browser.waitFor("document.querySelectorAll('.lesson li.done').length === 4");
-    assert.equal(await answer("6"), 4);
-    assert.match(await textOf(browser, ".lesson .now .hint"), /does not stand there yet/);
-    const ask = async (place) => {
-        await browser.value(`document.querySelector('.listing form input').value = '${place}'`);
-        for (const selector of [".listing form button", `tr[data-address='${place}'] button`]) await press(browser, selector);
-    };
-    await ask("0128");
-    assert.deepEqual([await answer("64"), await answer("6"), await answer("28"), await answer("25"), await answer("150,629"), await answer("25,088")], [4, 5, 5, 6, 6, 7]);
-    await picture(browser, "lesson");
-    await ask("0129");
-    assert.deepEqual([await answer("25"), await answer("26")], [7, 8]);
-    assert.equal(await answer("26"), 8);
-    await ask("0132");
-    assert.deepEqual([await answer("29"), await answer("00")], [8, 9]);
-    assert.match(await textOf(browser, ".lesson-end"), /Each order has six good sectors of its own/);
-    await race(browser);
-}
-
-/** The race: five addresses are changed in the source, and the profile tells the result. */
-async function race(browser) {
-    await press(browser, '.doors [data-door-to="work"]');
-    await browser.value(`(() => {
-        const area = document.querySelector(".source textarea");
-        const places = ["0225", "0226", "0227", "0228", "0300"];
-        area.value = ["wage", "rent", "food", "coal", "fares"].reduce((text, name, at) => text.replace(new RegExp("org \\\\d{4}\\n" + name), "org " + places[at] + "\\n" + name), area.value);
-        area.dispatchEvent(new Event("input"));
-    })()`);
-    for (const selector of [".source .line button:nth-of-type(2)", ".profile button"]) await press(browser, selector);
-    assert.match(await textOf(browser, ".profile"), /^Profile\s[^]*2,355 orders, 25,189 word times, 393\.5 turns of the drum/);
 }
 
 /** Sound is off until it is switched on; then a printed sign is a stroke, and the drum hums while it works. */
@@ -1096,7 +1008,7 @@ async function everyone(browser) {
         }
         for (const door of ["hall", "look", "learn"]) {
             await openNoted(browser, `?door=${door}&lang=${language}`);
-            if (door !== "hall") await press(browser, { look: "[data-tale='rewrite']", learn: "[data-lesson='change']" }[door]);
+            if (door !== "hall") await press(browser, { look: "[data-tale='rewrite']", learn: "[data-lesson='rewriting']" }[door]);
             await browser.waitFor({ hall: "true", look: "!document.querySelector('.caption-at').hidden", learn: "document.querySelector('.lesson .now') !== null" }[door]);
             if (door === "hall") await press(browser, "#hall-stop");
             assert.deepEqual(await troubles(browser), [], door);
@@ -1317,7 +1229,7 @@ async function touch(browser) {
     await browser.size(1500, 1250);
 }
 
-const all = { ...visitsOfTasks(address), ...visitsOfGames(address), ...visitsOfExamples(address), kiosk, addresses, changes, thereAndBack, openSource, whatToPress, endlessPrint, firstHour, lesson, stories, scope, doors, look, learn, sound, saved, notLost, source, profile, costs, examples, badInput, usedUp, longRun, paces, forPeople, widths, everyone, byKeys, readOut, stillness, touch, withoutWebAssembly, cannotOpen };
+const all = { ...visitsOfTasks(address), ...visitsOfGames(address), ...visitsOfExamples(address), kiosk, addresses, changes, thereAndBack, openSource, whatToPress, endlessPrint, firstHour, lesson, stories, scope, doors, look, ...lessonVisits({ address, press, settled, steps, picture, textOf, sideways }), sound, saved, notLost, source, profile, costs, examples, badInput, usedUp, longRun, paces, forPeople, widths, everyone, byKeys, readOut, stillness, touch, withoutWebAssembly, cannotOpen };
 const wanted = process.env.VISITS?.split(" ") ?? Object.keys(all).filter((name) => !left.includes(name));
 const visits = Object.fromEntries(wanted.map((name) => [name, all[name]]));
 const browser = await Engine.start();

@@ -14,7 +14,7 @@ const answerOf = (browser) => browser.value("[...document.querySelectorAll('.tas
 const sourceOf = (browser) => browser.value("document.querySelector('.task-desk textarea').value");
 
 async function choose(browser, name) {
-    await browser.value(`(() => { const it = document.querySelector("#task"); it.value = ${JSON.stringify(name)}; it.dispatchEvent(new Event("change")); })()`);
+    await browser.value(`document.querySelector('[data-task="${name}"]').click()`);
 }
 
 async function write(browser, source) {
@@ -37,7 +37,7 @@ function besides(name, kind, code) {
 }
 
 /** What of a task does not lie in the window, or whether the page had to be scrolled. */
-const outside = (browser) => browser.value(`[...(scrollY === 0 ? [] : ["scrolled"]), ...[".task-text", ".task-desk textarea", "#check-task", ".task-answer"].filter((it) => {
+const outside = (browser) => browser.value(`[...(scrollY === 0 ? [] : ["scrolled"]), ...[".task-text", ".task-desk textarea", "#check-task", "#put-task", ".task-answer", ".drum-box", "#step", "#run", ".phases", ".listing form", ".paper"].filter((it) => {
     const { top, left, right, bottom, height } = document.querySelector(it).getBoundingClientRect();
     return top < 0 || left < 0 || right > innerWidth || bottom > innerHeight || height < 30;
 })]`);
@@ -60,6 +60,19 @@ async function tasks(browser, address) {
     return 4 * names.length;
 }
 
+/** A lesson or a task is open, never both, and the choice has its title. */
+async function lessonAndTask(browser) {
+    const seen = () => browser.value("[...['.tasks', '.steps'].map((it) => document.querySelector(it).checkVisibility()), document.querySelector('.lesson summary').textContent]");
+    const titleOf = (selector) => browser.value(`document.querySelector(${JSON.stringify(selector)}).textContent`);
+    const [rewriting, sum] = ["[data-lesson='rewriting']", "[data-task='sum']"];
+    for (const [open, isTask] of [[rewriting, false], [sum, true], [rewriting, false]]) {
+        await browser.press(".lesson summary");
+        await browser.press(open);
+        await settled(browser);
+        assert.deepEqual(await seen(), [isTask, !isTask, await titleOf(open)]);
+    }
+}
+
 /** A source stays where the page is opened again and in another language, and is begun anew; its machine is set up as the first try begins, with the source or, where that has faults, without it. */
 async function taskSources(browser, address) {
     await browser.open(`${address}?lang=en&door=learn`);
@@ -69,10 +82,10 @@ async function taskSources(browser, address) {
     await choose(browser, "sum");
     assert.equal(await sourceOf(browser), read("sum.source"));
     await browser.value("(() => { const it = document.querySelector('#language'); it.value = 'de'; it.dispatchEvent(new Event('change')); })()");
-    assert.deepEqual([await sourceOf(browser), await browser.value("document.querySelector('#task').value")], [read("sum.source"), "sum"]);
+    assert.deepEqual([await sourceOf(browser), await browser.value("document.querySelector('.task-text h3').textContent")], [read("sum.source"), /^# (.*)$/m.exec(read("../sum/de.md"))[1]]);
     const put = async () => { await browser.press("#put-task"); await browser.waitFor("document.querySelector('.task-answer').textContent !== ''"); await settled(browser); };
     await put();
-    assert.deepEqual([await browser.value("laboratoryOfPage().panel.status"), await answerOf(browser)], ["going", ["Die Maschine unten steht, wo der erste Versuch beginnt: Schritt und Laufen gehen weiter."]]);
+    assert.deepEqual([await browser.value("laboratoryOfPage().panel.status"), await answerOf(browser)], ["going", ["Die Maschine steht, wo der erste Versuch beginnt: Schritt und Laufen gehen weiter."]]);
     await browser.value("laboratoryOfPage().run()");
     assert.equal(await browser.value("laboratoryOfPage().say('words 0302 1')"), "0302 00000018\n");
     await write(browser, read("sum.wrong-2.source"));
@@ -83,8 +96,7 @@ async function taskSources(browser, address) {
     assert.equal(await sourceOf(browser), "");
     await choose(browser, "faster");
     assert.match(await sourceOf(browser), /week +a wage +; eine Woche: der Lohn kommt herein/);
-    await choose(browser, "");
-    assert.equal(await browser.value("document.querySelector('.tasks').checkVisibility()"), false);
+    await lessonAndTask(browser);
 }
 
 /** The part with a task is for everyone: names, contrast and headings in light and dark, and the way by Tab, which is gone in Chromium; and at each width nothing has to be scrolled sideways. */

@@ -21,10 +21,10 @@ export function showDoor(door) {
     }
 }
 
-/** The address of a door, with all else that the address asks for but an example. */
+/** The address of a door, with all else that the address asks for but an example or a lesson. */
 export function addressOfDoor(door) {
     const query = new URLSearchParams(location.search);
-    for (const name of ["kiosk", "idle"]) query.delete(name);
+    for (const name of ["kiosk", "idle", "lesson"]) query.delete(name);
     query.set("door", door);
     return `?${query}`;
 }

@@ -1,61 +1,26 @@
 // A lesson as steps: one that is done is ticked off, by what the machine shows or by an answer that is compared with it.
-import { positionOf, SECTORS } from "../addresses.mjs";
+import { LESSONS } from "../steps.mjs";
 import { button, h, part, tell } from "./dom.mjs";
+import { makeLineBox } from "./writing.mjs";
 
-const wordAt = ({ words }, address) => words.find((word) => word.address === address);
-const isOrderAt = (laboratory, address, order) => wordAt(laboratory, address)?.order === order;
+/** The step before is seen above the one that is to be done, or the name of its part, as far as that is no higher than this; else as much of its end. */
+const SEEN_BEFORE = { whole: 110, end: 44 };
 
-/** How many word times it takes until the head has read a sector, from a clock on: the drum is read once at least. */
-const placesTo = (sector, clock) => ((positionOf(sector) - Number(clock % BigInt(SECTORS)) + 2 * SECTORS - 1) % SECTORS) + 1;
-
-const isAt = (address) => ({ panel }) => panel.counter === address;
-const wasAt = (address) => ({ accounts }) => accounts.at(-1)?.at === address;
-const lastOf = (phase) => ({ accounts }) => (accounts.length === 0 ? null : String(accounts.at(-1)[phase]));
-const hasStopped = ({ panel }) => panel.status === "halted stop";
-const isAskedOf = (address) => ({ costs }) => costs?.address === address;
-const bestOf = ({ costs }) => String(costs.sectors.find(({ isBest }) => isBest).sector).padStart(2, "0");
-
-/** In how many sectors the word that was asked for would have cost least. */
-const goodOf = ({ costs: { sectors } }) => String(sectors.filter(({ times }) => times === Math.min(...sectors.map((it) => it.times))).length);
-
-/** The lessons: the example that each opens, and its steps. A step is `done` when that holds, or asks for what `answer` gives, where `isAsked` holds. */
-export const LESSONS = [
-    { name: "time", example: "first-run", steps: [
-        { done: wasAt("0000") },
-        { answer: lastOf("sum"), isAsked: wasAt("0000") },
-        { answer: lastOf("find"), isAsked: wasAt("0000") },
-        { answer: ({ panel }) => String(placesTo(1, panel.clock)), isAsked: isAt("0001") },
-        { done: isAt("0003") },
-        { answer: ({ panel }) => panel.accumulator, isAsked: isAt("0003") },
-        { done: hasStopped },
-    ] },
-    { name: "change", example: "self-modifying", steps: [
-        { done: isAt("0005") },
-        { answer: ({ panel }) => String(placesTo(5, panel.clock)), isAsked: isAt("0005") },
-        { answer: ({ accounts }) => accounts.at(-1)?.stored?.address ?? null, isAsked: wasAt("0005") },
-        { answer: (laboratory) => wordAt(laboratory, "0009")?.order ?? null, isAsked: isAt("0005") },
-        { done: (laboratory) => isOrderAt(laboratory, "0009", "a 0101") },
-        { answer: (laboratory) => wordAt(laboratory, "0009")?.order ?? null, isAsked: hasStopped },
-    ] },
-    { name: "where-a-word-costs-least", example: "drum/household", steps: [
-        { done: isAt("0110") },
-        { answer: lastOf("sum"), isAsked: wasAt("0111") },
-        { answer: lastOf("find"), isAsked: wasAt("0111") },
-        { done: hasStopped },
-        { answer: goodOf, isAsked: isAskedOf("0128") },
-        { answer: bestOf, isAsked: isAskedOf("0128") },
-        { answer: ({ costs }) => String(costs.saved), isAsked: isAskedOf("0128") },
-        { answer: bestOf, isAsked: isAskedOf("0129") },
-        { answer: bestOf, isAsked: isAskedOf("0132") },
-    ] },
-];
+/** How far a list is scrolled to a step. */
+function scrollOf({ node }) {
+    const before = node.previousElementSibling ?? node.parentElement.previousElementSibling;
+    return before !== null && before.offsetHeight <= SEEN_BEFORE.whole ? before.offsetTop : node.offsetTop - SEEN_BEFORE.end;
+}
 
 /** An answer as it is compared: thousands may be set apart. */
 export const plain = (answer) => answer.trim().toLowerCase().replace(/\s+/g, " ").replace(/(\d)[.,](?=\d{3}$)/, "$1");
 
-/** The step in its row: its number or a tick, what is to be done, and a place for the answer where there is one. */
-function makeStep(laboratory, step, place, { steps, hints }, { text }, done) {
-    const [mark, hint] = [h("span", { class: "mark", "aria-hidden": "true" }), h("span", { class: "hint", role: "status" })];
+/** A text whose pieces in backticks are code. */
+const marked = (text) => text.split("`").map((piece, place) => (place % 2 === 0 ? piece : h("code", {}, piece)));
+const tellMarked = (node, text) => node.replaceChildren(...marked(text));
+
+/** The box for an answer. A wrong one is met by a hint, and the next wrong one by what is right as well. */
+function makeAnswer(laboratory, step, place, { text }, hint, done) {
     const input = h("input", { size: 8, "aria-label": text("answer", { number: place + 1 }), autocapitalize: "off", autocomplete: "off" });
     let wrong = 0;
     const check = () => {
@@ -63,44 +28,139 @@ function makeStep(laboratory, step, place, { steps, hints }, { text }, done) {
         const answer = step.answer(laboratory);
         const isRight = plain(input.value) === answer;
         if (!isRight) wrong += 1;
-        tell(hint, isRight ? text("lessonRight") : wrong === 1 ? hints[place] : `${hints[place]} ${text("lessonWouldBe", { answer })}`);
+        tellMarked(hint, isRight ? text("lessonRight") : wrong === 1 ? step.hint : `${step.hint} ${text("lessonWouldBe", { answer })}`);
         return isRight ? done() : undefined;
     };
-    const form = step.answer === undefined ? null : h("form", { class: "line", onsubmit: (event) => { event.preventDefault(); check(); } }, input, button(text("check"), check));
+    return h("form", { class: "line answer", onsubmit: (event) => { event.preventDefault(); check(); } }, input, button(text("check"), check));
+}
+
+/** What is done with in a step: a box for lines with the last reply, where lines are typed; and a box for an answer, or a button for the hint. */
+function makeControls(laboratory, step, place, texts, hint, done) {
+    const { text } = texts;
+    const box = step.types ? makeLineBox(laboratory, texts, text("lineOfStep", { number: place + 1 })) : null;
+    const reply = step.types ? h("pre", { class: "reply", role: "status" }) : null;
+    box?.node.classList.add("types");
+    const control = step.answer === undefined ? button(text("hint"), () => tellMarked(hint, step.hint), { class: "for-hint" }) : makeAnswer(laboratory, step, place, texts, hint, done);
+    const show = () => {
+        const last = laboratory.talk.findLast(({ line }) => !step.lines.includes(line));
+        box?.show();
+        if (reply !== null) tell(reply, last === undefined ? "" : `${last.line}\n${last.reply}`.trimEnd());
+    };
+    return { node: h("div", { class: "controls-of-step" }, box?.node, reply, control), show };
+}
+
+/** Whether a pupil may have lost the way: the machine has stopped, or a line was refused. */
+const isAstray = ({ panel, notice }) => panel.status === "halted stop" || notice?.code !== undefined;
+
+/** The step in its row: its number or a tick, what is to be done, the lines that are done for it, and its controls. */
+function makeStep(laboratory, step, place, texts, done) {
+    const { text } = texts;
+    const [mark, hint] = [h("span", { class: "mark", "aria-hidden": "true" }), h("span", { class: "hint", role: "status" })];
+    const lines = step.lines.length === 0 ? null : h("div", { class: "lines-of-step" }, text("lessonLines"), h("pre", { tabindex: "0", role: "group", "aria-label": text("lessonLines") }, step.lines.join("\n")));
+    const controls = makeControls(laboratory, step, place, texts, hint, done);
     const state = h("span", { class: "unseen" });
-    const node = h("li", {}, mark, h("div", {}, state, h("span", {}, steps[place]), form, hint));
+    const node = h("li", { tabindex: "-1" }, mark, h("div", {}, state, h("span", { class: "what" }, ...marked(step.text)), lines, controls.node, hint));
     const show = (isDone, isNow) => {
         tell(mark, isDone ? "✓" : String(place + 1));
         tell(state, isDone ? `${text("stepDone")} ` : "");
         node.className = isDone ? "done" : isNow ? "now" : "";
         if (isNow) node.setAttribute("aria-current", "step");
         else node.removeAttribute("aria-current");
-        if (form !== null) form.hidden = !isNow;
+        controls.node.hidden = !isNow;
+        if (lines !== null) lines.hidden = !isNow;
+        if (isNow) controls.show();
+        if (isNow && step.done !== undefined && hint.textContent === "" && isAstray(laboratory)) tellMarked(hint, step.hint);
     };
-    return { node, show };
+    return { ...step, node, show, isSetUp: step.opens !== undefined || step.lines.length > 0 };
 }
 
-/** The part of the page with the lessons. `open` opens an example and sets it going. */
-export function makeLesson(laboratory, texts, open) {
-    const { text, table } = texts;
-    let [lesson, steps, at] = [null, [], 0];
-    const [about, list, ended] = [h("p", {}, text("chooseLesson")), h("ol"), h("p", { role: "status", class: "lesson-end" })];
-    const choices = LESSONS.map((it) => button(table.lessons[it.name].title, () => begin(it), { "data-lesson": it.name }));
-    const begin = async (chosen) => {
-        await open(chosen.example);
-        [lesson, at] = [chosen, 0];
-        const written = table.lessons[chosen.name];
-        steps = chosen.steps.map((step, place) => makeStep(laboratory, step, place, written, texts, () => { at = place + 1; show(); }));
-        list.replaceChildren(...steps.map(({ node }) => node));
-        tell(about, written.about);
+/** The rows of steps, below the names of their parts; a press of a name begins with that part. */
+function rowsOf(steps, { text }, begin) {
+    return [...new Set(steps.map((step) => step.part))].flatMap((name) => {
+        const first = steps.findIndex((step) => step.part === name);
+        const heading = h("h3", {}, button(name, () => begin(first), { class: "plain", title: text("beginPart", { part: name }) }));
+        return [heading, h("ol", {}, ...steps.filter((step) => step.part === name).map(({ node }) => node))];
+    });
+}
+
+/** Where a pupil is: the lesson, or null, the place of its step, and the places of those that are done. It outlasts a change of the language. */
+export const noLesson = () => ({ lesson: null, at: 0, isDone: new Set() });
+
+/** The steps of the pupil's lesson, in a box that is scrolled to the one that is to be done. */
+function makeSteps(laboratory, texts, open, pupil) {
+    let [steps, round, isReady] = [[], 0, true];
+    const [list, ended] = [h("div", { class: "steps" }), h("p", { role: "status", class: "lesson-end", tabindex: "-1" })];
+    const growth = new ResizeObserver(() => {
+        const { offsetTop, offsetHeight } = steps[pupil.at]?.node ?? ended;
+        list.scrollTop = Math.min(offsetTop, Math.max(list.scrollTop, offsetTop + offsetHeight - list.clientHeight));
+    });
+    const layOut = (written) => {
+        round += 1;
+        steps = (pupil.lesson?.steps ?? []).map((step, place) => makeStep(laboratory, { ...step, ...written[place] }, place, texts, () => next()));
+        growth.disconnect();
+        for (const { node } of steps) growth.observe(node);
+        list.replaceChildren(...rowsOf(steps, texts, again), ended);
+    };
+    const again = (first) => {
+        for (const place of steps.keys()) if (place >= first) pupil.isDone.delete(place);
+        return reach(first);
+    };
+    const next = () => { pupil.isDone.add(pupil.at); reach(pupil.at + 1); };
+    const reach = async (place) => {
+        const [hadFocus, step] = [list.contains(document.activeElement), steps[place]];
+        [pupil.at, round, isReady] = [place, round + 1, false];
+        const mine = round;
+        laboratory.lookedAt = step?.looks ?? [];
+        if (step?.isSetUp) await open(step);
+        if (step?.shows !== undefined) await laboratory.showAt(step.shows);
+        if (mine !== round) return;
+        isReady = true;
         show();
+        if (mine !== round) return;
+        list.scrollTop = step === undefined ? list.scrollHeight : scrollOf(step);
+        if (hadFocus) (step?.node.querySelector("input") ?? step?.node ?? ended).focus({ preventScroll: true });
     };
     const show = () => {
-        for (const control of choices) control.setAttribute("aria-pressed", String(control.dataset.lesson === lesson?.name));
-        if (lesson === null) return;
-        while (lesson.steps[at]?.done?.(laboratory)) at += 1;
-        steps.forEach((step, place) => step.show(place < at, place === at));
-        tell(ended, at === steps.length ? table.lessons[lesson.name].end : "");
+        if (isReady && steps[pupil.at]?.done?.(laboratory)) { next(); return; }
+        steps.forEach((step, place) => step.show(pupil.isDone.has(place), isReady && place === pupil.at));
+        tell(ended, pupil.at === steps.length ? texts.table.lessons[pupil.lesson.name].end : "");
     };
-    return { node: part("lesson", text("lessonsName"), h("div", { class: "line" }, ...choices), about, list, ended), show };
+    return { node: list, layOut, reach, show };
+}
+
+/** The part of the page with the choice of a lesson or a task, one of which is open at most, and the lesson where the pupil is. `open` sets the machine up for a step. */
+export function makeLesson(laboratory, texts, open, pupil, tasks) {
+    const { text, table } = texts;
+    const about = h("p", { class: "about" });
+    const steps = makeSteps(laboratory, texts, open, pupil);
+    const lessons = LESSONS.map((it) => button(table.lessons[it.name].title, () => begin(it, null), { "data-lesson": it.name }));
+    const others = tasks.titles.map(([name, title]) => button(title, () => begin(null, name), { "data-task": name }));
+    const chosen = h("summary", {});
+    const row = (name, controls) => h("div", { class: "line", role: "group", "aria-label": name }, h("span", { "aria-hidden": "true" }, name), ...controls);
+    const choice = h("details", { class: "choice-of-lesson" }, chosen, row(text("lessonsName"), lessons), row(text("tasksName"), others));
+    const begin = (lesson, task) => {
+        tasks.open(task);
+        Object.assign(pupil, noLesson(), { lesson });
+        layOut();
+        if (choice.contains(document.activeElement)) chosen.focus();
+        if (lesson !== null) return steps.reach(0);
+        laboratory.lookedAt = [];
+        return show();
+    };
+    const layOut = () => {
+        const written = table.lessons[pupil.lesson?.name] ?? null;
+        const title = written?.title ?? tasks.titles.find(([name]) => name === tasks.opened())?.[1];
+        choice.open = title === undefined;
+        tell(chosen, title ?? text("chooseLesson"));
+        tell(about, written?.about ?? "");
+        for (const node of [about, steps.node]) node.hidden = written === null;
+        steps.layOut(written?.steps ?? []);
+    };
+    const show = () => {
+        for (const control of lessons) control.setAttribute("aria-pressed", String(control.dataset.lesson === pupil.lesson?.name));
+        for (const control of others) control.setAttribute("aria-pressed", String(control.dataset.task === tasks.opened()));
+        if (pupil.lesson !== null) steps.show();
+    };
+    layOut();
+    return { node: part("lesson", text("lessonsName"), choice, about, steps.node), show };
 }

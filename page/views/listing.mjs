@@ -46,18 +46,19 @@ function arrowEnds(body, writer) {
     return { clock: writer.clock, start: middle(from), end: middle(to), height: body.offsetHeight + body.offsetTop };
 }
 
-/** Scrolls a list by whole rows, so that rows are seen together in its middle; the first one alone, where not all can be. */
+/** Scrolls a list by whole rows, so that rows are seen together in its middle: all of them, or as many of the first ones as can be. */
 function scrollTo(list, selectors) {
     const rows = selectors.map((selector) => list.querySelector(selector)).filter((it) => it !== null);
-    if (rows.length === 0) return;
-    const [head, height] = [list.querySelector("thead").offsetHeight, rows[0].offsetHeight];
+    const head = list.querySelector("thead").offsetHeight;
     const room = list.clientHeight - head;
-    const tops = rows.map(({ offsetTop }) => offsetTop - head);
-    const [first, last] = Math.max(...tops) + height - Math.min(...tops) <= room ? [Math.min(...tops), Math.max(...tops)] : [tops[0], tops[0]];
-    if (first >= list.scrollTop && last + height <= list.scrollTop + room) return;
-    const wanted = (first + last + height - room) / 2;
-    const all = [...list.querySelectorAll("tbody tr")].map(({ offsetTop }) => offsetTop - head);
-    list.scrollTop = Math.max(0, ...all.filter((top) => top <= wanted + height / 2));
+    const endsOf = (some) => [Math.min(...some.map(({ offsetTop }) => offsetTop - head)), Math.max(...some.map(({ offsetTop, offsetHeight }) => offsetTop - head + offsetHeight))];
+    while (rows.length > 1 && endsOf(rows)[1] - endsOf(rows)[0] > room) rows.pop();
+    if (rows.length === 0) return;
+    const [first, last] = endsOf(rows);
+    if (first >= list.scrollTop && last <= list.scrollTop + room) return;
+    const wanted = (first + last - room) / 2;
+    const tops = [...list.querySelectorAll("tbody tr")].map(({ offsetTop }) => offsetTop - head).filter((top) => top <= first && last <= top + room);
+    list.scrollTop = tops.reduce((best, top) => (Math.abs(top - wanted) < Math.abs(best - wanted) ? top : best), first);
 }
 
 function arrow({ start, end, height }) {
@@ -75,17 +76,22 @@ export function makeListing(laboratory, texts, { held, isFast, hasCosts }) {
     const arrows = h("div", { class: "arrows" });
     const list = h("div", { class: "scroll with-arrows" }, arrows, table);
     const answer = h("p", { class: "why", role: "status" });
-    let askedOf = null;
+    let [askedOf, wanted, shownAt] = [null, [], null];
+    const scroll = () => requestAnimationFrame(() => scrollTo(list, wanted));
     const ask = async (address) => {
         if (hasCosts()) laboratory.askCosts(address);
         const lines = await laboratory.why(address);
         if (lines === undefined) return;
         askedOf = laboratory.words;
         answer.textContent = lines === null ? `${address}: ${toldOf(laboratory.writerOf(address), text) || text("noWhy")}` : lines.join("\n");
+        scroll();
     };
     const place = h("input", { size: 4, maxlength: 4, pattern: "[0-9]{4}", inputmode: "numeric", "aria-label": text("goTo"), value: "0000" });
     const form = h("form", { class: "line", onsubmit: (event) => event.preventDefault() }, h("label", {}, `${text("address")} `, place), " ",
-        button(text("show"), () => laboratory.showAt(place.value.padStart(4, "0"))), " ", button(text("startHere"), () => laboratory.command(`go ${place.value}`)), " ",
+        button(text("show"), () => {
+            shownAt = { address: place.value.padStart(4, "0"), counter: laboratory.panel.counter };
+            laboratory.showAt(shownAt.address);
+        }), " ", button(text("startHere"), () => laboratory.command(`go ${place.value}`)), " ",
         button(text("breakAt"), () => laboratory.command(`break ${place.value}`)), " ", button(text("watchAt"), () => laboratory.command(`watch ${place.value}`)));
     const rules = h("ul", { class: "rules", "aria-label": text("rules") });
     const rowOf = kept((shown) => row(shown, texts, ask));
@@ -102,7 +108,10 @@ export function makeListing(laboratory, texts, { held, isFast, hasCosts }) {
         tell(rewritten, event === undefined ? "" : text("rewritten", event));
         const ends = held() === null ? arrowEnds(body, told.at(-1)) : null;
         refill(arrows, ...(ends === null ? [] : [arrowOf("arrow", ends)]));
-        requestAnimationFrame(() => scrollTo(list, [".next", ...(ends === null ? [] : [`[data-address="${told.at(-1).at}"]`, `[data-address="${told.at(-1).stored.address}"]`])]));
+        const rowAt = (address) => `[data-address="${address}"]`;
+        const asked = shownAt?.counter === laboratory.panel.counter ? [shownAt.address] : [];
+        wanted = [...[...asked, ...laboratory.lookedAt].map(rowAt), ".next", ...(ends === null ? [] : [told.at(-1).at, told.at(-1).stored.address].map(rowAt))];
+        scroll();
     };
     const show = () => {
         showWords();

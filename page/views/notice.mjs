@@ -1,5 +1,6 @@
 // What the reader should know: a refusal or a word of the page's own, and what can be done about it; the source that is open; and the lines of
 // laboratories that were lost.
+import { LESSONS } from "../steps.mjs";
 import { counted } from "../words.mjs";
 import { button, h } from "./dom.mjs";
 import { ruleText } from "./listing.mjs";
@@ -27,6 +28,7 @@ function noticeText(notice, laboratory, texts, isKiosk) {
     if (kind === "broken") return text("broken", { detail });
     if (["fileTooLong", "fileNoText", "fileNoScript"].includes(kind)) return text(kind, { detail });
     if (kind === "noExample") return text("wrongAddress", { name: detail });
+    if (kind === "noLesson") return text("wrongLesson", { name: detail, lessons: LESSONS.map(({ name }) => name).join(", ") });
     if (kind === "noKioskExample") return text("wrongKiosk", { name: detail, shown: notice.shown });
     return `${line}\n${text("refused", { kind, text: `${table.refusals[kind] ?? ""} ${reason ?? ""}` })}`;
 }

@@ -1,5 +1,5 @@
-// Where the parts stand: the stage with cabinet and typewriter, the pace, the story beside the program, and the bench. Console and typewriter change
-// their places with the width, so that the document's order is the seen order.
+// Where the parts stand: the stage with cabinet and typewriter, the pace, the story beside the program, and the bench; beside all of them the guide with the steps of a
+// lesson or a task. Console, typewriter and costs change their places with the width and the door, so that the document's order is the seen order.
 import { h } from "./dom.mjs";
 import { behind } from "./doors.mjs";
 
@@ -10,20 +10,20 @@ const box = (name, ...views) => h("div", { class: name }, ...views.map((view) =>
 
 /** The page below its header: the stage, and what is seen behind each door. */
 export function makeStage(made) {
-    for (const { node } of [made.tasks, made.drum, made.console, made.time, made.story, made.paper]) node.querySelector("h2").classList.add("unseen");
+    for (const { node } of [made.lesson, made.tasks, made.drum, made.console, made.time, made.story, made.paper]) node.querySelector("h2").classList.add("unseen");
     const [stand, all] = ["learn work", "look learn work"];
-    behind(stand, made.console.node.querySelector(".second-row"));
+    behind("work", made.console.node.querySelector(".second-row"));
     behind(stand, made.story.node.querySelector(".telling-order"));
     behind(stand, made.listing.node.querySelector("form"));
     for (const node of made.listing.node.querySelectorAll("form button:not(:first-of-type), .rules")) behind("work", node);
     const desk = behind(all, box("desk", made.plate, made.scope, made.console));
     const cabinet = box("cabinet", made.drum, behind("hall", made.hall.node), desk);
-    const body = behind(stand, box("flexo-body", made.tape, made.keyboard));
+    const body = behind("work", box("flexo-body", made.tape, made.keyboard));
     const typewriter = behind(all, box("flexowriter", made.paper, body));
     const told = box("column", behind("look", made.tales.node), made.story, behind(stand, made.accounts.node));
     const words = box("column", made.listing, behind(stand, made.costs.node));
     const bench = box("bench", box("column", made.panel, made.explanation, made.script, made.turns), box("column", made.source), box("column", made.lines, made.profile));
-    return h("main", {}, behind("learn", box("tasks-place", made.tasks)), box("stage", cabinet, typewriter), behind(all, box("pace", made.pace, made.time)), behind(all, box("telling", behind("learn", made.lesson.node), told, words)), behind("work", bench));
+    return h("main", {}, behind("learn", box("guide", made.lesson, made.tasks)), box("stage", cabinet, typewriter), behind(all, box("pace", made.pace, made.time)), behind(all, box("telling", told, words)), behind("work", bench));
 }
 
 /** Puts a node where it is seen, unless it stands there. The focus stays. */
@@ -35,12 +35,15 @@ function put(node, where, beside) {
     focused?.focus();
 }
 
-/** Gives console and typewriter their places for the width of the window. */
+/** Gives console, typewriter and costs their places for the width of the window and the door. */
 export function arrange() {
-    const [desk, typewriter, bench] = [".desk", ".flexowriter", ".bench"].map((name) => document.querySelector(name));
+    const [guide, desk, typewriter, bench, costs, accounts] = [".guide", ".desk", ".flexowriter", ".bench", ".costs", ".accounts"].map((name) => document.querySelector(name));
     if (bench === null) return;
-    if (WIDE.matches) put(typewriter, "append", document.querySelector(".stage"));
+    const isGuided = document.body.dataset.door === "learn";
+    if (WIDE.matches) put(typewriter, "append", isGuided ? guide : document.querySelector(".stage"));
     else put(typewriter, "before", bench);
+    if (isGuided) put(costs, "before", accounts);
+    else put(costs, "append", document.querySelector(".telling > :last-child"));
     if (NARROW.matches) put(desk, "before", typewriter);
     else put(desk, "append", document.querySelector(".cabinet"));
 }

@@ -16,14 +16,6 @@ function nodesOf(text) {
     });
 }
 
-/** The choice of a task by its title and its minutes. `chosen` is called with its name, or null. */
-function makeChoice(tasks, code, { text }, open, chosen) {
-    const titleOf = ({ task, texts }) => text("taskTitle", { title: /^# (.*)$/m.exec(texts[code])[1], minutes: taskIn(task).minutes });
-    const choice = h("select", { id: "task", "aria-label": text("chooseTask"), onchange: () => chosen(choice.value || null) },
-        h("option", { value: "" }, `${text("tasksName")}: ${text("chooseExample")}`), ...Object.entries(tasks).map(([name, task]) => h("option", { value: name, selected: name === open }, titleOf(task))));
-    return choice;
-}
-
 /** Does something with a link to a laboratory of its own, which is ended then. What goes wrong with it is a sentence too. */
 async function withLink(openLink, say, deed) {
     const link = openLink();
@@ -81,10 +73,11 @@ function makeDeeds(laboratory, { text }, now, { sentences, code, openLink, answe
     return h("div", { class: "line" }, ...buttons);
 }
 
-/** The part of the page with a task, and the choice of one. `sources` has what pupils have written, and `openLink` gives a link to a new laboratory. */
+/** The part of the page with the task that is open, and the names and titles of all. `sources` has what pupils have written, and `openLink` gives a link to a new laboratory. */
 export function makeTasks(laboratory, texts, { tasks, sentences }, sources, openLink) {
     const { text } = texts;
     const code = texts.code in sentences ? texts.code : "en";
+    const titles = Object.entries(tasks).map(([name, it]) => [name, text("taskTitle", { title: /^# (.*)$/m.exec(it.texts[code])[1], minutes: taskIn(it.task).minutes })]);
     const answer = makeAnswer(texts);
     const read = h("div", { class: "task-text", tabindex: "0", role: "group", "aria-label": text("taskText") });
     const area = h("textarea", { spellcheck: "false", autocapitalize: "off", wrap: "off", "aria-label": text("sourceLabel"), oninput: () => { sources.keep(sources.open, area.value); answer.show(null); } });
@@ -102,5 +95,5 @@ export function makeTasks(laboratory, texts, { tasks, sentences }, sources, open
     const buttons = makeDeeds(laboratory, texts, now, { sentences: { ...sentences.en, ...sentences[code] }, code, openLink, answer, begin });
     const node = part("tasks", text("tasksName"), h("div", { class: "task" }, read, h("div", { class: "task-desk" }, area, buttons, answer.node)));
     open(sources.open);
-    return { node, choice: makeChoice(tasks, code, texts, sources.open, open), show: () => {} };
+    return { node, titles, open, opened: () => sources.open, show: () => {} };
 }

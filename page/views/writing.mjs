@@ -50,11 +50,9 @@ export function makeSource(laboratory, texts) {
     return { node, show };
 }
 
-/** The part of the page with lines and replies. Only what is new is added to the log, so that a screen reader reads that alone. */
-export function makeLines(laboratory, { text, code }) {
-    const log = h("pre", { class: "log", tabindex: "0", role: "log", "aria-label": text("lines") });
-    const input = h("input", { class: "wide", "aria-label": text("typeLine"), placeholder: "words 0050 2", autocapitalize: "off", spellcheck: "false" });
-    const shown = new Map();
+/** A box for lines to the monitor, with its name: lines that were sent come back by the arrow keys, and several may be pasted. */
+export function makeLineBox(laboratory, { text }, name) {
+    const input = h("input", { class: "wide", "aria-label": name, placeholder: "words 0050 2", autocapitalize: "off", autocomplete: "off", spellcheck: "false" });
     const earlier = new Earlier();
     const send = async (event) => {
         event.preventDefault();
@@ -78,6 +76,16 @@ export function makeLines(laboratory, { text, code }) {
         for (const line of text.lines) earlier.add(line);
         laboratory.say(...text.lines);
     });
+    const show = () => { input.placeholder = laboratory.openSource === null ? "words 0050 2" : text("sourceLine"); };
+    return { node: h("form", { class: "line", onsubmit: send }, input, h("button", {}, text("send"))), show };
+}
+
+/** The part of the page with lines and replies. Only what is new is added to the log, so that a screen reader reads that alone. */
+export function makeLines(laboratory, texts) {
+    const { text, code } = texts;
+    const log = h("pre", { class: "log", tabindex: "0", role: "log", "aria-label": text("lines") });
+    const box = makeLineBox(laboratory, texts, text("typeLine"));
+    const shown = new Map();
     const show = () => {
         const talk = laboratory.talk.slice(-LOGGED);
         for (const said of [...shown.keys()].filter((said) => !talk.includes(said))) {
@@ -90,9 +98,9 @@ export function makeLines(laboratory, { text, code }) {
             log.append(shown.get(said));
         }
         if (young.length > 0) requestAnimationFrame(() => { log.scrollTop = log.scrollHeight; });
-        input.placeholder = laboratory.openSource === null ? "words 0050 2" : text("sourceLine");
+        box.show();
     };
-    return { node: part("lines", text("lines"), log, h("form", { class: "line", onsubmit: send }, input, h("button", {}, text("send")))), show };
+    return { node: part("lines", text("lines"), log, box.node), show };
 }
 
 /** The part of the page with a script's lines. */
