@@ -18,7 +18,7 @@ const TELL_EVERY = 250;
 const NEW = /^ *new *$/;
 const IN_DIGITS = /^ *put +\d{4} +[0-9fgjkqw]{8} *$/;
 const STEPS = new Set(["put", "mount", "press", "type", "turn"]);
-const RUNS = new Set(["run", "trace", "profile", "drum", "optimum", "trace-data", "profile-data"]);
+const RUNS = new Set(["run", "operate", "trace", "profile", "drum", "optimum", "trace-data", "profile-data"]);
 
 /** A deed that was not begun, and the notice that says why. */
 class Held extends Error {
@@ -328,10 +328,11 @@ export class Laboratory extends EventTarget {
     }
 
     async #noteRun(line, reply, isAgain) {
-        const [verb, , word] = line.trim().split(/ +/);
+        const [verb, limit, word] = line.trim().split(/ +/);
         const { told, end } = replies.toldOf(reply);
         const before = this.accounts;
         const isRefused = replies.isRefusal(end);
+        if (verb === "operate") this.#noteStarts(replies.startsOf(reply), Number(limit));
         if (isRefused) this.#forgetDeeds();
         else this.#noteEnd(replies.runOf(end), isAgain);
         if (verb === "profile-data") this.profile = replies.profileOf(told);
@@ -340,6 +341,13 @@ export class Laboratory extends EventTarget {
         if (verb === "optimum" && word !== undefined) this.#costsOfLine = costsIn(reply);
         if (verb === "profile") this.profile = null;
         if (!isRefused && ["trace", "profile"].includes(verb)) await this.#tellAgain(verb, replies.runOf(end).orders, before);
+    }
+
+    /** Start was pressed so often, each time after a run. How many orders such a run had, of at most so many, is not told: they cannot be gone back over. */
+    #noteStarts(starts, limit) {
+        if (starts === 0) return;
+        this.#forgetDeeds();
+        this.#room.ran(starts * limit);
     }
 
     /** What has been told for the reader, told for the page as well: the orders are gone back over, as far as they are kept. */

@@ -8,7 +8,7 @@ import { commandIn } from "./lines.mjs";
  * most orders that one line tells, and the most signs of a source that is sent at once. */
 export const ROOM = { lines: 3_000_000, codes: 1_000_000, last: 10_000, asksAfter: 20_000, told: 10_000, source: 1_500_000 };
 
-const PERFORMS = /^ *(run|orders|profile|trace|drum|optimum|profile-data|trace-data) +(\d+)(?: +\S+)? *$/;
+const PERFORMS = /^ *(run|orders|operate|profile|trace|drum|optimum|profile-data|trace-data) +(\d+)(?: +\S+)? *$/;
 const TELL_EACH = ["trace", "drum", "trace-data"];
 const RUN = /^ *run +(\d{1,15}) *$/;
 const GIVE_ROOM = ["new", "back", "last"];
@@ -67,8 +67,13 @@ export class Room {
     /** The most orders that may stand in a line where it names more than that, else null. */
     mostIn(line) {
         const [, verb, number] = PERFORMS.exec(line) ?? [];
-        const most = TELL_EACH.includes(verb) ? Math.min(ROOM.told, this.orders) : this.orders;
+        const most = TELL_EACH.includes(verb) ? Math.min(ROOM.told, this.orders) : verb === "operate" ? this.#runs : this.orders;
         return verb !== undefined && Number(number) > most ? most : null;
+    }
+
+    /** The most orders of `operate`: it performs as many runs, and one more. */
+    get #runs() {
+        return Math.floor((Math.sqrt(1 + 4 * this.orders) - 1) / 2);
     }
 
     /** The orders of a line `run` that names more than may be performed at once, else null. It can be done in portions. */

@@ -121,6 +121,9 @@ export function runOf(reply) {
     return { orders: Number(orders), end: end.startsWith("rule") ? "rule" : end, rule: rule === undefined ? null : Number(rule) };
 }
 
+/** How often `operate` has pressed Start. */
+export const startsOf = (reply) => Number(/^ +started again at a z after a p: (\d+)$/m.exec(reply)?.[1] ?? 0);
+
 /** How many orders `orders` performed, and the status behind them. */
 export function ordersOf(reply) {
     const [, orders, status] = matched(/^orders (\d+) (.+)$/, linesOf(reply)[0] ?? "", "reply of orders");

@@ -12,6 +12,7 @@ const answers = {
     drum: () => "      64  i.........................Rx....................................\n     128  ........Fi.........................Wx...........................\nran 1 limit\n",
     back: () => { clock -= 73; return `clock ${clock}\n`; },
     run: (count) => `ran ${count} limit\n`,
+    operate: (count) => (count === "1" ? "ran 1 limit\n" : "ran 2 rest\n        started again at a z after a p: 2\n"),
     press: () => "live\n", type: () => "live 1 dead 0\n", orders: (count) => `orders ${count} going\n`,
     "profile-data": () => "orders 3\ntimes 213\nturns 3.3\nfind 154\ntake 3\nseek 53\nact 3\nelsewhere 0\nplace 0000\ntimes 92\nplace 0001\ntimes 73\nran 3 rest\n",
     ".": () => "? 9 Faults\nline 2 UnknownName\n         b none\n           ^^^^\n",
