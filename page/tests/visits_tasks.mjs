@@ -37,7 +37,7 @@ function besides(name, kind, code) {
 }
 
 /** What of a task does not lie in the window, or whether the page had to be scrolled. */
-const outside = (browser) => browser.value(`[...(scrollY === 0 ? [] : ["scrolled"]), ...[".task-text", ".task-desk textarea", "#check-task", "#put-task", ".task-answer", ".drum-box", "#step", "#run", ".phases", ".listing form", ".paper"].filter((it) => {
+const outside = (browser) => browser.value(`[...(scrollY === 0 ? [] : ["scrolled"]), ...[".task-text", ".task-desk textarea", "#check-task", "#put-task", ".task-answer", ".drum-box", "#step", "#run", ".scope", ".listing form", ".paper"].filter((it) => {
     const { top, left, right, bottom, height } = document.querySelector(it).getBoundingClientRect();
     return top < 0 || left < 0 || right > innerWidth || bottom > innerHeight || height < 30;
 })]`);
