@@ -121,6 +121,10 @@ async function taskForAll(browser, address) {
             await browser.size(width, 900);
             assert.deepEqual(await browser.value("[document.documentElement.scrollWidth <= innerWidth, ...['.task-text', '.task-answer'].map((it) => document.querySelector(it)).map((it) => it.scrollWidth <= it.clientWidth + 1)]"), [true, true, true], `${width}`);
         }
+        for (const [width, height] of [[1280, 720], [1920, 1080]]) {
+            await browser.size(width, height);
+            assert.deepEqual(await outside(browser), [], `${width}`);
+        }
         await browser.press("#begin-task");
     }
     await browser.size(1500, 1250);

@@ -162,5 +162,5 @@ export function makeLesson(laboratory, texts, open, pupil, tasks) {
         if (pupil.lesson !== null) steps.show();
     };
     layOut();
-    return { node: part("lesson", text("lessonsName"), choice, about, steps.node), show };
+    return { node: part("lesson", text("learn"), choice, about, steps.node), show };
 }
