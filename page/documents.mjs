@@ -1,7 +1,10 @@
-// The documents of lessons on disk: docs/lessons/NAME.md in English, and docs/lessons/LANGUAGE/NAME.md in each other language.
-import { existsSync, readFileSync } from "node:fs";
+// What the page takes from files of the repository. Lessons are docs/lessons/NAME.md in English, and docs/lessons/LANGUAGE/NAME.md in each other language;
+// tasks are the folders of tasks/; and examples/language has the comments of the examples in other languages.
+import { existsSync, readFileSync, readdirSync } from "node:fs";
 import { join } from "node:path";
+import { remarksOf, sourceIn, tableIn } from "./examples.mjs";
 import { lessonIn } from "./lessons.mjs";
+import { sentencesIn, taskIn } from "./task.mjs";
 import { LESSONS } from "./views/lesson.mjs";
 import { LANGUAGES } from "./words.mjs";
 
@@ -13,4 +16,47 @@ export function lessonsBelow(folder) {
     const names = LESSONS.map(({ name }) => name).filter((name) => existsSync(documentOf(folder, name, "en")));
     const lessonsOf = (code) => Object.fromEntries(names.map((name) => [name, lessonIn(readFileSync(documentOf(folder, name, code), "utf8"))]));
     return Object.fromEntries(Object.keys(LANGUAGES).map((code) => [code, lessonsOf(code)]));
+}
+
+const read = (...path) => readFileSync(join(...path), "utf8");
+
+/** All scripts below a folder, by their names without the ending. */
+export function scriptsBelow(folder, name = "") {
+    const entries = readdirSync(folder, { withFileTypes: true }).sort((one, other) => (one.name < other.name ? -1 : 1));
+    return entries.flatMap((entry) => {
+        const path = name + entry.name;
+        if (entry.isDirectory()) return scriptsBelow(join(folder, entry.name), `${path}/`);
+        return entry.name.endsWith(".txt") ? [[path.slice(0, -".txt".length), read(folder, entry.name)]] : [];
+    });
+}
+
+/** The comments of a language by the English ones, of its file below the folder of the examples; none where it has none, as English. */
+export function tableOf(shelf, code) {
+    const file = join(shelf, "language", code);
+    return existsSync(file) ? tableIn(read(file)) : new Map();
+}
+
+/** The comments of all scripts below a folder by languages and the scripts' names, in their order; null where a language has none for one. */
+export function remarksBelow(folder) {
+    const scripts = scriptsBelow(folder);
+    return Object.fromEntries(readdirSync(join(folder, "language")).map((code) => {
+        const table = tableOf(folder, code);
+        return [code, Object.fromEntries(scripts.map(([name, script]) => [name, remarksOf(script).map((remark) => table.get(remark) ?? null)]))];
+    }));
+}
+
+/**
+ * The tasks below a folder by their names, the shortest first, each with its file and, by languages, its text and the source that is given, with the
+ * comments of a language from the folder of the examples; and the sentences of their check by languages.
+ */
+export function tasksBelow(folder, shelf) {
+    const codes = readdirSync(join(folder, "language"));
+    const names = readdirSync(folder).filter((name) => existsSync(join(folder, name, "task")));
+    const taskOf = (name) => {
+        const [file, inEach] = [join(folder, name, "given.source"), (textIn) => Object.fromEntries(codes.map((code) => [code, textIn(code)]))];
+        const givenIn = (code) => (existsSync(file) ? sourceIn(read(file), tableOf(shelf, code)) : "");
+        return { task: read(folder, name, "task"), texts: inEach((code) => read(folder, name, `${code}.md`)), given: inEach(givenIn) };
+    };
+    const tasks = names.map((name) => [name, taskOf(name)]).sort(([, one], [, other]) => taskIn(one.task).minutes - taskIn(other.task).minutes);
+    return { tasks: Object.fromEntries(tasks), sentences: Object.fromEntries(codes.map((code) => [code, sentencesIn(read(folder, "language", code))])) };
 }

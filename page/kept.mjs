@@ -1,4 +1,4 @@
-// The last session, as the browser keeps it on this machine; and files that are opened.
+// The last session and the sources of tasks, as the browser keeps them on this machine; and files that are opened.
 import { commandIn, isIdle, linesIn } from "./lines.mjs";
 import { ROOM } from "./room.mjs";
 
@@ -10,14 +10,16 @@ const REST_MILLISECONDS = 1000;
 /** Scripts that a link may hold: some browsers take no longer addresses. */
 const LONGEST_LINK = 30_000;
 
-/** The last session in a storage. Where the browser has none, or has no room in it, nothing is kept. */
+/** The last session in a storage, or another text under a name of its own. Where the browser has none, or has no room in it, nothing is kept. */
 export class Kept {
     #storage;
+    #name;
     /** What was kept when the page was opened, as long as it is offered; else null. */
     offered;
 
     /** `storage` gives the browser's storage; it may fail. */
-    constructor(storage) {
+    constructor(storage, name = NAME) {
+        this.#name = name;
         try {
             this.#storage = storage();
         } catch {
@@ -29,7 +31,7 @@ export class Kept {
     /** The script that is kept, or null. */
     get script() {
         try {
-            return this.#storage?.getItem(NAME) ?? null;
+            return this.#storage?.getItem(this.#name) ?? null;
         } catch {
             return null;
         }
@@ -38,7 +40,7 @@ export class Kept {
     /** Keeps a script in place of the one before. */
     keep(script) {
         try {
-            this.#storage?.setItem(NAME, script);
+            this.#storage?.setItem(this.#name, script);
         } catch {
             this.forget();
         }
@@ -47,10 +49,39 @@ export class Kept {
     /** Keeps nothing. */
     forget() {
         try {
-            this.#storage?.removeItem(NAME);
+            this.#storage?.removeItem(this.#name);
         } catch {
             // a storage that forgets nothing has kept nothing
         }
+    }
+}
+
+/** The sources of tasks by the tasks' names: as long as the page is open, and in a storage, where the browser has one. */
+export class Sources {
+    /** The name of the task that is open, or null. */
+    open = null;
+
+    #storage;
+    #sources = new Map();
+
+    constructor(storage) {
+        this.#storage = storage;
+    }
+
+    #keptOf(name) {
+        return new Kept(this.#storage, `condugwa-task-${name}`);
+    }
+
+    /** A task's source, or null where there is none. */
+    of(name) {
+        return this.#sources.get(name) ?? this.#keptOf(name).script;
+    }
+
+    /** Keeps a task's source; null is none. */
+    keep(name, source) {
+        this.#sources.set(name, source);
+        if (source === null) this.#keptOf(name).forget();
+        else this.#keptOf(name).keep(source);
     }
 }
 

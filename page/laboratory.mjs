@@ -66,6 +66,9 @@ export class Laboratory extends EventTarget {
     wantsRows = true;
     isOnShow = false;
     deeds = new Deeds();
+    /** Lines that only ask, which a view wants asked at each look as well, and their last replies. */
+    questionsToo = [];
+    answers = [];
 
     #link;
     #first = "0000";
@@ -381,7 +384,7 @@ export class Laboratory extends EventTarget {
         const last = this.accounts.at(-1);
         if (last !== undefined && last.register === undefined) Object.assign(last, { register: this.panel.register, next: this.panel.counter, status: this.panel.status });
         if (!isAmong(this.panel.counter, this.#first, SHOWN - 1)) this.#first = windowAt(this.panel.counter, SHOWN);
-        await Promise.all([this.#lookAtLive(), this.#lookAtWords(), this.#lookAtTrack(), this.#lookAtPaper(), this.#lookAtRules()]);
+        await Promise.all([this.#lookAtLive(), this.#lookAtWords(), this.#lookAtTrack(), this.#lookAtPaper(), this.#lookAtRules(), this.#lookAtOthers()]);
         if (this.#hit !== null) this.notice = { kind: "rule", number: this.#hit, rule: this.rules[this.#hit], isOfScript: this.#isRuleOfScript[this.#hit] ?? false };
         this.#hit = null;
     }
@@ -396,6 +399,10 @@ export class Laboratory extends EventTarget {
 
     async #lookAtRules() {
         if (this.knows("rules")) this.rules = replies.rulesOf(await this.#ask("rules"));
+    }
+
+    async #lookAtOthers() {
+        this.answers = await Promise.all(this.questionsToo.map((line) => this.#ask(line)));
     }
 
     async #lookAtPaper() {
@@ -674,6 +681,16 @@ export class Laboratory extends EventTarget {
         this.comments = commentsIn(this.script.lines);
         await this.#scriptTo(setUp(this.script.lines, isBeforeStart));
         await this.#look();
+    }
+
+    /** Has the comments of the open script in another language: the text has the same lines but for these, else nothing is done. A run that was stopped has in its line the orders that are left. */
+    retold(text) {
+        const lines = linesIn(text);
+        const { at } = this.script;
+        if (lines.length !== this.script.lines.length) return;
+        if (at < lines.length && !isIdle(lines[at])) lines[at] = this.script.lines[at];
+        this.script = { ...this.script, lines };
+        this.comments = commentsIn(lines);
     }
 
     async #scriptTo(end) {

@@ -35,7 +35,7 @@ const SOURCE = /^ *source *$/;
 const STARTS = /^ *press +start *$/;
 
 /** For each line whether it stands in a source, as the point that ends one does. */
-function areInSource(lines) {
+export function areInSource(lines) {
     let isOpen = false;
     return lines.map((line) => {
         const isWithin = isOpen;

@@ -40,4 +40,9 @@ export class Link {
     anew() {
         return this.#post({ anew: true });
     }
+
+    /** Ends the Worker, and gives its memory back. */
+    end() {
+        this.#worker.terminate();
+    }
 }

@@ -1,6 +1,7 @@
 // Puts the page together: the laboratory, its views, and what the address asks for.
 import { Drive } from "./drive.mjs";
-import { Kept, keepFrom, linkOf } from "./kept.mjs";
+import { withRemarks } from "./examples.mjs";
+import { Kept, Sources, keepFrom, linkOf } from "./kept.mjs";
 import { Laboratory } from "./laboratory.mjs";
 import { headOf, linesIn, withoutQuestions } from "./lines.mjs";
 import { Link } from "./link.mjs";
@@ -14,6 +15,7 @@ import { makeConsole, makeKeyboard } from "./views/console.mjs";
 import { button, h, part } from "./views/dom.mjs";
 import { addressOfDoor, behind, makeDoors, makeHall, showDoor } from "./views/doors.mjs";
 import { makeDrum } from "./views/drum.mjs";
+import { GAMES, asksOf, makeHeap } from "./views/game.mjs";
 import { hearDrops, makeOffer, makeOpen, openFile } from "./views/keep.mjs";
 import { KIOSK, makeKiosk, watchIdle } from "./views/kiosk.mjs";
 import { makeLesson } from "./views/lesson.mjs";
@@ -27,6 +29,7 @@ import { makePlate, makeScope } from "./views/scope.mjs";
 import { arrange, makeStage } from "./views/stage.mjs";
 import { makeStory } from "./views/story.mjs";
 import { makeTales } from "./views/tales.mjs";
+import { makeTasks } from "./views/tasks.mjs";
 import { makeTurns } from "./views/turns.mjs";
 import { makeLines, makeScript, makeSource } from "./views/writing.mjs";
 import { LANGUAGES, counted, textsIn } from "./words.mjs";
@@ -39,9 +42,12 @@ const sound = new Sound(() => new AudioContext());
 const clocks = { now: () => performance.now(), sleep: (milliseconds) => new Promise((resolve) => setTimeout(resolve, milliseconds)) };
 const inlined = (id) => document.getElementById(id).textContent;
 const examples = new Map(Object.entries(JSON.parse(inlined("examples"))));
+const remarks = JSON.parse(inlined("remarks"));
 const bytesOf = (base64) => Uint8Array.from(atob(base64), (sign) => sign.charCodeAt(0));
 const asked = askedIn(location);
 const kept = new Kept(() => localStorage);
+const sources = new Sources(() => localStorage);
+const openLink = () => new Link(inlined("worker"), bytesOf(inlined("module")));
 
 // lessons that have a document have their texts from there
 for (const [code, lessons] of Object.entries(JSON.parse(inlined("lessons")))) Object.assign(LANGUAGES[code].lessons, lessons);
@@ -79,13 +85,24 @@ function show() {
     if (panel !== null) for (const view of views) view.show();
 }
 
+/** An example with its comments in the language of the page, where that has them. */
+const exampleNamed = (name) => withRemarks(examples.get(name), remarks[texts.code]?.[name] ?? []);
+
+/** Goes on in another language; an example that is open has its comments in that as well. Where a control had the focus, the one of this name has it then. */
+function goOnIn(code, id) {
+    texts = textsIn(code);
+    const name = laboratory.script?.name;
+    if (examples.has(name)) laboratory.retold(exampleNamed(name));
+    layFor(id);
+}
+
 /** What the hall shows. */
 const HALL_EXAMPLE = "self-modifying";
 
 function openExample(name) {
     drive.halt();
     if (door === "hall") goTo("work");
-    return laboratory.openScript(name, examples.get(name));
+    return laboratory.openScript(name, exampleNamed(name));
 }
 
 /** Opens what was saved: all its lines are done. */
@@ -99,7 +116,7 @@ const openDropped = (file) => openFile(file, laboratory, openSaved);
 
 /** Opens an example that the page shows by itself, and sets it going. */
 async function openShown(name) {
-    await laboratory.openForShow(name, examples.get(name));
+    await laboratory.openForShow(name, exampleNamed(name));
     if (laboratory.way.kind === "start") await laboratory.command("press start");
 }
 
@@ -191,16 +208,16 @@ function makeSoundSwitch() {
     return control;
 }
 
-function makeBar() {
+function makeBar(task) {
     const { text } = texts;
     const choice = h("select", { id: "example", "aria-label": text("openExample"), onchange: () => examples.has(choice.value) && openExample(choice.value) },
         h("option", { value: "" }, `${text("examples")}: ${text("chooseExample")}`),
-        ...[...examples].map(([name, script]) => h("option", { value: name }, `${name}: ${headOf(script).title}`)));
-    const language = h("select", { id: "language", "aria-label": "Language, Sprache", onchange: () => { texts = textsIn(language.value); layFor("language"); } },
+        ...[...examples.keys()].map((name) => h("option", { value: name }, `${name}: ${headOf(exampleNamed(name)).title}`)));
+    const language = h("select", { id: "language", "aria-label": "Language, Sprache", onchange: () => goOnIn(language.value, "language") },
         ...Object.entries(LANGUAGES).map(([code, table]) => h("option", { value: code, selected: code === texts.code }, table.language)));
-    const view = { node: h("div", { class: "line choices", role: "toolbar", "aria-label": text("choices") }, choice, behind("work", button(text("new"), () => laboratory.new(), { title: text("newHint") })), behind("work", button(text("save"), save, { title: text("saveHint"), id: "save" })), behind("work", makeOpen(texts, openDropped)),
+    const view = { node: h("div", { class: "line choices", role: "toolbar", "aria-label": text("choices") }, behind("learn", task), choice, behind("work", button(text("new"), () => laboratory.new(), { title: text("newHint") })), behind("work", button(text("save"), save, { title: text("saveHint"), id: "save" })), behind("work", makeOpen(texts, openDropped)),
         makeSoundSwitch(), button(text("kiosk"), () => setKiosk(true), { id: "kiosk" }), button(text("about"), about, { id: "about" }), language),
-        show: () => { choice.value = laboratory.script?.name ?? ""; } };
+        show: () => { choice.value = examples.has(laboratory.script?.name) ? laboratory.script.name : ""; } };
     return view;
 }
 
@@ -219,9 +236,9 @@ function makeExplanation() {
 const showing = { playing, held, isFast: () => drive.pace === "own" || drive.pace === "fast", pace: () => drive.pace, isAttract: () => isAttract, hasCosts: () => ["learn", "work"].includes(door) };
 
 /** All parts but the header, and the element that holds them in the order in which they are seen. */
-function makeWork() {
+function makeWork(tasks) {
     const made = {
-        hall: makeHall(texts, goTo, drive), tales: makeTales(laboratory, texts, drive, openShown), lesson: makeLesson(laboratory, texts, openShown), drum: makeDrum(laboratory, texts, showing), plate: makePlate(laboratory, texts), scope: makeScope(laboratory, texts, showing), panel: makePanel(laboratory, texts), console: makeConsole(laboratory, texts),
+        hall: makeHall(texts, goTo, drive), tales: makeTales(laboratory, texts, drive, openShown), lesson: makeLesson(laboratory, texts, openShown), tasks, drum: makeDrum(laboratory, texts, showing), plate: makePlate(laboratory, texts), scope: makeScope(laboratory, texts, showing), panel: makePanel(laboratory, texts), console: makeConsole(laboratory, texts),
         paper: makePaper(laboratory, texts, showing), tape: makeTape(laboratory, texts), keyboard: makeKeyboard(laboratory, texts),
         pace: makePace(laboratory, texts, drive), time: makeTime(laboratory, texts, showing), story: makeStory(laboratory, texts, showing), accounts: makeAccounts(laboratory, texts, showing), listing: makeListing(laboratory, texts, showing), costs: makeCosts(laboratory, texts),
         explanation: makeExplanation(), script: makeScript(laboratory, texts), source: makeSource(laboratory, texts), lines: makeLines(laboratory, texts),
@@ -231,21 +248,24 @@ function makeWork() {
 }
 
 function makeOthers() {
-    const other = button(texts.code === "de" ? "English" : "Deutsch", () => { texts = textsIn(texts.code === "de" ? "en" : "de"); layFor("other-language"); }, { id: "other-language", lang: texts.code === "de" ? "en" : "de" });
+    const other = button(texts.code === "de" ? "English" : "Deutsch", () => goOnIn(texts.code === "de" ? "en" : "de", "other-language"), { id: "other-language", lang: texts.code === "de" ? "en" : "de" });
     return [makeSoundSwitch(), button(texts.text("leaveKiosk"), () => setKiosk(false), { id: "leave-kiosk" }), other];
 }
 
 function makeExhibit() {
-    const made = { drum: makeDrum(laboratory, texts, showing), scope: makeScope(laboratory, texts, showing), paper: makePaper(laboratory, texts, showing) };
+    const game = GAMES.get(asked.example);
+    const shown = game === undefined ? makeScope(laboratory, texts, showing) : makeHeap(laboratory, texts);
+    const made = { drum: makeDrum(laboratory, texts, showing), shown, paper: makePaper(laboratory, texts, showing) };
     for (const node of [made.drum.node, made.paper.node]) node.querySelector("h2").classList.add("unseen");
-    return makeKiosk(laboratory, texts, { ...showing, drive }, openKiosk, made, makeOthers());
+    return makeKiosk(laboratory, texts, { ...showing, drive }, openKiosk, made, makeOthers(), game);
 }
 
 function makePage() {
     const { text } = texts;
-    const top = makeBar();
+    const tasks = makeTasks(laboratory, texts, JSON.parse(inlined("tasks")), sources, openLink);
+    const top = makeBar(tasks.choice);
     const heading = h("header", {}, behind("look learn work", h("a", { class: "skip unseen", href: "#story" }, text("skip"))), h("h1", {}, text("title")), h("p", { class: "subtitle" }, text("subtitle")), makeDoors(texts, goTo), top.node);
-    const { node, made } = makeWork();
+    const { node, made } = makeWork(tasks);
     return { nodes: [heading, node], views: [top, ...made] };
 }
 
@@ -276,7 +296,10 @@ async function openKiosk() {
     drive.halt();
     const isThere = asked.example === null || examples.has(asked.example);
     const name = isThere ? asked.example ?? KIOSK.example : KIOSK.example;
-    await laboratory.openForShow(name, examples.get(name));
+    await laboratory.openForShow(name, exampleNamed(name));
+    const game = GAMES.get(name);
+    laboratory.questionsToo = game === undefined ? [] : asksOf(game, laboratory.labels);
+    if (game !== undefined) await laboratory.command(...game.set);
     if (!isThere) await laboratory.tell({ kind: "noKioskExample", detail: asked.example, shown: KIOSK.example });
 }
 
@@ -312,6 +335,7 @@ async function setKiosk(wanted) {
     isAttract = false;
     endIdle();
     drive.halt();
+    laboratory.questionsToo = [];
     laboratory.isOnShow = isKiosk || door === "hall" || door === "look";
     layFor(isKiosk ? "kiosk-start" : "kiosk");
     if (!isKiosk) return;
@@ -343,7 +367,7 @@ async function openAsked() {
 }
 
 async function begin() {
-    laboratory = new Laboratory(new Link(inlined("worker"), bytesOf(inlined("module"))));
+    laboratory = new Laboratory(openLink());
     await laboratory.open();
     if (laboratory.panel === null) return globalThis.tellLacking(laboratory.notice.detail);
     drive = new Drive(laboratory, player, run, clocks);

@@ -21,7 +21,7 @@ _lgp_lab() {
 _lgp_monitor() {
     local current=${COMP_WORDS[COMP_CWORD]}
     case $current in
-        -*) mapfile -t COMPREPLY < <(compgen -W '--echo -h --help -V --version' -- "$current") ;;
+        -*) mapfile -t COMPREPLY < <(compgen -W '--echo --json -h --help -V --version' -- "$current") ;;
         *) mapfile -t COMPREPLY < <(compgen -f -- "$current") ;;
     esac
 }

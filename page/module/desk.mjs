@@ -1,4 +1,5 @@
 // The monitor at a desk: lines that are typed until `quit`, each perhaps above its reply.
+import { objectOf } from "./json.mjs";
 import { frontOf, isLonger, linesIn, wordsOf } from "./lines.mjs";
 import { isRefusal } from "./replies.mjs";
 
@@ -23,15 +24,15 @@ function dumpedIn(text, isPut) {
 export class Desk {
     #recorded;
     #openBeside;
-    #isEchoing;
+    #manner;
     #hasLeft = false;
     #isRefused = false;
 
-    /** A desk over a session, with what opens another one, for what is tried beside it. */
-    constructor(recorded, openBeside, isEchoing = false) {
+    /** A desk over a session, with what opens another one, for what is tried beside it, and how replies are written: "bare", "echo" or "json". */
+    constructor(recorded, openBeside, manner = "bare") {
         this.#recorded = recorded;
         this.#openBeside = openBeside;
-        this.#isEchoing = isEchoing;
+        this.#manner = manner;
     }
 
     /** Whether the next line is a command. */
@@ -44,7 +45,7 @@ export class Desk {
         return this.#hasLeft;
     }
 
-    /** Whether a reply began with a question mark. */
+    /** Whether a reply that is written as it is began with a question mark. */
     get isRefused() {
         return this.#isRefused;
     }
@@ -60,11 +61,12 @@ export class Desk {
     line(line, note) {
         if (!this.#recorded.isSourceOpen && wordsOf(line).join(" ") === "quit" && !isLonger(line)) return this.#leave(line);
         const reply = this.#recorded.answer(line);
-        return this.#echo(frontOf(line) + (isLonger(line) ? " .." : ""), reply) + this.own(reply, note);
+        return this.#written(frontOf(line) + (isLonger(line) ? " .." : ""), reply, note);
     }
 
-    /** A reply as it is written, with the note after a refusal. */
+    /** A reply of the desk itself as it is written, with the note after a refusal. */
     own(reply, note) {
+        if (this.#manner === "json") return objectOf(null, reply, note);
         const isRefused = isRefusal(reply);
         this.#isRefused ||= isRefused;
         return reply + (isRefused && note !== "" ? `${INDENT}${note}\n` : "");
@@ -73,11 +75,15 @@ export class Desk {
     /** What is written for a dump that is restored. */
     restore(name, dump, note) {
         const reply = this.#restored(dump);
-        return this.#echo(`restore ${name}`, reply) + this.own(reply, note);
+        return this.#written(`restore ${name}`, reply, note);
+    }
+
+    #written(shown, reply, note) {
+        return this.#manner === "json" ? objectOf(shown, reply, note) : this.#echo(shown, reply) + this.own(reply, note);
     }
 
     #echo(shown, reply) {
-        return this.#isEchoing ? `${isRefusal(reply) ? "?" : ">"} ${shown}\n` : "";
+        return this.#manner === "echo" ? `${isRefusal(reply) ? "?" : ">"} ${shown}\n` : "";
     }
 
     #leave(line) {
@@ -111,6 +117,7 @@ export class Desk {
     close() {
         if (this.#hasLeft) return "";
         const text = this.#recorded.close();
+        if (this.#manner === "json") return text === "" ? "" : objectOf(null, text, "");
         this.#isRefused ||= isRefusal(text);
         return text;
     }

@@ -131,11 +131,16 @@ function taskOf([command, ...operands]) {
     }
 }
 
+/** What says how the monitor's replies are written. */
+const FLAGS = ["--echo", "--json"];
+
 /** What the words of lgp_monitor ask for. */
 function sittingOf(words) {
-    const names = words.filter((word) => word !== "--echo");
-    if (words.length - names.length > 1 || !names.every(isName)) throw new HandedBack();
-    return { names: names.map((name) => textFrom(Buffer.from(name))), isEchoing: names.length < words.length };
+    const flags = words.filter((word) => FLAGS.includes(word));
+    const names = words.filter((word) => !FLAGS.includes(word));
+    if (new Set(flags).size < flags.length || !names.every(isName)) throw new HandedBack();
+    const manner = flags.includes("--json") ? "json" : flags.includes("--echo") ? "echo" : "bare";
+    return { names: names.map((name) => textFrom(Buffer.from(name))), manner };
 }
 
 /** Types the lines of standard input as they come. */
@@ -203,12 +208,12 @@ function sitAtTerminal(typist, desk, recorded) {
     });
 }
 
-async function monitor({ names, isEchoing }) {
+async function monitor({ names, manner }) {
     const recorded = new Recorded(new Session(module, REGIONS[1]));
     const openBeside = () => new Recorded(new Session(module, BESIDE));
-    const desk = new Desk(recorded, openBeside, isEchoing);
+    const desk = new Desk(recorded, openBeside, manner);
     const typist = new Typist(desk, openBeside, (text) => write(bytesFrom(text)));
-    const isPrompting = isatty(0) && isatty(1) && !isEchoing;
+    const isPrompting = isatty(0) && isatty(1) && manner === "bare";
     typist.typeFirst(names);
     if (isPrompting && !desk.hasLeft) await sitAtTerminal(typist, desk, recorded);
     else typeInput(typist, desk);

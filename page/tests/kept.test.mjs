@@ -2,7 +2,7 @@
 import assert from "node:assert/strict";
 import { test } from "node:test";
 import { Earlier, pasted } from "../earlier.mjs";
-import { Kept, keepFrom, linkOf, unopened } from "../kept.mjs";
+import { Kept, Sources, keepFrom, linkOf, unopened } from "../kept.mjs";
 import { askedIn } from "../opening.mjs";
 
 /** A storage as browsers have it. */
@@ -32,6 +32,21 @@ test("where there is no storage, or no room in it, nothing is kept and nothing f
     const kept = new Kept(() => full);
     kept.keep("x");
     assert.equal(kept.script, null);
+});
+
+test("sources of tasks are kept each by its name, beside the session, and without a storage as long as the page is open", () => {
+    const shelf = storage();
+    const [first, session] = [new Sources(() => shelf), new Kept(() => shelf)];
+    assert.deepEqual([first.open, first.of("sum")], [null, null]);
+    session.keep("run 1\n");
+    first.keep("sum", " end start\n");
+    first.keep("row", "");
+    assert.deepEqual(["sum", "row", "tape"].map((name) => new Sources(() => shelf).of(name)), [" end start\n", "", null]);
+    first.keep("sum", null);
+    assert.deepEqual([first.of("sum"), new Sources(() => shelf).of("sum"), new Kept(() => shelf).script], [null, null, "run 1\n"]);
+    const none = new Sources(() => { throw new Error("forbidden"); });
+    none.keep("sum", "x");
+    assert.equal(none.of("sum"), "x");
 });
 
 test("what was done is kept after a rest, but not by a script alone, in an open source, or at the kiosk", async (context) => {

@@ -2,10 +2,10 @@
 // ENGINE names the engine (chromium, firefox or webkit), and VISITS the visits, where not all are wanted.
 //
 // The page is opened from disk. A visitor of a museum sees the kiosk print; a class does what the first lesson says, and compares the
-// numbers of its tables with what the page shows; another one walks through the first steps of a later lesson; a source with a fault is
-// mended; each example gives its stored replies; a long run is measured; a browser that lacks something is told; people who cannot see all, or
-// have no mouse, reach all. After each visit the script that Save gives is run, and has to end where the visit did: by the module, and by
-// the program that LAB names where it names one.
+// numbers of its tables with what the page shows; another one walks through the first steps of a later lesson; pupils solve tasks, and a visitor
+// plays a game at the kiosk (visits_tasks.mjs, visits_game.mjs); a source with a fault is mended; each example gives its stored replies; a
+// long run is measured; a browser that lacks something is told; people who cannot see all, or have no mouse, reach all. After each visit the
+// script that Save gives is run, and has to end where the visit did: by the module, and by the program that LAB names where it names one.
 import assert from "node:assert/strict";
 import { spawnSync } from "node:child_process";
 import { mkdtempSync, readFileSync, readdirSync, rmSync, statSync, writeFileSync } from "node:fs";
@@ -17,6 +17,9 @@ import { bitsOf } from "../module/replies.mjs";
 import { disorder, faint, losesFocus, nameless, noteMouse, unreached } from "./access.mjs";
 import { Chromium } from "./chromium.mjs";
 import { Firefox } from "./firefox.mjs";
+import { visitsOfExamples } from "./visits_examples.mjs";
+import { visitsOfGames } from "./visits_game.mjs";
+import { visitsOfTasks } from "./visits_tasks.mjs";
 import { WebKit } from "./webkit.mjs";
 
 const [file, pictures] = process.argv.slice(2);
@@ -133,7 +136,7 @@ async function addresses(browser) {
     await settled(browser);
     assert.match(await textOf(browser, ".paper"), /^2 3 5 7 [^]* 89 97/);
     assert.match(await textOf(browser, ".kiosk-told"), /The machine has stopped/);
-    await browser.open(`${address}?lang=en&kiosk=games/matches`);
+    await browser.open(`${address}?lang=en&kiosk=input-and-output/decimal-input`);
     assert.equal(await textOf(browser, "#notice"), "");
     await browser.press("#kiosk-run");
     await browser.waitFor("/waits for its operator's keys\\. The kiosk has none/.test(document.querySelector('.kiosk-told').textContent)");
@@ -1314,7 +1317,7 @@ async function touch(browser) {
     await browser.size(1500, 1250);
 }
 
-const all = { kiosk, addresses, changes, thereAndBack, openSource, whatToPress, endlessPrint, firstHour, lesson, stories, scope, doors, look, learn, sound, saved, notLost, source, profile, costs, examples, badInput, usedUp, longRun, paces, forPeople, widths, everyone, byKeys, readOut, stillness, touch, withoutWebAssembly, cannotOpen };
+const all = { ...visitsOfTasks(address), ...visitsOfGames(address), ...visitsOfExamples(address), kiosk, addresses, changes, thereAndBack, openSource, whatToPress, endlessPrint, firstHour, lesson, stories, scope, doors, look, learn, sound, saved, notLost, source, profile, costs, examples, badInput, usedUp, longRun, paces, forPeople, widths, everyone, byKeys, readOut, stillness, touch, withoutWebAssembly, cannotOpen };
 const wanted = process.env.VISITS?.split(" ") ?? Object.keys(all).filter((name) => !left.includes(name));
 const visits = Object.fromEntries(wanted.map((name) => [name, all[name]]));
 const browser = await Engine.start();

@@ -1,5 +1,7 @@
 // The kiosk: one program that plays by itself with captions until it is touched, four large buttons, and a return to the beginning after a time without input.
+// A game has buttons of its own, and its heap in place of the oscilloscope.
 import { button, h, tell } from "./dom.mjs";
+import { makeMoves, standsIn } from "./game.mjs";
 import { rewrittenBy } from "./says.mjs";
 
 /** The example that a kiosk shows where its address names none; the seconds without input after which it begins anew; and how long it rests at the end. */
@@ -27,20 +29,22 @@ function makeCaptions() {
     };
 }
 
-/** What is told at the top: while it plays by itself, what happens; otherwise what can be done. */
-function makeTold(laboratory, { text }, { drive, playing, isAttract }) {
+/** What can be done, where nothing plays by itself. */
+const standsOf = (laboratory, { text }, drive) => () => {
+    const { printed, way: { kind }, deeds } = laboratory;
+    if (drive.pace !== null) return text("kioskRuns");
+    if (kind === "keys") return text("kioskKeys");
+    if (kind === "go") return text(printed.count > 0 ? "kioskPrinted" : "kioskGoing");
+    return text(deeds.behind === 0 ? "kioskIntro" : "kioskDone");
+};
+
+/** What is told at the top: while it plays by itself, what happens; otherwise what `stands` says. */
+function makeTold({ text }, { drive, playing, isAttract }, stands) {
     const told = h("p", { class: "kiosk-told", role: "status" });
     const captionOf = makeCaptions();
-    const stands = () => {
-        const { printed, way: { kind }, deeds } = laboratory;
-        if (drive.pace !== null) return "kioskRuns";
-        if (kind === "keys") return "kioskKeys";
-        if (kind === "go") return printed.count > 0 ? "kioskPrinted" : "kioskGoing";
-        return deeds.behind === 0 ? "kioskIntro" : "kioskDone";
-    };
     const frame = () => {
         told.setAttribute("aria-live", isAttract() ? "off" : "polite");
-        tell(told, text(isAttract() && drive.pace !== null ? `kiosk_${captionOf(happening(playing()))}` : stands()));
+        tell(told, isAttract() && drive.pace !== null ? text(`kiosk_${captionOf(happening(playing()))}`) : stands());
     };
     return { node: told, show: frame, frame };
 }
@@ -62,15 +66,16 @@ function makeButtons(laboratory, { text }, { drive, isAttract }, open) {
 /** The colours of the phases with their words. */
 const colours = ({ text }) => h("p", { class: "colours" }, ...["find", "take", "seek", "act"].map((phase) => h("span", {}, h("span", { class: `dot ${phase}` }), text(`colour_${phase}`))));
 
-/** The kiosk: header, main and footer. `made` has the views of the page that it shows, `others` the small buttons at the top. */
-export function makeKiosk(laboratory, texts, showing, open, made, others) {
+/** The kiosk: header, main and footer. `made` has the views of the page that it shows, `others` the small buttons at the top, and `game` is the program's game, or undefined. */
+export function makeKiosk(laboratory, texts, showing, open, made, others, game) {
     const { text } = texts;
-    const [told, buttons] = [makeTold(laboratory, texts, showing), makeButtons(laboratory, texts, showing, open)];
+    const told = makeTold(texts, showing, game === undefined ? standsOf(laboratory, texts, showing.drive) : standsIn(game, laboratory, texts, showing.drive));
+    const buttons = game === undefined ? makeButtons(laboratory, texts, showing, open) : makeMoves(game, laboratory, texts, showing.drive, open);
     const hint = h("p", { class: "kiosk-hint" }, text("kioskTouch"));
     const header = h("header", {}, h("h1", {}, text("kioskTitle")), h("div", { class: "others" }, ...others), told.node, hint);
     const cabinet = h("div", { class: "cabinet" }, h("p", { class: "plate" }, h("b", {}, "ROYAL McBEE LGP-30")), made.drum.node, colours(texts));
     const shown = { show: () => { hint.hidden = !showing.isAttract(); } };
-    return { nodes: [header, h("main", {}, cabinet, made.scope.node, made.paper.node), h("footer", {}, buttons.node)], views: [told, buttons, shown, ...Object.values(made)] };
+    return { nodes: [header, h("main", {}, cabinet, made.shown.node, made.paper.node), h("footer", {}, buttons.node)], views: [told, buttons, shown, ...Object.values(made)] };
 }
 
 /** Calls `reset` after so many seconds in which nobody touched the page, and `touched` at each touch, before a button hears it. Returns what ends the watch. */

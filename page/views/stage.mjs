@@ -10,7 +10,7 @@ const box = (name, ...views) => h("div", { class: name }, ...views.map((view) =>
 
 /** The page below its header: the stage, and what is seen behind each door. */
 export function makeStage(made) {
-    for (const { node } of [made.drum, made.console, made.time, made.story, made.paper]) node.querySelector("h2").classList.add("unseen");
+    for (const { node } of [made.tasks, made.drum, made.console, made.time, made.story, made.paper]) node.querySelector("h2").classList.add("unseen");
     const [stand, all] = ["learn work", "look learn work"];
     behind(stand, made.console.node.querySelector(".second-row"));
     behind(stand, made.story.node.querySelector(".telling-order"));
@@ -23,7 +23,7 @@ export function makeStage(made) {
     const told = box("column", behind("look", made.tales.node), made.story, behind(stand, made.accounts.node));
     const words = box("column", made.listing, behind(stand, made.costs.node));
     const bench = box("bench", box("column", made.panel, made.explanation, made.script, made.turns), box("column", made.source), box("column", made.lines, made.profile));
-    return h("main", {}, box("stage", cabinet, typewriter), behind(all, box("pace", made.pace, made.time)), behind(all, box("telling", behind("learn", made.lesson.node), told, words)), behind("work", bench));
+    return h("main", {}, behind("learn", box("tasks-place", made.tasks)), box("stage", cabinet, typewriter), behind(all, box("pace", made.pace, made.time)), behind(all, box("telling", behind("learn", made.lesson.node), told, words)), behind("work", bench));
 }
 
 /** Puts a node where it is seen, unless it stands there. The focus stays. */

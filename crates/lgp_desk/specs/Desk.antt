@@ -16,13 +16,13 @@ use Rattle.lgp_listing.specs.Dump.{dump_of}
 use Rattle.lgp_stream.specs.KeptLine.{Kept, kept_of}
 use Rattle.lgp_stream.specs.Language.{is_line_feed, is_question}
 use Rattle.lgp_stream.specs.Speech.{Speech, after_said, text_said}
-use Rattle.lgp_stream.specs.Transcript.{Recorded, after_lines, untouched}
+use Rattle.lgp_stream.specs.Transcript.{Recorded, untouched}
 use Rattle.lgp_text.specs.PanelWords.{status_text}
-use Rattle.lgp_lab.specs.Script.{script_language}
 use Rattle.lgp_lab.specs.LabState.{LabState, opening_state}
-use Rattle.lgp_monitor.specs.FileTexts.{after_tape, restore_lines, restore_reply, tape_reply}
+use Rattle.lgp_monitor.specs.FileTexts.{answer_to_dump, answer_to_tape}
 use Rattle.lgp_monitor.specs.Monitor.{monitor_language, panel_at}
 use Rattle.lgp_desk.specs.Files.{Drawer, takes, text_in, with_file}
+use Rattle.lgp_desk.specs.Json.{json_answer, json_own}
 use Rattle.lgp_desk.specs.Requests.{is_quit, request_of}
 use Rattle.lgp_desk.specs.Troubles.{kept_text, line_note, trouble_text}
 use Rattle.lgp_desk.specs.declared.files.FileTrouble.{FileTrouble}
@@ -30,7 +30,7 @@ use Rattle.lgp_desk.specs.declared.files.FileTrouble.TheVariants as troubles
 use Rattle.lgp_desk.specs.declared.request.Work.{Work}
 use Rattle.lgp_desk.specs.declared.request.Work.TheVariants as works
 use Rattle.lgp_desk.specs.declared.writing.Manner.{Manner}
-use Rattle.lgp_desk.specs.declared.writing.Manner.TheVariants.{Prompting, Echoing}
+use Rattle.lgp_desk.specs.declared.writing.Manner.TheVariants.{Prompting, Echoing, Json}
 
 -- the state of the monitor, how replies are written, the files, where they are known, and whether
 -- `quit` was typed
@@ -82,9 +82,6 @@ note_line note reply =
     if is_question reply && not (length note == 0)
     then codes "        " ++ (note ++ codes "\n") else []
 
-abbrev pub written : List ℕ → List ℕ → List ℕ → List ℕ
-written echo note reply = echo ++ (reply ++ note_line note reply)
-
 -- the prompt: that the line is a source's, or the counter, and the machine's state
 unfoldable pub prompt_at : Recorded LabState → List ℕ
 prompt_at recorded =
@@ -95,6 +92,21 @@ prompt_at recorded =
 abbrev pub prompt_in : Manner → List ℕ → List ℕ
 prompt_in Prompting prompt = prompt
 prompt_in manner prompt = []
+
+-- for a line of which this is the front, and for a reply of the desk itself
+abbrev pub written : Manner → List ℕ → Bool → List ℕ → List ℕ → List ℕ
+written Json front longer note reply = json_answer front longer note reply
+written manner front longer note reply =
+    echo_in manner (echo_of front longer reply) ++ (reply ++ note_line note reply)
+
+abbrev pub written_own : Manner → List ℕ → List ℕ → List ℕ
+written_own Json note reply = json_own note reply
+written_own manner note reply = reply ++ note_line note reply
+
+-- what is written at the end, with a line feed in the place of a prompt
+unfoldable pub written_last : Manner → List ℕ → List ℕ
+written_last Json reply = if length reply == 0 then [] else json_own [] reply
+written_last manner reply = reply ++ prompt_in manner (codes "\n")
 
 -- where lines come from that a line names which comes from there itself
 unfoldable pub within : List ℕ → List ℕ → List ℕ
@@ -107,9 +119,7 @@ abbrev pub answered : List ℕ → Seat → List ℕ → Said
 answered note seat line =
     let reply = monitor_language.reply seat.recorded line in
     record {
-      texts = written
-          (echo_in seat.manner (echo_of (kept_of line).front (kept_of line).longer reply)) note
-          reply ∷ [];
+      texts = written seat.manner (kept_of line).front (kept_of line).longer note reply ∷ [];
       handed = Line line ∷ [];
       seat = record seat { recorded = monitor_language.after seat.recorded line };
     }
@@ -122,7 +132,7 @@ all_answered note seat (line ∷ more) =
 -- a reply of the desk itself
 abbrev pub own : List ℕ → Seat → List ℕ → Said
 own note seat reply =
-    record { texts = written [] note reply ∷ []; handed = []; seat = seat }
+    record { texts = written_own seat.manner note reply ∷ []; handed = []; seat = seat }
 
 abbrev pub refused : List ℕ → Seat → List ℕ → FileTrouble → Said
 refused note seat name trouble = own note seat (trouble_text name trouble)
@@ -139,14 +149,12 @@ dump_lines (line ∷ more) = dump_line (kept_of line) ++ dump_lines more
 -- the words of a dump are put on the drum
 unfoldable pub restored : List ℕ → Seat → List ℕ → List ℕ → Said
 restored note seat name dump =
-    let reply = restore_reply seat.recorded dump in
+    let answer = answer_to_dump seat.recorded dump in
     record {
-      texts = written (echo_in seat.manner (echo_of (codes "restore " ++ name) false reply))
-          (within name note) reply ∷ [];
+      texts = written seat.manner (codes "restore " ++ name) false (within name note)
+          answer.reply ∷ [];
       handed = Dump dump ∷ [];
-      seat = record seat {
-        recorded = after_lines script_language seat.recorded (restore_lines seat.recorded dump);
-      };
+      seat = record seat { recorded = answer.after };
     }
 
 -- how many bytes of a tape's text a line has room for, after `mount` and its space
@@ -156,12 +164,12 @@ mount_limit = 4090
 -- a tape is mounted by a line, where one has room for its text
 unfoldable pub long_tape : List ℕ → Seat → List ℕ → List ℕ → Said
 long_tape note seat name text =
-    let reply = tape_reply seat.recorded text in
+    let answer = answer_to_tape seat.recorded name text in
     record {
-      texts = written (echo_in seat.manner (echo_of (codes "tape " ++ name) false reply))
-          (within name note) reply ∷ [];
+      texts = written seat.manner (codes "tape " ++ name) false (within name note)
+          answer.reply ∷ [];
       handed = Tape name text ∷ [];
-      seat = record seat { recorded = after_tape seat.recorded name text };
+      seat = record seat { recorded = answer.after };
     }
 
 unfoldable pub mounted : List ℕ → Seat → List ℕ → List ℕ → Said
@@ -286,7 +294,7 @@ abbrev pub prompt_texts : Seat → List (List ℕ)
 prompt_texts seat =
     if seat.has_left then [] else prompt_in seat.manner (prompt_at seat.recorded) ∷ []
 
--- what is said to a typed line, and to the end, with a line feed in the place of a prompt
+-- what is said to a typed line, and to the end
 abbrev pub typed_said : Seat → List ℕ → List (List ℕ)
 typed_said seat line =
     if seat.has_left then [] else (said 16 [] seat line).texts
@@ -295,7 +303,7 @@ typed_said seat line =
 abbrev pub end_said : Seat → List (List ℕ)
 end_said seat =
     if seat.has_left then []
-    else (monitor_language.closing seat.recorded ++ prompt_in seat.manner (codes "\n")) ∷ []
+    else written_last seat.manner (monitor_language.closing seat.recorded) ∷ []
 
 unfoldable pub desk_speech : Speech Seat
 desk_speech = record {

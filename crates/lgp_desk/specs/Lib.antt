@@ -1,4 +1,5 @@
 pub mod Files
+pub mod Json
 pub mod Requests
 pub mod Troubles
 pub mod Desk

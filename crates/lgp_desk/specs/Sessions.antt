@@ -15,7 +15,7 @@ use Rattle.lgp_lab.specs.Tasks.{Failures, IsRefused, answered_status, broken_sta
 use Rattle.lgp_desk.specs.Desk.{begun, desk_speech, session_texts, taken_seat}
 use Rattle.lgp_desk.specs.Files.{Drawer}
 use Rattle.lgp_desk.specs.declared.writing.Manner.{Manner}
-use Rattle.lgp_desk.specs.declared.writing.Manner.TheVariants.{Echoing}
+use Rattle.lgp_desk.specs.declared.writing.Manner.TheVariants.{Echoing, Json}
 
 -- the status for what became of typed lines
 abbrev pub session_status : Result ℕ StreamFault → ℕ
@@ -45,9 +45,10 @@ module _ (manner : Manner) (names : List (List ℕ)) (files : Option Drawer)
       (outcome : Result ℕ StreamFault) × HasAnswered failures outcome w₀ w
       × (status ≡ session_status outcome)
 
--- how replies are written: each line above its reply where the task says so
+-- how replies are written: as JSON or each line above its reply where the task says so
 abbrev pub session_manner : Manner → SessionTask → Manner
-session_manner manner task = if task.is_echoing then Echoing else manner
+session_manner manner task =
+    if task.is_json then Json else (if task.is_echoing then Echoing else manner)
 
 -- the words of the command line ask for a session, which is held without a message; or they are
 -- refused

@@ -6,7 +6,7 @@ ghost use Rattle.lgp_stream.specs.KeptLine.{kept_of};
 ghost use Rattle.lgp_stream.specs.Language.{HasCause};
 ghost use Rattle.lgp_stream.specs.Speech.{IsSaying};
 ghost use Rattle.lgp_monitor.specs.Monitor.{monitor_language};
-ghost use Rattle.lgp_desk.specs.Desk.{all_answered, answered, begun, desk_speech, file_said, first_said, left_by, lines_said, own, prompt_at, prompt_in, prompt_texts, refused, said, taken_seat, text_at, typed_by, worked};
+ghost use Rattle.lgp_desk.specs.Desk.{all_answered, answered, begun, desk_speech, file_said, first_said, left_by, lines_said, own, prompt_at, prompt_in, prompt_texts, refused, said, taken_seat, text_at, typed_by, worked, written_last};
 ghost use Rattle.lgp_desk.specs.DeskInside.{HasSaid, inner};
 ghost use Rattle.lgp_desk.specs.Troubles.{line_note};
 ghost use Rattle.lgp_desk.specs.declared.files.FileTrouble.{FileTrouble};
@@ -14,7 +14,7 @@ ghost use Rattle.lgp_desk.specs.declared.files.FileTrouble.{FileTrouble};
 use crate::files::{FileTrouble, Files};
 use crate::request::{Work, is_quit, request_in};
 use crate::trouble::{line_note, push_trouble};
-use crate::writing::{Manner, push_shown, push_written};
+use crate::writing::{Manner, push_last, push_own, push_shown, push_written};
 use lgp_lab::{FileName, Laboratory};
 use lgp_monitor::{Monitor, Progress};
 use lgp_stream::{Answers, LineBytes, Sink, Speaks, StreamFault, Tally, first_line};
@@ -102,23 +102,21 @@ impl<A: Allocator + Copy, P: Progress, F: Files> Desk<A, P, F> {
     {
         let mut text = Vec::new(self.alloc);
         match self.manner {
-            Manner::Bare | Manner::Echoing => {}
+            Manner::Bare | Manner::Echoing | Manner::Json => {}
             Manner::Prompting => self.push_stand(&mut text)?,
         }
         Ok(text)
     }
 
-    /// The text for the end, with a line feed in the place of a prompt.
+    /// The text for the end.
     fn end_text(&mut self) -> Result<Vec<u8, A>, AllocError>
-        ensures { IfOk result (λ text. text.items ≡ monitor_language.closing self.old.recorded
-            ++ prompt_in self.old.manner (codes "\n")) }
+        ensures { IfOk result (λ text. text.items
+            ≡ written_last self.old.manner (monitor_language.closing self.old.recorded)) }
     {
+        let mut reply = Vec::new(self.alloc);
+        self.monitor.close(&mut reply)?;
         let mut text = Vec::new(self.alloc);
-        self.monitor.close(&mut text)?;
-        match self.manner {
-            Manner::Bare | Manner::Echoing => {}
-            Manner::Prompting => text.push(b'\n')?,
-        }
+        push_last(&mut text, self.manner, &reply)?;
         Ok(text)
     }
 
@@ -151,8 +149,8 @@ impl<A: Allocator + Copy, P: Progress, F: Files> Desk<A, P, F> {
         let mut reply = Vec::new(self.alloc);
         self.monitor.answer(line, &mut reply)?;
         let mut text = Vec::new(self.alloc);
-        push_shown(&mut text, self.manner, line, &reply)?;
-        push_written(&mut text, note, &reply)?;
+        let (front, longer) = (line.front(), line.is_longer());
+        push_written(&mut text, self.manner, front, longer, note, &reply)?;
         Ok(text)
     }
 
@@ -229,7 +227,7 @@ impl<A: Allocator + Copy, P: Progress, F: Files> Desk<A, P, F> {
         ensures cause { IfErr result (λ fault. HasCause fault false (W.failed writer.new)) }
     {
         let mut text = Vec::new(self.alloc);
-        let Ok(()) = push_written(&mut text, note, reply) else {
+        let Ok(()) = push_own(&mut text, self.manner, note, reply) else {
             return Err(StreamFault::Memory);
         };
         tally.deliver(writer, &text)
@@ -265,7 +263,7 @@ impl<A: Allocator + Copy, P: Progress, F: Files> Desk<A, P, F> {
     {
         self.has_left = true;
         let mut text = Vec::new(self.alloc);
-        push_shown(&mut text, self.manner, line, b"")?;
+        push_shown(&mut text, self.manner, line.front(), line.is_longer(), b"")?;
         Ok(text)
     }
 

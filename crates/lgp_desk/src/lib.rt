@@ -13,6 +13,7 @@ mod answering;
 mod desk;
 mod file_forms;
 mod files;
+mod json;
 pub mod laws;
 mod request;
 mod session;

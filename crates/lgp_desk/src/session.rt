@@ -46,7 +46,9 @@ pub fn hold_session<A: Allocator + Copy, B: Allocator, P: Progress, F: Files, R:
 fn session_manner<A: Allocator>(manner: Manner, task: &SessionTask<A>) -> Manner
     ensures { result ≡ session_manner manner task.now }
 {
-    if task.is_echoing() {
+    if task.is_json() {
+        Manner::Json
+    } else if task.is_echoing() {
         Manner::Echoing
     } else {
         manner
@@ -81,7 +83,7 @@ fn hold_task<A: Allocator + Copy, P: Progress, F: Files, R: Feed, W: Sink>(
 
 /// What the monitor's program does with the words of its command line, of which the first is its name: it holds a session, or tells
 /// why they ask for none, or why they are not there; answers its status. In a session the lines of the files come first that the
-/// words name, and with `--echo` each line is above its reply. `clap` reads the words, and takes its own memory from the global
+/// words name; with `--echo` each line is above its reply, and with `--json` each reply is an object. `clap` reads the words, and takes its own memory from the global
 /// allocator.
 pub fn obey_session<A: Allocator + Copy, P: Progress, F: Files, R: Feed, W: Sink, M: Sink>(
     global: Global,

@@ -1,10 +1,11 @@
 //! What is written for a reply.
 
-ghost use Rattle.std.specs.Prelude.{◌≡◌, ◌++◌, IfOk, OnOk, codes, false, if◌then◌else◌};
+ghost use Rattle.std.specs.Prelude.{◌≡◌, ◌++◌, OnOk, codes, if◌then◌else◌};
 ghost use Rattle.lgp_stream.specs.Language.{is_question};
-ghost use Rattle.lgp_desk.specs.Desk.{echo_in, echo_of, note_line, written};
+ghost use Rattle.lgp_desk.specs.Desk.{echo_in, echo_of, note_line, written, written_last, written_own};
 
-use lgp_stream::{LineBytes, is_question};
+use crate::json;
+use lgp_stream::is_question;
 use std::alloc::{AllocError, Allocator};
 
 /// How replies are written.
@@ -16,6 +17,8 @@ pub enum Manner {
     Prompting,
     /// Each line above its reply, and of a text that no line has room for what it is for.
     Echoing,
+    /// An object of JSON for each line, on a line of its own.
+    Json,
 }
 
 /// The mark in front of a line that is shown above its reply.
@@ -32,68 +35,36 @@ fn line_end(longer: bool) -> &'static [u8]
     if longer { b" ..\n" } else { b"\n" }
 }
 
-/// Appends a line that is shown above its reply.
+/// Appends a line that is shown above its reply, by its front.
 #[tactic(auto, unfolding(crate::specs::Desk::echo_of))]
 fn push_echo<A: Allocator>(
     text: &mut Vec<u8, A>,
-    line: &LineBytes,
+    front: &[u8],
+    longer: bool,
     reply: &[u8],
 ) -> Result<(), AllocError>
     ensures { OnOk result (text.new.items
-        ≡ text.old.items ++ echo_of line.now.front line.now.longer reply.now) }
+        ≡ text.old.items ++ echo_of front.now longer reply.now) }
 {
     text.extend_from_slice(mark_of(reply))?;
-    text.extend_from_slice(line.front())?;
-    text.extend_from_slice(line_end(line.is_longer()))
+    text.extend_from_slice(front)?;
+    text.extend_from_slice(line_end(longer))
 }
 
-/// Appends a line where lines are shown above their replies.
+/// Appends a line, by its front, where lines are shown above their replies.
 pub(crate) fn push_shown<A: Allocator>(
     text: &mut Vec<u8, A>,
     manner: Manner,
-    line: &LineBytes,
-    reply: &[u8],
-) -> Result<(), AllocError>
-    ensures { OnOk result (text.new.items ≡ text.old.items
-        ++ echo_in manner (echo_of line.now.front line.now.longer reply.now)) }
-{
-    match manner {
-        Manner::Bare | Manner::Prompting => Ok(()),
-        Manner::Echoing => push_echo(text, line, reply),
-    }
-}
-
-/// Appends what a text is for, as the line above its reply.
-#[tactic(auto, unfolding(crate::specs::Desk::echo_of))]
-fn push_kind_echo<A: Allocator>(
-    text: &mut Vec<u8, A>,
-    kind: &'static [u8],
-    name: &[u8],
+    front: &[u8],
+    longer: bool,
     reply: &[u8],
 ) -> Result<(), AllocError>
     ensures { OnOk result (text.new.items
-        ≡ text.old.items ++ echo_of (kind.now ++ name.now) false reply.now) }
-{
-    text.extend_from_slice(mark_of(reply))?;
-    text.extend_from_slice(kind)?;
-    text.extend_from_slice(name)?;
-    text.extend_from_slice(b"\n")
-}
-
-/// Appends what a text is for, where lines are shown above their replies.
-pub(crate) fn push_shown_kind<A: Allocator>(
-    text: &mut Vec<u8, A>,
-    manner: Manner,
-    kind: &'static [u8],
-    name: &[u8],
-    reply: &[u8],
-) -> Result<(), AllocError>
-    ensures { OnOk result (text.new.items ≡ text.old.items
-        ++ echo_in manner (echo_of (kind.now ++ name.now) false reply.now)) }
+        ≡ text.old.items ++ echo_in manner (echo_of front.now longer reply.now)) }
 {
     match manner {
-        Manner::Bare | Manner::Prompting => Ok(()),
-        Manner::Echoing => push_kind_echo(text, kind, name, reply),
+        Manner::Bare | Manner::Prompting | Manner::Json => Ok(()),
+        Manner::Echoing => push_echo(text, front, longer, reply),
     }
 }
 
@@ -123,8 +94,8 @@ fn push_note_line<A: Allocator>(
     Ok(())
 }
 
-/// What is written for a reply, after what is shown above it.
-pub(crate) fn push_written<A: Allocator>(
+/// Appends a reply and where its line comes from.
+fn push_noted<A: Allocator>(
     text: &mut Vec<u8, A>,
     note: &[u8],
     reply: &[u8],
@@ -134,4 +105,60 @@ pub(crate) fn push_written<A: Allocator>(
 {
     text.extend_from_slice(reply)?;
     push_note_line(text, note, reply)
+}
+
+/// Appends what is written for a line, of which this is the front.
+pub(crate) fn push_written<A: Allocator>(
+    text: &mut Vec<u8, A>,
+    manner: Manner,
+    front: &[u8],
+    longer: bool,
+    note: &[u8],
+    reply: &[u8],
+) -> Result<(), AllocError>
+    ensures { OnOk result (text.new.items
+        ≡ text.old.items ++ written manner front.now longer note.now reply.now) }
+{
+    if manner == Manner::Json {
+        return json::push_answer(text, front, longer, note, reply);
+    }
+    push_shown(text, manner, front, longer, reply)?;
+    push_noted(text, note, reply)
+}
+
+/// Appends what is written for a reply of the desk itself.
+pub(crate) fn push_own<A: Allocator>(
+    text: &mut Vec<u8, A>,
+    manner: Manner,
+    note: &[u8],
+    reply: &[u8],
+) -> Result<(), AllocError>
+    ensures { OnOk result (text.new.items
+        ≡ text.old.items ++ written_own manner note.now reply.now) }
+{
+    match manner {
+        Manner::Json => json::push_own(text, note, reply),
+        Manner::Bare | Manner::Prompting | Manner::Echoing => push_noted(text, note, reply),
+    }
+}
+
+/// Appends what is written at the end.
+#[tactic(auto, unfolding(crate::specs::Desk::written_last))]
+pub(crate) fn push_last<A: Allocator>(
+    text: &mut Vec<u8, A>,
+    manner: Manner,
+    reply: &[u8],
+) -> Result<(), AllocError>
+    ensures { OnOk result (text.new.items
+        ≡ text.old.items ++ written_last manner reply.now) }
+{
+    match manner {
+        Manner::Json if reply.is_empty() => Ok(()),
+        Manner::Json => json::push_own(text, b"", reply),
+        Manner::Bare | Manner::Echoing => text.extend_from_slice(reply),
+        Manner::Prompting => {
+            text.extend_from_slice(reply)?;
+            text.extend_from_slice(b"\n")
+        }
+    }
 }

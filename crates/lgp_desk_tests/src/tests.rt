@@ -1,6 +1,7 @@
 //! Lines typed at a desk, and the lines of files that a test makes: a test is a table of texts with what is written for each.
 
 mod growths;
+mod json;
 mod known;
 mod progress;
 mod sessions;
@@ -152,10 +153,10 @@ pub(crate) fn run<A: Allocator + Copy>(
 }
 
 /// Typed lines, how they are written, what is written, and how many replies begin with a question mark.
-type Row = (Manner, &'static [u8], &'static [u8], u64);
+pub(crate) type Row = (Manner, &'static [u8], &'static [u8], u64);
 
 /// Expects what is written for typed lines.
-fn expect(rt: &impl Abort, alloc: Global, row: &Row) {
+pub(crate) fn expect(rt: &impl Abort, alloc: Global, row: &Row) {
     let mut written = Vec::new(alloc);
     let answer = run(alloc, row.0, row.1, &mut written);
     assert_eq!(rt; (answer, written.as_slice()), (Ok(row.3), row.2));

@@ -1,9 +1,10 @@
 -- Part of the public promise: the script language, the state of a laboratory between two lines of a
 -- script, and what an answer is.
-use Rattle.std.specs.Prelude.{ℕ, if◌then◌else◌, Option, None, List, []}
+use Rattle.std.specs.Prelude.{ℕ, if◌then◌else◌, Option, None, List, [], ◌++◌}
 use Rattle.std.specs.Option.{option_map_or}
 use Rattle.lgp_word.specs.Drum.{blank_words}
 use Rattle.lgp_assembler.specs.Image.{image_of}
+use Rattle.lgp_stream.specs.Language.{Answer as AnswerOf}
 use Rattle.lgp_table.specs.State.{opening}
 use Rattle.lgp_table.specs.Console.{is_at_rest}
 use Rattle.lgp_history.specs.Step.{Step}
@@ -29,10 +30,9 @@ labels_of source = option_map_or (λ text. (image_of text).symbols) source []
 unfoldable pub opened_text : Option SourceText → List ℕ
 opened_text opened = option_map_or (λ source. source.text) opened []
 
--- a reply, empty where there is none, and the state of the laboratory after it
-pub record Answer : Type 0 where
-  pub reply : List ℕ
-  pub after : LabState
+-- what the laboratory replies, and its state after it
+abbrev pub Answer : Type 0
+Answer = AnswerOf LabState
 
 -- where a script begins
 unfoldable pub opening_state : LabState
@@ -48,6 +48,10 @@ answer_showing reply lab = record { reply = reply; after = lab }
 
 abbrev pub refused : Refusal → LabState → Answer
 refused refusal lab = answer_showing (refusal_text refusal) lab
+
+-- an answer whose reply comes after a text
+abbrev pub after_text : List ℕ → Answer → Answer
+after_text text answer = record { reply = text ++ answer.reply; after = answer.after }
 
 -- no reply, and nothing changes
 abbrev pub silent : LabState → Answer

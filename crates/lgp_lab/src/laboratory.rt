@@ -1,6 +1,7 @@
 //! The laboratory: a machine with its history and the source at hand, and what is answered to a line.
 
 ghost use Rattle.std.specs.Prelude.{◌≡◌, ◌++◌, ◌≤◌, List, ℕ, IfOk, OnOk, is_some, length};
+ghost use Rattle.lgp_stream.specs.Language.{IsAnswered};
 ghost use Rattle.lgp_stream.specs.KeptLine.{line_limit};
 ghost use Rattle.lgp_stream.specs.KeptLine.{kept_of};
 ghost use Rattle.lgp_lab.specs.Script.{answer_to, answer_to_command, is_passed_over, script_language};
@@ -109,9 +110,8 @@ impl<A: Allocator + Copy> Laboratory<A> {
         reply: &mut Vec<u8, A>,
     ) -> Result<(), AllocError>
         requires short { length text.now ≤ line_limit }
-        ensures reply { OnOk result (reply.new.items
-            ≡ reply.old.items ++ (answer_to self.old command.now text.now).reply) }
-        ensures after { OnOk result (self.new ≡ (answer_to self.old command.now text.now).after) }
+        ensures { OnOk result (IsAnswered reply.old.items reply.new.items self.new
+            (answer_to self.old command.now text.now)) }
     {
         match command {
             Command::Put(address, word) => self.put(*address, *word, reply),
@@ -162,11 +162,9 @@ fn is_passed_over(line: &LineBytes) -> bool
 impl<A: Allocator + Copy> Laboratory<A> {
     /// Answers a line outside a source.
     fn answer_command(&mut self, line: &LineBytes, reply: &mut Vec<u8, A>) -> Result<(), AllocError>
-        ensures reply { (text : List ℕ) → line.now ≡ kept_of text
-            → OnOk result (reply.new.items
-            ≡ reply.old.items ++ (answer_to_command self.old text).reply) }
-        ensures after { (text : List ℕ) → line.now ≡ kept_of text
-            → OnOk result (self.new ≡ (answer_to_command self.old text).after) }
+        ensures { (text : List ℕ) → line.now ≡ kept_of text
+            → OnOk result (IsAnswered reply.old.items reply.new.items self.new
+            (answer_to_command self.old text)) }
     {
         if is_passed_over(line) {
             return Ok(());

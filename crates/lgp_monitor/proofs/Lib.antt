@@ -5,5 +5,6 @@ pub mod ScriptRun
 pub mod Pictures
 pub mod LastLine
 pub mod RestoreLemmas
+pub mod OperatingLemmas
 pub mod Decimals
 pub mod ScaleLaws

@@ -12,6 +12,7 @@ use Rattle.lgp_stream.proofs.LineLaws.{reported_by_transcript}
 use Rattle.lgp_lab.specs.Script.{script_language}
 use Rattle.lgp_lab.specs.LabState.{LabState, opening_state}
 use Rattle.lgp_monitor.specs.Monitor.{go_lines, jump_line, meaning_at, meaning_of, monitor_language, placed_line, put_line, run_line, run_operands}
+use Rattle.lgp_monitor.specs.Operating.{Operated, ended_with, once_more, operated, operated_on, waits_for_typewriter}
 use Rattle.lgp_monitor.specs.declared.entry.Entry.{Entry}
 use Rattle.lgp_monitor.specs.declared.entry.Entry.TheVariants as entry
 
@@ -117,22 +118,39 @@ unfolding placed_line
 free-placed address line free =
     grind (arith, free-front, free-append, free-first, free-address, free-after)
 
-free-meaning : (asked : Entry) (line : List ℕ) → IsLine line → AreLines (meaning_of asked (kept_of line))
-free-meaning entry.Itself line free = (free-stand_in _ free, tt)
-free-meaning entry.Misformed line free = (free-stand_in _ free, tt)
-free-meaning (entry.Placed address) line free = (free-placed _ _ free, tt)
-free-meaning (entry.Go address) line free = free-go _
-free-meaning (entry.Put address word) line free = (free-put _ _, tt)
-free-meaning (entry.Reported telling limit) line free = (free-run _ free, tt)
-free-meaning (entry.Asked question) line free = tt
-free-meaning entry.Transcript line free = tt
-free-meaning entry.New line free = tt
-free-meaning entry.Help line free = tt
-free-meaning (entry.HelpOf verb) line free = tt
+free-operated_on : (run : List ℕ) (limit : ℕ) (reply : List ℕ) (lab : LabState) → IsLine run → AllByRecursion IsLine (operated_on run limit reply lab).lines
+free-operated_on run zero reply lab free = tt
+free-operated_on run (suc limit) reply lab free =
+    by_test (waits_for_typewriter lab)
+    (free-operated_on run limit (script_language.reply (script_language.after lab (codes "press start")) run) (script_language.after (script_language.after lab (codes "press start")) run) free) where
+      more : Operated
+      more = operated_on run limit (script_language.reply (script_language.after lab (codes "press start")) run) (script_language.after (script_language.after lab (codes "press start")) run)
+
+      by_test : (waits : Bool) → AllByRecursion IsLine more.lines → AllByRecursion IsLine (cond waits (once_more run more) (ended_with reply)).lines
+      by_test true later = (checked (codes "press start") refl, (free, later))
+      by_test false later = tt
+
+free-operated : (run : List ℕ) (limit : ℕ) (lab : LabState) → IsLine run → AllByRecursion IsLine (operated run limit lab).lines
+unfolding operated
+free-operated run limit lab free = (free, free-operated_on run limit _ _ free)
+
+free-meaning : (recorded : Recorded LabState) (asked : Entry) (line : List ℕ) → IsLine line → AreLines (meaning_of recorded asked (kept_of line))
+free-meaning recorded entry.Itself line free = (free-stand_in _ free, tt)
+free-meaning recorded entry.Misformed line free = (free-stand_in _ free, tt)
+free-meaning recorded (entry.Placed address) line free = (free-placed _ _ free, tt)
+free-meaning recorded (entry.Go address) line free = free-go _
+free-meaning recorded (entry.Put address word) line free = (free-put _ _, tt)
+free-meaning recorded (entry.Reported telling limit) line free = (free-run _ free, tt)
+free-meaning recorded (entry.Operate limit) line free = free-operated (run_line (kept_of line).front) limit recorded.state (free-run _ free)
+free-meaning recorded (entry.Asked question) line free = tt
+free-meaning recorded entry.Transcript line free = tt
+free-meaning recorded entry.New line free = tt
+free-meaning recorded entry.Help line free = tt
+free-meaning recorded (entry.HelpOf verb) line free = tt
 
 pub free-at : (recorded : Recorded LabState) (line : List ℕ) → IsLine line → AreLines (meaning_at recorded line)
 unfolding meaning_at
-free-at recorded line free = free-meaning _ _ free
+free-at recorded line free = free-meaning recorded _ _ free
 
 pub reported_by_script : (text : List ℕ) → IsReportedByTranscript script_language opening_state (state_after monitor_language (untouched opening_state) (lines text))
 reported_by_script text = reported_by_transcript script_language opening_state meaning_at monitor_language (λ recorded line. refl) (λ recorded line free. free-at recorded _ free) text

@@ -1,5 +1,5 @@
 -- Dumps that are restored.
-use Rattle.std.proofs.Common.{◌≡◌, ◌<◌, ◌+◌, ◌++◌, ◌==◌, ℕ, Bool, true, false, cond, ◌&&◌, is_none, List, [], ◌∷◌, ◌≤◌, codes, decimal, length, drop, get_or, set, fold, map, Option, Some, None, option_map, option_to_list, Result, Err, refl, sym, ap, subst, ◌∙◌}
+use Rattle.std.proofs.Common.{◌≡◌, ◌<◌, ◌+◌, ◌++◌, ◌==◌, ℕ, Bool, true, false, cond, ◌&&◌, is_none, List, [], ◌∷◌, ◌≤◌, codes, decimal, length, drop, get_or, set, fold, map, Option, Some, None, Result, Err, refl, sym, ap, subst, ◌∙◌}
 use Rattle.std.specs.List.{AllByRecursion}
 use Rattle.std.specs.Option.{IfNone, IfSome, option_map_or}
 use Rattle.std.specs.Result.{IfErr, IsErrOf}

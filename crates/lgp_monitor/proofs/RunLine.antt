@@ -202,6 +202,9 @@ placed address telling limit e = cc
 put : (address word : ℕ) → IsOther (entry.Put address word)
 put address word telling limit e = cc
 
+operating : (number : ℕ) → IsOther (entry.Operate number)
+operating number telling limit e = cc
+
 shown : (question : Question) → IsOther (entry.Asked question)
 shown question telling limit e = cc
 
@@ -252,6 +255,7 @@ reported_by (number_commands.Trace form) (Some number) operands telling limit is
 reported_by (number_commands.Profile form) (Some number) operands telling limit is e =
     let same : number ≡ limit = cc in
     record { operand = run_operands_alone operands limit (is ∙ ap Some same); name = refl }
+reported_by number_commands.Operate (Some number) operands telling limit is e = absurd (operating number telling limit e)
 reported_by number_commands.Drum (Some number) operands telling limit is e =
     let same : number ≡ limit = cc in
     record { operand = run_operands_alone operands limit (is ∙ ap Some same); name = refl }

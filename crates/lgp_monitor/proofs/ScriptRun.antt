@@ -1,7 +1,6 @@
 -- A line of a script that asks for a run: it is answered as the run.
 use Rattle.std.proofs.Common.{◌≡◌, ◌∙◌, ℕ, ◌≤◌, false, None, Some, List, [], ◌∷◌, ◌++◌, length, sym, ap, arith}
 use Rattle.std.proofs.lemmas.List.{append-nil}
-use Rattle.std.specs.Option.{option_map_or}
 use Rattle.lgp_stream.specs.KeptLine.{line_limit}
 use Rattle.lgp_stream.specs.Transcript.{Recorded, after_lines, ended, replies_text, with_line, with_state}
 use Rattle.lgp_lab.specs.Command.{command_of}

@@ -94,6 +94,7 @@ asked_with number_commands.Script number = entry.Itself
 asked_with (number_commands.Trace form) limit = entry.Reported (tellings.Trace form) limit
 asked_with (number_commands.Profile form) limit = entry.Reported (tellings.Profile form) limit
 asked_with number_commands.Drum limit = entry.Reported tellings.Drum limit
+asked_with number_commands.Operate limit = entry.Operate limit
 
 -- what a command asks for by itself; one of scripts as it is
 abbrev pub asked_alone : LoneCommand → Entry

@@ -7,14 +7,14 @@ use Rattle.std.specs.Option.{option_map_or}
 use Rattle.bstr.specs.Text.{lines_of}
 use Rattle.lgp_word.specs.Drum.{blank_words}
 use Rattle.lgp_table.specs.Console.{is_at_rest}
-use Rattle.lgp_stream.specs.Transcript.{Recorded, after_lines, with_line, with_state}
+use Rattle.lgp_stream.specs.Language.{Answer}
+use Rattle.lgp_stream.specs.Transcript.{Recorded, with_line, with_state}
 use Rattle.lgp_listing.specs.Dump.{cell_in, first_fault}
 use Rattle.lgp_listing.specs.declared.reading.DumpFault.{DumpFault}
 use Rattle.lgp_listing.specs.declared.reading.DumpFault.TheVariants as faults
-use Rattle.lgp_lab.specs.Script.{script_language}
 use Rattle.lgp_lab.specs.LabState.{LabState}
 use Rattle.lgp_lab.specs.TapeCommands.{answer_to_tape_text}
-use Rattle.lgp_monitor.specs.Monitor.{panel_at, put_line}
+use Rattle.lgp_monitor.specs.Monitor.{answered_with, panel_at, put_line}
 use Rattle.lgp_monitor.specs.Reasons.{reasoned}
 
 -- ---- restore
@@ -63,6 +63,9 @@ module _ (recorded : Recorded LabState) where
   restore_lines dump =
       if is_none (first_fault dump) && rests_at then map put_cell (cells_changed dump) else []
 
+  abbrev pub answer_to_dump : List ℕ → Answer (Recorded LabState)
+  answer_to_dump dump = answered_with recorded (restore_reply dump) (restore_lines dump)
+
   -- ---- a tape for whose text no line of a script has room: no line says which tape it is, so its
   -- name is in the transcript
 
@@ -73,3 +76,6 @@ module _ (recorded : Recorded LabState) where
   after_tape name text =
       with_state (with_line recorded (codes "tape " ++ name))
       (answer_to_tape_text recorded.state text).after
+
+  abbrev pub answer_to_tape : List ℕ → List ℕ → Answer (Recorded LabState)
+  answer_to_tape name text = record { reply = tape_reply text; after = after_tape name text }

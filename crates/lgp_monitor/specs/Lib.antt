@@ -9,6 +9,7 @@ pub mod Questions
 pub mod Entry
 pub mod Closing
 pub mod ClosingInside
+pub mod Operating
 pub mod Monitor
 pub mod Running
 pub mod FileTexts

@@ -6,7 +6,7 @@ use Rattle.lgp_word.specs.Digits.{address_digits, digits_of}
 use Rattle.lgp_word.specs.Order.{plain_order}
 use Rattle.lgp_word.specs.declared.order.Op.TheVariants.{U}
 use Rattle.lgp_stream.specs.KeptLine.{Kept, kept_of}
-use Rattle.lgp_stream.specs.Language.{Language}
+use Rattle.lgp_stream.specs.Language.{Answer, Language}
 use Rattle.lgp_stream.specs.LineWords.{after_word, first_word, has_no_word}
 use Rattle.lgp_table.specs.declared.panel.Panel.{Panel}
 use Rattle.lgp_stream.specs.Transcript.{Meaning, Lines, Anew, Recorded, after_lines}
@@ -21,6 +21,7 @@ use Rattle.lgp_monitor.specs.Forms.{form_line, help_text, misformed_text}
 use Rattle.lgp_monitor.specs.Reasons.{explained, reasoned}
 use Rattle.lgp_monitor.specs.Telling.{reported_text}
 use Rattle.lgp_monitor.specs.Entry.{entry_of}
+use Rattle.lgp_monitor.specs.Operating.{operated, starts_text}
 use Rattle.lgp_monitor.specs.declared.telling.Telling.{Telling}
 use Rattle.lgp_monitor.specs.declared.entry.Entry.{Entry}
 use Rattle.lgp_monitor.specs.declared.entry.Entry.TheVariants as entry
@@ -55,17 +56,6 @@ unfoldable pub placed_line : ℕ → List ℕ → List ℕ
 placed_line address line =
     first_word line ++ (codes " " ++ (address_digits address ++ after_word (after_word line)))
 
--- of a line of which this is kept; what is shown stands for no line
-abbrev pub meaning_of : Entry → Kept → Meaning
-meaning_of entry.Itself kept = Lines (stand_in kept ∷ [])
-meaning_of entry.Misformed kept = Lines (stand_in kept ∷ [])
-meaning_of (entry.Placed address) kept = Lines (placed_line address kept.front ∷ [])
-meaning_of (entry.Go address) kept = Lines (go_lines address)
-meaning_of (entry.Put address word) kept = Lines (put_line address word ∷ [])
-meaning_of (entry.Reported telling limit) kept = Lines (run_line kept.front ∷ [])
-meaning_of entry.New kept = Anew
-meaning_of asked kept = Lines []
-
 -- ---- replies
 
 abbrev pub panel_at : LabState → Panel
@@ -79,9 +69,17 @@ module _ (recorded : Recorded LabState) where
   abbrev pub counter_at : ℕ
   counter_at = (panel_at recorded.state).counter
 
+  -- lines of a script answered, with this reply
+  abbrev pub answered_with : List ℕ → List (List ℕ) → Answer (Recorded LabState)
+  answered_with reply lines =
+      record { reply = reply; after = after_lines script_language recorded lines }
+
   -- the reply to a script's line, a refusal with its reason
   abbrev pub explained_reply : List ℕ → List ℕ
   explained_reply line = reasoned (replies_text script_language recorded (line ∷ []))
+
+  abbrev pub explained_line : List ℕ → Answer (Recorded LabState)
+  explained_line line = answered_with (explained_reply line) (line ∷ [])
 
   -- what is written about the orders of a run, and the reply to its script's line
   abbrev pub reported_reply : Telling → ℕ → List ℕ → List ℕ
@@ -96,6 +94,25 @@ module _ (recorded : Recorded LabState) where
       let panel = panel_at (after_lines script_language recorded (run_line line ∷ [])).state in
       explained panel.status panel.mode (reported_reply telling limit line)
 
+  -- the runs of an operator: the reply to the last one, and how often Start was pressed
+  abbrev pub answer_to_operating : ℕ → List ℕ → Answer (Recorded LabState)
+  answer_to_operating limit run =
+      let done = operated run limit recorded.state in
+      answered_with (reasoned done.reply ++ starts_text done.starts) done.lines
+
+  -- what a line of which this is kept stands for; what is shown stands for no line
+  abbrev pub meaning_of : Entry → Kept → Meaning
+  meaning_of entry.Itself kept = Lines (stand_in kept ∷ [])
+  meaning_of entry.Misformed kept = Lines (stand_in kept ∷ [])
+  meaning_of (entry.Placed address) kept = Lines (placed_line address kept.front ∷ [])
+  meaning_of (entry.Go address) kept = Lines (go_lines address)
+  meaning_of (entry.Put address word) kept = Lines (put_line address word ∷ [])
+  meaning_of (entry.Reported telling limit) kept = Lines (run_line kept.front ∷ [])
+  meaning_of (entry.Operate limit) kept =
+      Lines (operated (run_line kept.front) limit recorded.state).lines
+  meaning_of entry.New kept = Anew
+  meaning_of asked kept = Lines []
+
   -- the reply to a line of which this is kept; to one that closes a source with faults, their marks
   abbrev pub reply_of : Entry → Kept → List ℕ
   reply_of entry.Itself kept =
@@ -105,11 +122,20 @@ module _ (recorded : Recorded LabState) where
   reply_of (entry.Go address) kept = replies_text script_language recorded (go_lines address)
   reply_of (entry.Put address word) kept = explained_reply (put_line address word)
   reply_of (entry.Reported telling limit) kept = explained_run telling limit kept.front
+  reply_of (entry.Operate limit) kept =
+      (answer_to_operating limit (run_line kept.front)).reply
   reply_of (entry.Asked question) kept = answer_to question recorded.state
   reply_of entry.Transcript kept = recorded.transcript
   reply_of entry.New kept = codes "new\n"
   reply_of entry.Help kept = help_text
   reply_of (entry.HelpOf verb) kept = form_line (first_word (after_word kept.front)) verb
+
+  -- a line of which this is kept, answered
+  abbrev pub answer_of : Entry → Kept → Answer (Recorded LabState)
+  answer_of asked kept = record {
+    reply = reply_of asked kept;
+    after = after_meaning script_language opening_state recorded (meaning_of asked kept);
+  }
 
   -- what a line asks for; in an open source each line is the source's
   unfoldable pub entry_at : List ℕ → Entry

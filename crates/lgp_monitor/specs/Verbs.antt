@@ -20,6 +20,7 @@ verb_names =
     ∷ (codes "turn", verbs.Number number_commands.Script)
     ∷ (codes "orders", verbs.Number number_commands.Script)
     ∷ (codes "run", verbs.Number number_commands.Script)
+    ∷ (codes "operate", verbs.Number number_commands.Operate)
     ∷ (codes "trace", verbs.Number (number_commands.Trace forms.Columns))
     ∷ (codes "profile", verbs.Number (number_commands.Profile forms.Columns))
     ∷ (codes "drum", verbs.Number number_commands.Drum)

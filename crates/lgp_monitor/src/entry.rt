@@ -38,6 +38,8 @@ pub enum Entry {
     Put(Address, Word),
     /// A run of at most a given number of orders that is reported.
     Reported(Telling, u64),
+    /// Runs of at most a given number of orders, with Start pressed where the machine has halted at a z after a p, as often at most.
+    Operate(u64),
     /// Something that is shown and changes nothing.
     Asked(Question),
     /// The script lines so far.
@@ -308,6 +310,7 @@ fn asked_with(command: NumberCommand, number: u64) -> Entry
         NumberCommand::Trace(form) => Entry::Reported(Telling::Trace(form), number),
         NumberCommand::Profile(form) => Entry::Reported(Telling::Profile(form), number),
         NumberCommand::Drum => Entry::Reported(Telling::Drum, number),
+        NumberCommand::Operate => Entry::Operate(number),
     }
 }
 

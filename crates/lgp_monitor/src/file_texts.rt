@@ -1,10 +1,12 @@
 //! Texts that no line has room for: a dump to restore, and a long tape.
 
 ghost use Rattle.std.specs.Prelude.{◌≡◌, ◌≢◌, ◌++◌, ◌==◌, ◌∷◌, [], if◌then◌else◌, length, map, decimal, codes, IfErr, IfOk, OnOk, Some, None};
+ghost use Rattle.lgp_monitor.specs.Monitor.{answered_with};
+ghost use Rattle.lgp_stream.specs.Language.{IsAnswered};
 ghost use Rattle.lgp_listing.specs.Dump.{IsDrum, first_fault};
 ghost use Rattle.lgp_stream.specs.Transcript.{after_lines};
 ghost use Rattle.lgp_lab.specs.Script.{script_language};
-ghost use Rattle.lgp_monitor.specs.FileTexts.{after_tape, changed_cells, dump_fault_text, put_cell, restore_lines, restore_reply, rests_at, tape_reply};
+ghost use Rattle.lgp_monitor.specs.FileTexts.{answer_to_dump, answer_to_tape, changed_cells, dump_fault_text, put_cell, rests_at};
 ghost use Rattle.lgp_monitor.specs.Reasons.{reasoned};
 
 use crate::monitor::put_line;
@@ -107,13 +109,12 @@ fn restore_drum<A: Allocator + Copy, B: Allocator>(
     drum: &Drum<A>,
     reply: &mut Vec<u8, B>,
 ) -> Result<(), AllocError>
-    ensures reply { OnOk result (reply.new.items ≡ reply.old.items
-        ++ (if rests_at recorder.old then codes "restored " ++ (decimal (length
+    ensures { OnOk result (IsAnswered reply.old.items reply.new.items recorder.new
+        (answered_with recorder.old (if rests_at recorder.old
+        then codes "restored " ++ (decimal (length
         (changed_cells 0 recorder.old.state.debugger.state.core.words drum.now)) ++ codes "\n")
-        else reasoned (codes "? 2 Moving\n"))) }
-    ensures after { OnOk result (recorder.new ≡ after_lines script_language recorder.old
-        (if rests_at recorder.old then map put_cell
-        (changed_cells 0 recorder.old.state.debugger.state.core.words drum.now) else [])) }
+        else reasoned (codes "? 2 Moving\n")) (if rests_at recorder.old then map put_cell
+        (changed_cells 0 recorder.old.state.debugger.state.core.words drum.now) else []))) }
 {
     let debugger = recorder.answers().debugger();
     if !debugger.look().status.is_at_rest() {
@@ -138,10 +139,8 @@ pub(crate) fn restore<A: Allocator + Copy, B: Allocator>(
     dump: &[u8],
     reply: &mut Vec<u8, B>,
 ) -> Result<(), AllocError>
-    ensures reply { OnOk result (reply.new.items
-        ≡ reply.old.items ++ restore_reply recorder.old dump.now) }
-    ensures after { OnOk result (recorder.new
-        ≡ after_lines script_language recorder.old (restore_lines recorder.old dump.now)) }
+    ensures { OnOk result (IsAnswered reply.old.items reply.new.items recorder.new
+        (answer_to_dump recorder.old dump.now)) }
 {
     match read_dump(alloc, dump) {
         Ok(drum) => restore_drum(alloc, recorder, &drum, reply),
@@ -160,9 +159,8 @@ pub(crate) fn mount_tape<A: Allocator + Copy, B: Allocator>(
     text: &[u8],
     reply: &mut Vec<u8, B>,
 ) -> Result<(), AllocError>
-    ensures reply { OnOk result (reply.new.items
-        ≡ reply.old.items ++ tape_reply recorder.old text.now) }
-    ensures after { OnOk result (recorder.new ≡ after_tape recorder.old name.now text.now) }
+    ensures { OnOk result (IsAnswered reply.old.items reply.new.items recorder.new
+        (answer_to_tape recorder.old name.now text.now)) }
 {
     let mut line = Vec::new(alloc);
     line.extend_from_slice(b"tape ")?;

@@ -17,6 +17,7 @@ mod form;
 mod labels;
 pub mod laws;
 mod monitor;
+mod operating;
 mod panel_data;
 mod portions;
 mod progress;

@@ -1,22 +1,24 @@
 //! The monitor: typed lines, each answered by the script lines that it stands for.
 
 ghost use Rattle.std.specs.Prelude.{◌≡◌, ◌++◌, ◌∷◌, [], List, ℕ, IfOk, OnOk, codes, is_some, unwrap_or};
+ghost use Rattle.lgp_stream.specs.Language.{IsAnswered};
 ghost use Rattle.lgp_stream.specs.LineWords.{after_word, first_word};
 ghost use Rattle.lgp_stream.specs.KeptLine.{kept_of};
-ghost use Rattle.lgp_stream.specs.Transcript.{after_lines, after_meaning, replies_text, stand_in, untouched};
+ghost use Rattle.lgp_stream.specs.Transcript.{lines_answered, stand_in, untouched};
 ghost use Rattle.lgp_lab.specs.Script.{script_language};
 ghost use Rattle.lgp_lab.specs.LabState.{labels_of, opening_state};
-ghost use Rattle.lgp_monitor.specs.FileTexts.{after_tape, restore_lines, restore_reply, tape_reply};
+ghost use Rattle.lgp_monitor.specs.FileTexts.{answer_to_dump, answer_to_tape};
 ghost use Rattle.lgp_monitor.specs.Closing.{closing_reply};
 ghost use Rattle.lgp_monitor.specs.Entry.{entry_of};
 ghost use Rattle.lgp_monitor.specs.Forms.{form_line, help_text, misformed_text};
-ghost use Rattle.lgp_monitor.specs.Monitor.{counter_at, explained_reply, explained_run, go_lines, jump_line, meaning_of, monitor_language, names_at, panel_at, placed_line, put_line, reply_of, run_line, run_operands, reported_reply, entry_at};
+ghost use Rattle.lgp_monitor.specs.Monitor.{answer_of, answer_to_operating, answered_with, entry_at, explained_line, go_lines, jump_line, monitor_language, panel_at, placed_line, put_line, reported_reply, run_line, run_operands};
 ghost use Rattle.lgp_monitor.specs.Reasons.{explained};
 
 use crate::closing::closing_reply;
 use crate::entry::{Entry, entry_of};
 use crate::file_texts::{mount_tape, restore};
 use crate::form::{push_form_line, push_help, push_misformed};
+use crate::operating::operate;
 use crate::progress::{Progress, Silence};
 use crate::question::push_answer;
 use crate::reason::{push_explained, push_reasoned};
@@ -113,10 +115,8 @@ fn explain<A: Allocator + Copy>(
     line: &[u8],
     reply: &mut Vec<u8, A>,
 ) -> Result<(), AllocError>
-    ensures reply { OnOk result (reply.new.items
-        ≡ reply.old.items ++ explained_reply recorder.old line.now) }
-    ensures after { OnOk result (recorder.new
-        ≡ after_lines script_language recorder.old (line.now ∷ [])) }
+    ensures { OnOk result (IsAnswered reply.old.items reply.new.items recorder.new
+        (explained_line recorder.old line.now)) }
 {
     let mut said = Vec::new(alloc);
     recorder.answer_line(line, &mut said)?;
@@ -131,12 +131,9 @@ fn explain_kept<A: Allocator + Copy, P: Progress>(
     progress: &P,
     reply: &mut Vec<u8, A>,
 ) -> Result<(), AllocError>
-    ensures reply { (text : List ℕ) → line.now ≡ kept_of text
-        → OnOk result (reply.new.items
-        ≡ reply.old.items ++ explained_reply recorder.old (stand_in line.now)) }
-    ensures after { (text : List ℕ) → line.now ≡ kept_of text
-        → OnOk result (recorder.new
-        ≡ after_lines script_language recorder.old (stand_in line.now ∷ [])) }
+    ensures { (text : List ℕ) → line.now ≡ kept_of text
+        → OnOk result (IsAnswered reply.old.items reply.new.items recorder.new
+        (explained_line recorder.old (stand_in line.now))) }
 {
     let mut said = Vec::new(alloc);
     answer_kept(recorder, line, progress, &mut said)?;
@@ -151,10 +148,9 @@ fn tell_faults<A: Allocator + Copy>(
     marked: &[u8],
     reply: &mut Vec<u8, A>,
 ) -> Result<(), AllocError>
-    ensures reply { OnOk result (reply.new.items ≡ reply.old.items ++ marked.now) }
-    ensures after { (text : List ℕ) → line.now ≡ kept_of text
-        → OnOk result (recorder.new
-        ≡ after_lines script_language recorder.old (stand_in line.now ∷ [])) }
+    ensures { (text : List ℕ) → line.now ≡ kept_of text
+        → OnOk result (IsAnswered reply.old.items reply.new.items recorder.new
+        (answered_with recorder.old marked.now (stand_in line.now ∷ []))) }
 {
     reply.extend_from_slice(marked)?;
     let mut said = Vec::new(alloc);
@@ -169,13 +165,9 @@ fn answer_itself<A: Allocator + Copy, P: Progress>(
     progress: &P,
     reply: &mut Vec<u8, A>,
 ) -> Result<(), AllocError>
-    ensures reply { (text : List ℕ) → line.now ≡ kept_of text
-        → OnOk result (reply.new.items
-        ≡ reply.old.items ++ unwrap_or (closing_reply recorder.old.state.opened line.now)
-        (explained_reply recorder.old (stand_in line.now))) }
-    ensures after { (text : List ℕ) → line.now ≡ kept_of text
-        → OnOk result (recorder.new
-        ≡ after_lines script_language recorder.old (stand_in line.now ∷ [])) }
+    ensures { (text : List ℕ) → line.now ≡ kept_of text
+        → OnOk result (IsAnswered reply.old.items reply.new.items recorder.new
+        (answer_of recorder.old Entry.Itself line.now)) }
 {
     match closing_reply(alloc, recorder.answers(), line)? {
         Some(marked) => tell_faults(alloc, recorder, line, &marked, reply),
@@ -191,10 +183,8 @@ fn put<A: Allocator + Copy>(
     word: Word,
     reply: &mut Vec<u8, A>,
 ) -> Result<(), AllocError>
-    ensures reply { OnOk result (reply.new.items
-        ≡ reply.old.items ++ explained_reply recorder.old (put_line address word)) }
-    ensures after { OnOk result (recorder.new
-        ≡ after_lines script_language recorder.old (put_line address word ∷ [])) }
+    ensures { OnOk result (IsAnswered reply.old.items reply.new.items recorder.new
+        (explained_line recorder.old (put_line address word))) }
 {
     let line = put_line(alloc, address, word)?;
     explain(alloc, recorder, &line, reply)
@@ -208,10 +198,8 @@ fn go<A: Allocator + Copy>(
     address: Address,
     reply: &mut Vec<u8, A>,
 ) -> Result<(), AllocError>
-    ensures reply { OnOk result (reply.new.items ≡ reply.old.items
-        ++ replies_text script_language recorder.old (go_lines address)) }
-    ensures after { OnOk result (recorder.new
-        ≡ after_lines script_language recorder.old (go_lines address)) }
+    ensures { OnOk result (IsAnswered reply.old.items reply.new.items recorder.new
+        (lines_answered script_language recorder.old (go_lines address))) }
 {
     let jump = jump_line(alloc, address)?;
     recorder.answer_line(b"press manual", reply)?;
@@ -251,14 +239,11 @@ fn tell<A: Allocator + Copy>(
     line: &LineBytes,
     reply: &mut Vec<u8, A>,
 ) -> Result<(), AllocError>
-    ensures reply { (text : List ℕ) → line.now ≡ kept_of text
+    ensures { (text : List ℕ) → line.now ≡ kept_of text
         → Entry.Reported telling limit ≡ entry_at recorder.old text
-        → OnOk result (reply.new.items ≡ reply.old.items
-        ++ reported_reply recorder.old telling limit line.now.front) }
-    ensures after { (text : List ℕ) → line.now ≡ kept_of text
-        → Entry.Reported telling limit ≡ entry_at recorder.old text
-        → OnOk result (recorder.new
-        ≡ after_lines script_language recorder.old (run_line line.now.front ∷ [])) }
+        → OnOk result (IsAnswered reply.old.items reply.new.items recorder.new
+        (answered_with recorder.old (reported_reply recorder.old telling limit line.now.front)
+        (run_line line.now.front ∷ []))) }
 {
     let run = run_line(alloc, line.front())?;
     recorder.keep_line(&run)?;
@@ -274,18 +259,29 @@ fn explain_reported<A: Allocator + Copy>(
     line: &LineBytes,
     reply: &mut Vec<u8, A>,
 ) -> Result<(), AllocError>
-    ensures reply { (text : List ℕ) → line.now ≡ kept_of text
+    ensures { (text : List ℕ) → line.now ≡ kept_of text
         → Entry.Reported telling limit ≡ entry_at recorder.old text
-        → OnOk result (reply.new.items ≡ reply.old.items
-        ++ explained_run recorder.old telling limit line.now.front) }
-    ensures after { (text : List ℕ) → line.now ≡ kept_of text
-        → Entry.Reported telling limit ≡ entry_at recorder.old text
-        → OnOk result (recorder.new
-        ≡ after_lines script_language recorder.old (run_line line.now.front ∷ [])) }
+        → OnOk result (IsAnswered reply.old.items reply.new.items recorder.new
+        (answer_of recorder.old (Entry.Reported telling limit) line.now)) }
 {
     let mut said = Vec::new(alloc);
     tell(alloc, recorder, telling, limit, line, &mut said)?;
     push_reported(reply, &said, recorder.answers())
+}
+
+/// Performs the runs of an operator whose typewriter starts the machine again.
+fn operate_by<A: Allocator + Copy>(
+    alloc: A,
+    recorder: &mut Recorder<Laboratory<A>, A>,
+    limit: u64,
+    line: &[u8],
+    reply: &mut Vec<u8, A>,
+) -> Result<(), AllocError>
+    ensures { OnOk result (IsAnswered reply.old.items reply.new.items recorder.new
+        (answer_to_operating recorder.old limit (run_line line.now))) }
+{
+    let run = run_line(alloc, line)?;
+    operate(alloc, recorder, limit, &run, reply)
 }
 
 /// Appends the form of the command that comes after another.
@@ -332,10 +328,8 @@ fn place<A: Allocator + Copy>(
     line: &[u8],
     reply: &mut Vec<u8, A>,
 ) -> Result<(), AllocError>
-    ensures reply { OnOk result (reply.new.items
-        ≡ reply.old.items ++ explained_reply recorder.old (placed_line address line.now)) }
-    ensures after { OnOk result (recorder.new
-        ≡ after_lines script_language recorder.old (placed_line address line.now ∷ [])) }
+    ensures { OnOk result (IsAnswered reply.old.items reply.new.items recorder.new
+        (explained_line recorder.old (placed_line address line.now))) }
 {
     let line = placed_line(alloc, address, line)?;
     explain(alloc, recorder, &line, reply)
@@ -348,11 +342,9 @@ fn misform<A: Allocator + Copy>(
     line: &LineBytes,
     reply: &mut Vec<u8, A>,
 ) -> Result<(), AllocError>
-    ensures reply { OnOk result (reply.new.items ≡ reply.old.items
-        ++ misformed_text (names_at recorder.old) (counter_at recorder.old) line.now.front) }
-    ensures after { (text : List ℕ) → line.now ≡ kept_of text
-        → OnOk result (recorder.new
-        ≡ after_lines script_language recorder.old (stand_in line.now ∷ [])) }
+    ensures { (text : List ℕ) → line.now ≡ kept_of text
+        → OnOk result (IsAnswered reply.old.items reply.new.items recorder.new
+        (answer_of recorder.old Entry.Misformed line.now)) }
 {
     let laboratory = recorder.answers();
     push_misformed(
@@ -371,8 +363,8 @@ fn begin_anew<A: Allocator + Copy>(
     recorder: &mut Recorder<Laboratory<A>, A>,
     reply: &mut Vec<u8, A>,
 ) -> Result<(), AllocError>
-    ensures reply { OnOk result (reply.new.items ≡ reply.old.items ++ codes "new\n") }
-    ensures after { OnOk result (recorder.new ≡ untouched opening_state) }
+    ensures { OnOk result (IsAnswered reply.old.items reply.new.items recorder.new
+        (record { reply = codes "new\n"; after = untouched opening_state })) }
 {
     let laboratory = Laboratory::new(alloc)?;
     recorder.begin_anew(laboratory);
@@ -401,14 +393,10 @@ fn perform<A: Allocator + Copy, P: Progress>(
     progress: &P,
     reply: &mut Vec<u8, A>,
 ) -> Result<(), AllocError>
-    ensures reply { (text : List ℕ) → line.now ≡ kept_of text
+    ensures { (text : List ℕ) → line.now ≡ kept_of text
         → entry ≡ entry_at recorder.old text
-        → OnOk result (reply.new.items
-        ≡ reply.old.items ++ reply_of recorder.old entry line.now) }
-    ensures after { (text : List ℕ) → line.now ≡ kept_of text
-        → entry ≡ entry_at recorder.old text
-        → OnOk result (recorder.new ≡ after_meaning script_language opening_state
-        recorder.old (meaning_of entry line.now)) }
+        → OnOk result (IsAnswered reply.old.items reply.new.items recorder.new
+        (answer_of recorder.old entry line.now)) }
 {
     match entry {
         Entry::Itself => answer_itself(alloc, recorder, line, progress, reply),
@@ -419,6 +407,7 @@ fn perform<A: Allocator + Copy, P: Progress>(
         Entry::Reported(telling, limit) => explain_reported(
             alloc, recorder, telling, limit, line, reply,
         ),
+        Entry::Operate(limit) => operate_by(alloc, recorder, limit, line.front(), reply),
         Entry::Asked(question) => push_answer(reply, &question, recorder.answers()),
         Entry::Transcript => reply.extend_from_slice(recorder.transcript()),
         Entry::New => begin_anew(alloc, recorder, reply),
@@ -456,10 +445,8 @@ impl<A: Allocator + Copy, P: Progress> Monitor<Laboratory<A>, A, P> {
         dump: &[u8],
         reply: &mut Vec<u8, B>,
     ) -> Result<(), AllocError>
-        ensures reply { OnOk result (reply.new.items
-            ≡ reply.old.items ++ restore_reply self.old dump.now) }
-        ensures after { OnOk result (self.new
-            ≡ after_lines script_language self.old (restore_lines self.old dump.now)) }
+        ensures { OnOk result (IsAnswered reply.old.items reply.new.items self.new
+            (answer_to_dump self.old dump.now)) }
     {
         restore(self.alloc, &mut self.recorder, dump, reply)
     }
@@ -471,9 +458,8 @@ impl<A: Allocator + Copy, P: Progress> Monitor<Laboratory<A>, A, P> {
         text: &[u8],
         reply: &mut Vec<u8, B>,
     ) -> Result<(), AllocError>
-        ensures reply { OnOk result (reply.new.items
-            ≡ reply.old.items ++ tape_reply self.old text.now) }
-        ensures after { OnOk result (self.new ≡ after_tape self.old name.now text.now) }
+        ensures { OnOk result (IsAnswered reply.old.items reply.new.items self.new
+            (answer_to_tape self.old name.now text.now)) }
     {
         mount_tape(self.alloc, &mut self.recorder, name, text, reply)
     }

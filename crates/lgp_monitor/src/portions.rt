@@ -1,6 +1,7 @@
 //! Runs that tell how far they are.
 
 ghost use Rattle.std.specs.Prelude.{◌≡◌, ◌++◌, [], OnOk, true};
+ghost use Rattle.lgp_stream.specs.Language.{IsAnswered};
 ghost use Rattle.lgp_debugger.specs.Run.{IsRun};
 ghost use Rattle.lgp_debugger.specs.Watching.{rules_in_force};
 ghost use Rattle.lgp_lab.specs.HistoryCommands.{answer_to_run};
@@ -139,9 +140,8 @@ pub fn run_shown<A: Allocator + Copy, P: Progress>(
     progress: &P,
     reply: &mut Vec<u8, A>,
 ) -> Result<(), AllocError>
-    ensures reply { OnOk result (reply.new.items
-        ≡ reply.old.items ++ (answer_to_run laboratory.old limit).reply) }
-    ensures after { OnOk result (laboratory.new ≡ (answer_to_run laboratory.old limit).after) }
+    ensures { OnOk result (IsAnswered reply.old.items reply.new.items laboratory.new
+        (answer_to_run laboratory.old limit)) }
 {
     laboratory.run_reported(&InPortions { progress }, limit, reply)
 }

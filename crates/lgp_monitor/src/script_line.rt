@@ -2,7 +2,8 @@
 
 ghost use Rattle.std.specs.Prelude.{◌≡◌, ◌≤◌, ◌++◌, ◌∷◌, [], List, ℕ, None, Some, IfSome, OnOk, false, length};
 ghost use Rattle.lgp_stream.specs.KeptLine.{kept_of, line_limit};
-ghost use Rattle.lgp_stream.specs.Transcript.{after_lines, replies_text, stand_in};
+ghost use Rattle.lgp_stream.specs.Language.{IsAnswered};
+ghost use Rattle.lgp_stream.specs.Transcript.{lines_answered, stand_in};
 ghost use Rattle.lgp_lab.specs.Command.{command_of};
 ghost use Rattle.lgp_lab.specs.Script.{is_passed_over, script_language};
 ghost use Rattle.lgp_lab.specs.declared.command.Command.TheVariants.{Run};
@@ -42,10 +43,8 @@ fn run<A: Allocator + Copy, P: Progress>(
     requires answered { is_passed_over line.now ≡ false }
     requires closed { recorder.old.state.opened ≡ None }
     requires short { length line.now ≤ line_limit }
-    ensures reply { OnOk result (reply.new.items ≡ reply.old.items
-        ++ replies_text script_language recorder.old (line.now ∷ [])) }
-    ensures after { OnOk result (recorder.new
-        ≡ after_lines script_language recorder.old (line.now ∷ [])) }
+    ensures { OnOk result (IsAnswered reply.old.items reply.new.items recorder.new
+        (lines_answered script_language recorder.old (line.now ∷ []))) }
 {
     recorder.keep_line(line)?;
     run_shown(recorder.answers_mut(), limit, progress, reply)
@@ -59,12 +58,9 @@ pub fn answer_kept<A: Allocator + Copy, P: Progress>(
     progress: &P,
     reply: &mut Vec<u8, A>,
 ) -> Result<(), AllocError>
-    ensures reply { (text : List ℕ) → line.now ≡ kept_of text
-        → OnOk result (reply.new.items ≡ reply.old.items
-        ++ replies_text script_language recorder.old (stand_in line.now ∷ [])) }
-    ensures after { (text : List ℕ) → line.now ≡ kept_of text
-        → OnOk result (recorder.new
-        ≡ after_lines script_language recorder.old (stand_in line.now ∷ [])) }
+    ensures { (text : List ℕ) → line.now ≡ kept_of text
+        → OnOk result (IsAnswered reply.old.items reply.new.items recorder.new
+        (lines_answered script_language recorder.old (stand_in line.now ∷ []))) }
 {
     if recorder.answers().has_open_source() || line.is_longer() {
         return recorder.answer_kept(line, reply);

@@ -1,10 +1,11 @@
 //! Runs that are reported: order by order, added up, along the drum, or by where their words would have cost less.
 
 ghost use Rattle.std.specs.Prelude.{◌≡◌, ◌++◌, OnOk};
+ghost use Rattle.lgp_stream.specs.Language.{IsAnswered};
 ghost use Rattle.lgp_debugger.specs.Debugging.{order_origins};
 ghost use Rattle.lgp_debugger.specs.Run.{orders_of};
 ghost use Rattle.lgp_lab.specs.HistoryCommands.{answer_to_run, orders_run};
-ghost use Rattle.lgp_lab.specs.LabState.{labels_of};
+ghost use Rattle.lgp_lab.specs.LabState.{after_text, labels_of};
 ghost use Rattle.lgp_monitor.specs.Telling.{reported_text};
 
 use crate::labels::NamedAddresses;
@@ -211,11 +212,10 @@ pub fn run_reported<A: Allocator + Copy>(
     limit: u64,
     reply: &mut Vec<u8, A>,
 ) -> Result<(), AllocError>
-    ensures reply { OnOk result (reply.new.items ≡ reply.old.items
-        ++ (reported_text telling (labels_of laboratory.old.source) laboratory.old.debugger.state
-        (order_origins laboratory.old.debugger) (orders_run limit laboratory.old.debugger)
-        ++ (answer_to_run laboratory.old limit).reply)) }
-    ensures after { OnOk result (laboratory.new ≡ (answer_to_run laboratory.old limit).after) }
+    ensures { OnOk result (IsAnswered reply.old.items reply.new.items laboratory.new (after_text
+        (reported_text telling (labels_of laboratory.old.source) laboratory.old.debugger.state
+        (order_origins laboratory.old.debugger) (orders_run limit laboratory.old.debugger))
+        (answer_to_run laboratory.old limit))) }
 {
     match telling {
         Telling::Trace(form) => laboratory.run_reported(&OrderByOrder { form }, limit, reply),

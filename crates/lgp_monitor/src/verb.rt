@@ -41,6 +41,8 @@ pub enum NumberCommand {
     Trace(Form),
     Profile(Form),
     Drum,
+    /// Runs that an operator's typewriter starts again.
+    Operate,
 }
 
 /// What a line's first word says: what comes after it, and what is done.
@@ -75,7 +77,7 @@ pub enum Verb {
 }
 
 /// The commands by their first word.
-pub const VERBS: [Named<Verb>; 43] = [
+pub const VERBS: [Named<Verb>; 44] = [
     (b"put", Verb::Word),
     (b"go", Verb::Address(AddressCommand::Go)),
     (b"mount", Verb::Text),
@@ -84,6 +86,7 @@ pub const VERBS: [Named<Verb>; 43] = [
     (b"turn", Verb::Number(NumberCommand::Script)),
     (b"orders", Verb::Number(NumberCommand::Script)),
     (b"run", Verb::Number(NumberCommand::Script)),
+    (b"operate", Verb::Number(NumberCommand::Operate)),
     (b"trace", Verb::Number(NumberCommand::Trace(Form::Columns))),
     (
         b"profile",

@@ -11,7 +11,7 @@ use std::process::Abort;
 /// Typed lines, what is written for them, and how many replies begin with a question mark.
 type Row = (&'static [u8], &'static [u8], u64);
 
-const ROWS: [Row; 37] = [
+const ROWS: [Row; 39] = [
     // Words by order, number and fraction: the machine's word of n at 30 is 2n, and -.5 is -2^30 of 2^31 steps.
     (
         b"put 0050 = 385\nput 0051 = -1\nput 0052 -.5\nput 0053 h 6363\nwords 0050 4\n",
@@ -50,7 +50,7 @@ const ROWS: [Row; 37] = [
     // Each command, whether it only asks, and what it takes.
     (
         b"commands\ntranscript\n",
-        b"put does address word\ngo does address\nmount does text\npress does button\ntype does text\nturn does number\norders does number\nrun does number\ntrace does number\nprofile does number\ndrum does number\noptimum does number\nwhy asks address\nback does number\nlast does nothing\npanel asks nothing\nwords asks range\nshow asks range\nnumbers asks range\nprinted asks nothing\ndump asks nothing\nsource does source\ndo does file\ntape does file\narchive does file\nsave does file\nrestore does file\nlist asks nothing\nload does nothing\nbreak does address\nwatch does address\ndrop does number\nrules asks nothing\nlabels asks nothing\nlive asks nothing\ncommands asks nothing\npanel-data asks nothing\ntrace-data does number\nprofile-data does number\ntranscript asks nothing\nnew does nothing\nhelp asks command\nquit does nothing\n",
+        b"put does address word\ngo does address\nmount does text\npress does button\ntype does text\nturn does number\norders does number\nrun does number\noperate does number\ntrace does number\nprofile does number\ndrum does number\noptimum does number\nwhy asks address\nback does number\nlast does nothing\npanel asks nothing\nwords asks range\nshow asks range\nnumbers asks range\nprinted asks nothing\ndump asks nothing\nsource does source\ndo does file\ntape does file\narchive does file\nsave does file\nrestore does file\nlist asks nothing\nload does nothing\nbreak does address\nwatch does address\ndrop does number\nrules asks nothing\nlabels asks nothing\nlive asks nothing\ncommands asks nothing\npanel-data asks nothing\ntrace-data does number\nprofile-data does number\ntranscript asks nothing\nnew does nothing\nhelp asks command\nquit does nothing\n",
         0,
     ),
     // The panel as lines of a key and a value, and two codes of a tape that the reader takes, reported so.
@@ -196,13 +196,25 @@ const ROWS: [Row; 37] = [
     // The same after an overflow, an input without a tape, and one operation.
     (
         b"put 0000 d 0010\nput 0001 i\nput 0002 u *\npress start\nrun 9\ntrace 9\npress start\nrun 9\ntrace 9\npress oneop\npress compute\ntrace 9\npress start\nrun 9\ntrace 9\n",
-        b"ok\nok\nok\nlive\nran 1 rest\n  clock  at           order           find take seek  act   sum  accumulator\nran 0 rest\n        an overflow halted the machine: press start lets it go on\nlive\nran 1 rest\n  clock  at           order           find take seek  act   sum  accumulator\nran 0 rest\n        an input waits for codes: press read lets the tape pass, press compute ends the input\nlive\nlive\n  clock  at           order           find take seek  act   sum  accumulator\nran 0 rest\n        the machine halted after one operation: press start lets it do one order\nlive\nran 1 rest\n  clock  at           order           find take seek  act   sum  accumulator\nran 0 rest\n        the machine halted behind one operation: press start lets it do one order\n",
+        b"ok\nok\nok\nlive\nran 1 rest\n  clock  at           order           find take seek  act   sum  accumulator\nran 0 rest\n        an overflow halted the machine: press start lets it go on\nlive\nran 1 rest\n  clock  at           order           find take seek  act   sum  accumulator\nran 0 rest\n        an input waits for codes: press read lets the tape pass, press compute ends the input\nlive\nlive\n  clock  at           order           find take seek  act   sum  accumulator\nran 0 rest\n        the machine halted after one operation: press start lets it do one order\nlive\nran 1 rest\n  clock  at           order           find take seek  act   sum  accumulator\nran 0 rest\n        the machine halted after one operation: press start lets it do one order\n",
         0,
     ),
     // A run that a rule stops has the script's reply.
     (
         b"put 0000 u 0001\nbreak 0001\npress start\nrun 9\n",
         b"ok\nrule 0\nlive\nran 1 rule 0\n",
+        0,
+    ),
+    // A typewriter that starts the machine again: twice at a z after a p, at most as often as is said, not at a z after a b, and not where
+    // a rule has stopped the run. The counter after the z at 6363 is 0000.
+    (
+        b"put 0000 p =h\nput 0001 z\nput 0002 p =i\nput 0003 z\nput 0004 b 0000\nput 0005 z\npress start\noperate 9\nprinted\nback 4\noperate 1\nback 1\nbreak 0002\noperate 9\noperate\ntranscript\n",
+        b"ok\nok\nok\nok\nok\nok\nlive\nran 2 rest\n        started again at a z after a p: 2\nprinted 2 hi\nclock 460\nran 1 limit\nclock 460\nrule 0\nran 2 rest\n        started again at a z after a p: 1\n? 1 Form: operate NUMBER\nput 0000 00083100\nput 0001 00000000\nput 0002 00081100\nput 0003 00000000\nput 0004 00010000\nput 0005 00000000\npress start\nrun 9\npress start\nrun 9\npress start\nrun 9\nprinted\nback 4\nrun 1\nback 1\nbreak 0002\nrun 9\npress start\nrun 9\noperate\n",
+        1,
+    ),
+    (
+        b"put 6362 p =h\nput 6363 z\nput 0000 u 6362\ngo 6362\noperate 3\n",
+        b"ok\nok\nok\nlive\nlive 8 dead 0\nlive\nlive\nlive\norders 1 halted step\nlive\nlive\nran 3 rest\n        started again at a z after a p: 3\n",
         0,
     ),
     // The last line of a listing that reads like a run.
@@ -353,7 +365,7 @@ fn a_source_that_is_too_long_has_no_marks(rt: HostRuntime) {
 
 /// Runs that are reported in each way, with labels.
 const EACH: &[u8] =
-    b"source\nfirst z\n end\n.\nput 0000 b 0003\npress start\ntrace 1\nprofile 1\npress start\ndrum 2\nback 2\ntrace-data 1\nprofile-data 1\npanel-data\nlive\npress start\noptimum 1\npress start\noptimum 1 0000\n";
+    b"source\nfirst z\n end\n.\nput 0000 b 0003\npress start\ntrace 1\nprofile 1\npress start\ndrum 2\nback 2\ntrace-data 1\nprofile-data 1\npanel-data\nlive\npress start\noptimum 1\npress start\noptimum 1 0000\noperate 1\n";
 
 /// Two sources with faults.
 const FAULTY: &[u8] = b"source\n q\n b none\n end\n.\nsource\n z\n.\n";

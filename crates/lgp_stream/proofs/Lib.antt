@@ -9,3 +9,4 @@ pub mod StreamLemmas
 pub mod StandIns
 pub mod LineLaws
 pub mod AfterLemmas
+pub mod AnswerLemmas

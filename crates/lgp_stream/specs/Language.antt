@@ -31,6 +31,17 @@ text_replies language s text =
     replies_to language s (lines text)
     ++ language.closing (state_after language s (lines text)) ∷ []
 
+-- a reply, empty where there is none, and the state after it
+pub record Answer (S : Type 0) : Type 0 where
+  pub reply : List ℕ
+  pub after : S
+
+-- an answer was given: its reply is in a text after what was there before, and its state is there
+pub record IsAnswered {S : Type 0} (before text : List ℕ) (state : S)
+    (answer : Answer S) : Type 0 where
+  pub reply : text ≡ before ++ answer.reply
+  pub after : state ≡ answer.after
+
 -- how far a number of 64 bits counts, and how many replies begin with a question mark, as far as
 -- that
 abbrev pub count_limit : ℕ

@@ -7,7 +7,7 @@ use Rattle.std.specs.Borrow.{Bor}
 use Rattle.std.specs.Str.{byte}
 use Rattle.std.specs.Str.Lines.{lines}
 use Rattle.lgp_stream.specs.KeptLine.{Kept}
-use Rattle.lgp_stream.specs.Language.{Language, is_line_feed, replies_to, state_after}
+use Rattle.lgp_stream.specs.Language.{Answer, Language, is_line_feed, replies_to, state_after}
 
 -- the state of something, and the text whose lines have brought it into that state
 pub record Recorded (S : Type 0) : Type 0 where
@@ -71,6 +71,10 @@ module _ {S : Type 0} (language : Language S) where
 
   unfoldable pub replies_text : Recorded S → List (List ℕ) → List ℕ
   replies_text recorded lines = concat (replies_to language recorded.state lines)
+
+  abbrev pub lines_answered : Recorded S → List (List ℕ) → Answer (Recorded S)
+  lines_answered recorded lines =
+      record { reply = replies_text recorded lines; after = after_lines recorded lines }
 
   -- after a line of this meaning
   abbrev pub after_meaning : S → Recorded S → Meaning → Recorded S

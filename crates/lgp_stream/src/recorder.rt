@@ -3,7 +3,8 @@
 ghost use Rattle.std.specs.Prelude.{◌≡◌, ◌++◌, ◌∷◌, [], List, ℕ, IfOk, OnOk, codes};
 ghost use Rattle.lgp_stream.specs.KeptLine.{kept_of};
 ghost use Rattle.std.specs.Borrow.{sem};
-ghost use Rattle.lgp_stream.specs.Transcript.{after_lines, bytes_of, ended, replies_text, stand_in, untouched, with_line};
+ghost use Rattle.lgp_stream.specs.Language.{IsAnswered};
+ghost use Rattle.lgp_stream.specs.Transcript.{bytes_of, ended, lines_answered, stand_in, untouched, with_line};
 
 use crate::line::LineBytes;
 use crate::stream::Answers;
@@ -100,10 +101,8 @@ impl<L: Answers<A>, A: Allocator + Copy> Recorder<L, A> {
     /// Answers a line, and keeps it. A refused growth may leave it kept and not answered.
     #[tactic(auto, unfolding(crate::specs::Transcript::after_lines, crate::specs::Transcript::replies_text))]
     pub fn answer_line(&mut self, line: &[u8], reply: &mut Vec<u8, A>) -> Result<(), AllocError>
-        ensures reply { OnOk result (reply.new.items
-            ≡ reply.old.items ++ replies_text L.language self.old (line.now ∷ [])) }
-        ensures after { OnOk result (self.new
-            ≡ after_lines L.language self.old (line.now ∷ [])) }
+        ensures { OnOk result (IsAnswered reply.old.items reply.new.items self.new
+            (lines_answered L.language self.old (line.now ∷ []))) }
     {
         push_ended(&mut self.transcript, line)?;
         self.answers.answer(&LineBytes::of(line), reply)
@@ -116,11 +115,9 @@ impl<L: Answers<A>, A: Allocator + Copy> Recorder<L, A> {
         line: &LineBytes,
         reply: &mut Vec<u8, A>,
     ) -> Result<(), AllocError>
-        ensures reply { (text : List ℕ) → line.now ≡ kept_of text
-            → OnOk result (reply.new.items
-            ≡ reply.old.items ++ replies_text L.language self.old (stand_in line.now ∷ [])) }
-        ensures after { (text : List ℕ) → line.now ≡ kept_of text
-            → OnOk result (self.new ≡ after_lines L.language self.old (stand_in line.now ∷ [])) }
+        ensures { (text : List ℕ) → line.now ≡ kept_of text
+            → OnOk result (IsAnswered reply.old.items reply.new.items self.new
+            (lines_answered L.language self.old (stand_in line.now ∷ []))) }
     {
         push_stand_in(&mut self.transcript, line)?;
         self.answers.answer(line, reply)
@@ -132,10 +129,8 @@ impl<L: Answers<A>, A: Allocator + Copy> Recorder<L, A> {
         lines: &[&[u8]],
         reply: &mut Vec<u8, A>,
     ) -> Result<(), AllocError>
-        ensures reply { OnOk result (reply.new.items
-            ≡ reply.old.items ++ replies_text L.language self.old (bytes_of lines.now)) }
-        ensures after { OnOk result (self.new
-            ≡ after_lines L.language self.old (bytes_of lines.now)) }
+        ensures { OnOk result (IsAnswered reply.old.items reply.new.items self.new
+            (lines_answered L.language self.old (bytes_of lines.now))) }
     {
         for line in lines {
             self.answer_line(line, reply)?;

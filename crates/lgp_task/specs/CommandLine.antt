@@ -53,6 +53,12 @@ command_line =
 abbrev pub echo_rule : Rule
 echo_rule = record (new_rule (codes "echo")) { long = Some (codes "echo"); action = Some SetTrue }
 
--- the monitor's command line: `lgp_monitor`, which takes files and `--echo`
+-- --json: there or not
+abbrev pub json_rule : Rule
+json_rule = record (new_rule (codes "json")) { long = Some (codes "json"); action = Some SetTrue }
+
+-- the monitor's command line: `lgp_monitor`, which takes files, `--echo` and `--json`
 unfoldable pub monitor_line : App
-monitor_line = with_rule (with_rule (bare_line (codes "lgp_monitor")) any_files_rule) echo_rule
+monitor_line =
+    with_rule (with_rule (with_rule (bare_line (codes "lgp_monitor")) any_files_rule) echo_rule)
+    json_rule

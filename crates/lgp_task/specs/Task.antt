@@ -51,6 +51,7 @@ task_in matched = option_map_or (λ command. task_named command.0 command.1) mat
 pub record SessionTask : Type 0 where
   pub files : List Text
   pub is_echoing : Bool
+  pub is_json : Bool
 
 -- a fault that asks for a text and is no mistake
 abbrev pub is_request : ErrorKind → Bool
@@ -79,12 +80,18 @@ abbrev pub IsFaultOn : {A : Type 0} → App → List Text → TaskFault A → Ty
 IsFaultOn line typed fault =
     IsRefusalOf (fault_of line typed) fault × (takes line typed ≡ true → fault ≡ Memory)
 
--- the files that a session's matches hold, and whether each line is shown above its reply
-abbrev pub echo_in : List Row → Bool
-echo_in rows = bytes_eq (unwrap_or (first_of (codes "echo") rows) []) (codes "true")
+-- whether a flag is there
+abbrev pub has_flag : List ℕ → List Row → Bool
+has_flag name rows = bytes_eq (unwrap_or (first_of name rows) []) (codes "true")
 
+-- the files that a session's matches hold, whether each line is shown above its reply, and whether
+-- each reply is a value of JSON
 abbrev pub session_in : List Row → SessionTask
-session_in rows = record { files = files_in rows; is_echoing = echo_in rows }
+session_in rows = record {
+  files = files_in rows;
+  is_echoing = has_flag (codes "echo") rows;
+  is_json = has_flag (codes "json") rows;
+}
 
 -- the session that the words of the monitor's command line ask for, where it takes them
 abbrev pub session_for : List Text → SessionTask

@@ -3,7 +3,7 @@
 ghost use Rattle.std.specs.Prelude.{◌≡◌, IfOk, codes, false};
 ghost use Rattle.clap.specs.Words.{App, app_of, new_app, rule_of, with_rule, with_subcommand};
 ghost use Rattle.clap.specs.declared.builder.command.Command.TheViews.{out-Command as fields_of};
-ghost use Rattle.lgp_task.specs.CommandLine.{any_files_rule, bare_line, batch_command, command_line, echo_rule, file_command, file_rule, files_rule, limit_rule, monitor_line, run_command};
+ghost use Rattle.lgp_task.specs.CommandLine.{any_files_rule, bare_line, batch_command, command_line, echo_rule, file_command, file_rule, files_rule, json_rule, limit_rule, monitor_line, run_command};
 
 use clap::{Arg, ArgAction, Command, value_parser};
 use std::alloc::{AllocError, Global};
@@ -13,6 +13,9 @@ pub(crate) const FILE: &str = "FILE";
 
 /// How the argument is called that has each line shown above its reply.
 pub(crate) const ECHO: &str = "echo";
+
+/// The name of the flag for replies as values of JSON.
+pub(crate) const JSON: &str = "json";
 
 /// The version of the program, and of all its crates.
 const VERSION: &str = "0.1.0";
@@ -218,6 +221,17 @@ fn echo<'a>(global: Global) -> Arg<'a>
         .help("Show each line above its reply")
 }
 
+/// `--json`
+fn json<'a>(global: Global) -> Arg<'a>
+    ensures rule { rule_of result ≡ json_rule }
+    ensures own { result.global ≡ false }
+{
+    Arg::new(global, JSON)
+        .long(JSON)
+        .action(ArgAction::SetTrue)
+        .help("Write each reply as a JSON object on a line of its own")
+}
+
 /// `lgp_monitor`, without its arguments, which knows its version.
 fn bare_monitor_line<'a>(global: Global) -> Result<Command<'a>, AllocError>
     ensures app { IfOk result (λ line. app_of line ≡ bare_line (codes "lgp_monitor")) }
@@ -235,7 +249,7 @@ fn bare_monitor_line<'a>(global: Global) -> Result<Command<'a>, AllocError>
     line.version(VERSION).bin_name("lgp_monitor")
 }
 
-/// `lgp_monitor`, which takes files and `--echo`.
+/// `lgp_monitor`, which takes files, `--echo` and `--json`.
 #[tactic(auto, unfolding(crate::specs::CommandLine::monitor_line))]
 pub(crate) fn monitor_line<'a>(global: Global) -> Result<Command<'a>, AllocError>
     ensures { IfOk result (λ line. app_of line ≡ monitor_line) }
@@ -243,5 +257,6 @@ pub(crate) fn monitor_line<'a>(global: Global) -> Result<Command<'a>, AllocError
     let line = bare_monitor_line(global)?;
     let help = "Text files with lines that come before standard input's";
     let line = with_argument(line, any_files(global, help))?;
-    with_argument(line, echo(global))
+    let line = with_argument(line, echo(global))?;
+    with_argument(line, json(global))
 }

@@ -4,21 +4,22 @@ ghost use Rattle.std.specs.Prelude.{◌≡◌, [], IfErr, IfOk, OnOk, map, true}
 ghost use Rattle.std.specs.String.{string_bytes};
 ghost use Rattle.clap.specs.Words.{fault_of, found_of, rows_of, takes};
 ghost use Rattle.lgp_task.specs.CommandLine.{monitor_line};
-ghost use Rattle.lgp_task.specs.Task.{IsRefusalOf, echo_in, session_for, session_in};
+ghost use Rattle.lgp_task.specs.Task.{IsRefusalOf, has_flag, session_for, session_in};
 
-use crate::command_line::{ECHO, monitor_line};
+use crate::command_line::{ECHO, JSON, monitor_line};
 use crate::files::FileNames;
 use crate::task::{TaskFault, files_of, refusal};
 use clap::ArgMatches;
 use std::alloc::{Allocator, Global};
 use std::marker::Model;
 
-/// What a session of the monitor begins with. Clauses see the names of its files, in the order in which they were typed, and
-/// whether each line is shown above its reply.
+/// What a session of the monitor begins with. Clauses see the names of its files, in the order in which they were typed, whether each
+/// line is shown above its reply, and whether each reply is a value of JSON.
 #[derive(Debug, Drop)]
 pub struct SessionTask<A: Allocator = Global> {
     files: FileNames<A>,
     is_echoing: bool,
+    is_json: bool,
 }
 
 impl<A: Allocator> Model for SessionTask<A> {
@@ -29,6 +30,7 @@ impl<A: Allocator> Model for SessionTask<A> {
     ghost view = { λ task. record {
       files = task.files;
       is_echoing = task.is_echoing;
+      is_json = task.is_json;
     } };
 }
 
@@ -46,13 +48,20 @@ impl<A: Allocator> SessionTask<A> {
     {
         self.is_echoing
     }
+
+    /// Whether each reply is a value of JSON.
+    pub fn is_json(&self) -> bool
+        ensures { result ≡ self.now.is_json }
+    {
+        self.is_json
+    }
 }
 
-/// Whether the matches have `--echo`.
-fn is_echoing(matches: &ArgMatches<'_>) -> bool
-    ensures { result ≡ echo_in (rows_of (found_of matches.now)) }
+/// Whether the matches have a flag.
+fn has_flag(matches: &ArgMatches<'_>, name: &'static str) -> bool
+    ensures { result ≡ has_flag name.now (rows_of (found_of matches.now)) }
 {
-    matches.get_str(ECHO).unwrap_or("") == "true"
+    matches.get_str(name).unwrap_or("") == "true"
 }
 
 /// The session that matches ask for.
@@ -66,7 +75,8 @@ fn session_of<A: Allocator + Copy>(
 {
     Ok(SessionTask {
         files: files_of(alloc, matches)?,
-        is_echoing: is_echoing(matches),
+        is_echoing: has_flag(matches, ECHO),
+        is_json: has_flag(matches, JSON),
     })
 }
 

@@ -279,8 +279,9 @@ fn session<A: Allocator + Copy>(
     ask_for_session(global, alloc, all.as_slice())
 }
 
-/// How many files a session has, the first one's name, and whether lines are shown above their replies.
-fn session_parts(global: Global, typed: &[&str], first: &str) -> Option<(usize, bool, bool)> {
+/// How many files a session has, whether the first one has this name, whether lines are shown above their replies, and whether
+/// replies are values of JSON.
+fn session_parts(global: Global, typed: &[&str], first: &str) -> Option<(usize, bool, bool, bool)> {
     match session(global, global, typed) {
         Ok(task) => {
             let names = task.files().names();
@@ -288,25 +289,29 @@ fn session_parts(global: Global, typed: &[&str], first: &str) -> Option<(usize, 
                 [one, ..] => one.text() == first,
                 [] => first.is_empty(),
             };
-            Some((names.len(), is_first, task.is_echoing()))
+            Some((names.len(), is_first, task.is_echoing(), task.is_json()))
         }
         Err(_) => None,
     }
 }
 
 #[test]
-fn a_session_takes_files_and_an_echo(rt: HostRuntime) {
+fn a_session_takes_files_and_two_flags(rt: HostRuntime) {
     let parts = [
         session_parts(rt.alloc(), &[], ""),
         session_parts(rt.alloc(), &["a b"], "a b"),
         session_parts(rt.alloc(), &["--echo", "one", "two"], "one"),
         session_parts(rt.alloc(), &["one", "--echo"], "one"),
+        session_parts(rt.alloc(), &["--json"], ""),
+        session_parts(rt.alloc(), &["--echo", "one", "--json"], "one"),
     ];
     let wanted = [
-        Some((0, true, false)),
-        Some((1, true, false)),
-        Some((2, true, true)),
-        Some((1, true, true)),
+        Some((0, true, false, false)),
+        Some((1, true, false, false)),
+        Some((2, true, true, false)),
+        Some((1, true, true, false)),
+        Some((0, true, false, true)),
+        Some((1, true, true, true)),
     ];
     assert_eq!(rt; parts, wanted);
 }
@@ -330,10 +335,12 @@ fn words_that_ask_for_no_session_are_refused(rt: HostRuntime) {
     let reported = [
         session_reported(rt.alloc(), rt.alloc(), &["--loud"]),
         session_reported(rt.alloc(), rt.alloc(), &["--echo=no"]),
+        session_reported(rt.alloc(), rt.alloc(), &["--json=2"]),
         session_reported(rt.alloc(), rt.alloc(), &["--help"]),
         session_reported(rt.alloc(), rt.alloc(), &["--version"]),
     ];
     let wanted = [
+        Reported::Usage,
         Reported::Usage,
         Reported::Usage,
         Reported::Help,

@@ -17,7 +17,7 @@ use crate::file_forms::{checked_archive, checked_tape, dump_of_lines, has_point}
 use crate::files::{FileTrouble, Files};
 use crate::request::Work;
 use crate::trouble::{note_within, push_kept};
-use crate::writing::{push_shown_kind, push_written};
+use crate::writing::push_written;
 use lgp_monitor::Progress;
 use lgp_stream::{Sink, StreamFault, Tally};
 use std::alloc::{AllocError, Allocator};
@@ -26,6 +26,16 @@ use std::alloc::{AllocError, Allocator};
 const MOUNT_LIMIT: usize = 4090;
 
 impl<A: Allocator + Copy, P: Progress, F: Files> Desk<A, P, F> {
+    /// A command and what comes after it.
+    fn line_of(&self, command: &[u8], operand: &[u8]) -> Result<Vec<u8, A>, AllocError>
+        ensures { IfOk result (λ line. line.items ≡ command.now ++ operand.now) }
+    {
+        let mut line = Vec::new(self.alloc);
+        line.extend_from_slice(command)?;
+        line.extend_from_slice(operand)?;
+        Ok(line)
+    }
+
     /// The text for a dump that is restored.
     #[tactic(auto, unfolding(crate::specs::Desk::restored))]
     fn restore_text(
@@ -43,8 +53,8 @@ impl<A: Allocator + Copy, P: Progress, F: Files> Desk<A, P, F> {
         let mut reply = Vec::new(self.alloc);
         self.monitor.restore(dump, &mut reply)?;
         let mut text = Vec::new(self.alloc);
-        push_shown_kind(&mut text, self.manner, b"restore ", name, &reply)?;
-        push_written(&mut text, &note, &reply)?;
+        let line = self.line_of(b"restore ", name)?;
+        push_written(&mut text, self.manner, &line, false, &note, &reply)?;
         Ok(text)
     }
 
@@ -107,19 +117,9 @@ impl<A: Allocator + Copy, P: Progress, F: Files> Desk<A, P, F> {
         let mut reply = Vec::new(self.alloc);
         self.monitor.mount_tape(name, tape, &mut reply)?;
         let mut text = Vec::new(self.alloc);
-        push_shown_kind(&mut text, self.manner, b"tape ", name, &reply)?;
-        push_written(&mut text, &note, &reply)?;
+        let line = self.line_of(b"tape ", name)?;
+        push_written(&mut text, self.manner, &line, false, &note, &reply)?;
         Ok(text)
-    }
-
-    /// The line that mounts a tape.
-    fn mount_line(&self, tape: &[u8]) -> Result<Vec<u8, A>, AllocError>
-        ensures { IfOk result (λ line. line.items ≡ codes "mount " ++ tape.now) }
-    {
-        let mut line = Vec::new(self.alloc);
-        line.extend_from_slice(b"mount ")?;
-        line.extend_from_slice(tape)?;
-        Ok(line)
     }
 
     /// Mounts a tape by a line.
@@ -136,8 +136,10 @@ impl<A: Allocator + Copy, P: Progress, F: Files> Desk<A, P, F> {
             result (answered (within name.now note.now) self.old (codes "mount " ++ tape.now)) }
         ensures cause { IfErr result (λ fault. HasCause fault false (W.failed writer.new)) }
     {
-        let (Ok(note), Ok(line)) = (note_within(self.alloc, name, note), self.mount_line(tape))
-        else {
+        let (Ok(note), Ok(line)) = (
+            note_within(self.alloc, name, note),
+            self.line_of(b"mount ", tape),
+        ) else {
             return Err(StreamFault::Memory);
         };
         self.answer_bytes(&note, &line, writer, tally)

@@ -1,6 +1,7 @@
 //! The drum.
 
 ghost use Rattle.std.specs.Prelude.{◌≡◌, ◌++◌, IfOk, OnOk, codes, decimal};
+ghost use Rattle.lgp_stream.specs.Language.{IsAnswered};
 ghost use Rattle.lgp_listing.specs.Dump.{cell_line, dump_of};
 ghost use Rattle.lgp_history.specs.Step.{Put};
 ghost use Rattle.lgp_lab.specs.LabState.{answer_to_step};
@@ -24,11 +25,8 @@ impl<A: Allocator + Copy> Laboratory<A> {
         word: Word,
         reply: &mut Vec<u8, A>,
     ) -> Result<(), AllocError>
-        ensures reply { OnOk result (reply.new.items
-            ≡ reply.old.items
-            ++ (answer_to_step (codes "ok\n") self.old (Put address word)).reply) }
-        ensures after { OnOk result (self.new
-            ≡ (answer_to_step (codes "ok\n") self.old (Put address word)).after) }
+        ensures { OnOk result (IsAnswered reply.old.items reply.new.items self.new
+            (answer_to_step (codes "ok\n") self.old (Put address word))) }
     {
         match self.debugger.put(address, word) {
             Ok(()) => reply.extend_from_slice(b"ok\n"),

@@ -1,10 +1,11 @@
 //! Rules and the way back.
 
 ghost use Rattle.std.specs.Prelude.{◌≡◌, ◌++◌, OnOk};
+ghost use Rattle.lgp_stream.specs.Language.{IsAnswered};
 ghost use Rattle.lgp_debugger.specs.Debugging.{order_origins};
 ghost use Rattle.lgp_lab.specs.HistoryCommands.{answer_to_back, answer_to_drop, answer_to_last, answer_to_rule, answer_to_run, hit_text, orders_run, ran_text, reason_text};
 ghost use Rattle.lgp_lab.specs.Refusal.{refusal_text};
-ghost use Rattle.lgp_lab.specs.LabState.{labels_of};
+ghost use Rattle.lgp_lab.specs.LabState.{after_text, labels_of};
 
 use super::machine_commands::push_clock;
 use super::{Laboratory, labels_in};
@@ -22,9 +23,8 @@ impl<A: Allocator + Copy> Laboratory<A> {
     /// Adds a rule.
     #[tactic(auto, unfolding(crate::specs::HistoryCommands::answer_to_rule))]
     pub(super) fn add_rule(&mut self, rule: Rule, reply: &mut Vec<u8, A>) -> Result<(), AllocError>
-        ensures reply { OnOk result (reply.new.items
-            ≡ reply.old.items ++ (answer_to_rule self.old rule).reply) }
-        ensures after { OnOk result (self.new ≡ (answer_to_rule self.old rule).after) }
+        ensures { OnOk result (IsAnswered reply.old.items reply.new.items self.new
+            (answer_to_rule self.old rule)) }
     {
         match self.debugger.add_rule(rule) {
             Ok(number) => push_counted(reply, b"rule ", u64::from(number)),
@@ -39,9 +39,8 @@ impl<A: Allocator + Copy> Laboratory<A> {
         number: u64,
         reply: &mut Vec<u8, A>,
     ) -> Result<(), AllocError>
-        ensures reply { OnOk result (reply.new.items
-            ≡ reply.old.items ++ (answer_to_drop self.old number).reply) }
-        ensures after { OnOk result (self.new ≡ (answer_to_drop self.old number).after) }
+        ensures { OnOk result (IsAnswered reply.old.items reply.new.items self.new
+            (answer_to_drop self.old number)) }
     {
         if number >= RULE_LIMIT {
             return push_refusal(reply, Refusal::NoRule);
@@ -55,9 +54,8 @@ impl<A: Allocator + Copy> Laboratory<A> {
     /// Performs orders until a rule stops them.
     #[tactic(auto, unfolding(crate::specs::HistoryCommands::answer_to_run))]
     pub(super) fn run(&mut self, limit: u64, reply: &mut Vec<u8, A>) -> Result<(), AllocError>
-        ensures reply { OnOk result (reply.new.items
-            ≡ reply.old.items ++ (answer_to_run self.old limit).reply) }
-        ensures after { OnOk result (self.new ≡ (answer_to_run self.old limit).after) }
+        ensures { OnOk result (IsAnswered reply.old.items reply.new.items self.new
+            (answer_to_run self.old limit)) }
     {
         match self.debugger.run(limit) {
             Ok(ran) => push_ran(reply, &ran),
@@ -74,11 +72,10 @@ impl<A: Allocator + Copy> Laboratory<A> {
         limit: u64,
         reply: &mut Vec<u8, A>,
     ) -> Result<(), AllocError>
-        ensures reply { OnOk result (reply.new.items ≡ reply.old.items
-            ++ (T.reported teller.now (labels_of self.old.source) self.old.debugger.state
-            (order_origins self.old.debugger) (orders_run limit self.old.debugger)
-            ++ (answer_to_run self.old limit).reply)) }
-        ensures after { OnOk result (self.new ≡ (answer_to_run self.old limit).after) }
+        ensures { OnOk result (IsAnswered reply.old.items reply.new.items self.new (after_text
+            (T.reported teller.now (labels_of self.old.source) self.old.debugger.state
+            (order_origins self.old.debugger) (orders_run limit self.old.debugger))
+            (answer_to_run self.old limit))) }
     {
         let names = labels_in(&self.program);
         match teller.run(self.alloc, &mut self.debugger, limit, names, reply) {
@@ -90,9 +87,8 @@ impl<A: Allocator + Copy> Laboratory<A> {
     /// Goes a given number of orders back.
     #[tactic(auto, unfolding(crate::specs::HistoryCommands::answer_to_back))]
     pub(super) fn back(&mut self, orders: u64, reply: &mut Vec<u8, A>) -> Result<(), AllocError>
-        ensures reply { OnOk result (reply.new.items
-            ≡ reply.old.items ++ (answer_to_back self.old orders).reply) }
-        ensures after { OnOk result (self.new ≡ (answer_to_back self.old orders).after) }
+        ensures { OnOk result (IsAnswered reply.old.items reply.new.items self.new
+            (answer_to_back self.old orders)) }
     {
         let kept = self.debugger.orders_kept();
         if kept < orders {
@@ -110,9 +106,8 @@ impl<A: Allocator + Copy> Laboratory<A> {
     /// Goes back to the latest order that a rule hits.
     #[tactic(auto, unfolding(crate::specs::HistoryCommands::answer_to_last))]
     pub(super) fn last(&mut self, reply: &mut Vec<u8, A>) -> Result<(), AllocError>
-        ensures reply { OnOk result (reply.new.items
-            ≡ reply.old.items ++ (answer_to_last self.old).reply) }
-        ensures after { OnOk result (self.new ≡ (answer_to_last self.old).after) }
+        ensures { OnOk result (IsAnswered reply.old.items reply.new.items self.new
+            (answer_to_last self.old)) }
     {
         match self.debugger.last_hit() {
             Ok((orders, rule)) => push_hit(reply, orders, rule),

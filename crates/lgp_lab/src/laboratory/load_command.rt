@@ -1,6 +1,7 @@
 //! Loading.
 
 ghost use Rattle.std.specs.Prelude.{◌≡◌, ◌++◌, OnOk};
+ghost use Rattle.lgp_stream.specs.Language.{IsAnswered};
 ghost use Rattle.lgp_lab.specs.LoadCommand.{answer_to_load};
 
 use super::Laboratory;
@@ -12,9 +13,8 @@ impl<A: Allocator + Copy> Laboratory<A> {
     /// Loads the last source that assembled.
     #[tactic(auto, unfolding(crate::specs::LoadCommand::answer_to_load))]
     pub(super) fn load(&mut self, reply: &mut Vec<u8, A>) -> Result<(), AllocError>
-        ensures reply { OnOk result (reply.new.items
-            ≡ reply.old.items ++ (answer_to_load self.old).reply) }
-        ensures after { OnOk result (self.new ≡ (answer_to_load self.old).after) }
+        ensures { OnOk result (IsAnswered reply.old.items reply.new.items self.new
+            (answer_to_load self.old)) }
     {
         let Some(program) = &self.program else {
             return push_refusal(reply, Refusal::NoImage);

@@ -1,6 +1,7 @@
 //! Pressing, waiting, performing orders, the panel.
 
 ghost use Rattle.std.specs.Prelude.{◌≡◌, ◌++◌, ◌≤◌, IfOk, IsTrue, OnOk, codes, length};
+ghost use Rattle.lgp_stream.specs.Language.{IsAnswered};
 ghost use Rattle.lgp_table.specs.Interleaving.{is_boundary};
 ghost use Rattle.lgp_stream.specs.KeptLine.{line_limit};
 ghost use Rattle.lgp_flexo.specs.TapeText.{codes_of_text};
@@ -23,9 +24,8 @@ use std::alloc::{AllocError, Allocator};
 impl<A: Allocator + Copy> Laboratory<A> {
     /// Presses a button or sets a switch.
     pub(super) fn press(&mut self, action: Action, reply: &mut Vec<u8, A>) -> Result<(), AllocError>
-        ensures reply { OnOk result (reply.new.items
-            ≡ reply.old.items ++ (answer_to_press self.old action).reply) }
-        ensures after { OnOk result (self.new ≡ (answer_to_press self.old action).after) }
+        ensures { OnOk result (IsAnswered reply.old.items reply.new.items self.new
+            (answer_to_press self.old action)) }
     {
         let live = self.debugger.press(action)?;
         reply.extend_from_slice(if live { b"live\n" } else { b"dead\n" })?;
@@ -39,10 +39,8 @@ impl<A: Allocator + Copy> Laboratory<A> {
         reply: &mut Vec<u8, A>,
     ) -> Result<(), AllocError>
         requires { length text.now ≤ line_limit }
-        ensures reply { OnOk result (reply.new.items
-            ≡ reply.old.items ++ (answer_to_keys self.old (codes_of_text text.now)).reply) }
-        ensures after { OnOk result (self.new
-            ≡ (answer_to_keys self.old (codes_of_text text.now)).after) }
+        ensures { OnOk result (IsAnswered reply.old.items reply.new.items self.new
+            (answer_to_keys self.old (codes_of_text text.now))) }
     {
         match read_codes(self.alloc, text)? {
             Ok(codes) => {
@@ -57,9 +55,8 @@ impl<A: Allocator + Copy> Laboratory<A> {
     /// Lets word times pass at rest.
     #[tactic(auto, unfolding(crate::specs::MachineCommands::answer_to_turn))]
     pub(super) fn turn(&mut self, times: u64, reply: &mut Vec<u8, A>) -> Result<(), AllocError>
-        ensures reply { OnOk result (reply.new.items
-            ≡ reply.old.items ++ (answer_to_turn self.old times).reply) }
-        ensures after { OnOk result (self.new ≡ (answer_to_turn self.old times).after) }
+        ensures { OnOk result (IsAnswered reply.old.items reply.new.items self.new
+            (answer_to_turn self.old times)) }
     {
         let clock = self.debugger.look().clock;
         match self.debugger.idle(times) {
@@ -74,9 +71,8 @@ impl<A: Allocator + Copy> Laboratory<A> {
     /// Performs orders.
     #[tactic(auto, unfolding(crate::specs::MachineCommands::answer_to_orders))]
     pub(super) fn orders(&mut self, limit: u64, reply: &mut Vec<u8, A>) -> Result<(), AllocError>
-        ensures reply { OnOk result (reply.new.items
-            ≡ reply.old.items ++ (answer_to_orders self.old limit).reply) }
-        ensures after { OnOk result (self.new ≡ (answer_to_orders self.old limit).after) }
+        ensures { OnOk result (IsAnswered reply.old.items reply.new.items self.new
+            (answer_to_orders self.old limit)) }
     {
         match self.debugger.run_freely(limit) {
             Ok(ran) => push_orders(reply, ran.orders, self.debugger.look().status),

@@ -1,6 +1,7 @@
 //! Sources and their listings.
 
 ghost use Rattle.std.specs.Prelude.{◌≡◌, ◌++◌, [], List, ℕ, Some, OnOk, codes};
+ghost use Rattle.lgp_stream.specs.Language.{IsAnswered};
 ghost use Rattle.lgp_stream.specs.KeptLine.{kept_of};
 ghost use Rattle.lgp_lab.specs.SourceCommands.{answer_in_source, answer_to_end, cells_text, fault_line, faults_text, list_text, start_text};
 ghost use Rattle.lgp_lab.specs.SourceText.{source_of};
@@ -31,11 +32,9 @@ impl<A: Allocator + Copy> Laboratory<A> {
         line: &LineBytes,
         reply: &mut Vec<u8, A>,
     ) -> Result<(), AllocError>
-        ensures reply { (text : List ℕ) → line.now ≡ kept_of text
-            → OnOk result (reply.new.items
-            ≡ reply.old.items ++ (answer_in_source self.old source text).reply) }
-        ensures after { (text : List ℕ) → line.now ≡ kept_of text
-            → OnOk result (self.new ≡ (answer_in_source self.old source text).after) }
+        ensures { (text : List ℕ) → line.now ≡ kept_of text
+            → OnOk result (IsAnswered reply.old.items reply.new.items self.new
+            (answer_in_source self.old source text)) }
     {
         if line.is_word(b".") {
             return self.close_source(source, reply);
@@ -52,10 +51,8 @@ impl<A: Allocator + Copy> Laboratory<A> {
         source: SourceText<A>,
         reply: &mut Vec<u8, A>,
     ) -> Result<(), AllocError>
-        ensures reply { OnOk result (reply.new.items
-            ≡ reply.old.items ++ (answer_to_end self.old source).reply) }
-        ensures after { OnOk result (self.new
-            ≡ (answer_to_end self.old source).after) }
+        ensures { OnOk result (IsAnswered reply.old.items reply.new.items self.new
+            (answer_to_end self.old source)) }
     {
         self.opened = None;
         if source.is_too_long() {

@@ -1,6 +1,7 @@
 //! The tape and the paper.
 
 ghost use Rattle.std.specs.Prelude.{◌≡◌, ◌++◌, ◌≤◌, IfErr, IfOk, OnOk, codes, decimal, length, vec_len};
+ghost use Rattle.lgp_stream.specs.Language.{IsAnswered};
 ghost use Rattle.lgp_flexo.specs.TapeText.{codes_of_text};
 ghost use Rattle.lgp_stream.specs.KeptLine.{line_limit};
 ghost use Rattle.lgp_lab.specs.TapeCommands.{answer_to_tape, answer_to_tape_text, printed_text};
@@ -17,10 +18,8 @@ impl<A: Allocator + Copy> Laboratory<A> {
     /// Mounts a tape given by its text.
     pub(super) fn mount(&mut self, text: &[u8], reply: &mut Vec<u8, A>) -> Result<(), AllocError>
         requires { length text.now ≤ line_limit }
-        ensures reply { OnOk result (reply.new.items
-            ≡ reply.old.items ++ (answer_to_tape self.old (codes_of_text text.now)).reply) }
-        ensures after { OnOk result (self.new
-            ≡ (answer_to_tape self.old (codes_of_text text.now)).after) }
+        ensures { OnOk result (IsAnswered reply.old.items reply.new.items self.new
+            (answer_to_tape self.old (codes_of_text text.now))) }
     {
         match read_codes(self.alloc, text)? {
             Ok(codes) => self.mount_codes(codes, reply),
@@ -31,10 +30,8 @@ impl<A: Allocator + Copy> Laboratory<A> {
     /// Mounts a tape given by its text, of any length, and answers as the command `mount` does; a tape of more than 1,048,576 codes is
     /// refused as too long. A refused growth leaves open what was done.
     pub fn mount_text(&mut self, text: &[u8], reply: &mut Vec<u8, A>) -> Result<(), AllocError>
-        ensures reply { OnOk result (reply.new.items
-            ≡ reply.old.items ++ (answer_to_tape_text self.old text.now).reply) }
-        ensures after { OnOk result (self.new
-            ≡ (answer_to_tape_text self.old text.now).after) }
+        ensures { OnOk result (IsAnswered reply.old.items reply.new.items self.new
+            (answer_to_tape_text self.old text.now)) }
     {
         match read_tape_text(self.alloc, text) {
             Ok(codes) => self.mount_codes(codes, reply),
@@ -49,10 +46,8 @@ impl<A: Allocator + Copy> Laboratory<A> {
     /// Mounts a tape.
     fn mount_codes(&mut self, codes: Vec<Code, A>, reply: &mut Vec<u8, A>) -> Result<(), AllocError>
         requires { vec_len codes ≤ 1048576 }
-        ensures reply { OnOk result (reply.new.items
-            ≡ reply.old.items ++ (answer_to_tape self.old (Ok codes.items)).reply) }
-        ensures after { OnOk result (self.new
-            ≡ (answer_to_tape self.old (Ok codes.items)).after) }
+        ensures { OnOk result (IsAnswered reply.old.items reply.new.items self.new
+            (answer_to_tape self.old (Ok codes.items))) }
     {
         let count = codes.len() as u64;
         match self.debugger.mount(codes) {

@@ -7,6 +7,6 @@ on_ok_always : {T E P : Type 0} (r : Result T E) → P → OnOk r P
 on_ok_always (Ok x) p = p
 on_ok_always (Err e) p = tt
 
-pub returns-then-not-is_at_rest-clause-after : goal.returns-then-not-is_at_rest-clause-after
-returns-then-not-is_at_rest-clause-after g c =
+pub returns-then-not-is_at_rest : goal.returns-then-not-is_at_rest
+returns-then-not-is_at_rest g c =
     search (rules, on_ok_always, not_put)

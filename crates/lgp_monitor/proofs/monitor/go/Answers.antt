@@ -9,23 +9,17 @@ use Rattle.lgp_monitor.proofs.monitor.go.Goals as goal
 abbrev lines_after_jump : List (List ℕ)
 lines_after_jump = codes "press fill" ∷ codes "press oneop" ∷ codes "press execute" ∷ codes "orders 1" ∷ codes "press normal" ∷ codes "press start" ∷ []
 
-pub returns-clause-reply : goal.returns-clause-reply
+pub returns : goal.returns
 unfolding go_lines
-returns-clause-reply g c =
+returns g c =
     let jump : c.deref.result.now ≡ jump_line c.args.address = c.deref.ensures.value ∙ c.in_ok-jump.ensures in
     on_ok_weaker c.answer_lines.result
-    (λ is. replies-three _ _ _ _ _ _ _
-    _ _ _ _
-    c.in_ok-answer_line.ensures.after c.in_ok-answer_line-2.ensures.after c.in_ok-answer_line.ensures.reply c.in_ok-answer_line-2.ensures.reply is
-    ∙ ap (λ (line : List ℕ). c.args.reply.now.items ++ replies_text script_language c.args.recorder.now (codes "press manual" ∷ line ∷ lines_after_jump)) jump)
-    c.answer_lines.ensures.reply
-
-pub returns-clause-after : goal.returns-clause-after
-unfolding go_lines
-returns-clause-after g c =
-    let jump : c.deref.result.now ≡ jump_line c.args.address = c.deref.ensures.value ∙ c.in_ok-jump.ensures in
-    on_ok_weaker c.answer_lines.result
-    (λ is. after-three _ _ _ _ _ _ _ _
-    c.in_ok-answer_line.ensures.after c.in_ok-answer_line-2.ensures.after is
-    ∙ ap (λ (line : List ℕ). after_lines script_language c.args.recorder.now (codes "press manual" ∷ line ∷ lines_after_jump)) jump)
-    c.answer_lines.ensures.after
+    (λ is. record {
+      reply = replies-three _ _ _ _ _ _ _ _ _ _ _
+          c.in_ok-answer_line.ensures.after c.in_ok-answer_line-2.ensures.after c.in_ok-answer_line.ensures.reply c.in_ok-answer_line-2.ensures.reply is.reply
+          ∙ ap (λ (line : List ℕ). c.args.reply.now.items ++ replies_text script_language c.args.recorder.now (codes "press manual" ∷ line ∷ lines_after_jump)) jump;
+      after = after-three _ _ _ _ _ _ _ _
+          c.in_ok-answer_line.ensures.after c.in_ok-answer_line-2.ensures.after is.after
+          ∙ ap (λ (line : List ℕ). after_lines script_language c.args.recorder.now (codes "press manual" ∷ line ∷ lines_after_jump)) jump;
+    })
+    c.answer_lines.ensures

@@ -9,17 +9,17 @@ pub returns-in-Some-clause-reply : goal.returns-in-Some-clause-reply
 returns-in-Some-clause-reply g c = λ text kept.
     let opened : c.args.self.now.opened ≡ Some c.in-Some.source = sym (ap (λ (s : LabState). s.opened) c.self.view_is) ∙ search rules in
     on_ok_weaker c.take_line.result
-    (λ is. is ∙ ap (λ (a : Answer). c.args.reply.now.items ++ a.reply)
+    (λ is. is.reply ∙ ap (λ (a : Answer). c.args.reply.now.items ++ a.reply)
     (ap (λ (s : LabState). answer_in_source s c.in-Some.source text) c.self.view_is ∙ sym (line_in_source _ _ _ opened)))
-    (c.take_line.ensures.reply text kept)
+    (c.take_line.ensures text kept)
 
 pub returns-in-Some-clause-after : goal.returns-in-Some-clause-after
 returns-in-Some-clause-after g c = λ text kept.
     let opened : c.args.self.now.opened ≡ Some c.in-Some.source = sym (ap (λ (s : LabState). s.opened) c.self.view_is) ∙ search rules in
     on_ok_weaker c.take_line.result
-    (λ is. is ∙ ap (λ (a : Answer). a.after)
+    (λ is. is.after ∙ ap (λ (a : Answer). a.after)
     (ap (λ (s : LabState). answer_in_source s c.in-Some.source text) c.self.view_is ∙ sym (line_in_source _ _ _ opened)))
-    (c.take_line.ensures.after text kept)
+    (c.take_line.ensures text kept)
 
 pub returns-in-None-clause-reply : goal.returns-in-None-clause-reply
 returns-in-None-clause-reply g c = search (rules, line_outside)

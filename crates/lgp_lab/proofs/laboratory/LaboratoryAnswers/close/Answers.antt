@@ -10,9 +10,9 @@ returns-in-Some g c =
     let opened : c.args.self.now.opened ≡ Some c.in-Some.source = sym (ap (λ (s : LabState). s.opened) c.self.view_is) ∙ search rules in
     record {
       reply = on_ok_weaker c.close_source.result
-          (λ is. is ∙ ap (λ (a : Answer). c.args.reply.now.items ++ a.reply)
+          (λ is. is.reply ∙ ap (λ (a : Answer). c.args.reply.now.items ++ a.reply)
           (ap (λ (s : LabState). answer_to_end s c.in-Some.source) c.self.view_is ∙ sym (closed_some _ _ opened)))
-          c.close_source.ensures.reply;
+          c.close_source.ensures;
     }
 
 pub returns-in-None : goal.returns-in-None

@@ -23,10 +23,10 @@ returns-clause-reply g c = λ text kept.
     let entry : c.entry_at-entry.result ≡ entry_at c.args.self.now text = asked _ _ _ _ _ _ c.self.view_is kept c.answers.ensures c.entry_at-entry.ensures in
     let inside : c.entry_at-entry.result ≡ entry_at c.self.inside.recorder text = asked _ _ _ _ _ _ refl kept c.answers.ensures c.entry_at-entry.ensures in
     on_ok_weaker c.perform.result
-    (λ is. is ∙ (ap (λ (r : Recorded LabState). c.args.reply.now.items ++ reply_of r c.entry_at-entry.result c.args.line.now) c.self.view_is
+    (λ is. is.reply ∙ (ap (λ (r : Recorded LabState). c.args.reply.now.items ++ reply_of r c.entry_at-entry.result c.args.line.now) c.self.view_is
     ∙ (ap (λ (t : Entry). c.args.reply.now.items ++ reply_of c.args.self.now t c.args.line.now) entry
     ∙ ap (λ (k : Kept). c.args.reply.now.items ++ reply_of c.args.self.now (entry_at c.args.self.now text) k) kept)))
-    (c.perform.ensures.reply text kept inside)
+    (c.perform.ensures text kept inside)
 
 pub returns-clause-after : goal.returns-clause-after
 unfolding meaning_at
@@ -34,7 +34,7 @@ returns-clause-after g c = λ text kept.
     let entry : c.entry_at-entry.result ≡ entry_at c.args.self.now text = asked _ _ _ _ _ _ c.self.view_is kept c.answers.ensures c.entry_at-entry.ensures in
     let inside : c.entry_at-entry.result ≡ entry_at c.self.inside.recorder text = asked _ _ _ _ _ _ refl kept c.answers.ensures c.entry_at-entry.ensures in
     on_ok_weaker c.perform.result
-    (λ is. is ∙ (ap (λ (r : Recorded LabState). after_meaning script_language opening_state r (meaning_of c.entry_at-entry.result c.args.line.now)) c.self.view_is
-    ∙ (ap (λ (t : Entry). after_meaning script_language opening_state c.args.self.now (meaning_of t c.args.line.now)) entry
-    ∙ ap (λ (k : Kept). after_meaning script_language opening_state c.args.self.now (meaning_of (entry_at c.args.self.now text) k)) kept)))
-    (c.perform.ensures.after text kept inside)
+    (λ is. is.after ∙ (ap (λ (r : Recorded LabState). after_meaning script_language opening_state r (meaning_of r c.entry_at-entry.result c.args.line.now)) c.self.view_is
+    ∙ (ap (λ (t : Entry). after_meaning script_language opening_state c.args.self.now (meaning_of c.args.self.now t c.args.line.now)) entry
+    ∙ ap (λ (k : Kept). after_meaning script_language opening_state c.args.self.now (meaning_of c.args.self.now (entry_at c.args.self.now text) k)) kept)))
+    (c.perform.ensures text kept inside)

@@ -1,0 +1,82 @@
+-- Part of the public promise: what is written for a reply where programs read: a JSON object on a
+-- line of its own, with the line, the lines of its reply, and whether it is a refusal.
+use Rattle.std.specs.Prelude.{ℕ, ◌+◌, ◌-◌, ◌/◌, ◌%◌, ◌==◌, not, ◌&&◌, ◌||◌, Bool, true, false}
+use Rattle.std.specs.Prelude.{if◌then◌else◌, nat_le, nat_lt, List, [], ◌∷◌, ◌++◌, codes, length}
+use Rattle.std.specs.Prelude.{map}
+use Rattle.std.specs.List.{list_any}
+use Rattle.std.specs.Str.{byte, bytes_eq}
+use Rattle.bstr.specs.Text.{lines_of, without_terminator}
+use Rattle.lgp_stream.specs.Language.{is_question}
+use Rattle.lgp_stream.specs.LineWords.{after_word, first_word, without_spaces}
+
+-- ---- strings
+
+abbrev pub hex_digit : ℕ → ℕ
+hex_digit value = if nat_lt value 10 then byte "0" + value else byte "a" + (value - 10)
+
+-- a printed character of ASCII is itself, a quotation mark or a backslash after a backslash; any
+-- other byte is written by its number
+unfoldable pub json_byte : ℕ → List ℕ
+json_byte character =
+    if character == 34 || character == 92 then byte "\\" ∷ character ∷ []
+    else (if nat_le 32 character && nat_le character 126 then character ∷ []
+    else codes "\\u00" ++ (hex_digit (character / 16) ∷ hex_digit (character % 16) ∷ []))
+
+unfoldable pub json_bytes : List ℕ → List ℕ
+json_bytes [] = []
+json_bytes (character ∷ more) = json_byte character ++ json_bytes more
+
+unfoldable pub json_string : List ℕ → List ℕ
+json_string text = codes "\"" ++ (json_bytes text ++ codes "\"")
+
+-- ---- the lines of a reply
+
+-- the commands whose replies have a key and a value on each line
+abbrev pub keyed_commands : List (List ℕ)
+keyed_commands =
+    codes "live" ∷ codes "commands" ∷ codes "panel-data" ∷ codes "trace-data"
+    ∷ codes "profile-data" ∷ []
+
+unfoldable pub has_keys : List ℕ → List ℕ → Bool
+has_keys line reply =
+    not (is_question reply) && list_any (bytes_eq (first_word line)) keyed_commands
+
+-- a line of a reply: an object of its key and its value, or a string
+unfoldable pub json_line : Bool → List ℕ → List ℕ
+json_line true line =
+    codes "{" ++ (json_string (first_word line)
+    ++ (codes ":" ++ (json_string (without_spaces (after_word line)) ++ codes "}")))
+json_line false line = json_string line
+
+-- the lines, with a comma in front of each but the first
+unfoldable pub json_lines : Bool → Bool → List (List ℕ) → List ℕ
+json_lines keyed first [] = []
+json_lines keyed first (line ∷ more) =
+    (if first then [] else codes ",") ++ (json_line keyed line ++ json_lines keyed false more)
+
+-- ---- the object
+
+-- the line, or the front of a longer one and two points, where it is known
+abbrev pub json_typed : List ℕ → Bool → List ℕ
+json_typed front longer =
+    codes "\"line\":\"" ++ (json_bytes front ++ (if longer then codes " ..\"," else codes "\","))
+
+-- where the line comes from, where that is a file
+unfoldable pub json_note : List ℕ → List ℕ
+json_note note =
+    if length note == 0 then [] else codes ",\"from\":" ++ json_string note
+
+-- what comes after the line
+unfoldable pub json_reply : Bool → List ℕ → List ℕ → List ℕ
+json_reply keyed note reply =
+    codes "\"reply\":[" ++ (json_lines keyed true (map without_terminator (lines_of reply))
+    ++ ((if is_question reply then codes "],\"refused\":true" else codes "],\"refused\":false")
+    ++ (json_note note ++ codes "}\n")))
+
+-- for a line, and for a reply of the desk itself
+unfoldable pub json_answer : List ℕ → Bool → List ℕ → List ℕ → List ℕ
+json_answer front longer note reply =
+    codes "{" ++ (json_typed front longer ++ json_reply (has_keys front reply) note reply)
+
+unfoldable pub json_own : List ℕ → List ℕ → List ℕ
+json_own note reply = codes "{" ++ json_reply false note reply

@@ -1,0 +1,205 @@
+//! Replies as objects of JSON, each on a line of its own.
+
+ghost use Rattle.std.specs.Prelude.{◌≡◌, ◌++◌, ◌==◌, ◌<◌, [], OnOk, codes, if◌then◌else◌, map, true};
+ghost use Rattle.bstr.specs.Text.{lines_of, without_terminator};
+ghost use Rattle.lgp_stream.specs.Language.{is_question};
+ghost use Rattle.lgp_desk.specs.Json.{has_keys, hex_digit, json_answer, json_byte, json_bytes, json_line, json_lines, json_note, json_own, json_reply, json_string, json_typed};
+
+use bstr::ByteSlice;
+use lgp_stream::{Split, is_question, split_word, without_spaces};
+use std::alloc::{AllocError, Allocator};
+
+/// The digit of a value from 0 to 15 in base 16.
+fn hex_digit(value: u8) -> u8
+    requires { value < 16 }
+    ensures { result ≡ hex_digit value }
+{
+    if value < 10 {
+        b'0' + value
+    } else {
+        b'a' + (value - 10)
+    }
+}
+
+/// Appends a byte of a string.
+#[tactic(auto, unfolding(crate::specs::Json::json_byte))]
+fn push_byte<A: Allocator>(text: &mut Vec<u8, A>, byte: u8) -> Result<(), AllocError>
+    ensures { OnOk result (text.new.items ≡ text.old.items ++ json_byte byte) }
+{
+    if byte == b'"' || byte == b'\\' {
+        text.push(b'\\')?;
+        return Ok(text.push(byte)?);
+    }
+    if 32 <= byte && byte <= 126 {
+        return Ok(text.push(byte)?);
+    }
+    text.extend_from_slice(b"\\u00")?;
+    text.push(hex_digit(byte / 16))?;
+    Ok(text.push(hex_digit(byte % 16))?)
+}
+
+/// Appends the bytes of a string.
+#[tactic(auto, unfolding(crate::specs::Json::json_bytes))]
+fn push_bytes<A: Allocator>(text: &mut Vec<u8, A>, bytes: &[u8]) -> Result<(), AllocError>
+    ensures { OnOk result (text.new.items ≡ text.old.items ++ json_bytes bytes.now) }
+{
+    for byte in bytes {
+        push_byte(text, *byte)?;
+    }
+    Ok(())
+}
+
+/// Appends a string.
+#[tactic(auto, unfolding(crate::specs::Json::json_string))]
+fn push_string<A: Allocator>(text: &mut Vec<u8, A>, bytes: &[u8]) -> Result<(), AllocError>
+    ensures { OnOk result (text.new.items ≡ text.old.items ++ json_string bytes.now) }
+{
+    text.extend_from_slice(b"\"")?;
+    push_bytes(text, bytes)?;
+    text.extend_from_slice(b"\"")
+}
+
+/// Whether the reply to a line has a key and a value on each line.
+#[tactic(auto, unfolding(crate::specs::Json::has_keys))]
+fn has_keys(line: &[u8], reply: &[u8]) -> bool
+    ensures { result ≡ has_keys line.now reply.now }
+{
+    let word = split_word(line).word;
+    !is_question(reply)
+        && (word == b"live".as_slice()
+            || word == b"commands".as_slice()
+            || word == b"panel-data".as_slice()
+            || word == b"trace-data".as_slice()
+            || word == b"profile-data".as_slice())
+}
+
+/// Appends a line of a reply.
+#[tactic(auto, unfolding(crate::specs::Json::json_line))]
+fn push_line<A: Allocator>(
+    text: &mut Vec<u8, A>,
+    keyed: bool,
+    line: &[u8],
+) -> Result<(), AllocError>
+    ensures { OnOk result (text.new.items ≡ text.old.items ++ json_line keyed line.now) }
+{
+    if !keyed {
+        return push_string(text, line);
+    }
+    let Split { word, rest } = split_word(line);
+    text.extend_from_slice(b"{")?;
+    push_string(text, word)?;
+    text.extend_from_slice(b":")?;
+    push_string(text, without_spaces(rest))?;
+    text.extend_from_slice(b"}")
+}
+
+/// What is in front of a line of a reply.
+fn separator(first: bool) -> &'static [u8]
+    ensures { result.now ≡ (if first then [] else codes ",") }
+{
+    if first { b"" } else { b"," }
+}
+
+/// Appends the lines of a reply.
+#[tactic(auto, unfolding(crate::specs::Json::json_lines))]
+fn push_lines<A: Allocator>(
+    text: &mut Vec<u8, A>,
+    keyed: bool,
+    reply: &[u8],
+) -> Result<(), AllocError>
+    ensures { OnOk result (text.new.items
+        ≡ text.old.items
+        ++ json_lines keyed true (map without_terminator (lines_of reply.now))) }
+{
+    let mut first = true;
+    for line in reply.lines() {
+        text.extend_from_slice(separator(first))?;
+        push_line(text, keyed, line)?;
+        first = false;
+    }
+    Ok(())
+}
+
+/// Appends where a line comes from.
+#[tactic(auto, unfolding(crate::specs::Json::json_note))]
+fn push_from<A: Allocator>(text: &mut Vec<u8, A>, note: &[u8]) -> Result<(), AllocError>
+    ensures { OnOk result (text.new.items ≡ text.old.items ++ json_note note.now) }
+{
+    if note.is_empty() {
+        return Ok(());
+    }
+    text.extend_from_slice(b",\"from\":")?;
+    push_string(text, note)
+}
+
+/// The end of a reply's lines, and whether it is a refusal.
+fn reply_end(reply: &[u8]) -> &'static [u8]
+    ensures { result.now ≡ (if is_question reply.now
+        then codes "],\"refused\":true" else codes "],\"refused\":false") }
+{
+    if is_question(reply) {
+        b"],\"refused\":true"
+    } else {
+        b"],\"refused\":false"
+    }
+}
+
+/// Appends what comes after the line in an object.
+#[tactic(auto, unfolding(crate::specs::Json::json_reply))]
+fn push_reply<A: Allocator>(
+    text: &mut Vec<u8, A>,
+    keyed: bool,
+    note: &[u8],
+    reply: &[u8],
+) -> Result<(), AllocError>
+    ensures { OnOk result (text.new.items ≡ text.old.items ++ json_reply keyed note.now reply.now) }
+{
+    text.extend_from_slice(b"\"reply\":[")?;
+    push_lines(text, keyed, reply)?;
+    text.extend_from_slice(reply_end(reply))?;
+    push_from(text, note)?;
+    text.extend_from_slice(b"}\n")
+}
+
+/// Appends the line in an object.
+fn push_typed<A: Allocator>(
+    text: &mut Vec<u8, A>,
+    front: &[u8],
+    longer: bool,
+) -> Result<(), AllocError>
+    ensures { OnOk result (text.new.items ≡ text.old.items ++ json_typed front.now longer) }
+{
+    text.extend_from_slice(b"\"line\":\"")?;
+    push_bytes(text, front)?;
+    text.extend_from_slice(if longer { b" ..\"," } else { b"\"," })
+}
+
+/// Appends the object for a line of which this is the front.
+#[tactic(auto, unfolding(crate::specs::Json::json_answer))]
+pub(crate) fn push_answer<A: Allocator>(
+    text: &mut Vec<u8, A>,
+    front: &[u8],
+    longer: bool,
+    note: &[u8],
+    reply: &[u8],
+) -> Result<(), AllocError>
+    ensures { OnOk result (text.new.items
+        ≡ text.old.items ++ json_answer front.now longer note.now reply.now) }
+{
+    text.extend_from_slice(b"{")?;
+    push_typed(text, front, longer)?;
+    push_reply(text, has_keys(front, reply), note, reply)
+}
+
+/// Appends the object for a reply of the desk itself.
+#[tactic(auto, unfolding(crate::specs::Json::json_own))]
+pub(crate) fn push_own<A: Allocator>(
+    text: &mut Vec<u8, A>,
+    note: &[u8],
+    reply: &[u8],
+) -> Result<(), AllocError>
+    ensures { OnOk result (text.new.items ≡ text.old.items ++ json_own note.now reply.now) }
+{
+    text.extend_from_slice(b"{")?;
+    push_reply(text, false, note, reply)
+}

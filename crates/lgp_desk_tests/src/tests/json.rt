@@ -1,0 +1,92 @@
+//! Replies as objects of JSON, an object on a line for each line that is typed.
+
+use crate::tests::{Row, expect, run};
+use lgp_desk::Manner;
+use std::alloc::Global;
+
+/// Lines, and what is written for each of them.
+const ANSWERED: [Row; 9] = [
+    (
+        Manner::Json,
+        b"put 0000 = 1\n",
+        b"{\"line\":\"put 0000 = 1\",\"reply\":[\"ok\"],\"refused\":false}\n",
+        0,
+    ),
+    (
+        Manner::Json,
+        b"; \"a\\b\t\x7f\xc3\xbc\x1f~\n",
+        b"{\"line\":\"; \\\"a\\\\b\\u0009\\u007f\\u00c3\\u00bc\\u001f~\",\"reply\":[],\"refused\":false}\n",
+        0,
+    ),
+    (
+        Manner::Json,
+        b"live\n",
+        b"{\"line\":\"live\",\"reply\":[{\"live\":\"normal oneop manual start clear fill\"},{\"way\":\"start\"}],\"refused\":false}\n",
+        0,
+    ),
+    (
+        Manner::Json,
+        b"live now\n",
+        b"{\"line\":\"live now\",\"reply\":[\"? 1 Form: live\"],\"refused\":true}\n",
+        0,
+    ),
+    (
+        Manner::Json,
+        b"words 0000 2\n",
+        b"{\"line\":\"words 0000 2\",\"reply\":[\"0000 00000000\",\"0001 00000000\"],\"refused\":false}\n",
+        0,
+    ),
+    (
+        Manner::Json,
+        b"do two lines\n",
+        b"{\"line\":\"put 0000 = 1\",\"reply\":[\"ok\"],\"refused\":false,\"from\":\"line 1 of two lines\"}\n\
+        {\"line\":\"words 0000 1\",\"reply\":[\"0000 00000002\"],\"refused\":false,\"from\":\"line 2 of two lines\"}\n",
+        0,
+    ),
+    (
+        Manner::Json,
+        b"do none\nquit\nlive\n",
+        b"{\"reply\":[\"? 13 File none: it cannot be opened\"],\"refused\":true}\n",
+        0,
+    ),
+    (
+        Manner::Json,
+        b"save kept\nrestore drum\n",
+        b"{\"reply\":[\"saved kept\"],\"refused\":false}\n\
+        {\"line\":\"restore drum\",\"reply\":[\"restored 2\"],\"refused\":false,\"from\":\"drum\"}\n",
+        0,
+    ),
+    (
+        Manner::Json,
+        b"source\n foo",
+        b"{\"line\":\"source\",\"reply\":[],\"refused\":false}\n\
+        {\"line\":\" foo\",\"reply\":[],\"refused\":false}\n\
+        {\"reply\":[\"? 9 Faults\",\"line 1 UnknownOrder\",\"line 2 NoEnd\"],\"refused\":true}\n",
+        0,
+    ),
+];
+
+/// A line that is longer than a line may be, and the front of it that is kept.
+const LONGER: [u8; 4097] = [b';'; 4097];
+
+#[test]
+fn each_line_has_its_object(rt: HostRuntime) {
+    for row in &ANSWERED {
+        expect(&rt, rt.alloc(), row);
+    }
+}
+
+/// Whether the object of a longer line has its front and two points, and ends as that of a line that is passed over.
+fn has_front(alloc: Global) -> bool {
+    let mut written = Vec::new(alloc);
+    let answer = run(alloc, Manner::Json, &LONGER, &mut written);
+    answer == Ok(0)
+        && written.starts_with(b"{\"line\":\";;;;")
+        && written.ends_with(b";;;; ..\",\"reply\":[],\"refused\":false}\n")
+        && written.len() == 4138
+}
+
+#[test]
+fn a_longer_line_is_cut(rt: HostRuntime) {
+    assert!(rt; has_front(rt.alloc()));
+}

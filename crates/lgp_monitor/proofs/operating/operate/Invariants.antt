@@ -1,0 +1,17 @@
+use Rattle.std.proofs.Common.{◌≤◌, ◌-◌}
+use Rattle.lgp_stream.specs.Transcript.{after_lines}
+use Rattle.lgp_lab.specs.Script.{script_language}
+use Rattle.lgp_monitor.specs.Operating.{operated}
+use Rattle.lgp_monitor.proofs.OperatingLemmas.{IsOperated}
+use Rattle.lgp_monitor.proofs.operating.operate.Given as goal
+
+abbrev pub invariant-loop-starts : goal.invariant-loop-starts
+invariant-loop-starts g l = record {
+  few : l.starts ≤ l.fn.limit;
+  so_far : IsOperated l.fn.run l.recorder l.said.items (l.fn.limit - l.starts) l.starts
+      (after_lines script_language l.fn.recorder (operated l.fn.run l.fn.limit l.fn.recorder.state).lines)
+      (operated l.fn.run l.fn.limit l.fn.recorder.state);
+}
+
+abbrev pub decreases-loop-starts : goal.decreases-loop-starts
+decreases-loop-starts g l = l.fn.limit - l.starts

@@ -1,0 +1,26 @@
+// Replies as objects of JSON, each on a line of its own, as the proved program writes them.
+import { wordsOf } from "./lines.mjs";
+import { isRefusal, linesOf } from "./replies.mjs";
+
+/** The commands whose replies have a key and a value on each line. */
+const KEYED = ["live", "commands", "panel-data", "trace-data", "profile-data"];
+
+/** A string: each byte but the printed characters of ASCII by its number. */
+function stringOf(text) {
+    const escaped = text.replace(/["\\]|[^ -~]/g, (sign) => (/["\\]/.test(sign) ? `\\${sign}` : `\\u00${sign.charCodeAt(0).toString(16).padStart(2, "0")}`));
+    return `"${escaped}"`;
+}
+
+function keyedOf(line) {
+    const [key] = wordsOf(line);
+    return `{${stringOf(key)}:${stringOf(line.slice(line.indexOf(key) + key.length).replace(/^ +/, ""))}}`;
+}
+
+/** What is written for a line and its reply, with where the line comes from; the line is null for a reply of the desk itself. */
+export function objectOf(line, reply, note) {
+    const isRefused = isRefusal(reply);
+    const isKeyed = line !== null && !isRefused && KEYED.includes(wordsOf(line)[0]);
+    const lines = linesOf(reply).map((it) => it.replace(/\r$/, "")).map(isKeyed ? keyedOf : stringOf);
+    const typed = line === null ? "" : `"line":${stringOf(line)},`;
+    return `{${typed}"reply":[${lines}],"refused":${isRefused}${note === "" ? "" : `,"from":${stringOf(note)}`}}\n`;
+}

@@ -1,0 +1,81 @@
+// The examples in other languages: each comment is there, and the same script is under them.
+import assert from "node:assert/strict";
+import { existsSync, readFileSync, readdirSync } from "node:fs";
+import { dirname, join } from "node:path";
+import { test } from "node:test";
+import { fileURLToPath } from "node:url";
+import { remarksBelow, scriptsBelow, tableOf } from "../documents.mjs";
+import { remarksOf, remarksOfSource, sourceIn, tableIn, withRemarks } from "../examples.mjs";
+import { Laboratory } from "../laboratory.mjs";
+import { commentsIn, headOf, linesIn } from "../lines.mjs";
+import { answerScript, bytesOf, textOf } from "../module/session.mjs";
+import { LANGUAGES } from "../words.mjs";
+import { ModuleLink } from "./module.mjs";
+
+const top = join(dirname(fileURLToPath(import.meta.url)), "../..");
+const shelf = join(top, "examples");
+const module = join(top, "page/module/lgp_c_region.wasm");
+const skip = !existsSync(module);
+const scripts = scriptsBelow(shelf);
+const others = Object.keys(LANGUAGES).filter((code) => code !== "en");
+const remarks = remarksBelow(shelf);
+const inLanguage = (code, name, script) => withRemarks(script, remarks[code][name]);
+
+/** The sources that are given to pupils, by their tasks. */
+const given = readdirSync(join(top, "tasks")).map((name) => [name, join(top, "tasks", name, "given.source")]).filter(([, file]) => existsSync(file)).map(([name, file]) => [name, readFileSync(file, "utf8")]);
+
+/** A script without its comments, line by line. */
+const bare = (script) => linesIn(withRemarks(script, remarksOf(script).map(() => "")));
+
+for (const code of others) {
+    const table = tableOf(shelf, code);
+
+    test(`each comment of the examples and of the sources for pupils is there in ${code}, and none that is nowhere`, () => {
+        const written = [...scripts.flatMap(([name, script]) => remarksOf(script).map((remark) => [name, remark])), ...given.flatMap(([name, source]) => remarksOfSource(source).map((remark) => [name, remark]))];
+        assert.deepEqual(written.filter(([, remark]) => !table.has(remark)), []);
+        const known = new Set(written.map(([, remark]) => remark));
+        assert.deepEqual([...table.keys()].filter((remark) => !known.has(remark)), []);
+    });
+
+    test(`without comments each example is the same in ${code}, line by line`, () => {
+        for (const [name, script] of scripts) assert.deepEqual(bare(inLanguage(code, name, script)), bare(script), name);
+        for (const [name, source] of given) assert.deepEqual(sourceIn(source, table).replace(/;.*$/gm, ""), source.replace(/;.*$/gm, ""), name);
+    });
+
+    test(`each example has a title of its own in ${code}, and says the same words of places`, () => {
+        const placesOf = (script) => [...commentsIn(linesIn(script))].map(([address, { digits }]) => [address, digits]);
+        for (const [name, script] of scripts) {
+            const other = inLanguage(code, name, script);
+            assert.ok(headOf(other).title.length > 10 && headOf(other).title !== headOf(script).title, name);
+            assert.equal(headOf(other).paragraphs.length, headOf(script).paragraphs.length, name);
+            assert.deepEqual(placesOf(other), placesOf(script), name);
+        }
+    });
+
+    test(`the replies to each example in ${code} are its stored ones, but for the comments of a listing`, { skip }, () => {
+        const bytes = readFileSync(module);
+        const plain = (text) => text.replace(/ +;.*$/gm, "");
+        for (const [name, script] of scripts) {
+            const { replies } = answerScript(bytes, bytesOf(inLanguage(code, name, script)));
+            assert.equal(plain(textOf(replies)), plain(readFileSync(join(shelf, `${name}.expected`), "utf8")), name);
+        }
+    });
+}
+
+test("comments are found where they are, and a sign after = is none", () => {
+    const script = "; one\n;   two  \nput 0000 z ; no comment\n;\nsource\nstart p =;  ; three\n; four\n p =;\n.\n; five\n";
+    assert.deepEqual(remarksOf(script), ["one", "two", "three", "four", "five"]);
+    assert.equal(withRemarks(script, ["1", "2", null, "4", "5"]), "; 1\n;   2\nput 0000 z ; no comment\n;\nsource\nstart p =;  ; three\n; 4\n p =;\n.\n; 5\n");
+    assert.deepEqual([...tableIn("# a language\n\none\n    eins\nwithout\ntwo\n    zwei\n")], [["one", "eins"], ["two", "zwei"]]);
+});
+
+test("a script that is open has its comments in another language, and what is left of a run stays", { skip }, async () => {
+    const laboratory = new Laboratory(new ModuleLink(module));
+    await laboratory.open();
+    const [name, script] = scripts.find(([it]) => it === "self-modifying");
+    await laboratory.openScript(name, script);
+    laboratory.script.lines[laboratory.script.at] = "run 3";
+    laboratory.retold(inLanguage("de", name, script));
+    assert.equal(headOf(laboratory.script.lines.join("\n")).title, "Ein Programm, das seine eigenen Befehle ändert: die Summe einer Tabelle");
+    assert.deepEqual([laboratory.script.lines[laboratory.script.at], laboratory.comments.get("0003").comment], ["run 3", "anhalten"]);
+});

@@ -1,0 +1,106 @@
+// Tasks: the text of one, a source that is written for it, and what its check says, in the sentences of ./check_task. The check has a laboratory of its own.
+import { assembled, checked, setUpOf, speaker, taskIn } from "../task.mjs";
+import { button, h, part } from "./dom.mjs";
+
+/** A text of which pieces within grave accents are code. */
+const pieces = (text) => text.split("`").map((piece, place) => (place % 2 === 1 ? h("code", {}, piece) : piece));
+
+/** The nodes of a task's text: headings, paragraphs, lists, and lines to type, which are set in by four blanks. */
+function nodesOf(text) {
+    return text.trim().split(/\n\n+/).map((block) => {
+        const heading = /^(##?) (.*)$/.exec(block);
+        if (heading !== null) return h(heading[1] === "#" ? "h3" : "h4", {}, heading[2]);
+        if (block.startsWith("    ")) return h("pre", {}, block.replace(/^ {4}/gm, ""));
+        if (block.startsWith("- ")) return h("ul", {}, ...block.slice(2).split("\n- ").map((item) => h("li", {}, ...pieces(item))));
+        return h("p", {}, ...pieces(block));
+    });
+}
+
+/** The choice of a task by its title and its minutes. `chosen` is called with its name, or null. */
+function makeChoice(tasks, code, { text }, open, chosen) {
+    const titleOf = ({ task, texts }) => text("taskTitle", { title: /^# (.*)$/m.exec(texts[code])[1], minutes: taskIn(task).minutes });
+    const choice = h("select", { id: "task", "aria-label": text("chooseTask"), onchange: () => chosen(choice.value || null) },
+        h("option", { value: "" }, `${text("tasksName")}: ${text("chooseExample")}`), ...Object.entries(tasks).map(([name, task]) => h("option", { value: name, selected: name === open }, titleOf(task))));
+    return choice;
+}
+
+/** Does something with a link to a laboratory of its own, which is ended then. What goes wrong with it is a sentence too. */
+async function withLink(openLink, say, deed) {
+    const link = openLink();
+    try {
+        await link.opened;
+        return await deed(link);
+    } catch (failure) {
+        return { isRight: false, verdict: say("lab-failed", failure.message), missing: [] };
+    } finally {
+        link.end();
+    }
+}
+
+/** The place for what is said of a source: the verdict, and what is missing. */
+function makeAnswer({ text }) {
+    const node = h("div", { class: "task-answer", tabindex: "0", role: "status", "aria-label": text("taskAnswer") });
+    const show = (said) => {
+        node.classList.toggle("right", said?.isRight === true);
+        node.classList.toggle("wrong", said?.isRight === false);
+        node.replaceChildren(...(said === null ? [] : [h("p", {}, said.verdict), h("ul", {}, ...said.missing.map((line) => h("li", {}, line)))]));
+    };
+    return { node, show };
+}
+
+/** What is done with a source by buttons. `now` gives the task that is open, its name, the name of its file, and the source. */
+function makeDeeds(laboratory, { text }, now, { sentences, code, openLink, answer, begin }) {
+    const say = speaker(sentences);
+    const asked = async (deed) => {
+        const { file } = now();
+        answer.show(null);
+        const said = await withLink(openLink, say, deed);
+        if (file === now().file) answer.show(said);
+        return said;
+    };
+    const check = () => {
+        const { task, file, source } = now();
+        return asked((link) => checked(link, task, source, { file, sentences, code }));
+    };
+    const put = async () => {
+        const { name, task, file, source } = now();
+        const isBlank = source.trim() === "";
+        const faulty = isBlank ? null : await asked(async (link) => {
+            const { missing } = await assembled(link, source, say);
+            return missing.length === 0 ? null : { isRight: false, verdict: say("wrong", file), missing };
+        });
+        await laboratory.openScript(`tasks/${name}`, setUpOf(task, isBlank || faulty !== null ? null : source));
+        if (faulty === null && name === now().name) answer.show({ isRight: null, verdict: text("taskIsPut"), missing: [] });
+    };
+    const save = () => {
+        const { file, source } = now();
+        const href = URL.createObjectURL(new Blob([source], { type: "text/plain" }));
+        h("a", { href, download: file }).click();
+    };
+    const buttons = Object.entries({ check, put, save, begin }).map(([name, deed]) => button(text(`${name}Task`), deed, { id: `${name}-task`, title: text(`${name}TaskHint`) }));
+    return h("div", { class: "line" }, ...buttons);
+}
+
+/** The part of the page with a task, and the choice of one. `sources` has what pupils have written, and `openLink` gives a link to a new laboratory. */
+export function makeTasks(laboratory, texts, { tasks, sentences }, sources, openLink) {
+    const { text } = texts;
+    const code = texts.code in sentences ? texts.code : "en";
+    const answer = makeAnswer(texts);
+    const read = h("div", { class: "task-text", tabindex: "0", role: "group", "aria-label": text("taskText") });
+    const area = h("textarea", { spellcheck: "false", autocapitalize: "off", wrap: "off", "aria-label": text("sourceLabel"), oninput: () => { sources.keep(sources.open, area.value); answer.show(null); } });
+    const now = () => ({ name: sources.open, task: taskIn(tasks[sources.open].task), file: `${sources.open}.source`, source: area.value });
+    const open = (name) => {
+        sources.open = name;
+        node.hidden = name === null;
+        answer.show(null);
+        if (name === null) return;
+        read.replaceChildren(...nodesOf(tasks[name].texts[code]));
+        read.scrollTop = 0;
+        area.value = sources.of(name) ?? tasks[name].given[code];
+    };
+    const begin = () => { sources.keep(sources.open, null); open(sources.open); };
+    const buttons = makeDeeds(laboratory, texts, now, { sentences: { ...sentences.en, ...sentences[code] }, code, openLink, answer, begin });
+    const node = part("tasks", text("tasksName"), h("div", { class: "task" }, read, h("div", { class: "task-desk" }, area, buttons, answer.node)));
+    open(sources.open);
+    return { node, choice: makeChoice(tasks, code, texts, sources.open, open), show: () => {} };
+}
