@@ -4,9 +4,9 @@
 -- the last sign struck at a column is shown, are this project's own choices.
 use Rattle.std.specs.Prelude.{ℕ, ◌+◌, ◌-◌, ◌*◌, ◌/◌, ◌++◌, ◌==◌, ◌||◌, if◌then◌else◌, Bool, true}
 use Rattle.std.specs.Prelude.{false, Option, List, [], ◌∷◌, length, codes, flat_map, position}
-use Rattle.std.specs.Prelude.{replicate, slice_get, slice_set, option_and_then}
+use Rattle.std.specs.Prelude.{replicate, slice_get, slice_set, is_some, option_and_then}
 use Rattle.lgp_flexo.specs.Code.{delete_code, sign_at}
-use Rattle.lgp_flexo.specs.TapeText.{sign_or_group}
+use Rattle.lgp_flexo.specs.TapeText.{sign_or_group, written_code}
 
 -- the signs of the keys whose upper sign is known, and these upper signs; those of 0 and of the
 -- conditional stop are not known
@@ -99,3 +99,10 @@ paper_from at (code ∷ codes) = completed at code ++ paper_from (carriage_after
 
 abbrev pub paper_of : List ℕ → List ℕ
 paper_of printed = paper_from first_carriage printed
+
+-- a code that is shown as it is in a tape's text, and a carriage return, which is a line feed
+abbrev pub is_plain : ℕ → Bool
+is_plain code = is_some (sign_at code) || (code == 16)
+
+abbrev pub plain_text : ℕ → List ℕ
+plain_text code = if code == 16 then codes "\n" else written_code code
