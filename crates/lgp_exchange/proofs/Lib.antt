@@ -4,3 +4,4 @@ pub mod Faults
 pub mod Lines
 pub mod Drums
 pub mod Papers
+pub mod PlainPapers

@@ -1,14 +1,14 @@
 -- Part of the public promise: tapes written in the ASCII form of archives, so that what is written
--- reads back. It is what the simulator lgp of SIMH punches, except for five codes that it punches as
--- bytes which its reader takes for something else; these are groups.
+-- reads back. It is what the simulator lgp of SIMH punches, but for five codes, written as groups:
+-- SIMH punches them as bytes that its reader takes for something else.
 use Rattle.std.specs.Prelude.{ℕ, ◌==◌, if◌then◌else◌, Option, Some, None, List, [], ◌∷◌, ◌++◌}
 use Rattle.std.specs.Prelude.{codes, flat_map}
 use Rattle.std.specs.Str.{byte}
 use Rattle.lgp_word.specs.Digits.{two_digits}
 use Rattle.lgp_flexo.specs.Code.{sign_at}
 
--- the byte that stands for a code, if there is one: its sign, and for color, carriage return and tab
--- a stroke and the carriage return and tab of ASCII
+-- the byte that stands for a code, if there is one: its sign; and for color, carriage return and
+-- tab a stroke and the carriage return and tab of ASCII
 abbrev pub archive_byte : ℕ → Option ℕ
 archive_byte code =
     if code == 12 then Some (byte "|")

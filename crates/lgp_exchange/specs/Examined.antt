@@ -1,7 +1,8 @@
 -- Part of the public promise: which words the lines of `ex -lt` of SIMH, and its commands `d -lt`,
 -- stand for, and the first fault of a text that has another line.
 use Rattle.std.specs.Prelude.{◌≡◌, ℕ, ◌+◌, ◌==◌, ◌&&◌, if◌then◌else◌, nat_lt, nat_eq, Option, Some}
-use Rattle.std.specs.Prelude.{None, List, [], ◌∷◌, length, take, drop, codes, slice_index, slice_set, map}
+use Rattle.std.specs.Prelude.{None, List, [], ◌∷◌, length, take, drop, codes, slice_index}
+use Rattle.std.specs.Prelude.{slice_set, map}
 use Rattle.std.specs.Char.{to_ascii_lowercase}
 use Rattle.std.specs.List.{starts_with}
 use Rattle.std.specs.Option.{option_map_or, option_or}

@@ -1,12 +1,12 @@
--- Part of the public promise: what the typewriter writes on its paper for printed codes, as lines of
--- text. Which signs are above others on the keys is that of the form of archives; where it is not
--- known which sign a key has, the code is shown as in a tape's text. Tab stops at each eighth
--- column, and that a text shows of signs at one place the last, are this project's own choices.
+-- Part of the public promise: what the typewriter writes on its paper for printed codes, as lines
+-- of text. The upper signs of keys are those of the form of archives; where it is not known which
+-- sign a key has, the code is shown as in a tape's text. Tab stops at each eighth column, and that
+-- the last sign struck at a column is shown, are this project's own choices.
 use Rattle.std.specs.Prelude.{ℕ, ◌+◌, ◌-◌, ◌*◌, ◌/◌, ◌++◌, ◌==◌, ◌||◌, if◌then◌else◌, Bool, true}
-use Rattle.std.specs.Prelude.{false, Option, List, [], ◌∷◌, length, codes, flat_map, position, replicate}
-use Rattle.std.specs.Prelude.{slice_get, slice_set, option_and_then}
+use Rattle.std.specs.Prelude.{false, Option, List, [], ◌∷◌, length, codes, flat_map, position}
+use Rattle.std.specs.Prelude.{replicate, slice_get, slice_set, is_some, option_and_then}
 use Rattle.lgp_flexo.specs.Code.{delete_code, sign_at}
-use Rattle.lgp_flexo.specs.TapeText.{sign_or_group}
+use Rattle.lgp_flexo.specs.TapeText.{sign_or_group, written_code}
 
 -- the signs of the keys whose upper sign is known, and these upper signs; those of 0 and of the
 -- conditional stop are not known
@@ -56,8 +56,8 @@ first_carriage = record { upper = false; column = 0; row = [] }
 abbrev pub tab_stop : ℕ → ℕ
 tab_stop column = (column / 8 + 1) * 8
 
--- the row after a code is struck at a column: it takes the place of what is there, but a space leaves
--- that
+-- the row after a code is struck at a column: it takes the place of what is there, but a space
+-- leaves that
 abbrev pub row_struck : List Struck → ℕ → Struck → List Struck
 row_struck row column struck =
     if column == length row then row ++ struck ∷ []
@@ -99,3 +99,10 @@ paper_from at (code ∷ codes) = completed at code ++ paper_from (carriage_after
 
 abbrev pub paper_of : List ℕ → List ℕ
 paper_of printed = paper_from first_carriage printed
+
+-- a code that is shown as it is in a tape's text, and a carriage return, which is a line feed
+abbrev pub is_plain : ℕ → Bool
+is_plain code = is_some (sign_at code) || (code == 16)
+
+abbrev pub plain_text : ℕ → List ℕ
+plain_text code = if code == 16 then codes "\n" else written_code code
