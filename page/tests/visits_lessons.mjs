@@ -99,6 +99,12 @@ const doneIn = (browser) => browser.value("document.querySelectorAll('.lesson li
 /** The hint that is shown; null where the step has gone on. */
 const hintNow = (browser) => browser.value(`document.querySelector("${NOW} .hint")?.textContent ?? null`);
 
+/** Waits until a hint is shown: a run may end after its press. */
+async function hintIs(browser, wanted) {
+    await browser.waitFor(`document.querySelector("${NOW} .hint")?.textContent === ${JSON.stringify(wanted)}`).catch(() => {});
+    assert.equal(await hintNow(browser), wanted);
+}
+
 async function answers(browser, text) {
     await browser.value(`(() => { const form = document.querySelector("${NOW} .answer"); form.querySelector("input").value = ${JSON.stringify(text)}; form.requestSubmit(); })()`);
 }
@@ -113,16 +119,16 @@ async function errs(browser, calls, { errs: deed, says, isEarly, mends }, { hint
     const before = await doneIn(browser);
     if (isEarly !== undefined) {
         await answers(browser, isEarly);
-        assert.equal(await hintNow(browser), text("lessonNotThere"));
+        await hintIs(browser, text("lessonNotThere"));
         await mends(browser, calls);
     }
     if (deed !== undefined) await deed(browser, calls);
     if (says !== undefined) await answers(browser, says);
-    assert.equal(await hintNow(browser), plainly(wanted));
+    await hintIs(browser, plainly(wanted));
     assert.deepEqual(await unseen(browser, [`${NOW} .hint`]), []);
     if (says === undefined) return assert.equal(await doneIn(browser), before);
     await answers(browser, `${says}0`);
-    return assert.equal(await hintNow(browser), plainly(`${wanted} ${text("lessonWouldBe", { answer: right })}`));
+    return hintIs(browser, plainly(`${wanted} ${text("lessonWouldBe", { answer: right })}`));
 }
 
 /** One lesson in one language, step by step. `atStep` is called before each step's deeds. */
