@@ -343,7 +343,7 @@ export class Laboratory extends EventTarget {
         if (!isRefused && ["trace", "profile"].includes(verb)) await this.#tellAgain(verb, replies.runOf(end).orders, before);
     }
 
-    /** Start was pressed so often, each time after a run. How many orders such a run had, of at most so many, is not told: they cannot be gone back over. */
+    /** Start was pressed this number of times, each time after a run. The reply does not report how many orders these runs had, so they cannot be gone back over. */
     #noteStarts(starts, limit) {
         if (starts === 0) return;
         this.#forgetDeeds();

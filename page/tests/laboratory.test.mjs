@@ -436,7 +436,7 @@ live("what is saved leads to the same place", async (laboratory) => {
 /** A loop of two orders that brings a word and goes on, and in it a rule. */
 const LOOP = ["put 0000 b 0003", "put 0001 u 0000", "put 0003 = 4", "break 0001", "watch 0003", "press start"];
 
-/** The panel, all words, what is printed and the rules, and where the orders behind lead back to: what a question must not change. */
+/** The panel, all words, what is printed and the rules, and where the orders done lead back to: what a question must not change. */
 async function standOf(laboratory, link, orders) {
     const asked = ["panel", "dump", "printed", "rules", "live"];
     const here = await link.askAll(asked);
