@@ -30,8 +30,8 @@ class Held extends Error {
 
 /** The laboratory as the page has it. After each change it dispatches an event `change`; views read its fields. */
 export class Laboratory extends EventTarget {
-    /** The last panel; the words shown, each with the order that changed it last, or null; the words of the track that the counter names; and what has
-     * been printed. */
+    /** The last panel; the words shown, each with the order that changed it last, or null; the words of the track that the counter names; and how many codes
+     * have been printed, with the typewriter's paper. */
     panel = null;
     words = [];
     track = [];
@@ -419,8 +419,15 @@ export class Laboratory extends EventTarget {
     }
 
     async #lookAtPaper() {
-        this.printed = replies.printedOf(await this.#ask("printed"));
+        this.printed = await this.#askPaper();
         this.#room.printed(this.printed.count);
+    }
+
+    /** The typewriter's paper, as the monitor tells it where it has `paper`. */
+    async #askPaper() {
+        if (this.knows("paper")) return replies.paperOf(await this.#ask("paper"));
+        const { count, text } = replies.printedOf(await this.#ask("printed"));
+        return { count, text: replies.rowsOf(text) };
     }
 
     async #lookAtWords() {

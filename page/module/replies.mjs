@@ -151,6 +151,12 @@ export function printedOf(reply) {
     return { count: Number(count), text: text ?? "" };
 }
 
+/** The typewriter's paper: how many codes were printed, and the rows with them, each but the last with a line feed after it. */
+export function paperOf(reply) {
+    const [, count, text] = matched(/^paper (\d+)\n([^]*)\n$/, reply, "reply of paper");
+    return { count: Number(count), text };
+}
+
 const PUT = "put there by (?:hand|(?<order>.*?)(?: at (?<at>\\d{4})(?: \\S+)?| in the instruction register)), clock (?<clock>\\d+)(?:, \\d+ orders? ago)?; before it was (?<lost>.*)$";
 const WHY = new RegExp(`^(?<address>\\d{4})(?: \\S+)?: .*?, ${PUT}`);
 
@@ -341,8 +347,8 @@ export function tapeTextOf(codes) {
     return codes.map(({ code }) => signs.get(code) ?? `[${String(code).padStart(2, "0")}]`).join("");
 }
 
-/** What a typewriter writes for a tape text: carriage returns are ends of lines, tabs are blanks, other codes without a sign nothing. */
-export function paperOf(text) {
+/** What a typewriter writes for a tape text, as far as it is known here, for a monitor without `paper`: carriage returns are ends of lines, tabs are blanks, other codes without a sign nothing. */
+export function rowsOf(text) {
     return codesOf(text).map(({ code, sign }) => {
         if (code === 16) return "\n";
         if (code === 24) return "    ";

@@ -176,7 +176,7 @@ live("before memory ends nothing more is begun, and all can be saved", async (la
         await deed();
         assert.equal(laboratory.notice.kind, "usedUp");
     }
-    assert.ok(link.sent.slice(sent).every((line) => /^(panel-data|live|words|show|why|printed|rules)/.test(line)));
+    assert.ok(link.sent.slice(sent).every((line) => /^(panel-data|live|words|show|why|printed|paper|rules)/.test(line)));
     assert.match(await laboratory.transcript(), /\nput 0000 00083100\n/);
     assert.equal(await laboratory.say("words 0000 1"), "0000 00083100\n");
     const { behind } = laboratory.deeds;

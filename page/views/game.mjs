@@ -1,6 +1,5 @@
 // A game at the kiosk: large buttons in place of keys, switches and conditional stop, over the program of the example. What a button sends are lines
 // of its script; the heap is what the machine's words say, and whose turn it is and who has won what it has printed.
-import { paperOf } from "../module/replies.mjs";
 import { button, h, s } from "./dom.mjs";
 
 /** The games by their examples: the lines that set the switches, those of the moves, the labels of the heap and of its number at first with the place of their point, and what the paper says. */
@@ -15,9 +14,9 @@ export const asksOf = ({ heap: { labels, point } }, byAddress) => labels.map((la
 /** The number at the end of a reply of `numbers`. */
 export const numberIn = (reply) => Number(/(-?\d+)\n$/.exec(reply)?.[1] ?? 0);
 
-/** What the last line that is whole says: that a side has won, or how many the machine took. */
-export function saidOn({ says }, printed) {
-    const line = paperOf(printed).split("\n").at(-2) ?? "";
+/** What the last line of the paper that is whole says: that a side has won, or how many the machine took. */
+export function saidOn({ says }, paper) {
+    const line = paper.split("\n").at(-2) ?? "";
     const kind = Object.keys(says).find((name) => says[name].test(line)) ?? null;
     return { kind, took: kind === "took" ? Number(says.took.exec(line)[1]) : null };
 }

@@ -1,5 +1,5 @@
 // Paper: the tape in the reader as punched holes, and what the typewriter has printed.
-import { ReplyError, codesOf, paperOf } from "../module/replies.mjs";
+import { ReplyError, codesOf } from "../module/replies.mjs";
 import { counted } from "../words.mjs";
 import { button, h, part, s, tellMore } from "./dom.mjs";
 
@@ -57,22 +57,19 @@ export function makeTape(laboratory, { text, code }) {
     return { node: part("tape", text("tape"), place, told, h("form", { class: "line", onsubmit: (event) => { event.preventDefault(); mount.click(); } }, input, mount)), show };
 }
 
-/** The last code of a tape's text. */
-const LAST = /(\[\d+\]|[^\]])$/;
-
 /** The part of the page with the typewriter's paper. What an order prints that is played stands there when it has been printed. */
 export function makePaper(laboratory, { text, code }, { held }) {
     const paper = h("pre", { class: "paper", tabindex: "0", role: "log", "aria-label": text("paper") });
     const told = h("p");
     let shown = null;
     const show = () => {
-        const isHeld = held()?.printed != null;
-        const count = laboratory.printed.count - (isHeld ? 1 : 0);
-        const printed = isHeld ? laboratory.printed.text.replace(LAST, "") : laboratory.printed.text;
-        if (printed === shown) return;
+        const { printed } = laboratory;
+        const isHeld = held()?.printed != null && shown !== null;
+        if (isHeld || (printed.count === shown?.count && printed.text === shown.text)) return;
         shown = printed;
+        const { count } = printed;
         const isAtEnd = paper.scrollTop + paper.clientHeight >= paper.scrollHeight - 4;
-        tellMore(paper, paperOf(printed.slice(-40_000).replace(/^[^[]{0,2}\]/, "")));
+        tellMore(paper, printed.text.slice(-40_000));
         if (isAtEnd) paper.scrollTop = paper.scrollHeight;
         told.textContent = count === 0 ? text("nothingPrinted") : text("printedCount", { count: counted(count, code) });
     };

@@ -122,7 +122,14 @@ test("faults of a source", () => {
 test("printed text and paper", () => {
     assert.deepEqual(replies.printedOf("printed 4 a[16]b'\n"), { count: 4, text: "a[16]b'" });
     assert.equal(replies.printedOf("printed 0\n").text, "");
-    assert.equal(replies.paperOf("a[16]b'[24]1"), "a\nb    1");
+    assert.equal(replies.rowsOf("a[16]b'[24]1"), "a\nb    1");
+});
+
+test("the typewriter's paper", () => {
+    assert.deepEqual(replies.paperOf("paper 7\nL\n1       0\n"), { count: 7, text: "L\n1       0" });
+    assert.deepEqual(replies.paperOf("paper 2\na\n\n"), { count: 2, text: "a\n" });
+    assert.deepEqual(replies.paperOf("paper 0\n\n"), { count: 0, text: "" });
+    for (const reply of ["paper 1 a\n", "paper 0\n", "printed 0\n", "? 1 Form\n", ""]) assert.throws(() => replies.paperOf(reply), replies.ReplyError, reply);
 });
 
 test("codes of a tape text are those of FORMATS", () => {
