@@ -13,7 +13,7 @@ const ACCOUNTS_KEPT = 400;
 const TALK_KEPT = 300;
 const TOLD_AT_ONCE = 48;
 const STEPPED_AT_ONCE = 200;
-const PORTION = { first: 2000, most: 50_000_000, milliseconds: 50 };
+const PORTION = { first: 2000, starts: 100, most: 50_000_000, milliseconds: 50 };
 const TELL_EVERY = 250;
 const NEW = /^ *new *$/;
 const IN_DIGITS = /^ *put +\d{4} +[0-9fgjkqw]{8} *$/;
@@ -545,65 +545,85 @@ export class Laboratory extends EventTarget {
 
     /** Runs in portions until the machine rests, a rule stops it, much is printed, memory becomes scarce, or the reader stops it. Ends with what it did. */
     run(limit = Infinity) {
+        return this.#runOn("run", limit);
+    }
+
+    /** Runs as `run` does, and where the machine comes to rest it goes on by `operate`: that presses Start where a program waits for its typewriter. */
+    operate() {
+        return this.#runOn("operate", Infinity);
+    }
+
+    #runOn(name, limit) {
         this.#stops = false;
         return this.#work(async () => {
-            return this.#ended(await this.#portions(limit));
+            return this.#ended(name, await this.#portions(limit, name === "operate"));
         });
     }
 
-    /** Runs in portions: how many orders, and why it has ended; where the monitor has refused one, its reply. */
-    async #portions(limit) {
+    /** Runs in portions: how many orders, since Start was pressed last, how often it was, and why the run has ended; where the monitor has refused a portion, its reply. */
+    async #portions(limit, isOperated = false) {
         const began = performance.now();
-        const run = { orders: 0, end: "limit", began, told: began, printed: this.printed.count };
-        for (let size = PORTION.first; run.end === "limit" && run.orders < limit && !this.#stops;) {
+        const run = { orders: 0, starts: 0, end: "limit", began, told: began, printed: this.printed.count, isOperated, isAtRest: false };
+        const sizes = { run: PORTION.first, operate: PORTION.starts };
+        while (run.end === "limit" && run.orders < limit && !this.#stops) {
             const start = performance.now();
-            await this.#portion(run, Math.min(size, limit - run.orders, this.#room.orders));
-            size = nextPortion(size, performance.now() - start);
+            const verb = run.isAtRest ? "operate" : "run";
+            const most = run.isAtRest ? this.#room.runs : Math.min(limit - run.orders, this.#room.orders);
+            await this.#portion(run, verb, Math.min(sizes[verb], most));
+            sizes[verb] = nextPortion(sizes[verb], performance.now() - start);
             await this.#tellProgress(run);
         }
         return run;
     }
 
-    async #portion(run, orders) {
-        const line = `run ${orders}`;
+    async #portion(run, verb, size) {
+        const line = `${verb} ${size}`;
         this.#said.push(line);
         this.#isTouched = true;
         const reply = await this.#ask(line);
+        const starts = replies.startsOf(reply);
+        this.#noteStarts(starts, size);
+        run.starts += starts;
         if (replies.isRefusal(reply)) {
             this.#refused(line, reply);
             this.#forgetDeeds();
             Object.assign(run, { end: "refused", reply });
             return;
         }
-        const ran = replies.runOf(reply);
-        this.#noteOrders(ran.orders);
-        run.orders += ran.orders;
-        run.end = ran.end;
-        run.rule = ran.rule;
-        if (!this.#isInScript) this.#hit = ran.rule;
+        this.#notePortion(run, replies.runOf(reply), starts > 0);
+        // `operate` alone knows whether a program waits for its typewriter, and presses Start as often as it may
+        if (run.end === "rest" && run.isOperated && (verb === "run" || starts === size)) run.end = "limit";
         if (this.#room.isUsedUp || this.#room.codesAtMost >= run.printed + ROOM.asksAfter) await this.#lookAtPaper();
         if (run.end !== "limit") return;
         if (this.#room.isUsedUp) run.end = "usedUp";
         else if (this.printed.count >= run.printed + ROOM.asksAfter) run.end = "printed";
     }
 
+    /** Notes what a portion did; where Start was pressed within it, only the orders after that are known. */
+    #notePortion(run, { orders, end, rule }, isStarted) {
+        this.#noteOrders(orders);
+        Object.assign(run, { orders: isStarted ? orders : run.orders + orders, end, rule, isAtRest: end === "rest" });
+        if (!this.#isInScript) this.#hit = rule;
+    }
+
     async #tellProgress(run) {
         const now = performance.now();
         if (now - run.told <= TELL_EVERY) return;
         run.told = now;
-        this.progress = { orders: run.orders, milliseconds: now - run.began };
+        this.progress = { orders: run.orders, starts: run.starts, milliseconds: now - run.began };
         await this.#look();
         this.dispatchEvent(new Event("change"));
     }
 
-    async #ended(run) {
-        const { orders, end, began } = run;
+    async #ended(line, run) {
+        const { orders, starts, end, began } = run;
         const milliseconds = performance.now() - began;
-        this.talk = [...this.talk, { line: "run", reply: `ran ${orders} ${this.#stops ? "until stopped" : end}\n` }].slice(-TALK_KEPT);
+        const reply = `ran ${orders} ${this.#stops ? "until stopped" : end}\n${startsText(starts)}`;
+        this.talk = [...this.talk, { line, reply }].slice(-TALK_KEPT);
         await this.#look();
         this.notice ??= questionOf(run, this.printed.count);
-        if (orders === 0) this.notice ??= { kind: "atRest" };
-        this.lastRun = { orders, end, milliseconds };
+        if (orders + starts === 0) this.notice ??= { kind: "atRest" };
+        this.lastRun = { orders, starts, end, milliseconds };
         return this.lastRun;
     }
 
@@ -804,6 +824,9 @@ function costsIn(reply) {
     const { told, end } = replies.toldOf(reply);
     return { ...replies.costsOf(told), refusal: replies.isRefusal(end) ? end : null };
 }
+
+/** How often Start was pressed in a run, as `operate` tells it; nothing where it was not. */
+const startsText = (starts) => (starts === 0 ? "" : `        started again at a z after a p: ${starts}\n`);
 
 /** What a run asks that has stopped before its end, or null. */
 function questionOf({ end, printed }, count) {

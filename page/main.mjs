@@ -65,9 +65,11 @@ let isAttract = false;
 let attractRound = 0;
 let laboratory = null;
 let hasShortKeys = true;
+let isOperated = false;
 const pupil = noLesson();
 
-function progressOf({ orders, milliseconds }) {
+function progressOf({ orders, starts, milliseconds }) {
+    if (starts > 0) return texts.text("startsAgain", { count: counted(starts, texts.code) });
     const speed = Math.round(orders / (milliseconds / 1000));
     return texts.text("running", { orders: counted(orders, texts.code), speed: counted(speed, texts.code) });
 }
@@ -197,10 +199,18 @@ function animate() {
     picture.frame = requestAnimationFrame(next);
 }
 
+/** A run, by `operate` where that is switched on and the switch is seen. */
 async function run() {
-    const ran = await laboratory.run();
-    if (ran === undefined || laboratory.notice !== null || ran.orders === 0) return;
-    showProgress({ orders: ran.orders, milliseconds: Math.max(1, ran.milliseconds) }, false);
+    const ran = await (isOperated && door === "work" && !isKiosk ? laboratory.operate() : laboratory.run());
+    if (ran === undefined || laboratory.notice !== null || ran.orders + ran.starts === 0) return;
+    showProgress({ ...ran, milliseconds: Math.max(1, ran.milliseconds) }, false);
+}
+
+/** The switch of the runs by `operate`. */
+function makeOperated() {
+    const { text } = texts;
+    const wanted = h("input", { type: "checkbox", id: "operated", checked: isOperated, "aria-describedby": "operated-hint", onchange: () => { isOperated = wanted.checked; } });
+    return behind("work", h("p", { class: "operated" }, h("label", {}, wanted, ` ${text("operated")}`), " ", h("small", { id: "operated-hint" }, text("operatedHint"))));
 }
 
 /** The switch of the sound. */
@@ -245,7 +255,7 @@ function makeWork(tasks) {
     const made = {
         hall: makeHall(texts, goTo, drive), tales: makeTales(laboratory, texts, drive, openShown), lesson: makeLesson(laboratory, texts, openForStep, pupil, tasks), tasks, drum: makeDrum(laboratory, texts, showing), plate: makePlate(laboratory, texts), scope: makeScope(laboratory, texts, showing), panel: makePanel(laboratory, texts), console: makeConsole(laboratory, texts),
         paper: makePaper(laboratory, texts, showing), tape: makeTape(laboratory, texts), keyboard: makeKeyboard(laboratory, texts),
-        pace: makePace(laboratory, texts, drive), time: makeTime(laboratory, texts, showing), story: makeStory(laboratory, texts, showing), accounts: makeAccounts(laboratory, texts, showing), listing: makeListing(laboratory, texts, showing), costs: makeCosts(laboratory, texts),
+        pace: makePace(laboratory, texts, drive, makeOperated()), time: makeTime(laboratory, texts, showing), story: makeStory(laboratory, texts, showing), accounts: makeAccounts(laboratory, texts, showing), listing: makeListing(laboratory, texts, showing), costs: makeCosts(laboratory, texts),
         explanation: makeExplanation(), script: makeScript(laboratory, texts), source: makeSource(laboratory, texts), lines: makeLines(laboratory, texts),
         profile: makeProfile(laboratory, texts), turns: makeTurns(laboratory, texts),
     };

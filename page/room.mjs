@@ -67,12 +67,12 @@ export class Room {
     /** The most orders that may stand in a line where it names more than that, else null. */
     mostIn(line) {
         const [, verb, number] = PERFORMS.exec(line) ?? [];
-        const most = TELL_EACH.includes(verb) ? Math.min(ROOM.told, this.orders) : verb === "operate" ? this.#runs : this.orders;
+        const most = TELL_EACH.includes(verb) ? Math.min(ROOM.told, this.orders) : verb === "operate" ? this.runs : this.orders;
         return verb !== undefined && Number(number) > most ? most : null;
     }
 
     /** The most orders of `operate`: it performs as many runs, and one more. */
-    get #runs() {
+    get runs() {
         return Math.floor((Math.sqrt(1 + 4 * this.orders) - 1) / 2);
     }
 

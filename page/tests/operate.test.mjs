@@ -1,10 +1,11 @@
-// A typed `operate` is a run, as the page shows and counts it: with the replies of the fake worker, and with those of the module, where that is there.
+// A typed `operate` is a run, as the page shows and counts it, and Run goes by it where that is wanted: with the replies of the fake worker, and with those of
+// the module, where that is there.
 import assert from "node:assert/strict";
 import { existsSync } from "node:fs";
 import { test } from "node:test";
 import { fileURLToPath } from "node:url";
 import { Laboratory } from "../laboratory.mjs";
-import { setUp } from "../lines.mjs";
+import { linesIn, setUp } from "../lines.mjs";
 import { startsOf } from "../module/replies.mjs";
 import { ROOM, Room } from "../room.mjs";
 import { ModuleLink } from "./module.mjs";
@@ -59,4 +60,84 @@ test("operate by the module: the order of its last run is gone back over, and pe
     assert.deepEqual([laboratory.deeds.ahead, laboratory.panel.counter], [1, "0004"]);
     await laboratory.forward(1);
     assert.deepEqual([laboratory.deeds.behind, laboratory.panel.counter], [1, "0005"]);
+});
+
+/** A laboratory over the module that has answered some lines, and its link. */
+async function overModule(...lines) {
+    const link = new ModuleLink(module);
+    const laboratory = new Laboratory(link);
+    await laboratory.open();
+    await laboratory.say(...lines);
+    return { laboratory, link };
+}
+
+/** What was sent for a run. */
+const runsIn = ({ sent }) => sent.filter((line) => /^(run|operate)/.test(line));
+
+const TWO = ["put 0000 p =h", "put 0001 z", "put 0002 p =i", "put 0003 z", "put 0004 z", "press start"];
+
+test("Run halts at a z after a p, and by operate it goes on to the end", { skip: !existsSync(module) }, async () => {
+    const { laboratory, link } = await overModule(...TWO);
+    await laboratory.run();
+    assert.deepEqual([laboratory.printed, laboratory.panel.status, laboratory.panel.counter], [{ count: 1, text: "h" }, "halted stop", "0002"]);
+    assert.deepEqual([laboratory.lastRun.starts, laboratory.talk.at(-1)], [0, { line: "run", reply: "ran 2 rest\n" }]);
+    await laboratory.operate();
+    assert.deepEqual([laboratory.printed, laboratory.panel.counter, laboratory.notice], [{ count: 2, text: "hi" }, "0005", null]);
+    const { orders, starts, end } = laboratory.lastRun;
+    assert.deepEqual([orders, starts, end], [1, 2, "rest"]);
+    assert.deepEqual(laboratory.talk.at(-1), { line: "operate", reply: "ran 1 rest\n        started again at a z after a p: 2\n" });
+    assert.deepEqual(runsIn(link), ["run 2000", "run 2000", "operate 100"]);
+    const script = linesIn(await laboratory.transcript());
+    assert.deepEqual(script.filter((line) => /^(run|press)/.test(line)), ["press start", "run 2000", "run 2000", "run 100", "press start", "run 100", "press start", "run 100"]);
+});
+
+test("by operate a machine at rest is told, and the orders of a run without a start can be gone back over", { skip: !existsSync(module) }, async () => {
+    const { laboratory } = await overModule("put 0000 b 0002", "put 0001 z", "press start");
+    await laboratory.operate();
+    assert.deepEqual([laboratory.notice, laboratory.deeds.behind, laboratory.talk.at(-1)], [null, 2, { line: "operate", reply: "ran 2 rest\n" }]);
+    await laboratory.operate();
+    assert.deepEqual([laboratory.notice, laboratory.deeds.behind], [{ kind: "atRest" }, 2]);
+});
+
+test("a rule stops a run by operate between two prints", { skip: !existsSync(module) }, async () => {
+    const { laboratory } = await overModule(...TWO, "break 0003");
+    await laboratory.operate();
+    assert.deepEqual([laboratory.notice, laboratory.panel.counter], [{ kind: "rule", number: 0, rule: "break 0003", isOfScript: false }, "0003"]);
+    await laboratory.command("drop 0");
+    await laboratory.operate();
+    assert.deepEqual([laboratory.notice, laboratory.printed.text], [null, "hi"]);
+});
+
+const ENDLESS = ["put 0000 p =h", "put 0001 z", "put 0002 u 0000", "press start"];
+
+test("a run by operate that prints much asks whether to go on", { skip: !existsSync(module) }, async () => {
+    const { laboratory, link } = await overModule(...ENDLESS);
+    const { end } = await laboratory.operate();
+    assert.deepEqual([end, laboratory.notice], ["printed", { kind: "printedMuch", count: laboratory.printed.count }]);
+    assert.ok(laboratory.printed.count >= ROOM.asksAfter && laboratory.printed.count < ROOM.asksAfter + 2000);
+    assert.ok(runsIn(link).slice(1).every((line) => /^operate \d{3}$/.test(line)), runsIn(link).join());
+    assert.equal(laboratory.lastRun.starts, laboratory.printed.count - 1);
+});
+
+test("a run by operate is stopped after its portion, and a long way between two prints is run in larger ones", { skip: !existsSync(module) }, async () => {
+    // 0003 counts 5000 down between two prints
+    const loop = ["put 0000 b 0020", "put 0001 h 0021", "put 0002 b 0021", "put 0003 s 0022", "put 0004 h 0021", "put 0005 t 0007", "put 0006 u 0002", "put 0007 p =h", "put 0008 z", "put 0009 u 0000"];
+    const { laboratory, link } = await overModule(...loop, "put 0020 = 5000", "put 0022 = 1", "press start");
+    laboratory.addEventListener("change", () => { if (laboratory.progress?.starts > 2) laboratory.stop(); });
+    const { starts } = await laboratory.operate();
+    assert.ok(starts > 2 && laboratory.printed.count >= starts, `${starts}`);
+    assert.match(laboratory.talk.at(-1).reply, /^ran \d+ until stopped\n {8}started again at a z after a p: \d+\n$/);
+    assert.ok(runsIn(link).some((line) => /^run \d{5,}$/.test(line)), runsIn(link).join());
+    assert.equal(laboratory.notice, null);
+});
+
+test("the paper is the monitor's, where that has it", async () => {
+    const ask = async (line) => {
+        if (line === "paper") return "paper 7\nL\n1       0\n";
+        worker.onmessage({ data: { lines: [line] } });
+        return line === "commands" ? `${worker.last}paper asks nothing\n` : worker.last;
+    };
+    const laboratory = new Laboratory({ opened: Promise.resolve(), ask });
+    await laboratory.open();
+    assert.deepEqual(laboratory.printed, { count: 7, text: "L\n1       0" });
 });
