@@ -1,7 +1,7 @@
 // The monitor at a desk: lines that are typed until `quit`, each perhaps above its reply.
 import { objectOf } from "./json.mjs";
 import { frontOf, isLonger, linesIn, wordsOf } from "./lines.mjs";
-import { isRefusal } from "./replies.mjs";
+import { isRefusal, printedOf } from "./replies.mjs";
 
 const INDENT = "        ";
 /** How many bytes of tape text a line has room for. */
@@ -111,6 +111,11 @@ export class Desk {
     /** The drum's dump, which leaves no trace in the transcript. */
     dump() {
         return this.#recorded.ask("dump").replace(/^.*\n/, "");
+    }
+
+    /** The tape text of what was printed, which leaves no trace in the transcript. */
+    printed() {
+        return printedOf(this.#recorded.ask("printed")).text;
     }
 
     /** What is written at the end, before the line feed that stands in place of a prompt. */

@@ -5,14 +5,17 @@ import { LINE_LIMIT, endedText, frontOf, hasLine, isLonger, linesIn, withoutRetu
 import { codesOf, isRefusal, refusalOf, tapeTextOf } from "./replies.mjs";
 
 const DEPTH = 16;
-const ARCHIVE = "no archive is read here; the native program reads it, which ./prove lgp30m makes";
-const WORKS = ["do", "source", "tape", "archive", "save", "restore"];
+const NATIVE = "no file of this form is read or written here; the native program does that, which ./prove lgp30m makes";
+/** What is done here with a file, what the native program alone reads from one, and what it alone keeps in one. */
+const WORKS = ["do", "source", "tape", "save", "punch", "restore"];
+const READ_ELSEWHERE = ["archive", "bytes", "restore-simh"];
+const KEPT_ELSEWHERE = ["copy", "copy-archive", "copy-bytes", "punch-archive", "punch-bytes", "save-simh"];
 
 /** What a line asks for, with the name of a file, or null. */
 function requestIn(line) {
     const [word] = wordsOf(line);
     const name = line.slice(line.indexOf(word) + word?.length).replace(/^ +| +$/g, "");
-    return WORKS.includes(word) && name !== "" ? { word, name } : null;
+    return [...WORKS, ...READ_ELSEWHERE, ...KEPT_ELSEWHERE].includes(word) && name !== "" ? { word, name } : null;
 }
 
 /** Where the lines of a file come from, which a line names that comes from there itself. */
@@ -61,13 +64,15 @@ export class Typist {
 
     /** Does what a line asks for; gives what is written for it that is not written yet. */
     #worked(word, name, note, depth) {
-        if (word === "save") return this.#save(name, note);
+        if (KEPT_ELSEWHERE.includes(word)) throw new FileTrouble(NATIVE);
+        if (word === "save") return this.#keep(name, this.#desk.dump(), note);
+        if (word === "punch") return this.#keep(name, this.#desk.printed(), note);
         if (word === "do" && depth === 0) throw new FileTrouble(`${DEPTH} files are open within one another`);
         const text = readFile(name);
         if (word === "do") return this.#typeFile(name, text, depth - 1);
         if (word === "source") return this.#source(text, within(name, note));
         if (word === "restore") return this.#desk.restore(name, dumpLines(text).join(""), within(name, note));
-        if (word === "archive") throw new FileTrouble(ARCHIVE);
+        if (READ_ELSEWHERE.includes(word)) throw new FileTrouble(NATIVE);
         return this.#desk.line(`mount ${this.#tapeIn(text)}`, within(name, note));
     }
 
@@ -96,8 +101,8 @@ export class Typist {
         return ["source", ...linesIn(endedText(text)), "."].map((line) => this.#desk.line(withoutReturn(line), note)).join("");
     }
 
-    #save(name, note) {
-        keepFile(name, this.#desk.dump());
+    #keep(name, text, note) {
+        keepFile(name, text);
         return this.#desk.own(`saved ${name}\n`, note);
     }
 }

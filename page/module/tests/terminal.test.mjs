@@ -159,6 +159,8 @@ inFolder("dumps that are none", { odd: "0000 00000001\n", zero: "0000 00000000\n
     ].join("\n"));
 });
 
+const NATIVE = "no file of this form is read or written here; the native program does that, which ./prove lgp30m makes";
+
 inFolder("tapes", { tape: "l2\n[16][02]'\n", cut: "[1\n6]", bad: "12\n3Q", long: "1".repeat(5000), archive: "12!16'\n" }, (here) => {
     const { text, status } = monitor([], "tape tape\ntape cut\ntape bad\ntape long\narchive archive\ntranscript\n", here);
     assert.equal(status, 1);
@@ -166,8 +168,27 @@ inFolder("tapes", { tape: "l2\n[16][02]'\n", cut: "[1\n6]", bad: "12\n3Q", long:
         "ok 5", "? 13 File cut: the byte at place 0, counted from 0, in line 1, begins no sign of a tape",
         "? 13 File bad: the byte at place 4, counted from 0, in line 2, begins no sign of a tape",
         "? 13 File long: more than 4090 bytes of tape text; the native program mounts it, which ./prove lgp30m makes",
-        "? 13 File archive: no archive is read here; the native program reads it, which ./prove lgp30m makes", "mount 12[16]0'", "",
+        `? 13 File archive: ${NATIVE}`, "mount 12[16]0'", "",
     ].join("\n"));
+});
+
+inFolder("what was printed is kept as text, without a trace of what was asked", {}, (here) => {
+    const lines = "put 0000 p =h\nput 0001 p 0400\nput 0002 z\npress start\npunch blank\nrun 9\npunch tape\n  punch   tape two \ntape tape\nsource\npunch none\n.\ntranscript\n";
+    assert.equal(monitor([], lines, here).text, [
+        "ok", "ok", "ok", "live", "saved blank", "ran 3 rest", "saved tape", "saved tape two", "ok 2", "? 9 Faults", "line 1 UnknownOrder", "        punch none", "              ^^^^", "line 2 NoEnd",
+        "put 0000 00083100", "put 0001 00080400", "put 0002 00000000", "press start", "run 9", "mount h[04]", "source", "punch none", ".", "",
+    ].join("\n"));
+    assert.deepEqual(readdirSync(here.cwd).sort(), ["blank", "tape", "tape two"]);
+    assert.deepEqual(["blank", "tape", "tape two"].map((name) => readFileSync(join(here.cwd, name), "utf8")), ["", "h[04]", "h[04]"]);
+});
+
+inFolder("files of other forms are refused, and none is written", { file: "d -lt 0000 00000002\n" }, (here) => {
+    const [read, kept] = [["archive", "bytes", "restore-simh"], ["copy", "copy-archive", "copy-bytes", "punch-archive", "punch-bytes", "save-simh"]];
+    const words = [...read, ...kept];
+    assert.equal(monitor([], words.map((word) => `${word} file\n`).join(""), here).text, `? 13 File file: ${NATIVE}\n`.repeat(words.length));
+    assert.equal(monitor([], kept.map((word) => `${word} new\n`).join(""), here).text, `? 13 File new: ${NATIVE}\n`.repeat(kept.length));
+    assert.equal(monitor([], read.map((word) => `${word} none\n`).join(""), here).text, "? 13 File none: it cannot be opened\n".repeat(read.length));
+    assert.deepEqual([readdirSync(here.cwd), readFileSync(join(here.cwd, "file"), "utf8")], [["file"], "d -lt 0000 00000002\n"]);
 });
 
 inFolder("files that are refused", { point: " z\n.\n", self: "do self\n" }, (here) => {
