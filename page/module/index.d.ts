@@ -139,6 +139,8 @@ export class Laboratory {
     profile(limit: number): Profile;
     /** Performs orders as `run` does, and draws them. */
     drum(limit: number): DrumRow[];
+    /** What was printed, as the rows of the typewriter's paper, with a line feed between two of them. */
+    paper(): string;
     /** Goes back to where the last of so many orders began, and tells the clock there. */
     back(orders: number): bigint;
     /** The script that leads where the laboratory stands. */

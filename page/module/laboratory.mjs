@@ -82,6 +82,10 @@ export class Laboratory {
         return told;
     }
 
+    paper() {
+        return replies.paperOf(this.answer("paper")).text;
+    }
+
     back(orders) {
         return replies.clockOf(this.answer(`back ${orders}`));
     }

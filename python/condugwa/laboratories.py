@@ -128,6 +128,10 @@ class Laboratory:
         """Performs orders as `run` does, and draws them: a row a turn of the drum, a sign a word time."""
         return self._told("drum", limit)
 
+    def paper(self) -> str:
+        """What was printed, as the rows of the typewriter's paper, with a line feed between two of them."""
+        return self._asked("paper").split("\n", 1)[1].removesuffix("\n")
+
     def _asked(self, command: str) -> str:
         """The reply to a command. An open source would take its line, so ValueError is raised then."""
         if self._in_source:

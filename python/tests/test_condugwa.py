@@ -184,6 +184,16 @@ def test_a_told_run_that_the_clock_breaks_off_is_refused(laboratory, monkeypatch
         laboratory.profile(1000)
 
 
+def test_the_paper_has_capital_letters_after_upper_case_and_tab_stops(laboratory):
+    assert laboratory.paper() == ""
+    orders = ["p 0800", "p =1", "p 1600", "p 0400", "p =1", "p 2400", "p =0", "z"]
+    laboratory.answers("\n".join(f"put {place:04} {order}" for place, order in enumerate(orders)))
+    laboratory.answer("press start")
+    laboratory.run(10)
+    assert laboratory.paper() == "L\n1       0"
+    assert laboratory.answer("printed") == "printed 7 [08]1[16][04]1[24]0\n"
+
+
 def test_a_rule_stops_a_run(laboratory):
     laboratory.answers("put 0100 u 0100\nbreak 0100\ngo 0100\n")
     assert laboratory.run(10) == condugwa.Run(1, "rule", 0)
@@ -239,6 +249,7 @@ ASKED = {
     "optimum": lambda laboratory: laboratory.optimum(1),
     "optimum_of": lambda laboratory: laboratory.optimum_of(1, "0000"),
     "back": lambda laboratory: laboratory.back(1),
+    "paper": lambda laboratory: laboratory.paper(),
     "transcript": lambda laboratory: laboratory.transcript(),
 }
 

@@ -59,6 +59,16 @@ inLaboratory("a run is told", (laboratory) => {
     assert.deepEqual([signs.length, signs.split("F").length - 1], [profile.times, 2]);
 });
 
+const hasPaper = !skip && /^paper asks/m.test(new Laboratory(bytes).answer("commands"));
+test("the paper has capital letters after upper case, and tab stops", { skip: !hasPaper }, () => {
+    const laboratory = new Laboratory(bytes);
+    assert.equal(laboratory.paper(), "");
+    laboratory.answers(["p 0800", "p =1", "p 1600", "p 0400", "p =1", "p 2400", "p =0", "z"].map((order, place) => `put 000${place} ${order}`).join("\n"));
+    laboratory.answer("press start");
+    laboratory.run(10);
+    assert.equal(laboratory.paper(), "L\n1       0");
+});
+
 inLaboratory("a rule stops a run", (laboratory) => {
     laboratory.answers("put 0100 u 0100\nbreak 0100\ngo 0100");
     assert.deepEqual(laboratory.run(10), { orders: 1, end: "rule", rule: 0 });

@@ -9,6 +9,7 @@ const { orders, rule }: { orders: number; rule: number | null } = laboratory.run
 const clock: bigint = laboratory.back(orders) + laboratory.panel().clock;
 const sums: number[] = laboratory.trace(10).map(({ sum, stored }) => sum + (stored?.after.number ?? 0));
 const { text, questions } = runScript(bytes, "panel\n");
+const rows: string[] = laboratory.paper().split("\n");
 const isDown: boolean = laboratory.panel().down.bp32;
 const told = (failure: unknown): string | null => (failure instanceof Refusal ? failure.reason : null);
 
@@ -19,4 +20,4 @@ laboratory.words(50);
 // @ts-expect-error: a clock is no number
 const wrong: number = laboratory.panel().clock;
 
-export { clock, digits, isDown, questions, rule, sums, text, told, wrong };
+export { clock, digits, isDown, questions, rows, rule, sums, text, told, wrong };
