@@ -132,12 +132,5 @@ test("a run by operate is stopped after its portion, and a long way between two 
 });
 
 test("the paper is the monitor's, where that has it", async () => {
-    const ask = async (line) => {
-        if (line === "paper") return "paper 7\nL\n1       0\n";
-        worker.onmessage({ data: { lines: [line] } });
-        return line === "commands" ? `${worker.last}paper asks nothing\n` : worker.last;
-    };
-    const laboratory = new Laboratory({ opened: Promise.resolve(), ask });
-    await laboratory.open();
-    assert.deepEqual(laboratory.printed, { count: 7, text: "L\n1       0" });
+    assert.deepEqual((await after("run 1")).printed, { count: 6, text: "ab\nc d" });
 });
