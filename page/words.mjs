@@ -236,7 +236,7 @@ const de = {
     step: "Schritt", stepHint: "Ein Befehl, erzählt", walk: "Gehen", walkHint: "Befehle nacheinander, erzählt, nach jedem eine Pause zum Lesen", walkPace: "Befehl für Befehl", halt: "Anhalten", haltHint: "Die Maschine führt keine Befehle mehr aus",
     slow: "Zeitlupe", slowHint: "Befehle nacheinander, 32 Wortzeiten in der Sekunde", slowPace: "2 Sekunden je Umdrehung", own: "Eigenes Tempo", ownHint: "Eine Wortzeit ist auf 0,26 Millisekunden gesetzt", ownPace: "60 Umdrehungen je Sekunde",
     run: "Laufen", runHint: "Läuft, bis die Maschine ruht", runPace: "so schnell es geht",
-    operated: "Laufen startet die Maschine nach jedem Druck wieder", operatedHint: "Ein Programm, das nach jedem Druck anhält, mit einem z gleich nach einem p, wartet auf eine Schreibmaschine, die es wieder startet.", startsAgain: "Starts nach einem Druck: {count}",
+    operated: "Laufen startet die Maschine nach jedem Drucken wieder", operatedHint: "Ein Programm, das nach jedem Drucken anhält, mit einem z gleich nach einem p, wartet auf eine Schreibmaschine, die es wieder startet.", startsAgain: "Starts nach dem Drucken: {count}",
     running: "{orders} Befehle, {speed} in der Sekunde", ended: "{orders} Befehle, {speed} in der Sekunde",
     counterTrace: "Zähler", registerTrace: "Befehl", accumulatorTrace: "Akkumulator", track: "Spur", sector: "Sektor",
     scopeSays: "Oszilloskop: Zähler {counter}, Befehlsregister {register}, Akkumulator {accumulator}.", scopeRuns: "Oszilloskop: Seine Bilder wechseln zu schnell, um sie zu lesen.",
