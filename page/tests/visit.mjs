@@ -242,6 +242,25 @@ async function whatToPress(browser) {
     assert.match((await panelOf(browser)).status, /halted/);
 }
 
+/** Run halts where a program stops after a print. With the switch on it goes on to the end; in another language the switch is as it was, and it is seen in the whole laboratory alone. */
+async function operated(browser) {
+    await browser.open(`${address}?lang=en&door=work`);
+    await started(browser, "put 0000 p =h", "put 0001 z", "put 0002 p =i", "put 0003 z", "put 0004 p =h", "put 0005 z");
+    const now = async () => [await textOf(browser, ".paper"), (await panelOf(browser)).counter, await browser.value("document.querySelector('#operated').checked")];
+    await press(browser, "#run");
+    assert.deepEqual(await now(), ["h", "0002", false]);
+    await press(browser, "#operated");
+    await press(browser, "#run");
+    assert.deepEqual(await now(), ["hih", "0007", true]);
+    assert.deepEqual([await textOf(browser, "#progress"), await textOf(browser, "#notice")], ["Starts after a print: 3", ""]);
+    await picture(browser, "operated");
+    await browser.value("(() => { const it = document.getElementById('language'); it.value = 'de'; it.dispatchEvent(new Event('change')); })()");
+    assert.match(await textOf(browser, ".operated"), /^ ?Laufen startet die Maschine nach jedem Drucken wieder/);
+    assert.deepEqual([await seenOf(browser, "#operated"), await now()], [["#operated"], ["hih", "0007", true]]);
+    await press(browser, "[data-door-to='learn']");
+    assert.deepEqual(await seenOf(browser, "#operated"), []);
+}
+
 /** The rows of the first hour's table whose heading begins with these cells; an empty cell is not compared. */
 function tableOf(...heading) {
     const lines = hour.split("\n");
@@ -1229,7 +1248,7 @@ async function touch(browser) {
     await browser.size(1500, 1250);
 }
 
-const all = { ...visitsOfTasks(address), ...visitsOfGames(address), ...visitsOfExamples(address), kiosk, addresses, changes, thereAndBack, openSource, whatToPress, endlessPrint, firstHour, lesson, stories, scope, doors, look, ...lessonVisits({ address, press, settled, steps, picture, textOf, sideways }), sound, saved, notLost, source, profile, costs, examples, badInput, usedUp, longRun, paces, forPeople, widths, everyone, byKeys, readOut, stillness, touch, withoutWebAssembly, cannotOpen };
+const all = { ...visitsOfTasks(address), ...visitsOfGames(address), ...visitsOfExamples(address), kiosk, addresses, changes, thereAndBack, openSource, whatToPress, operated, endlessPrint, firstHour, lesson, stories, scope, doors, look, ...lessonVisits({ address, press, settled, steps, picture, textOf, sideways }), sound, saved, notLost, source, profile, costs, examples, badInput, usedUp, longRun, paces, forPeople, widths, everyone, byKeys, readOut, stillness, touch, withoutWebAssembly, cannotOpen };
 const wanted = process.env.VISITS?.split(" ") ?? Object.keys(all).filter((name) => !left.includes(name));
 const visits = Object.fromEntries(wanted.map((name) => [name, all[name]]));
 const browser = await Engine.start();
