@@ -560,7 +560,7 @@ export class Laboratory extends EventTarget {
         });
     }
 
-    /** Runs in portions: how many orders, since Start was pressed last, how often it was, and why the run has ended; where the monitor has refused a portion, its reply. */
+    /** Runs in portions: how many orders since Start was last pressed, how often it was pressed, and why the run has ended; where the monitor has refused a portion, its reply. */
     async #portions(limit, isOperated = false) {
         const began = performance.now();
         const run = { orders: 0, starts: 0, end: "limit", began, told: began, printed: this.printed.count, isOperated, isAtRest: false };
@@ -591,7 +591,7 @@ export class Laboratory extends EventTarget {
             return;
         }
         this.#notePortion(run, replies.runOf(reply), starts > 0);
-        // `operate` alone knows whether a program waits for its typewriter, and presses Start as often as it may
+        // only `operate` knows whether a program waits for its typewriter; where it has pressed Start as often as it may, it is asked again
         if (run.end === "rest" && run.isOperated && (verb === "run" || starts === size)) run.end = "limit";
         if (this.#room.isUsedUp || this.#room.codesAtMost >= run.printed + ROOM.asksAfter) await this.#lookAtPaper();
         if (run.end !== "limit") return;
