@@ -419,15 +419,8 @@ export class Laboratory extends EventTarget {
     }
 
     async #lookAtPaper() {
-        this.printed = await this.#askPaper();
+        this.printed = replies.paperOf(await this.#ask("paper"));
         this.#room.printed(this.printed.count);
-    }
-
-    /** The typewriter's paper, as the monitor tells it where it has `paper`. */
-    async #askPaper() {
-        if (this.knows("paper")) return replies.paperOf(await this.#ask("paper"));
-        const { count, text } = replies.printedOf(await this.#ask("printed"));
-        return { count, text: replies.rowsOf(text) };
     }
 
     async #lookAtWords() {

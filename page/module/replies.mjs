@@ -346,12 +346,3 @@ export function tapeTextOf(codes) {
     const signs = new Map([...SIGNS].filter(([sign]) => sign !== "l").map(([sign, code]) => [code, sign]));
     return codes.map(({ code }) => signs.get(code) ?? `[${String(code).padStart(2, "0")}]`).join("");
 }
-
-/** What a typewriter writes for a tape text, as far as it is known here, for a monitor without `paper`: carriage returns are ends of lines, tabs are blanks, other codes without a sign nothing. */
-export function rowsOf(text) {
-    return codesOf(text).map(({ code, sign }) => {
-        if (code === 16) return "\n";
-        if (code === 24) return "    ";
-        return sign === null || sign === "'" ? "" : sign;
-    }).join("");
-}

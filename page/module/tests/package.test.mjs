@@ -59,9 +59,7 @@ inLaboratory("a run is told", (laboratory) => {
     assert.deepEqual([signs.length, signs.split("F").length - 1], [profile.times, 2]);
 });
 
-const hasPaper = !skip && /^paper asks/m.test(new Laboratory(bytes).answer("commands"));
-test("the paper has capital letters after upper case, and tab stops", { skip: !hasPaper }, () => {
-    const laboratory = new Laboratory(bytes);
+inLaboratory("the paper has capital letters after upper case, and tab stops", (laboratory) => {
     assert.equal(laboratory.paper(), "");
     laboratory.answers(["p 0800", "p =1", "p 1600", "p 0400", "p =1", "p 2400", "p =0", "z"].map((order, place) => `put 000${place} ${order}`).join("\n"));
     laboratory.answer("press start");

@@ -119,10 +119,9 @@ test("faults of a source", () => {
     assert.deepEqual(replies.sourceOf("cells 5 start 0000\n"), { cells: 5, start: "0000", faults: [] });
 });
 
-test("printed text and paper", () => {
+test("printed text", () => {
     assert.deepEqual(replies.printedOf("printed 4 a[16]b'\n"), { count: 4, text: "a[16]b'" });
     assert.equal(replies.printedOf("printed 0\n").text, "");
-    assert.equal(replies.rowsOf("a[16]b'[24]1"), "a\nb    1");
 });
 
 test("the typewriter's paper", () => {
