@@ -8,7 +8,8 @@ use Rattle.bstr.proofs.lemmas.LineLemmas.{lines-nil}
 use Rattle.lgp_word.specs.Address.{IsAddress}
 use Rattle.lgp_word.specs.Drum.{blank_words}
 use Rattle.lgp_word.specs.Word.{IsWord}
-use Rattle.lgp_exchange.specs.Deposits.{IsDrum, deposit_line, deposits_of, lines_from, shown_line, shown_words, used_deposit}
+use Rattle.lgp_listing.specs.Dump.{IsDrum}
+use Rattle.lgp_exchange.specs.Deposits.{deposit_line, deposits_of, lines_from, shown_line, shown_words, used_deposit}
 use Rattle.lgp_exchange.specs.Examined.{IsReadAs, fault_from, lines_in, words_after}
 use Rattle.lgp_exchange.proofs.Faults.{onward, words-some}
 use Rattle.lgp_exchange.proofs.Lines.{IsLineRead, deposit_read, shown_read}

@@ -1,30 +1,19 @@
 -- Part of the public promise: the words of a drum as commands to the simulator lgp of SIMH, and as
 -- it shows them. The switch -l has digits of the LGP-30 written, and -t addresses by track and
 -- sector.
-use Rattle.std.specs.Prelude.{◌≡◌, ℕ, ◌+◌, ◌++◌, ◌==◌, if◌then◌else◌, List, [], ◌∷◌, length, map}
-use Rattle.std.specs.Prelude.{codes, All}
+use Rattle.std.specs.Prelude.{ℕ, ◌+◌, ◌++◌, ◌==◌, if◌then◌else◌, List, [], ◌∷◌, map, codes}
 use Rattle.std.specs.Char.{to_ascii_uppercase}
 use Rattle.lgp_word.specs.Digits.{address_digits, digits_of}
-use Rattle.lgp_word.specs.Drum.{drum_size}
-use Rattle.lgp_word.specs.Word.{IsWord}
-
--- what the words of a drum are
-pub record IsDrum (words : List ℕ) : Type 0 where
-  pub size : length words ≡ drum_size
-  pub words_are : All IsWord words
+use Rattle.lgp_listing.specs.Dump.{cell_line}
 
 -- the lines of words from an address on, each word by its own
 abbrev pub lines_from : (ℕ → ℕ → List ℕ) → ℕ → List ℕ → List ℕ
 lines_from line address [] = []
 lines_from line address (word ∷ words) = line address word ++ lines_from line (address + 1) words
 
--- an address, a space, the digits of a word and a line feed
-abbrev pub cell_text : ℕ → ℕ → List ℕ
-cell_text address word = address_digits address ++ codes " " ++ digits_of word ++ codes "\n"
-
--- the command that puts a word at an address
+-- the command that puts a word at an address: in it the line of a dump
 abbrev pub deposit_line : ℕ → ℕ → List ℕ
-deposit_line address word = codes "d -lt " ++ cell_text address word
+deposit_line address word = codes "d -lt " ++ cell_line address word
 
 -- words of zeros have no command
 abbrev pub used_deposit : ℕ → ℕ → List ℕ

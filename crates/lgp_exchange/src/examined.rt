@@ -1,9 +1,8 @@
 //! The drum of what SIMH shows.
 
-ghost use Rattle.std.specs.Prelude.{◌≡◌, ◌≤◌, IfOk, IfErr, IfSome, IfNone, IsErrOf, None, length, map};
+ghost use Rattle.std.specs.Prelude.{◌≡◌, IfOk, IfErr, IfSome, IfNone, IsErrOf, None, length, map};
 ghost use Rattle.std.specs.Char.{to_ascii_lowercase};
 ghost use Rattle.lgp_word.specs.Digits.{word_of_digits};
-ghost use Rattle.lgp_word.specs.Drum.{blank_words};
 ghost use Rattle.lgp_exchange.specs.Examined as spec;
 
 use bstr::ByteSlice;

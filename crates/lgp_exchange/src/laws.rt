@@ -6,7 +6,8 @@ ghost use Rattle.lgp_flexo.specs.Archive.{code_of_archived, codes_of_archive};
 ghost use Rattle.lgp_flexo.specs.Code.{IsCode};
 ghost use Rattle.lgp_exchange.specs.ArchiveText.{archived_tape};
 ghost use Rattle.lgp_exchange.specs.TapeBytes.{first_no_code};
-ghost use Rattle.lgp_exchange.specs.Deposits.{IsDrum, deposits_of, shown_words};
+ghost use Rattle.lgp_listing.specs.Dump.{IsDrum};
+ghost use Rattle.lgp_exchange.specs.Deposits.{deposits_of, shown_words};
 ghost use Rattle.lgp_exchange.specs.Examined.{IsReadAs};
 ghost use Rattle.lgp_exchange.specs.Paper.{is_plain, paper_of, plain_text, sign_struck};
 

@@ -11,7 +11,7 @@ use super::Laboratory;
 use crate::refusal::{Refusal, push_counted, push_refusal};
 use crate::span::Span;
 use lgp_debugger::PutFault;
-use lgp_listing::{DrumWords, disassemble, push_cell_line};
+use lgp_listing::{DrumWords, disassemble, push_cell_line, push_dump};
 use lgp_machine::Machine;
 use lgp_text::{Piece, push_pieces};
 use lgp_word::{Address, Word};
@@ -57,17 +57,27 @@ impl<A: Allocator + Copy> Laboratory<A> {
             ≡ dump_of self.now.debugger.state.core.words) }
     {
         let mut lines = Vec::new(self.alloc);
-        let machine = self.debugger.machine();
-        lgp_listing::push_dump(&mut lines, &LentDrum { machine })?;
+        push_dump(&mut lines, self)?;
         Ok(lines)
     }
 
     /// Shows all words that are not zero.
+    #[tactic(auto, unfolding(crate::specs::DrumCommands::dump_text))]
     pub(super) fn dump(&self, reply: &mut Vec<u8, A>) -> Result<(), AllocError>
         ensures { OnOk result (reply.new.items
             ≡ reply.old.items ++ dump_text self.now.debugger.state.core.words) }
     {
-        push_dump(self.alloc, reply, self.debugger.machine())
+        let mut lines = Vec::new(self.alloc);
+        let count = push_dump(&mut lines, self)?;
+        push_lines(reply, count, &lines)
+    }
+}
+
+impl<A: Allocator + Copy> DrumWords for Laboratory<A> {
+    ghost words = { λ laboratory. laboratory.debugger.state.core.words };
+
+    fn word_at(&self, address: Address) -> Word {
+        self.debugger.machine().word(address)
     }
 }
 
@@ -124,20 +134,6 @@ fn push_orders<A: Allocator>(
     Ok(())
 }
 
-/// A machine as who lends the words of its drum.
-#[derive(Drop)]
-struct LentDrum<'a, A: Allocator> {
-    machine: &'a Machine<A>,
-}
-
-impl<A: Allocator> DrumWords for LentDrum<'_, A> {
-    ghost words = { λ lent. lent.machine.now.state.core.words };
-
-    fn word_at(&self, address: Address) -> Word {
-        self.machine.word(address)
-    }
-}
-
 /// Appends how many words are not zero, and their lines.
 fn push_lines<A: Allocator>(
     text: &mut Vec<u8, A>,
@@ -150,19 +146,4 @@ fn push_lines<A: Allocator>(
     push_counted(text, b"dump ", count)?;
     text.extend_from_slice(lines)?;
     Ok(())
-}
-
-/// Appends the dump of the drum.
-#[tactic(auto, unfolding(crate::specs::DrumCommands::dump_text))]
-fn push_dump<A: Allocator + Copy>(
-    alloc: A,
-    text: &mut Vec<u8, A>,
-    machine: &Machine<A>,
-) -> Result<(), AllocError>
-    ensures { OnOk result (text.new.items
-        ≡ text.old.items ++ dump_text machine.now.state.core.words) }
-{
-    let mut lines = Vec::new(alloc);
-    let count = lgp_listing::push_dump(&mut lines, &LentDrum { machine })?;
-    push_lines(text, count, &lines)
 }

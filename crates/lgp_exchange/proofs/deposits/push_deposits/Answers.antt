@@ -16,16 +16,16 @@ loop-number-init g c = record {
 
 pub loop-number-preserved : goal.loop-number-preserved
 loop-number-preserved g c =
-    let words = c.args.drum.now in
+    let words = g.W.DrumWords.words c.args.words.now in
     let number = c.loop-number.number in
     let here : c.unwrap-address.result ≡ number = search rules in
-    let within : number < length words = omega (arith, c.word.ensures.drum) in
-    let read : c.word.result ≡ get_or words number 0 = c.word.ensures.word ∙ ap (λ a. get_or words a 0) here in
+    let within : number < length words = omega (arith, c.word_at.ensures.drum) in
+    let read : c.word_at.result ≡ get_or words number 0 = c.word_at.ensures.word ∙ ap (λ a. get_or words a 0) here in
     let rest = lines_from used_deposit (number + 1) (drop (number + 1) words) in
     record {
-      size = λ _. c.word.ensures.drum;
+      size = λ _. c.word_at.ensures.drum;
       text = ap (λ t. t ++ rest) (c.in_ok-push_word.ensures.text
-          ∙ ap (λ a. c.loop-number.text.items ++ used_deposit a c.word.result) here ∙ ap (λ w. c.loop-number.text.items ++ used_deposit number w) read)
+          ∙ ap (λ a. c.loop-number.text.items ++ used_deposit a c.word_at.result) here ∙ ap (λ w. c.loop-number.text.items ++ used_deposit number w) read)
           ∙ append_assoc c.loop-number.text.items (used_deposit number (get_or words number 0)) rest
           ∙ ap (λ t. c.loop-number.text.items ++ t) (sym (ap (lines_from used_deposit number) (drop_more words number 0 within)))
           ∙ c.loop-number.invariant.text;
@@ -34,8 +34,8 @@ loop-number-preserved g c =
 
 pub returns-clause-drum : goal.returns-clause-drum
 returns-clause-drum g c =
-    let size : length c.args.drum.now ≡ 4096 = c.loop-number.invariant.size (omega arith) in
+    let size : length (g.W.DrumWords.words c.args.words.now) ≡ 4096 = c.loop-number.invariant.size (omega arith) in
     record {
       size = size;
-      words_are = subst (All IsWord) (take_all c.loop-number.number c.args.drum.now (omega arith)) c.loop-number.invariant.words;
+      words_are = subst (All IsWord) (take_all c.loop-number.number (g.W.DrumWords.words c.args.words.now) (omega arith)) c.loop-number.invariant.words;
     }

@@ -4,8 +4,10 @@ use Rattle.lgp_exchange.specs.Deposits.{deposits_of, lines_from, used_deposit}
 use Rattle.lgp_exchange.proofs.deposits.push_deposits.Given as goal
 
 abbrev pub invariant-loop-number : goal.invariant-loop-number
-invariant-loop-number g l = record {
-  size : 0 < l.number → length l.drum ≡ 4096;
-  text : l.text.items ++ lines_from used_deposit l.number (drop l.number l.drum) ≡ l.fn.text.items ++ deposits_of l.fn.drum;
-  words : All IsWord (take l.number l.drum);
-}
+invariant-loop-number g l =
+    let words = g.W.DrumWords.words l.fn.words in
+    record {
+      size : 0 < l.number → length words ≡ 4096;
+      text : l.text.items ++ lines_from used_deposit l.number (drop l.number words) ≡ l.fn.text.items ++ deposits_of words;
+      words : All IsWord (take l.number words);
+    }
