@@ -226,6 +226,7 @@ other_at address_commands.Why address = λ telling limit e. cc
 alone : (command : LoneCommand) → IsOther (asked_alone command)
 alone lone_commands.Script = itself
 alone lone_commands.ScriptQuestion = itself
+alone lone_commands.Paper = λ telling limit e. cc
 alone lone_commands.Rules = λ telling limit e. cc
 alone lone_commands.Labels = λ telling limit e. cc
 alone lone_commands.Live = λ telling limit e. cc

@@ -100,6 +100,7 @@ asked_with number_commands.Operate limit = entry.Operate limit
 abbrev pub asked_alone : LoneCommand → Entry
 asked_alone lone_commands.Script = entry.Itself
 asked_alone lone_commands.ScriptQuestion = entry.Itself
+asked_alone lone_commands.Paper = entry.Asked questions.Paper
 asked_alone lone_commands.Rules = entry.Asked questions.Rules
 asked_alone lone_commands.Labels = entry.Asked questions.Labels
 asked_alone lone_commands.Live = entry.Asked questions.Live

@@ -1,10 +1,12 @@
 -- Part of the public promise: what is shown and changes nothing: words as numbers, where a word
--- came from, the names of the last source, the rules, what is live, the commands, the panel.
+-- came from, the paper, the names of the last source, the rules, what is live, the commands, the
+-- panel.
 use Rattle.std.specs.Prelude.{ℕ, ◌+◌, ◌++◌, if◌then◌else◌, nat_lt, not, List, [], ◌∷◌, codes}
-use Rattle.std.specs.Prelude.{decimal, flat_map}
+use Rattle.std.specs.Prelude.{decimal, flat_map, length}
 use Rattle.lgp_word.specs.Digits.{address_digits, digits_of}
 use Rattle.lgp_fraction.specs.Arithmetic.{half}
 use Rattle.lgp_fraction.specs.Decimal.{decimal_text}
+use Rattle.lgp_exchange.specs.Paper.{paper_of}
 use Rattle.lgp_history.specs.declared.rule.Rule.{Rule}
 use Rattle.lgp_history.specs.declared.rule.Rule.TheVariants.{At, Changed}
 use Rattle.lgp_lab.specs.DrumCommands.{lines_text}
@@ -29,6 +31,11 @@ number_line point address word =
     address_digits address
     ++ (codes " " ++ (digits_of word ++ (codes "  " ++ (decimal_text (half word) ++ (codes "  "
     ++ (scaled_text point word ++ codes "\n"))))))
+
+-- how many codes were printed, and the paper with them
+unfoldable pub paper_text : List ℕ → List ℕ
+paper_text printed =
+    codes "paper " ++ (decimal (length printed) ++ (codes "\n" ++ (paper_of printed ++ codes "\n")))
 
 -- a name and its value: an address, or the place after the drum's last
 unfoldable pub label_line : List ℕ × ℕ → List ℕ
@@ -88,6 +95,7 @@ answer_to (questions.Numbers range point) lab =
     lines_text (number_line point) lab.debugger.state range.first range.count
 answer_to (questions.Why address) lab =
     why_text (label_of (labels_of lab.source)) lab.debugger address
+answer_to questions.Paper lab = paper_text lab.debugger.state.printed
 answer_to questions.Labels lab = flat_map label_line (labels_of lab.source)
 answer_to questions.Rules lab =
     rule_lines (labels_of lab.source) 0 lab.debugger.rules

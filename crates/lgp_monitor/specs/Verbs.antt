@@ -33,13 +33,23 @@ verb_names =
     ∷ (codes "show", verbs.Range)
     ∷ (codes "numbers", verbs.ScaledRange)
     ∷ (codes "printed", verbs.Lone lone_commands.ScriptQuestion)
+    ∷ (codes "paper", verbs.Lone lone_commands.Paper)
     ∷ (codes "dump", verbs.Lone lone_commands.ScriptQuestion)
     ∷ (codes "source", verbs.Source)
     ∷ (codes "do", verbs.File)
     ∷ (codes "tape", verbs.File)
     ∷ (codes "archive", verbs.File)
+    ∷ (codes "bytes", verbs.File)
+    ∷ (codes "copy", verbs.File)
+    ∷ (codes "copy-archive", verbs.File)
+    ∷ (codes "copy-bytes", verbs.File)
+    ∷ (codes "punch", verbs.File)
+    ∷ (codes "punch-archive", verbs.File)
+    ∷ (codes "punch-bytes", verbs.File)
     ∷ (codes "save", verbs.File)
+    ∷ (codes "save-simh", verbs.File)
     ∷ (codes "restore", verbs.File)
+    ∷ (codes "restore-simh", verbs.File)
     ∷ (codes "list", verbs.Lone lone_commands.ScriptQuestion)
     ∷ (codes "load", verbs.Lone lone_commands.Script)
     ∷ (codes "break", verbs.Address address_commands.Script)
@@ -95,6 +105,7 @@ operands_kind verbs.End = codes " nothing\n"
 -- whether a command shows something and changes nothing
 abbrev pub only_asks : Verb → Bool
 only_asks (verbs.Lone lone_commands.ScriptQuestion) = true
+only_asks (verbs.Lone lone_commands.Paper) = true
 only_asks (verbs.Lone lone_commands.Rules) = true
 only_asks (verbs.Lone lone_commands.Labels) = true
 only_asks (verbs.Lone lone_commands.Live) = true

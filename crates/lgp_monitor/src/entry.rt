@@ -1,6 +1,6 @@
 //! What a typed line asks for.
 
-ghost use Rattle.std.specs.Prelude.{◌≡◌, ◌==◌, ◌||◌, ◌*ℤ◌, codes, if◌then◌else◌, is_some, option_and_then, option_map, pos, slice_index, unwrap_or};
+ghost use Rattle.std.specs.Prelude.{◌≡◌, ◌==◌, ◌||◌, ◌*ℤ◌, if◌then◌else◌, is_some, option_and_then, option_map, pos, slice_index};
 ghost use Rattle.std.specs.Option.{option_copied};
 ghost use Rattle.std.specs.Result.{result_ok};
 ghost use Rattle.std.specs.Str.{byte};
@@ -385,6 +385,7 @@ fn asked_alone(command: LoneCommand) -> Entry
 {
     match command {
         LoneCommand::Script | LoneCommand::ScriptQuestion => Entry::Itself,
+        LoneCommand::Paper => Entry::Asked(Question::Paper),
         LoneCommand::Rules => Entry::Asked(Question::Rules),
         LoneCommand::Labels => Entry::Asked(Question::Labels),
         LoneCommand::Live => Entry::Asked(Question::Live),

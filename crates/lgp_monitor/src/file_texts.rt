@@ -1,9 +1,8 @@
 //! Texts that no line has room for: a dump to restore, and a long tape.
 
-ghost use Rattle.std.specs.Prelude.{◌≡◌, ◌≢◌, ◌++◌, ◌==◌, ◌∷◌, [], if◌then◌else◌, length, map, decimal, codes, IfErr, IfOk, OnOk, Some, None};
+ghost use Rattle.std.specs.Prelude.{◌≡◌, ◌++◌, ◌==◌, ◌∷◌, [], if◌then◌else◌, length, map, decimal, codes, IfOk, OnOk};
 ghost use Rattle.lgp_monitor.specs.Monitor.{answered_with};
 ghost use Rattle.lgp_stream.specs.Language.{IsAnswered};
-ghost use Rattle.lgp_listing.specs.Dump.{IsDrum, first_fault};
 ghost use Rattle.lgp_stream.specs.Transcript.{after_lines};
 ghost use Rattle.lgp_lab.specs.Script.{script_language};
 ghost use Rattle.lgp_monitor.specs.FileTexts.{answer_to_dump, answer_to_tape, changed_cells, dump_fault_text, put_cell, rests_at};

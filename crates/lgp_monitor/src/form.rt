@@ -1,12 +1,11 @@
 //! The forms of commands, and why a line is in no command's form.
 
-ghost use Rattle.std.specs.Prelude.{◌≡◌, ◌++◌, ◌||◌, ◌&&◌, ◌==◌, Bool, OnOk, flat_map, if◌then◌else◌, length, slice_index};
-ghost use Rattle.std.specs.List.{list_any};
+ghost use Rattle.std.specs.Prelude.{◌≡◌, ◌++◌, ◌||◌, ◌&&◌, ◌==◌, OnOk, flat_map, if◌then◌else◌};
 ghost use Rattle.std.specs.Option.{option_map_or};
 ghost use Rattle.lgp_stream.specs.LineWords.{after_word, first_word, has_no_word};
 ghost use Rattle.lgp_assembler.specs.AddressOperands.{address_operand};
 ghost use Rattle.lgp_text.specs.NamedValues.{named, pairs_of};
-ghost use Rattle.lgp_monitor.specs.Forms.{address_mistake, are_digits, by_address, command_line, commands_text, form_line, has_capital, has_l_or_o, help_text, is_beyond_63, is_l_or_o, is_order_with_digits, misformed_address, misformed_text, mistake_text, no_command_reason, operand_reason, second_reason, takes_numbers, takes_place, value_mistake, value_reason, verb_reason};
+ghost use Rattle.lgp_monitor.specs.Forms.{address_mistake, are_digits, command_line, commands_text, form_line, has_capital, has_l_or_o, help_text, is_beyond_63, is_order_with_digits, misformed_address, misformed_text, mistake_text, no_command_reason, operand_reason, second_reason, takes_numbers, takes_place, value_mistake, value_reason, verb_reason};
 ghost use Rattle.lgp_monitor.specs.Verbs.{operands_form, operands_kind, verb_names};
 
 use crate::verb::{

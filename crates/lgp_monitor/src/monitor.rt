@@ -1,6 +1,6 @@
 //! The monitor: typed lines, each answered by the script lines that it stands for.
 
-ghost use Rattle.std.specs.Prelude.{◌≡◌, ◌++◌, ◌∷◌, [], List, ℕ, IfOk, OnOk, codes, is_some, unwrap_or};
+ghost use Rattle.std.specs.Prelude.{◌≡◌, ◌++◌, ◌∷◌, [], List, ℕ, IfOk, OnOk, codes, is_some};
 ghost use Rattle.lgp_stream.specs.Language.{IsAnswered};
 ghost use Rattle.lgp_stream.specs.LineWords.{after_word, first_word};
 ghost use Rattle.lgp_stream.specs.KeptLine.{kept_of};
@@ -10,7 +10,7 @@ ghost use Rattle.lgp_lab.specs.LabState.{labels_of, opening_state};
 ghost use Rattle.lgp_monitor.specs.FileTexts.{answer_to_dump, answer_to_tape};
 ghost use Rattle.lgp_monitor.specs.Closing.{closing_reply};
 ghost use Rattle.lgp_monitor.specs.Entry.{entry_of};
-ghost use Rattle.lgp_monitor.specs.Forms.{form_line, help_text, misformed_text};
+ghost use Rattle.lgp_monitor.specs.Forms.{form_line};
 ghost use Rattle.lgp_monitor.specs.Monitor.{answer_of, answer_to_operating, answered_with, entry_at, explained_line, go_lines, jump_line, monitor_language, panel_at, placed_line, put_line, reported_reply, run_line, run_operands};
 ghost use Rattle.lgp_monitor.specs.Reasons.{explained};
 
@@ -408,7 +408,7 @@ fn perform<A: Allocator + Copy, P: Progress>(
             alloc, recorder, telling, limit, line, reply,
         ),
         Entry::Operate(limit) => operate_by(alloc, recorder, limit, line.front(), reply),
-        Entry::Asked(question) => push_answer(reply, &question, recorder.answers()),
+        Entry::Asked(question) => push_answer(alloc, reply, &question, recorder.answers()),
         Entry::Transcript => reply.extend_from_slice(recorder.transcript()),
         Entry::New => begin_anew(alloc, recorder, reply),
         Entry::Help => push_help(reply),

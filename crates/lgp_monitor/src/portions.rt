@@ -1,6 +1,6 @@
 //! Runs that tell how far they are.
 
-ghost use Rattle.std.specs.Prelude.{◌≡◌, ◌++◌, [], OnOk, true};
+ghost use Rattle.std.specs.Prelude.{◌≡◌, [], OnOk, true};
 ghost use Rattle.lgp_stream.specs.Language.{IsAnswered};
 ghost use Rattle.lgp_debugger.specs.Run.{IsRun};
 ghost use Rattle.lgp_debugger.specs.Watching.{rules_in_force};
@@ -27,19 +27,26 @@ struct Portions<'a, P: Progress> {
 }
 
 impl<P: Progress> Portions<'_, P> {
-    /// One order more: where it is the first of a new portion, the number of those done is reported.
+    /// One order more is asked for: where it would be the first of a new portion, the number of those done is reported.
     #[inline(always)]
     fn count(&mut self)
         ensures { self.new.quiet ≡ self.old.quiet }
     {
         match self.left.checked_sub(1) {
             Some(left) => self.left = left,
-            None => {
-                self.reported = self.reported.saturating_add(self.portion);
-                self.left = self.portion.saturating_sub(1);
-                self.progress.performed(self.reported);
-            }
+            None => self.report(),
         }
+    }
+
+    /// Reports the orders of the portions done, and begins a new one.
+    #[cold]
+    #[inline(never)]
+    fn report(&mut self)
+        ensures { self.new.quiet ≡ self.old.quiet }
+    {
+        self.reported = self.reported.saturating_add(self.portion);
+        self.left = self.portion.saturating_sub(1);
+        self.progress.performed(self.reported);
     }
 }
 
@@ -58,14 +65,9 @@ impl<H: History<A>, A: Allocator, P: Progress> Watcher<H, A, ()> for Portions<'_
         debugger: &mut Debugger<H, A>,
         kept: &mut (),
     ) -> Result<Option<u8>, WatchFault> {
+        self.count();
         let mut quiet = self.quiet;
-        match quiet.order(debugger, kept) {
-            Ok(stop) => {
-                self.count();
-                Ok(stop)
-            }
-            Err(fault) => Err(fault),
-        }
+        quiet.order(debugger, kept)
     }
 }
 

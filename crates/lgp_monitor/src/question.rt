@@ -8,7 +8,7 @@ ghost use Rattle.lgp_lab.specs.LabState.{labels_of};
 ghost use Rattle.lgp_trace.specs.OriginLines.{why_text};
 ghost use Rattle.lgp_monitor.specs.Telling.{label_of};
 ghost use Rattle.lgp_text.specs.NamedValues.{pairs_of};
-ghost use Rattle.lgp_monitor.specs.Questions.{answer_to, label_line, live_keys, live_name, live_text, number_line, rule_address, rule_command, rule_line, rule_lines, way_text};
+ghost use Rattle.lgp_monitor.specs.Questions.{answer_to, label_line, live_keys, live_name, live_text, number_line, paper_text, rule_address, rule_command, rule_line, rule_lines, way_text};
 
 use crate::form::push_commands;
 use crate::labels::{NamedAddresses, push_name};
@@ -16,6 +16,8 @@ use crate::panel_data::push_panel_data;
 use crate::scaled::{Point, push_scaled};
 use lgp_assembler::Name;
 use lgp_debugger::Debugger;
+use lgp_exchange::push_paper;
+use lgp_flexo::Code;
 use lgp_fraction::Fraction;
 use lgp_history::{Records, Rule};
 use lgp_lab::{BUTTONS, Laboratory, Span};
@@ -33,6 +35,8 @@ pub enum Question {
     Numbers(Span, Point),
     /// Where the word at an address came from.
     Why(Address),
+    /// What was printed, as the typewriter's paper has it.
+    Paper,
     /// The names of the last source with their values.
     Labels,
     /// The rules with their numbers.
@@ -86,6 +90,28 @@ fn push_numbers<A: Allocator>(
         let address = range.address(place);
         push_number_line(text, point, address, machine.word(address))?;
     }
+    Ok(())
+}
+
+/// Appends how many codes were printed, and the paper with them.
+#[tactic(auto, unfolding(crate::specs::Questions::paper_text))]
+fn push_paper_text<A: Allocator, B: Allocator>(
+    alloc: B,
+    text: &mut Vec<u8, A>,
+    printed: &[Code],
+) -> Result<(), AllocError>
+    ensures { OnOk result (text.new.items ≡ text.old.items ++ paper_text printed.now) }
+{
+    push_pieces(
+        text,
+        &[
+            Piece::Text(b"paper "),
+            Piece::Number(printed.len() as u64),
+            Piece::Text(b"\n"),
+        ],
+    )?;
+    push_paper(alloc, text, printed)?;
+    text.push(b'\n')?;
     Ok(())
 }
 
@@ -298,6 +324,7 @@ fn push_live<A: Allocator, B: Allocator + Clone>(
 /// Appends what is answered to a question.
 #[tactic(auto, unfolding(crate::specs::Questions::answer_to))]
 pub fn push_answer<A: Allocator + Copy>(
+    alloc: A,
     text: &mut Vec<u8, A>,
     question: &Question,
     laboratory: &Laboratory<A>,
@@ -310,6 +337,9 @@ pub fn push_answer<A: Allocator + Copy>(
             push_numbers(text, laboratory.debugger().machine(), range, *point)
         }
         Question::Why(address) => push_why_at(text, *address, laboratory),
+        Question::Paper => {
+            push_paper_text(alloc, text, laboratory.debugger().machine().printed())
+        }
         Question::Labels => push_label_lines(text, laboratory.labels()),
         Question::Rules => {
             push_rule_lines(text, laboratory.labels(), laboratory.debugger().rules())

@@ -1,6 +1,6 @@
 //! Answering typed lines while they are read.
 
-ghost use Rattle.std.specs.Prelude.{◌≡◌, [], IfErr, IfOk, IfSome, OnOk, false};
+ghost use Rattle.std.specs.Prelude.{◌≡◌, [], IfErr, IfOk, IfSome, OnOk};
 ghost use Rattle.std.specs.Io.KnownBytes.{Appends, IsAtEnd};
 ghost use Rattle.lgp_stream.specs.Language.{HasCause, StandsWritten};
 ghost use Rattle.lgp_stream.specs.Transcript.{untouched};

@@ -1,6 +1,6 @@
 //! Lines that are answered as lines of a script as they are.
 
-ghost use Rattle.std.specs.Prelude.{◌≡◌, ◌≤◌, ◌++◌, ◌∷◌, [], List, ℕ, None, Some, IfSome, OnOk, false, length};
+ghost use Rattle.std.specs.Prelude.{◌≡◌, ◌≤◌, ◌∷◌, [], List, ℕ, None, Some, IfSome, OnOk, false, length};
 ghost use Rattle.lgp_stream.specs.KeptLine.{kept_of, line_limit};
 ghost use Rattle.lgp_stream.specs.Language.{IsAnswered};
 ghost use Rattle.lgp_stream.specs.Transcript.{lines_answered, stand_in};

@@ -14,6 +14,7 @@ pub enum LoneCommand {
     Script,
     /// One of scripts that only asks.
     ScriptQuestion,
+    Paper,
     Rules,
     Labels,
     Live,
@@ -77,7 +78,7 @@ pub enum Verb {
 }
 
 /// The commands by their first word.
-pub const VERBS: [Named<Verb>; 44] = [
+pub const VERBS: [Named<Verb>; 54] = [
     (b"put", Verb::Word),
     (b"go", Verb::Address(AddressCommand::Go)),
     (b"mount", Verb::Text),
@@ -102,13 +103,23 @@ pub const VERBS: [Named<Verb>; 44] = [
     (b"show", Verb::Range),
     (b"numbers", Verb::ScaledRange),
     (b"printed", Verb::Lone(LoneCommand::ScriptQuestion)),
+    (b"paper", Verb::Lone(LoneCommand::Paper)),
     (b"dump", Verb::Lone(LoneCommand::ScriptQuestion)),
     (b"source", Verb::Source),
     (b"do", Verb::File),
     (b"tape", Verb::File),
     (b"archive", Verb::File),
+    (b"bytes", Verb::File),
+    (b"copy", Verb::File),
+    (b"copy-archive", Verb::File),
+    (b"copy-bytes", Verb::File),
+    (b"punch", Verb::File),
+    (b"punch-archive", Verb::File),
+    (b"punch-bytes", Verb::File),
     (b"save", Verb::File),
+    (b"save-simh", Verb::File),
     (b"restore", Verb::File),
+    (b"restore-simh", Verb::File),
     (b"list", Verb::Lone(LoneCommand::ScriptQuestion)),
     (b"load", Verb::Lone(LoneCommand::Script)),
     (b"break", Verb::Address(AddressCommand::Script)),

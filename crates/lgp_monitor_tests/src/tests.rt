@@ -11,7 +11,7 @@ use std::process::Abort;
 /// Typed lines, what is written for them, and how many replies begin with a question mark.
 type Row = (&'static [u8], &'static [u8], u64);
 
-const ROWS: [Row; 39] = [
+const ROWS: [Row; 41] = [
     // Words by order, number and fraction: the machine's word of n at 30 is 2n, and -.5 is -2^30 of 2^31 steps.
     (
         b"put 0050 = 385\nput 0051 = -1\nput 0052 -.5\nput 0053 h 6363\nwords 0050 4\n",
@@ -47,10 +47,21 @@ const ROWS: [Row; 39] = [
         b"live normal oneop manual start clear fill\nway start\nlive\nlive normal oneop manual clear fill read keys\nway normal start\nlive\nok\nlive\nlive normal oneop manual\nway orders\norders 1 waiting\nlive normal oneop manual compute read keys stop\nway keys\nlive\n? 1 Form: live\nlive\nlive normal oneop manual start clear fill execute\nway start\npress manual\npress normal\nput 0000 00040000\npress start\norders 1\npress oneop\nlive now\npress compute\n",
         1,
     ),
+    // The paper: a capital letter after upper case, a row, and a sign after a tab.
+    (
+        b"put 0000 p 0800\nput 0001 p 0600\nput 0002 p 1600\nput 0003 p 0400\nput 0004 p 0600\nput 0005 p 2400\nput 0006 p 0200\nput 0007 z\npress start\nrun 9\npaper\nprinted\n",
+        b"ok\nok\nok\nok\nok\nok\nok\nok\nlive\nran 8 rest\npaper 7\nL\n1       0\nprinted 7 [08]1[16][04]1[24]0\n",
+        0,
+    ),
+    (
+        b"paper\npaper now\ntranscript\n",
+        b"paper 0\n\n? 1 Form: paper\npaper now\n",
+        1,
+    ),
     // Each command, whether it only asks, and what it takes.
     (
         b"commands\ntranscript\n",
-        b"put does address word\ngo does address\nmount does text\npress does button\ntype does text\nturn does number\norders does number\nrun does number\noperate does number\ntrace does number\nprofile does number\ndrum does number\noptimum does number\nwhy asks address\nback does number\nlast does nothing\npanel asks nothing\nwords asks range\nshow asks range\nnumbers asks range\nprinted asks nothing\ndump asks nothing\nsource does source\ndo does file\ntape does file\narchive does file\nsave does file\nrestore does file\nlist asks nothing\nload does nothing\nbreak does address\nwatch does address\ndrop does number\nrules asks nothing\nlabels asks nothing\nlive asks nothing\ncommands asks nothing\npanel-data asks nothing\ntrace-data does number\nprofile-data does number\ntranscript asks nothing\nnew does nothing\nhelp asks command\nquit does nothing\n",
+        b"put does address word\ngo does address\nmount does text\npress does button\ntype does text\nturn does number\norders does number\nrun does number\noperate does number\ntrace does number\nprofile does number\ndrum does number\noptimum does number\nwhy asks address\nback does number\nlast does nothing\npanel asks nothing\nwords asks range\nshow asks range\nnumbers asks range\nprinted asks nothing\npaper asks nothing\ndump asks nothing\nsource does source\ndo does file\ntape does file\narchive does file\nbytes does file\ncopy does file\ncopy-archive does file\ncopy-bytes does file\npunch does file\npunch-archive does file\npunch-bytes does file\nsave does file\nsave-simh does file\nrestore does file\nrestore-simh does file\nlist asks nothing\nload does nothing\nbreak does address\nwatch does address\ndrop does number\nrules asks nothing\nlabels asks nothing\nlive asks nothing\ncommands asks nothing\npanel-data asks nothing\ntrace-data does number\nprofile-data does number\ntranscript asks nothing\nnew does nothing\nhelp asks command\nquit does nothing\n",
         0,
     ),
     // The panel as lines of a key and a value, and two codes of a tape that the reader takes, reported so.
@@ -365,7 +376,7 @@ fn a_source_that_is_too_long_has_no_marks(rt: HostRuntime) {
 
 /// Runs that are reported in each way, with labels.
 const EACH: &[u8] =
-    b"source\nfirst z\n end\n.\nput 0000 b 0003\npress start\ntrace 1\nprofile 1\npress start\ndrum 2\nback 2\ntrace-data 1\nprofile-data 1\npanel-data\nlive\npress start\noptimum 1\npress start\noptimum 1 0000\noperate 1\n";
+    b"source\nfirst z\n end\n.\nput 0000 b 0003\npress start\ntrace 1\nprofile 1\npress start\ndrum 2\nback 2\ntrace-data 1\nprofile-data 1\npanel-data\nlive\npress start\noptimum 1\npress start\noptimum 1 0000\noperate 1\nnew\nput 0000 p 0600\npress start\nrun 1\npaper\n";
 
 /// Two sources with faults.
 const FAULTY: &[u8] = b"source\n q\n b none\n end\n.\nsource\n z\n.\n";

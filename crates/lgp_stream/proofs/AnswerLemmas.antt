@@ -3,6 +3,11 @@ use Rattle.std.proofs.Common.{◌≡◌, List, ℕ, Result, Ok, Err, subst}
 use Rattle.std.specs.Result.{OnOk}
 use Rattle.lgp_stream.specs.Language.{Answer, IsAnswered}
 
+-- what holds in any case
+pub on_ok_always : {T E P : Type 0} (result : Result T E) → P → OnOk result P
+on_ok_always (Ok value) p = p
+on_ok_always (Err fault) p = tt
+
 -- what follows from two facts that hold where a call ended well
 pub both_on_ok : {T E A B C : Type 0} (result : Result T E) → OnOk result A → OnOk result B → (A → B → C) → OnOk result C
 both_on_ok (Ok value) a b both = both a b

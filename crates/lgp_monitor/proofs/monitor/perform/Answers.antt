@@ -1,17 +1,13 @@
-use Rattle.std.proofs.Common.{◌≡◌, ◌∙◌, ◌++◌, rules, sym, ap, Result, Ok, Err}
+use Rattle.std.proofs.Common.{◌≡◌, ◌∙◌, ◌++◌, rules, sym, ap}
 use Rattle.std.specs.Result.{OnOk}
 use Rattle.lgp_lab.specs.Script.{script_language}
 use Rattle.lgp_lab.specs.LabState.{opening_state}
 use Rattle.lgp_stream.specs.Transcript.{after_meaning}
 use Rattle.lgp_stream.proofs.AfterLemmas.{after-none}
-use Rattle.lgp_stream.proofs.AnswerLemmas.{both_on_ok}
+use Rattle.lgp_stream.proofs.AnswerLemmas.{both_on_ok, on_ok_always}
 use Rattle.lgp_monitor.specs.Monitor.{meaning_of, reply_of}
 use Rattle.lgp_monitor.specs.declared.entry.Entry.{Entry}
 use Rattle.lgp_monitor.proofs.monitor.perform.Goals as goal
-
-on_ok_always : {T E P : Type 0} (r : Result T E) → P → OnOk r P
-on_ok_always (Ok x) p = p
-on_ok_always (Err e) p = tt
 
 pub returns-in-Transcript : goal.returns-in-Transcript
 returns-in-Transcript g c = λ text kept asked.
