@@ -1,16 +1,22 @@
 -- Texts of files, taken line by line, and names without the spaces at their end.
-use Rattle.std.proofs.Common.{◌≡◌, ℕ, ◌+◌, ◌-◌, ◌<◌, ◌≤◌, ◌||◌, ◌&&◌, Bool, true, false, cond, List, [], ◌∷◌, ◌++◌, length, take, get_or, count_by, nat_lt, Result, Ok, Err, refl, sym, ap, ◌∙◌, append_assoc, arith}
+use Rattle.std.proofs.Common.{◌≡◌, ℕ, ◌+◌, ◌-◌, ◌<◌, ◌≤◌, ◌||◌, ◌&&◌, Bool, true, false, cond, List, [], ◌∷◌, ◌++◌, length, take, get_or, count_by, nat_lt, Option, Some, None, IfSome, IfNone, IfErr, IsErrOf, Result, Ok, Err, refl, sym, ap, subst, ◌∙◌, append_assoc, arith}
 use Rattle.std.specs.List.{list_all, list_any}
+use Rattle.std.specs.Option.{option_map_or}
 use Rattle.std.specs.Result.{IsOkAnd, result_map_both}
 use Rattle.std.specs.Str.Lines.{lines}
 use Rattle.std.proofs.lemmas.Bool.Decides.{nat_tests}
 use Rattle.std.proofs.lemmas.List.{append-nil, take_more}
 use Rattle.std.proofs.lemmas.List.Sums.{sum_by-append}
 use Rattle.lgp_flexo.specs.TapeText.{tape_limit, written_tape}
+use Rattle.lgp_exchange.specs.Examined.{first_fault, words_of}
+use Rattle.lgp_exchange.specs.TapeBytes.{first_no_code}
+use Rattle.lgp_exchange.specs.declared.examined.ExaminedFault.{ExaminedFault}
+use Rattle.lgp_exchange.specs.declared.examined.ExaminedFault.TheVariants.{Memory}
+use Rattle.lgp_listing.specs.Dump.{dump_of}
 use Rattle.lgp_stream.specs.KeptLine.{IsFirstLine, Kept}
 use Rattle.lgp_stream.specs.Language.{is_line_feed}
 use Rattle.lgp_stream.specs.LineWords.{has_no_word, is_space}
-use Rattle.lgp_desk.specs.Desk.{dump_line, dump_lines, tape_in}
+use Rattle.lgp_desk.specs.FileForms.{coded, dump_line, dump_lines, examined_trouble, simh_dump, tape_in}
 use Rattle.lgp_desk.specs.Requests.{trimmed}
 use Rattle.lgp_desk.specs.declared.files.FileTrouble.{FileTrouble}
 use Rattle.lgp_desk.specs.declared.files.FileTrouble.TheVariants as troubles
@@ -118,3 +124,63 @@ tape-long (Ok tape) text long =
 tape-long (Err place) text long = absurd long
 
 pub ruleset tapes = (tape-ok, tape-bad, tape-long)
+
+-- ---- bytes
+
+pub no-fault : {T E : Type 0} (result : Result T E) (value : T) (fault : E) → result ≡ Ok value → result ≡ Err fault → ⊥
+no-fault result value fault one other = cc (one, other)
+
+none-of : (found : Option ℕ) → ((place : ℕ) → found ≡ Some place → ⊥) → found ≡ None
+none-of None none = refl
+none-of (Some place) none = absurd (none place refl)
+
+pub bytes-ok : (bytes : List ℕ) → ((place : ℕ) → first_no_code bytes ≡ Some place → ⊥) → length bytes ≤ tape_limit → Ok (written_tape bytes) ≡ result_map_both written_tape (λ trouble. trouble) (coded bytes)
+unfolding coded
+bytes-ok bytes none short =
+    let test : nat_lt tape_limit (length bytes) ≡ false = grind (arith, nat_tests) in
+    sym (ap (λ (it : Option ℕ). with_text (option_map_or (λ place. Err (troubles.NoCode place)) it (cond (nat_lt tape_limit (length bytes)) (Err troubles.LongTape) (Ok bytes)))) (none-of (first_no_code bytes) none)
+    ∙ ap (λ (long : Bool). with_text (cond long (Err troubles.LongTape) (Ok bytes))) test)
+
+pub bytes-bad : (bytes : List ℕ) (place : ℕ) → first_no_code bytes ≡ Some place → Err (troubles.NoCode place) ≡ result_map_both written_tape (λ trouble. trouble) (coded bytes)
+unfolding coded
+bytes-bad bytes place is =
+    sym (ap (λ (it : Option ℕ). with_text (option_map_or (λ place. Err (troubles.NoCode place)) it (cond (nat_lt tape_limit (length bytes)) (Err troubles.LongTape) (Ok bytes)))) is)
+
+pub bytes-long : (bytes : List ℕ) → first_no_code bytes ≡ None → tape_limit < length bytes → Err troubles.LongTape ≡ result_map_both written_tape (λ trouble. trouble) (coded bytes)
+unfolding coded
+bytes-long bytes none long =
+    let test : nat_lt tape_limit (length bytes) ≡ true = grind (arith, nat_tests) in
+    sym (ap (λ (it : Option ℕ). with_text (option_map_or (λ place. Err (troubles.NoCode place)) it (cond (nat_lt tape_limit (length bytes)) (Err troubles.LongTape) (Ok bytes)))) none
+    ∙ ap (λ (it : Bool). with_text (cond it (Err troubles.LongTape) (Ok bytes))) test)
+
+pub ruleset bytes = (bytes-ok, bytes-bad, bytes-long)
+
+-- ---- texts of SIMH's
+
+same-fault : {T : Type 0} (result : Result T ExaminedFault) (fault it : ExaminedFault) → result ≡ Err fault → result ≡ Err it → it ≡ fault
+same-fault result fault it one other = cc (one, other)
+
+module _ {T : Type 0} (text : List ℕ) (result : Result T ExaminedFault) (faulty : IfSome (first_fault text) (λ fault. IsErrOf result fault)) where
+  -- what was read has no fault
+  pub simh-read : (value : T) → result ≡ Ok value → first_fault text ≡ None
+  simh-read value is = by_fault (first_fault text) faulty where
+    by_fault : (found : Option ExaminedFault) → IfSome found (λ fault. IsErrOf result fault) → found ≡ None
+    by_fault None so = refl
+    by_fault (Some fault) so = absurd (no-fault result value fault is so)
+
+  -- and a fault that is not memory's is its first
+  pub simh-fault : (fault : ExaminedFault) → result ≡ Err fault → IfNone (first_fault text) (IfErr result (λ it. it ≡ Memory)) → (fault ≡ Memory → ⊥) → first_fault text ≡ Some fault
+  simh-fault fault is faultless other = by_fault (first_fault text) faulty faultless where
+    by_fault : (found : Option ExaminedFault) → IfSome found (λ it. IsErrOf result it) → IfNone found (IfErr result (λ it. it ≡ Memory)) → found ≡ Some fault
+    by_fault None so none = absurd (other (subst (λ (r : Result T ExaminedFault). IfErr r (λ it. it ≡ Memory)) is none))
+    by_fault (Some it) so none = ap Some (same-fault result fault it is so)
+
+pub simh-dump : (text : List ℕ) → first_fault text ≡ None → Ok (dump_of (words_of text)) ≡ simh_dump text
+unfolding simh_dump
+simh-dump text none = sym (ap (λ (it : Option ExaminedFault). option_map_or (λ fault. Err (examined_trouble fault)) it (Ok (dump_of (words_of text)))) none)
+
+pub simh-refused : (text : List ℕ) (fault : ExaminedFault) → first_fault text ≡ Some fault → Err (examined_trouble fault) ≡ simh_dump text
+unfolding simh_dump
+simh-refused text fault is = sym (ap (λ (it : Option ExaminedFault). option_map_or (λ fault. Err (examined_trouble fault)) it (Ok (dump_of (words_of text)))) is)
+
+pub ruleset simh = (simh-dump, simh-refused)

@@ -3,3 +3,4 @@ pub mod SomeTexts
 pub mod FormLemmas
 pub mod SessionLemmas
 pub mod TranscriptLaws
+pub mod KeptLaws

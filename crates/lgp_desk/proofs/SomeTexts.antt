@@ -4,20 +4,21 @@ use Rattle.std.specs.List.{list_any}
 use Rattle.std.specs.Option.{option_map_or}
 use Rattle.std.specs.Str.{bytes_eq}
 use Rattle.std.specs.Str.Lines.{lines}
-use Rattle.lgp_flexo.specs.Archive.{codes_of_archive}
-use Rattle.lgp_flexo.specs.TapeText.{codes_of_text, written_tape}
-use Rattle.lgp_listing.specs.Dump.{dump_of}
+use Rattle.lgp_flexo.specs.TapeText.{written_tape}
 use Rattle.lgp_stream.specs.KeptLine.{kept_of}
 use Rattle.lgp_stream.specs.Speech.{after_said, rest_said, said_to}
 use Rattle.lgp_stream.specs.declared.stream.StreamFault.TheVariants.{Memory}
 use Rattle.lgp_stream.specs.declared.tally.Tally.{Tally}
-use Rattle.lgp_desk.specs.Desk.{Said, Seat, all_answered, answered, begun, command_said, desk_speech, dump_lines, end_said, file_said, left_by, line_said, lines_said, long_tape, mounted, mount_limit, nothing, own, prompt_at, prompt_in, refused, restored, said, saved, source_said, taken_seat, tape_in, tape_or_refused, text_at, typed_by, typed_said, used_or_refused, within, worked}
+use Rattle.lgp_desk.specs.Desk.{Said, Seat, all_answered, answered, begun, command_said, desk_speech, end_said, file_said, left_by, line_said, lines_said, long_tape, mounted, mount_limit, nothing, own, prompt_at, prompt_in, refused, restored, restored_or_refused, said, saved, source_said, taken_seat, tape_or_refused, text_at, typed_by, typed_said, used_or_refused, within, worked}
 use Rattle.lgp_desk.specs.DeskInside.{HasSaid, IsOfText}
+use Rattle.lgp_desk.specs.FileForms.{dump_in, tape_of, text_made}
 use Rattle.lgp_desk.specs.Files.{Drawer, takes, with_file}
 use Rattle.lgp_desk.specs.Requests.{is_quit, request_of}
 use Rattle.lgp_desk.specs.Troubles.{kept_text, line_note}
 use Rattle.lgp_desk.specs.declared.files.FileTrouble.{FileTrouble}
 use Rattle.lgp_desk.specs.declared.files.FileTrouble.TheVariants as troubles
+use Rattle.lgp_desk.specs.declared.request.DrumForm.{DrumForm}
+use Rattle.lgp_desk.specs.declared.request.Made.{Made}
 use Rattle.lgp_desk.specs.declared.request.Work.{Work}
 use Rattle.lgp_desk.specs.declared.request.Work.TheVariants as works
 use Rattle.lgp_desk.specs.declared.writing.Manner.{Manner}
@@ -57,27 +58,30 @@ some-source note seat name text = by_point (list_any (λ line. bytes_eq line (co
   by_point true = some-one _
   by_point false = some-before _ _ (some-one _)
 
-some-restored : (note : List ℕ) (seat : Seat) (name dump : List ℕ) → HasText (restored note seat name dump).texts
+some-restored : (form : DrumForm) (note : List ℕ) (seat : Seat) (name dump : List ℕ) → HasText (restored form note seat name dump).texts
 unfolding restored
-some-restored note seat name dump = some-one _
+some-restored form note seat name dump = some-one _
 
-some-saved : (note : List ℕ) (seat : Seat) (name : List ℕ) → HasText (saved note seat name).texts
+some-drum : (form : DrumForm) (note : List ℕ) (seat : Seat) (name : List ℕ) (dump : Result (List ℕ) FileTrouble) → HasText (restored_or_refused form note seat name dump).texts
+some-drum form note seat name (Ok dump) = some-restored form note seat name dump
+some-drum form note seat name (Err trouble) = some-one _
+
+some-saved : (made : Made) (note : List ℕ) (seat : Seat) (name : List ℕ) → HasText (saved made note seat name).texts
 unfolding saved
-some-saved note seat name = by_kept (option_map_or (λ (drawer : Drawer). takes drawer name) seat.drawer false) where
-  dump : List ℕ
-  dump = dump_of seat.recorded.state.debugger.state.core.words
+some-saved made note seat name = by_kept (option_map_or (λ (drawer : Drawer). takes drawer name) seat.drawer false) where
+  text : List ℕ
+  text = text_made made seat.recorded.state.debugger.state
 
-  by_kept : (kept : Bool) → HasText (cond kept (own note (record seat { drawer = option_map (λ (drawer : Drawer). with_file drawer name dump) seat.drawer }) (kept_text name)) (refused note seat name troubles.NotWritten)).texts
+  by_kept : (kept : Bool) → HasText (cond kept (own note (record seat { drawer = option_map (λ (drawer : Drawer). with_file drawer name text) seat.drawer }) (kept_text name)) (refused note seat name troubles.NotWritten)).texts
   by_kept true = some-one _
   by_kept false = some-one _
 
 some-used : (work : Work) (note : List ℕ) (seat : Seat) (name : List ℕ) (text : Result (List ℕ) FileTrouble) → IsOfText work → HasText (used_or_refused work note seat name text).texts
 some-used works.Source note seat name (Ok text) of = some-source note seat name text
-some-used works.Tape note seat name (Ok text) of = some-tape note seat name (tape_in (codes_of_text text) text)
-some-used works.Archive note seat name (Ok text) of = some-tape note seat name (tape_in (codes_of_archive text) text)
-some-used works.Restore note seat name (Ok text) of = some-restored note seat name (dump_lines (lines text))
+some-used (works.Tape form) note seat name (Ok text) of = some-tape note seat name (tape_of form text)
+some-used (works.Restore form) note seat name (Ok text) of = some-drum form note seat name (dump_in form text)
 some-used works.Lines note seat name (Ok text) of = absurd of
-some-used works.Save note seat name (Ok text) of = absurd of
+some-used (works.Keep made) note seat name (Ok text) of = absurd of
 some-used work note seat name (Err trouble) of = some-one _
 
 some-lines : (say : List ℕ → Seat → List ℕ → Said) (name : List ℕ) (number : ℕ) (seat : Seat) (lines : List (List ℕ)) → HasText (lines_said say name number seat lines).texts
@@ -95,11 +99,10 @@ some-typed (Some say) note seat name = some-file say note seat name (text_at sea
 
 some-worked : (inside : Option (List ℕ → Seat → List ℕ → Said)) (note : List ℕ) (seat : Seat) (work : Work) (name : List ℕ) → HasText (worked (typed_by inside note seat) note seat work name).texts
 some-worked inside note seat works.Lines name = some-typed inside note seat name
-some-worked inside note seat works.Save name = some-saved note seat name
+some-worked inside note seat (works.Keep made) name = some-saved made note seat name
 some-worked inside note seat works.Source name = some-used works.Source note seat name (text_at seat name) tt
-some-worked inside note seat works.Tape name = some-used works.Tape note seat name (text_at seat name) tt
-some-worked inside note seat works.Archive name = some-used works.Archive note seat name (text_at seat name) tt
-some-worked inside note seat works.Restore name = some-used works.Restore note seat name (text_at seat name) tt
+some-worked inside note seat (works.Tape form) name = some-used (works.Tape form) note seat name (text_at seat name) tt
+some-worked inside note seat (works.Restore form) name = some-used (works.Restore form) note seat name (text_at seat name) tt
 
 some-line : (inside : Option (List ℕ → Seat → List ℕ → Said)) (note : List ℕ) (seat : Seat) (line : List ℕ) → seat.has_left ≡ false → HasText (line_said (typed_by inside note seat) note seat line).texts
 some-line inside note seat line here = by_left seat.has_left here where
@@ -142,11 +145,8 @@ memory {T} after w tally what some = said-memory {T = T} after w tally some.firs
 pub memory-tape : {T : Type 0} (after : Seat) (w : Option (List ℕ)) (tally : Tally) (note : List ℕ) (seat : Seat) (name : List ℕ) (tape : Result (List ℕ) FileTrouble) → HasSaid {T = T} after w w tally tally (Err Memory) (tape_or_refused note seat name tape)
 memory-tape {T} after w tally note seat name tape = memory {T = T} after w tally _ (some-tape note seat name tape)
 
-pub memory-source : {T : Type 0} (after : Seat) (w : Option (List ℕ)) (tally : Tally) (note : List ℕ) (seat : Seat) (name text : List ℕ) → HasSaid {T = T} after w w tally tally (Err Memory) (source_said note seat name text)
-memory-source {T} after w tally note seat name text = memory {T = T} after w tally _ (some-source note seat name text)
-
-pub memory-saved : {T : Type 0} (after : Seat) (w : Option (List ℕ)) (tally : Tally) (note : List ℕ) (seat : Seat) (name : List ℕ) → HasSaid {T = T} after w w tally tally (Err Memory) (saved note seat name)
-memory-saved {T} after w tally note seat name = memory {T = T} after w tally _ (some-saved note seat name)
+pub memory-drum : {T : Type 0} (after : Seat) (w : Option (List ℕ)) (tally : Tally) (form : DrumForm) (note : List ℕ) (seat : Seat) (name : List ℕ) (dump : Result (List ℕ) FileTrouble) → HasSaid {T = T} after w w tally tally (Err Memory) (restored_or_refused form note seat name dump)
+memory-drum {T} after w tally form note seat name dump = memory {T = T} after w tally _ (some-drum form note seat name dump)
 
 pub memory-used : {T : Type 0} (after : Seat) (w : Option (List ℕ)) (tally : Tally) (work : Work) (note : List ℕ) (seat : Seat) (name : List ℕ) (text : Result (List ℕ) FileTrouble) → IsOfText work → HasSaid {T = T} after w w tally tally (Err Memory) (used_or_refused work note seat name text)
 memory-used {T} after w tally work note seat name text of = memory {T = T} after w tally _ (some-used work note seat name text of)

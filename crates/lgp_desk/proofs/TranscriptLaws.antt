@@ -9,9 +9,7 @@ use Rattle.std.proofs.lemmas.Bool.Decides.{nat_tests}
 use Rattle.lgp_word.specs.Digits.{digits}
 use Rattle.lgp_word.specs.Order.{letters}
 use Rattle.lgp_flexo.specs.Code.{is_stop, other_signs, sign_at, stop_sign}
-use Rattle.lgp_flexo.specs.Archive.{codes_of_archive}
-use Rattle.lgp_flexo.specs.TapeText.{codes_of_text, sign_or_group, written_code, written_tape}
-use Rattle.lgp_listing.specs.Dump.{dump_of}
+use Rattle.lgp_flexo.specs.TapeText.{sign_or_group, written_code, written_tape}
 use Rattle.lgp_stream.specs.KeptLine.{kept_of}
 use Rattle.lgp_stream.specs.Language.{is_line_feed}
 use Rattle.lgp_stream.specs.Speech.{after_said}
@@ -23,12 +21,15 @@ use Rattle.lgp_monitor.specs.FileTexts.{restore_lines}
 use Rattle.lgp_monitor.specs.Monitor.{meaning_at}
 use Rattle.lgp_monitor.proofs.LineLemmas.{free-at}
 use Rattle.lgp_monitor.proofs.RestoreLemmas.{free-restored}
-use Rattle.lgp_desk.specs.Desk.{Handed, IsSayable, Said, Seat, all_answered, and_then, answered, desk_speech, dump_lines, file_said, first_said, handed_to, line_said, lines_said, left_by, long_tape, mounted, mount_limit, nothing, own, refused, restored, said, saved, session_end, session_handed, source_said, taken_seat, tape_in, tape_or_refused, text_at, typed_by, used, used_or_refused, within, worked}
+use Rattle.lgp_desk.specs.Desk.{Handed, IsSayable, Said, Seat, all_answered, and_then, answered, desk_speech, file_said, first_said, handed_to, line_said, lines_said, left_by, long_tape, mounted, mount_limit, nothing, own, refused, restored, restored_or_refused, said, saved, session_end, session_handed, source_said, taken_seat, tape_or_refused, text_at, typed_by, used, used_or_refused, within, worked}
+use Rattle.lgp_desk.specs.FileForms.{dump_in, tape_of, text_made}
 use Rattle.lgp_desk.specs.Files.{Drawer, takes, with_file}
 use Rattle.lgp_desk.specs.Requests.{is_quit, request_of}
 use Rattle.lgp_desk.specs.Troubles.{kept_text, line_note}
 use Rattle.lgp_desk.specs.declared.files.FileTrouble.{FileTrouble}
 use Rattle.lgp_desk.specs.declared.files.FileTrouble.TheVariants as troubles
+use Rattle.lgp_desk.specs.declared.request.DrumForm.{DrumForm}
+use Rattle.lgp_desk.specs.declared.request.Made.{Made}
 use Rattle.lgp_desk.specs.declared.request.Work.{Work}
 use Rattle.lgp_desk.specs.declared.request.Work.TheVariants as works
 use Rattle.lgp_desk.specs.declared.writing.Manner.{Manner}
@@ -115,9 +116,9 @@ reported-all note seat (line ∷ more) free reported =
     reported-then (answered note seat line) (λ next. all_answered note next more) (reported-answered note seat line free.0 reported)
     (λ next reported-next. reported-all note next more free.1 reported-next)
 
-reported-restored : (note : List ℕ) (seat : Seat) (name dump : List ℕ) → IsReported-at seat → IsReportedAfter (restored note seat name dump)
+reported-restored : (form : DrumForm) (note : List ℕ) (seat : Seat) (name dump : List ℕ) → IsReported-at seat → IsReportedAfter (restored form note seat name dump)
 unfolding restored after_lines
-reported-restored note seat name dump reported all =
+reported-restored form note seat name dump reported all =
     IsReported-lines script_language opening_state seat.recorded.state seat.recorded.transcript (restore_lines seat.recorded dump) reported (free-restored seat.recorded dump)
 
 reported-mounted : (note : List ℕ) (seat : Seat) (name text : List ℕ) → IsLine text → IsReported-at seat → IsReportedAfter (mounted note seat name text)
@@ -131,6 +132,10 @@ reported-tape : (note : List ℕ) (seat : Seat) (name : List ℕ) (tape : Result
 reported-tape note seat name (Ok tape) reported = reported-mounted note seat name (written_tape tape) (free-tape tape) reported
 reported-tape note seat name (Err trouble) reported = λ all. reported
 
+reported-drum : (form : DrumForm) (note : List ℕ) (seat : Seat) (name : List ℕ) (dump : Result (List ℕ) FileTrouble) → IsReported-at seat → IsReportedAfter (restored_or_refused form note seat name dump)
+reported-drum form note seat name (Ok dump) reported = reported-restored form note seat name dump reported
+reported-drum form note seat name (Err trouble) reported = λ all. reported
+
 free-ended : (lines : List (List ℕ)) (line : List ℕ) → AllByRecursion IsLine lines → IsLine line → AllByRecursion IsLine (lines ++ line ∷ [])
 free-ended [] line free last = (last, tt)
 free-ended (first ∷ more) line free last = (free.0, free-ended more line free.1 last)
@@ -142,23 +147,22 @@ reported-source note seat name text reported = by_point (list_any (λ line. byte
   by_point true = λ all. reported
   by_point false = reported-all (within name note) seat (codes "source" ∷ (lines text ++ codes "." ∷ [])) (grind arith, free-ended (lines text) (codes ".") (lines_are_lines text) (refl, tt)) reported
 
-reported-saved : (note : List ℕ) (seat : Seat) (name : List ℕ) → IsReported-at seat → IsReportedAfter (saved note seat name)
+reported-saved : (made : Made) (note : List ℕ) (seat : Seat) (name : List ℕ) → IsReported-at seat → IsReportedAfter (saved made note seat name)
 unfolding saved
-reported-saved note seat name reported = by_kept (option_map_or (λ (drawer : Drawer). takes drawer name) seat.drawer false) where
-  dump : List ℕ
-  dump = dump_of seat.recorded.state.debugger.state.core.words
+reported-saved made note seat name reported = by_kept (option_map_or (λ (drawer : Drawer). takes drawer name) seat.drawer false) where
+  text : List ℕ
+  text = text_made made seat.recorded.state.debugger.state
 
-  by_kept : (kept : Bool) → IsReportedAfter (cond kept (own note (record seat { drawer = option_map (λ (drawer : Drawer). with_file drawer name dump) seat.drawer }) (kept_text name)) (refused note seat name troubles.NotWritten))
+  by_kept : (kept : Bool) → IsReportedAfter (cond kept (own note (record seat { drawer = option_map (λ (drawer : Drawer). with_file drawer name text) seat.drawer }) (kept_text name)) (refused note seat name troubles.NotWritten))
   by_kept true = λ all. reported
   by_kept false = λ all. reported
 
 reported-used : (work : Work) (note : List ℕ) (seat : Seat) (name text : List ℕ) → IsReported-at seat → IsReportedAfter (used work note seat name text)
 reported-used works.Source note seat name text reported = reported-source note seat name text reported
-reported-used works.Tape note seat name text reported = reported-tape note seat name (tape_in (codes_of_text text) text) reported
-reported-used works.Archive note seat name text reported = reported-tape note seat name (tape_in (codes_of_archive text) text) reported
-reported-used works.Restore note seat name text reported = reported-restored note seat name (dump_lines (lines text)) reported
+reported-used (works.Tape form) note seat name text reported = reported-tape note seat name (tape_of form text) reported
+reported-used (works.Restore form) note seat name text reported = reported-drum form note seat name (dump_in form text) reported
 reported-used works.Lines note seat name text reported = λ all. reported
-reported-used works.Save note seat name text reported = λ all. reported
+reported-used (works.Keep made) note seat name text reported = λ all. reported
 
 reported-file : (work : Work) (note : List ℕ) (seat : Seat) (name : List ℕ) (text : Result (List ℕ) FileTrouble) → IsReported-at seat → IsReportedAfter (used_or_refused work note seat name text)
 reported-file work note seat name (Ok text) reported = reported-used work note seat name text reported
@@ -166,11 +170,10 @@ reported-file work note seat name (Err trouble) reported = λ all. reported
 
 reported-worked : (typed : List ℕ → Said) (note : List ℕ) (seat : Seat) (work : Work) (name : List ℕ) → IsReported-at seat → IsReportedAfter (typed name) → IsReportedAfter (worked typed note seat work name)
 reported-worked typed note seat works.Lines name reported lines = lines
-reported-worked typed note seat works.Save name reported lines = reported-saved note seat name reported
+reported-worked typed note seat (works.Keep made) name reported lines = reported-saved made note seat name reported
 reported-worked typed note seat works.Source name reported lines = reported-file works.Source note seat name (text_at seat name) reported
-reported-worked typed note seat works.Tape name reported lines = reported-file works.Tape note seat name (text_at seat name) reported
-reported-worked typed note seat works.Archive name reported lines = reported-file works.Archive note seat name (text_at seat name) reported
-reported-worked typed note seat works.Restore name reported lines = reported-file works.Restore note seat name (text_at seat name) reported
+reported-worked typed note seat (works.Tape form) name reported lines = reported-file (works.Tape form) note seat name (text_at seat name) reported
+reported-worked typed note seat (works.Restore form) name reported lines = reported-file (works.Restore form) note seat name (text_at seat name) reported
 
 -- ---- lines, to any depth
 

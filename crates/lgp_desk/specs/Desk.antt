@@ -2,31 +2,33 @@
 -- prompts, or each shown above its reply. A line may name a file. The lines of a file count as if
 -- they were typed there, and they may name files in turn, up to 16 within one another.
 use Rattle.std.specs.Prelude.{ℕ, zero, suc, ◌+◌, ◌==◌, not, ◌&&◌, Bool, true, false}
-use Rattle.std.specs.Prelude.{if◌then◌else◌, is_none, is_some, nat_le, nat_lt, Option, Some, None}
-use Rattle.std.specs.Prelude.{option_map, List, [], ◌∷◌, ◌++◌, codes, count_by, length, take}
+use Rattle.std.specs.Prelude.{if◌then◌else◌, is_none, is_some, nat_le, Option, Some, None}
+use Rattle.std.specs.Prelude.{option_map, List, [], ◌∷◌, ◌++◌, codes, length}
 use Rattle.std.specs.Prelude.{Result, Ok, Err}
 use Rattle.std.specs.List.{list_any}
 use Rattle.std.specs.Option.{option_map_or}
 use Rattle.std.specs.Str.{bytes_eq}
 use Rattle.std.specs.Str.Lines.{lines}
 use Rattle.lgp_word.specs.Digits.{address_digits}
-use Rattle.lgp_flexo.specs.Archive.{codes_of_archive}
-use Rattle.lgp_flexo.specs.TapeText.{codes_of_text, tape_limit, written_tape}
-use Rattle.lgp_listing.specs.Dump.{dump_of}
-use Rattle.lgp_stream.specs.KeptLine.{Kept, kept_of}
-use Rattle.lgp_stream.specs.Language.{is_line_feed, is_question}
+use Rattle.lgp_flexo.specs.TapeText.{written_tape}
+use Rattle.lgp_stream.specs.KeptLine.{kept_of}
+use Rattle.lgp_stream.specs.Language.{is_question}
 use Rattle.lgp_stream.specs.Speech.{Speech, after_said, text_said}
 use Rattle.lgp_stream.specs.Transcript.{Recorded, untouched}
 use Rattle.lgp_text.specs.PanelWords.{status_text}
 use Rattle.lgp_lab.specs.LabState.{LabState, opening_state}
 use Rattle.lgp_monitor.specs.FileTexts.{answer_to_dump, answer_to_tape}
 use Rattle.lgp_monitor.specs.Monitor.{monitor_language, panel_at}
+use Rattle.lgp_desk.specs.FileForms.{dump_in, tape_of, text_made}
 use Rattle.lgp_desk.specs.Files.{Drawer, takes, text_in, with_file}
 use Rattle.lgp_desk.specs.Json.{json_answer, json_own}
 use Rattle.lgp_desk.specs.Requests.{is_quit, request_of}
 use Rattle.lgp_desk.specs.Troubles.{kept_text, line_note, trouble_text}
 use Rattle.lgp_desk.specs.declared.files.FileTrouble.{FileTrouble}
 use Rattle.lgp_desk.specs.declared.files.FileTrouble.TheVariants as troubles
+use Rattle.lgp_desk.specs.declared.request.DrumForm.{DrumForm}
+use Rattle.lgp_desk.specs.declared.request.DrumForm.TheVariants as drums
+use Rattle.lgp_desk.specs.declared.request.Made.{Made}
 use Rattle.lgp_desk.specs.declared.request.Work.{Work}
 use Rattle.lgp_desk.specs.declared.request.Work.TheVariants as works
 use Rattle.lgp_desk.specs.declared.writing.Manner.{Manner}
@@ -137,21 +139,16 @@ own note seat reply =
 abbrev pub refused : List ℕ → Seat → List ℕ → FileTrouble → Said
 refused note seat name trouble = own note seat (trouble_text name trouble)
 
--- the lines of a file as a dump has them: of a longer line than is kept its front, and a byte 0,
--- which no dump has
-unfoldable pub dump_line : Kept → List ℕ
-dump_line kept = kept.front ++ (if kept.longer then 0 ∷ codes "\n" else codes "\n")
+-- the words of a dump are put on the drum, by a line that has this word
+abbrev pub restore_word : DrumForm → List ℕ
+restore_word drums.Dump = codes "restore "
+restore_word drums.Simh = codes "restore-simh "
 
-unfoldable pub dump_lines : List (List ℕ) → List ℕ
-dump_lines [] = []
-dump_lines (line ∷ more) = dump_line (kept_of line) ++ dump_lines more
-
--- the words of a dump are put on the drum
-unfoldable pub restored : List ℕ → Seat → List ℕ → List ℕ → Said
-restored note seat name dump =
+unfoldable pub restored : DrumForm → List ℕ → Seat → List ℕ → List ℕ → Said
+restored form note seat name dump =
     let answer = answer_to_dump seat.recorded dump in
     record {
-      texts = written seat.manner (codes "restore " ++ name) false (within name note)
+      texts = written seat.manner (restore_word form ++ name) false (within name note)
           answer.reply ∷ [];
       handed = Dump dump ∷ [];
       seat = record seat { recorded = answer.after };
@@ -178,17 +175,13 @@ mounted note seat name text =
     then answered (within name note) seat (codes "mount " ++ text)
     else long_tape note seat name text
 
--- the codes of a file's text, or why it is no tape: the first bad place, with its line counted
--- from 1
-unfoldable pub tape_in : Result (List ℕ) ℕ → List ℕ → Result (List ℕ) FileTrouble
-tape_in (Ok tape) text =
-    if nat_lt tape_limit (length tape) then Err troubles.LongTape else Ok tape
-tape_in (Err place) text =
-    Err (troubles.BadSign place (count_by is_line_feed (take place text) + 1))
-
 abbrev pub tape_or_refused : List ℕ → Seat → List ℕ → Result (List ℕ) FileTrouble → Said
 tape_or_refused note seat name (Ok tape) = mounted note seat name (written_tape tape)
 tape_or_refused note seat name (Err trouble) = refused note seat name trouble
+
+abbrev pub restored_or_refused : DrumForm → List ℕ → Seat → List ℕ → Result (List ℕ) FileTrouble → Said
+restored_or_refused form note seat name (Ok dump) = restored form note seat name dump
+restored_or_refused form note seat name (Err trouble) = refused note seat name trouble
 
 -- a source is taken line by line, where none of its lines would end it
 unfoldable pub source_said : List ℕ → Seat → List ℕ → List ℕ → Said
@@ -196,13 +189,13 @@ source_said note seat name text =
     if list_any (λ line. bytes_eq line (codes ".")) (lines text) then refused note seat name troubles.HasPoint
     else all_answered (within name note) seat (codes "source" ∷ (lines text ++ codes "." ∷ []))
 
--- the drum's dump is kept under a name
-unfoldable pub saved : List ℕ → Seat → List ℕ → Said
-saved note seat name =
-    let dump = dump_of seat.recorded.state.debugger.state.core.words in
+-- something is kept under a name
+unfoldable pub saved : Made → List ℕ → Seat → List ℕ → Said
+saved made note seat name =
+    let text = text_made made seat.recorded.state.debugger.state in
     if option_map_or (λ drawer. takes drawer name) seat.drawer false
     then own note
-    (record seat { drawer = option_map (λ drawer. with_file drawer name dump) seat.drawer })
+    (record seat { drawer = option_map (λ drawer. with_file drawer name text) seat.drawer })
     (kept_text name)
     else refused note seat name troubles.NotWritten
 
@@ -213,11 +206,9 @@ text_at seat name = option_map_or (λ drawer. text_in drawer name) seat.drawer (
 -- a text of a file, used as its work says
 abbrev pub used : Work → List ℕ → Seat → List ℕ → List ℕ → Said
 used works.Source note seat name text = source_said note seat name text
-used works.Tape note seat name text =
-    tape_or_refused note seat name (tape_in (codes_of_text text) text)
-used works.Archive note seat name text =
-    tape_or_refused note seat name (tape_in (codes_of_archive text) text)
-used works.Restore note seat name text = restored note seat name (dump_lines (lines text))
+used (works.Tape form) note seat name text = tape_or_refused note seat name (tape_of form text)
+used (works.Restore form) note seat name text =
+    restored_or_refused form note seat name (dump_in form text)
 used work note seat name text = nothing seat
 
 abbrev pub used_or_refused : Work → List ℕ → Seat → List ℕ → Result (List ℕ) FileTrouble → Said
@@ -227,7 +218,7 @@ used_or_refused work note seat name (Err trouble) = refused note seat name troub
 -- a line that names a file; the lines of a file are typed as the first argument says
 abbrev pub worked : (List ℕ → Said) → List ℕ → Seat → Work → List ℕ → Said
 worked typed note seat works.Lines name = typed name
-worked typed note seat works.Save name = saved note seat name
+worked typed note seat (works.Keep made) name = saved made note seat name
 worked typed note seat work name = used_or_refused work note seat name (text_at seat name)
 
 -- a line leaves the desk

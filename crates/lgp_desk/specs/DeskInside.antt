@@ -24,5 +24,5 @@ inner (suc depth) = Some (said depth)
 -- a work that uses the text of a file
 abbrev pub IsOfText : Work → Type 0
 IsOfText works.Lines = ⊥
-IsOfText works.Save = ⊥
+IsOfText (works.Keep made) = ⊥
 IsOfText work = Unit {0}

@@ -6,6 +6,9 @@ use Rattle.std.specs.Str.{bytes_eq}
 use Rattle.lgp_stream.specs.KeptLine.{Kept}
 use Rattle.lgp_stream.specs.LineWords.{after_word, first_word, has_no_word, without_spaces}
 use Rattle.lgp_text.specs.NamedValues.{named}
+use Rattle.lgp_desk.specs.declared.request.DrumForm.TheVariants as drums
+use Rattle.lgp_desk.specs.declared.request.Made.TheVariants as made
+use Rattle.lgp_desk.specs.declared.request.TapeForm.TheVariants as tapes
 use Rattle.lgp_desk.specs.declared.request.Work.{Work}
 use Rattle.lgp_desk.specs.declared.request.Work.TheVariants as works
 
@@ -14,10 +17,19 @@ abbrev pub work_names : List (List ℕ × Work)
 work_names =
     (codes "do", works.Lines)
     ∷ (codes "source", works.Source)
-    ∷ (codes "tape", works.Tape)
-    ∷ (codes "archive", works.Archive)
-    ∷ (codes "save", works.Save)
-    ∷ (codes "restore", works.Restore)
+    ∷ (codes "tape", works.Tape tapes.Text)
+    ∷ (codes "archive", works.Tape tapes.Archive)
+    ∷ (codes "bytes", works.Tape tapes.Bytes)
+    ∷ (codes "copy", works.Keep (made.Mounted tapes.Text))
+    ∷ (codes "copy-archive", works.Keep (made.Mounted tapes.Archive))
+    ∷ (codes "copy-bytes", works.Keep (made.Mounted tapes.Bytes))
+    ∷ (codes "punch", works.Keep (made.Printed tapes.Text))
+    ∷ (codes "punch-archive", works.Keep (made.Printed tapes.Archive))
+    ∷ (codes "punch-bytes", works.Keep (made.Printed tapes.Bytes))
+    ∷ (codes "save", works.Keep (made.Drum drums.Dump))
+    ∷ (codes "save-simh", works.Keep (made.Drum drums.Simh))
+    ∷ (codes "restore", works.Restore drums.Dump)
+    ∷ (codes "restore-simh", works.Restore drums.Simh)
     ∷ []
 
 -- a text without the spaces at its end

@@ -19,6 +19,12 @@ abbrev pub counted_trouble : FileTrouble → List ℕ
 counted_trouble (troubles.BadSign place line) =
     codes "the byte at place " ++ (decimal place ++ (codes ", counted from 0, in line "
     ++ (decimal line ++ codes ", begins no sign of a tape")))
+counted_trouble (troubles.NoCode place) =
+    codes "the byte at place " ++ (decimal place ++ codes ", counted from 0, is above 63")
+counted_trouble (troubles.BadLine line) =
+    codes "line " ++ (decimal line ++ codes " is neither a word that SIMH shows nor one that it is given")
+counted_trouble (troubles.LowAddress line) =
+    codes "the address of line " ++ (decimal line ++ codes " is not above that of the line before it")
 counted_trouble trouble = []
 
 -- the refusal of a file
@@ -27,7 +33,7 @@ trouble_text name trouble =
     codes "? 13 File " ++ (name ++ (codes ": "
     ++ (fixed_trouble trouble ++ (counted_trouble trouble ++ codes "\n"))))
 
--- that the drum was kept
+-- that something was kept
 unfoldable pub kept_text : List ℕ → List ℕ
 kept_text name = codes "saved " ++ (name ++ codes "\n")
 

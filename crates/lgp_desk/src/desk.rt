@@ -339,8 +339,8 @@ impl<A: Allocator + Copy, P: Progress, F: Files> Desk<A, P, F> {
     {
         match work {
             Work::Lines => self.type_file(depth, note, name, writer, tally),
-            Work::Save => self.save(note, name, writer, tally),
-            Work::Source | Work::Tape | Work::Archive | Work::Restore => {
+            Work::Keep(made) => self.save(made, note, name, writer, tally),
+            Work::Source | Work::Tape(_) | Work::Restore(_) => {
                 self.use_file(work, note, name, writer, tally)
             }
         }

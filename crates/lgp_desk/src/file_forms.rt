@@ -8,10 +8,13 @@ ghost use Rattle.std.specs.Str.Lines.{lines};
 ghost use Rattle.lgp_flexo.specs.Archive.{codes_of_archive};
 ghost use Rattle.lgp_flexo.specs.TapeText.{codes_of_text, written_tape};
 ghost use Rattle.lgp_stream.specs.Language.{is_line_feed};
-ghost use Rattle.lgp_desk.specs.Desk.{dump_line, dump_lines, tape_in};
+ghost use Rattle.lgp_desk.specs.FileForms.{coded, dump_in, dump_line, dump_lines, simh_dump, tape_in, tape_of};
 
 use crate::files::FileTrouble;
-use lgp_flexo::{Code, TextFault, read_archive_text, read_tape_text, write_tape_text};
+use crate::request::{DrumForm, TapeForm};
+use lgp_exchange::{BytesFault, ExaminedFault, read_examined, read_tape_bytes};
+use lgp_flexo::{TextFault, read_archive_text, read_tape_text, write_tape_text};
+use lgp_listing::dump;
 use lgp_stream::{LineBytes, first_line};
 use std::alloc::{AllocError, Allocator};
 
@@ -31,7 +34,7 @@ pub(crate) fn has_point(source: &[u8]) -> bool
 }
 
 /// Appends a line as a dump has it.
-#[tactic(auto, unfolding(crate::specs::Desk::dump_line))]
+#[tactic(auto, unfolding(crate::specs::FileForms::dump_line))]
 fn push_dump_line<A: Allocator>(text: &mut Vec<u8, A>, line: &LineBytes) -> Result<(), AllocError>
     ensures { OnOk result (text.new.items ≡ text.old.items ++ dump_line line.now) }
 {
@@ -40,7 +43,7 @@ fn push_dump_line<A: Allocator>(text: &mut Vec<u8, A>, line: &LineBytes) -> Resu
 }
 
 /// The lines of a file as a dump has them.
-pub(crate) fn dump_of_lines<A: Allocator>(alloc: A, text: &[u8]) -> Result<Vec<u8, A>, AllocError>
+fn dump_of_lines<A: Allocator>(alloc: A, text: &[u8]) -> Result<Vec<u8, A>, AllocError>
     ensures { IfOk result (λ dump. dump.items ≡ dump_lines (lines text.now)) }
 {
     let mut dump = Vec::new(alloc);
@@ -83,7 +86,7 @@ fn tape_trouble(text: &[u8], place: usize) -> FileTrouble
 
 /// The text of the tape of a file that has it as text, or why it is none.
 #[tactic(auto, using(crate::proofs::FormLemmas::tapes))]
-pub(crate) fn checked_tape<A: Allocator + Copy>(
+fn checked_text<A: Allocator + Copy>(
     alloc: A,
     text: &[u8],
 ) -> Result<Result<Vec<u8, A>, FileTrouble>, AllocError>
@@ -100,7 +103,7 @@ pub(crate) fn checked_tape<A: Allocator + Copy>(
 
 /// The text of the tape of an archive's file, or why it is none.
 #[tactic(auto, using(crate::proofs::FormLemmas::tapes))]
-pub(crate) fn checked_archive<A: Allocator + Copy>(
+fn checked_archive<A: Allocator + Copy>(
     alloc: A,
     text: &[u8],
 ) -> Result<Result<Vec<u8, A>, FileTrouble>, AllocError>
@@ -113,5 +116,70 @@ pub(crate) fn checked_archive<A: Allocator + Copy>(
         Err(TextFault::BadSign(place)) => Ok(Err(tape_trouble(text, place))),
         Err(TextFault::TooLong) => Ok(Err(FileTrouble::LongTape)),
         Err(TextFault::Memory(refused)) => Err(refused),
+    }
+}
+
+/// The text of the tape of a file that has a byte for each code, or why it is none.
+#[tactic(auto, using(crate::proofs::FormLemmas::bytes))]
+fn checked_bytes<A: Allocator + Copy>(
+    alloc: A,
+    bytes: &[u8],
+) -> Result<Result<Vec<u8, A>, FileTrouble>, AllocError>
+    ensures { IfOk result (λ checked. result_map_both (λ it. it.items) (λ it. it) checked
+        ≡ result_map_both written_tape (λ it. it) (coded bytes.now)) }
+{
+    match read_tape_bytes(alloc, bytes) {
+        Ok(tape) => Ok(Ok(write_tape_text(alloc, &tape)?)),
+        Err(BytesFault::NoCode(place)) => Ok(Err(FileTrouble::NoCode(place as u64))),
+        Err(BytesFault::TooLong) => Ok(Err(FileTrouble::LongTape)),
+        Err(BytesFault::Memory(refused)) => Err(refused),
+    }
+}
+
+/// The text of the tape that a file has in a form, or why it has none.
+pub(crate) fn checked_tape<A: Allocator + Copy>(
+    alloc: A,
+    form: TapeForm,
+    text: &[u8],
+) -> Result<Result<Vec<u8, A>, FileTrouble>, AllocError>
+    ensures { IfOk result (λ checked. result_map_both (λ it. it.items) (λ it. it) checked
+        ≡ result_map_both written_tape (λ it. it) (tape_of form text.now)) }
+{
+    match form {
+        TapeForm::Text => checked_text(alloc, text),
+        TapeForm::Archive => checked_archive(alloc, text),
+        TapeForm::Bytes => checked_bytes(alloc, text),
+    }
+}
+
+/// The dump of the words that a text of SIMH's has, or why it has none.
+#[tactic(auto, using(crate::proofs::FormLemmas::simh))]
+fn simh_dump<A: Allocator + Copy>(
+    alloc: A,
+    text: &[u8],
+) -> Result<Result<Vec<u8, A>, FileTrouble>, AllocError>
+    ensures { IfOk result (λ checked. result_map_both (λ it. it.items) (λ it. it) checked
+        ≡ simh_dump text.now) }
+{
+    match read_examined(alloc, text) {
+        Ok(drum) => Ok(Ok(dump(alloc, &drum)?)),
+        Err(ExaminedFault::Form(line)) => Ok(Err(FileTrouble::BadLine(line))),
+        Err(ExaminedFault::Order(line)) => Ok(Err(FileTrouble::LowAddress(line))),
+        Err(ExaminedFault::Memory) => Err(AllocError),
+    }
+}
+
+/// The dump that a file's text stands for in a form, or why it is refused.
+pub(crate) fn checked_drum<A: Allocator + Copy>(
+    alloc: A,
+    form: DrumForm,
+    text: &[u8],
+) -> Result<Result<Vec<u8, A>, FileTrouble>, AllocError>
+    ensures { IfOk result (λ checked. result_map_both (λ it. it.items) (λ it. it) checked
+        ≡ dump_in form text.now) }
+{
+    match form {
+        DrumForm::Dump => Ok(Ok(dump_of_lines(alloc, text)?)),
+        DrumForm::Simh => simh_dump(alloc, text),
     }
 }

@@ -24,6 +24,12 @@ pub enum FileTrouble {
     HasPoint,
     /// It is no tape text: the byte at this place, counted from 0, in this line, counted from 1, begins no sign.
     BadSign(u64, u64),
+    /// It is no tape of bytes: the byte at this place, counted from 0, is above 63.
+    NoCode(u64),
+    /// It is no drum of SIMH: the line of this number, counted from 1, is in no form.
+    BadLine(u64),
+    /// It is no drum of SIMH: the address of the line of this number is not above that of the line before it.
+    LowAddress(u64),
     /// Its tape has more codes than a tape may have.
     LongTape,
     /// It could not be written.

@@ -1,6 +1,10 @@
 //! What follows from the definitions, each law as the contract of a function that does nothing.
 
-ghost use Rattle.std.specs.Prelude.{◌≡◌, ◌++◌, List, false, ℕ};
+ghost use Rattle.std.specs.Prelude.{◌≡◌, ◌++◌, ◌≤◌, All, List, Ok, false, length, ℕ};
+ghost use Rattle.lgp_flexo.specs.Code.{IsCode};
+ghost use Rattle.lgp_flexo.specs.TapeText.{tape_limit};
+ghost use Rattle.lgp_listing.specs.Dump.{IsDrum, dump_of};
+ghost use Rattle.lgp_exchange.specs.Deposits.{deposits_of};
 ghost use Rattle.lgp_stream.specs.KeptLine.{Kept};
 ghost use Rattle.lgp_stream.specs.Language.{is_question};
 ghost use Rattle.std.specs.List.{AllByRecursion};
@@ -8,7 +12,10 @@ ghost use Rattle.lgp_stream.specs.Transcript.{IsReportedByTranscript};
 ghost use Rattle.lgp_lab.specs.Script.{script_language};
 ghost use Rattle.lgp_lab.specs.LabState.{opening_state};
 ghost use Rattle.lgp_desk.specs.Desk.{IsSayable, echo_of, session_end, session_handed};
+ghost use Rattle.lgp_desk.specs.FileForms.{dump_in, tape_of, tape_text};
 ghost use Rattle.lgp_desk.specs.Files.{Drawer};
+ghost use Rattle.lgp_desk.specs.declared.request.DrumForm.TheVariants as drums;
+ghost use Rattle.lgp_desk.specs.declared.request.TapeForm.{TapeForm};
 ghost use Rattle.lgp_desk.specs.declared.writing.Manner.{Manner};
 
 use std::alloc::Allocator;
@@ -29,4 +36,13 @@ pub fn transcript_at_a_desk_is_the_script<A: Allocator>()
         → AllByRecursion IsSayable (session_handed manner names drawer typed)
         → IsReportedByTranscript script_language opening_state
         (session_end manner names drawer typed).recorded }
+{}
+
+/// A tape that is kept in any form is read from there as these codes, and the words of a drum from SIMH's form as their dump.
+#[tactic(auto, using(crate::proofs::KeptLaws::tapes_are_read, crate::proofs::KeptLaws::drums_are_read))]
+pub fn what_is_kept_is_read_back()
+    ensures tapes { (form : TapeForm) (tape : List ℕ) → All IsCode tape → length tape ≤ tape_limit
+        → tape_of form (tape_text form tape) ≡ Ok tape }
+    ensures drums { (words : List ℕ) → IsDrum words
+        → dump_in drums.Simh (deposits_of words) ≡ Ok (dump_of words) }
 {}

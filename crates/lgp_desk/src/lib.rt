@@ -5,7 +5,7 @@
 pub use answering::attend;
 pub use desk::Desk;
 pub use files::{FILE_LIMIT, FileTrouble, Files, FilesOf, Filing};
-pub use request::Work;
+pub use request::{DrumForm, Made, TapeForm, Work};
 pub use session::{hold_session, obey_session};
 pub use writing::Manner;
 
@@ -14,6 +14,7 @@ mod desk;
 mod file_forms;
 mod files;
 mod json;
+mod keeping;
 pub mod laws;
 mod request;
 mod session;

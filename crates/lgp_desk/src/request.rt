@@ -7,6 +7,37 @@ ghost use Rattle.lgp_desk.specs.Requests.{file_name, is_quit, request_of, trimme
 use lgp_stream::{LineBytes, has_no_word, split_word, without_spaces};
 use lgp_text::{Named, value_named};
 
+/// How a file has a tape.
+#[derive(Clone, Copy, Debug, PartialEq, Eq)]
+pub enum TapeForm {
+    /// By its text, as a line of a script has it.
+    Text,
+    /// By the text of an archive, which SIMH reads.
+    Archive,
+    /// By a byte for each code.
+    Bytes,
+}
+
+/// How a file has the words of a drum.
+#[derive(Clone, Copy, Debug, PartialEq, Eq)]
+pub enum DrumForm {
+    /// By a dump.
+    Dump,
+    /// By the commands of SIMH, or the lines that it shows.
+    Simh,
+}
+
+/// What is kept in a file.
+#[derive(Clone, Copy, Debug, PartialEq, Eq)]
+pub enum Made {
+    /// The words of the drum.
+    Drum(DrumForm),
+    /// What was printed, as a punch would have it.
+    Printed(TapeForm),
+    /// The mounted tape, from its first code on.
+    Mounted(TapeForm),
+}
+
 /// What is done with a file.
 #[derive(Clone, Copy, Debug, PartialEq, Eq)]
 pub enum Work {
@@ -14,24 +45,37 @@ pub enum Work {
     Lines,
     /// It is typed as a source.
     Source,
-    /// Its tape text is mounted.
-    Tape,
-    /// The tape of an archive's text is mounted.
-    Archive,
-    /// The drum's dump is kept in it.
-    Save,
-    /// The drum is put back as the dump in it tells.
-    Restore,
+    /// Its tape is mounted.
+    Tape(TapeForm),
+    /// The drum is put back as it tells.
+    Restore(DrumForm),
+    /// This is kept in it.
+    Keep(Made),
 }
 
 /// What is done with a file, by the first word of a line.
-const WORKS: [Named<Work>; 6] = [
+const WORKS: [Named<Work>; 15] = [
     (b"do", Work::Lines),
     (b"source", Work::Source),
-    (b"tape", Work::Tape),
-    (b"archive", Work::Archive),
-    (b"save", Work::Save),
-    (b"restore", Work::Restore),
+    (b"tape", Work::Tape(TapeForm::Text)),
+    (b"archive", Work::Tape(TapeForm::Archive)),
+    (b"bytes", Work::Tape(TapeForm::Bytes)),
+    (b"copy", Work::Keep(Made::Mounted(TapeForm::Text))),
+    (
+        b"copy-archive",
+        Work::Keep(Made::Mounted(TapeForm::Archive)),
+    ),
+    (b"copy-bytes", Work::Keep(Made::Mounted(TapeForm::Bytes))),
+    (b"punch", Work::Keep(Made::Printed(TapeForm::Text))),
+    (
+        b"punch-archive",
+        Work::Keep(Made::Printed(TapeForm::Archive)),
+    ),
+    (b"punch-bytes", Work::Keep(Made::Printed(TapeForm::Bytes))),
+    (b"save", Work::Keep(Made::Drum(DrumForm::Dump))),
+    (b"save-simh", Work::Keep(Made::Drum(DrumForm::Simh))),
+    (b"restore", Work::Restore(DrumForm::Dump)),
+    (b"restore-simh", Work::Restore(DrumForm::Simh)),
 ];
 
 /// The work that a line's first word asks for.

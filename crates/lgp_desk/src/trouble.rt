@@ -1,6 +1,6 @@
 //! What is said of a file that is refused or kept, and where a line comes from.
 
-ghost use Rattle.std.specs.Prelude.{◌≡◌, ◌++◌, IfOk, OnOk, codes};
+ghost use Rattle.std.specs.Prelude.{◌≡◌, ◌++◌, IfOk, OnOk, codes, decimal};
 ghost use Rattle.lgp_desk.specs.Desk.{within};
 ghost use Rattle.lgp_desk.specs.Troubles.{counted_trouble, fixed_trouble, kept_text, line_note, trouble_text};
 
@@ -29,6 +29,22 @@ fn push_bad_sign<A: Allocator>(
     )
 }
 
+/// Appends a number between two texts.
+fn push_between<A: Allocator>(
+    text: &mut Vec<u8, A>,
+    front: &'static [u8],
+    number: u64,
+    end: &'static [u8],
+) -> Result<(), AllocError>
+    ensures { OnOk result (text.new.items
+        ≡ text.old.items ++ (front.now ++ (decimal number ++ end.now))) }
+{
+    push_pieces(
+        text,
+        &[Piece::Text(front), Piece::Number(number), Piece::Text(end)],
+    )
+}
+
 /// Why a file is refused, where no number says it.
 fn fixed_trouble(trouble: FileTrouble) -> &'static [u8]
     ensures { result.now ≡ fixed_trouble trouble }
@@ -40,7 +56,10 @@ fn fixed_trouble(trouble: FileTrouble) -> &'static [u8]
         FileTrouble::NotNamed => b"this is no name of a file",
         FileTrouble::TooDeep => b"16 files are open within one another",
         FileTrouble::HasPoint => b"a line that is a point alone would end the source",
-        FileTrouble::BadSign(_, _) => b"",
+        FileTrouble::BadSign(_, _)
+        | FileTrouble::NoCode(_)
+        | FileTrouble::BadLine(_)
+        | FileTrouble::LowAddress(_) => b"",
         FileTrouble::LongTape => b"it has more than 1048576 codes",
         FileTrouble::NotWritten => b"it cannot be written, and is as it was",
     }
@@ -55,6 +74,24 @@ fn push_counted_trouble<A: Allocator>(
 {
     match trouble {
         FileTrouble::BadSign(place, line) => push_bad_sign(text, place, line),
+        FileTrouble::NoCode(place) => push_between(
+            text,
+            b"the byte at place ",
+            place,
+            b", counted from 0, is above 63",
+        ),
+        FileTrouble::BadLine(line) => push_between(
+            text,
+            b"line ",
+            line,
+            b" is neither a word that SIMH shows nor one that it is given",
+        ),
+        FileTrouble::LowAddress(line) => push_between(
+            text,
+            b"the address of line ",
+            line,
+            b" is not above that of the line before it",
+        ),
         _ => Ok(()),
     }
 }
@@ -97,7 +134,7 @@ pub(crate) fn push_trouble<A: Allocator>(
     text.extend_from_slice(b"\n")
 }
 
-/// Appends that the drum was kept.
+/// Appends that something was kept.
 #[tactic(auto, unfolding(crate::specs::Troubles::kept_text))]
 pub(crate) fn push_kept<A: Allocator>(text: &mut Vec<u8, A>, name: &[u8]) -> Result<(), AllocError>
     ensures { OnOk result (text.new.items ≡ text.old.items ++ kept_text name.now) }

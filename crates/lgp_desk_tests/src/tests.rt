@@ -2,6 +2,7 @@
 
 mod growths;
 mod json;
+mod kept;
 mod known;
 mod progress;
 mod sessions;
@@ -26,6 +27,9 @@ const FITTING: [u8; 4090] = [b'f'; 4090];
 const LONGER: [u8; 4091] = [b'f'; 4091];
 
 const RETURNS: [u8; 1023] = [b'\r'; 1023];
+
+/// Blank tape, of which a line has no room for the text.
+const BLANK: [u8; 1024] = [0; 1024];
 
 /// The bytes of a file of lines.
 fn lines_of(name: &str) -> Option<&'static [u8]> {
@@ -84,6 +88,15 @@ fn text_of(name: &str) -> Option<&'static [u8]> {
     if name == "drum" {
         return Some(b"0100 00000004\r\n0101 00000008");
     }
+    if name == "coded" {
+        return Some(b"\x06\x0a\x10\x0e\x20");
+    }
+    if name == "shown" {
+        return Some(b"0100:\t0000000J\r\nd -lt 0101 00000008\n");
+    }
+    if name == "backwards" {
+        return Some(b"0101:\t00000004\n0100:\t00000008\n");
+    }
     None
 }
 
@@ -97,6 +110,9 @@ fn long_text_of(name: &str) -> Option<&'static [u8]> {
     }
     if name == "returns" {
         return Some(&RETURNS);
+    }
+    if name == "blank" {
+        return Some(&BLANK);
     }
     None
 }
@@ -234,7 +250,7 @@ fn lines_at_a_desk_are_answered(rt: HostRuntime) {
     }
 }
 
-const NAMING: [Row; 15] = [
+const NAMING: [Row; 19] = [
     (
         Manner::Bare,
         b"do two lines\ntranscript\n",
@@ -322,6 +338,32 @@ const NAMING: [Row; 15] = [
         b"press start\nrestore drum\ntape tape\ntape longer\n",
         b"live\n? 2 Moving: the machine is at work, press manual halts it\n        drum\n? 2 Moving: the machine is at work, press manual halts it\n        tape\n? 2 Moving: the machine is at work, press manual halts it\n        longer\n",
         3,
+    ),
+    // A tape of bytes, one with a byte that is no code, and one that is longer than a line.
+    (
+        Manner::Echoing,
+        b"bytes coded\nbytes strange\nbytes none\nbytes blank\ntranscript\n",
+        b"> mount 12[16]3'\nok 5\n? 13 File strange: the byte at place 2, counted from 0, is above 63\n? 13 File none: it cannot be opened\n> tape blank\nok 1024\n> transcript\nmount 12[16]3'\ntape blank\n",
+        2,
+    ),
+    // What SIMH shows, and what it is given; the first line that is neither.
+    (
+        Manner::Echoing,
+        b"put 0100 = 1\nrestore-simh shown\nwords 0100 2\ntranscript\n",
+        b"> put 0100 = 1\nok\n> restore-simh shown\nrestored 2\n> words 0100 2\n0100 0000000j\n0101 00000008\n> transcript\nput 0100 00000002\nput 0100 0000000j\nput 0101 00000008\nwords 0100 2\n",
+        0,
+    ),
+    (
+        Manner::Bare,
+        b"put 0100 = 1\nrestore-simh drum\nrestore-simh backwards\nrestore-simh none\nwords 0100 2\nrestore-simh empty\nwords 0100 1\n",
+        b"ok\n? 13 File drum: line 1 is neither a word that SIMH shows nor one that it is given\n? 13 File backwards: the address of line 2 is not above that of the line before it\n? 13 File none: it cannot be opened\n0100 00000002\n0101 00000000\nrestored 1\n0100 00000000\n",
+        3,
+    ),
+    (
+        Manner::Echoing,
+        b"press start\nrestore-simh shown\nbytes coded\n",
+        b"> press start\nlive\n? restore-simh shown\n? 2 Moving: the machine is at work, press manual halts it\n        shown\n? mount 12[16]3'\n? 2 Moving: the machine is at work, press manual halts it\n        coded\n",
+        2,
     ),
     // A tape for which a line has room, one that is longer, and one whose text is: their names are in the transcript.
     (

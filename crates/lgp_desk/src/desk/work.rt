@@ -5,17 +5,18 @@ ghost use Rattle.std.specs.Result.{result_map_both};
 ghost use Rattle.std.specs.Str.Lines.{lines};
 ghost use Rattle.lgp_flexo.specs.TapeText.{written_tape};
 ghost use Rattle.lgp_stream.specs.Language.{HasCause};
-ghost use Rattle.lgp_listing.specs.Dump.{dump_of};
+ghost use Rattle.lgp_desk.specs.FileForms.{text_made};
 ghost use Rattle.lgp_desk.specs.Files.{Drawer, IsKept};
-ghost use Rattle.lgp_desk.specs.Desk.{all_answered, answered, dump_lines, long_tape, mounted, own, restored, saved, source_said, tape_or_refused, text_at, used, used_or_refused, within};
+ghost use Rattle.lgp_desk.specs.Desk.{all_answered, answered, long_tape, mounted, own, restore_word, restored, restored_or_refused, saved, source_said, tape_or_refused, text_at, used, used_or_refused, within};
 ghost use Rattle.lgp_desk.specs.DeskInside.{HasSaid, IsOfText};
 ghost use Rattle.lgp_desk.specs.Troubles.{kept_text};
 ghost use Rattle.lgp_desk.specs.declared.files.FileTrouble.{FileTrouble};
 
 use super::Desk;
-use crate::file_forms::{checked_archive, checked_tape, dump_of_lines, has_point};
+use crate::file_forms::{checked_drum, checked_tape, has_point};
 use crate::files::{FileTrouble, Files};
-use crate::request::Work;
+use crate::keeping::text_made;
+use crate::request::{DrumForm, Made, Work};
 use crate::trouble::{note_within, push_kept};
 use crate::writing::push_written;
 use lgp_monitor::Progress;
@@ -24,6 +25,16 @@ use std::alloc::{AllocError, Allocator};
 
 /// How many bytes of a tape's text a line has room for, after `mount` and its space.
 const MOUNT_LIMIT: usize = 4090;
+
+/// The word of the line by which words of a form are put back.
+fn restore_word(form: DrumForm) -> &'static [u8]
+    ensures { result.now ≡ restore_word form }
+{
+    match form {
+        DrumForm::Dump => b"restore ",
+        DrumForm::Simh => b"restore-simh ",
+    }
+}
 
 impl<A: Allocator + Copy, P: Progress, F: Files> Desk<A, P, F> {
     /// A command and what comes after it.
@@ -40,20 +51,21 @@ impl<A: Allocator + Copy, P: Progress, F: Files> Desk<A, P, F> {
     #[tactic(auto, unfolding(crate::specs::Desk::restored))]
     fn restore_text(
         &mut self,
+        form: DrumForm,
         note: &[u8],
         name: &[u8],
         dump: &[u8],
     ) -> Result<Vec<u8, A>, AllocError>
         ensures text { IfOk result (λ made.
-            made.items ∷ [] ≡ (restored note.now self.old name.now dump.now).texts) }
+            made.items ∷ [] ≡ (restored form note.now self.old name.now dump.now).texts) }
         ensures after { OnOk result (self.new
-            ≡ (restored note.now self.old name.now dump.now).seat) }
+            ≡ (restored form note.now self.old name.now dump.now).seat) }
     {
         let note = note_within(self.alloc, name, note)?;
         let mut reply = Vec::new(self.alloc);
         self.monitor.restore(dump, &mut reply)?;
         let mut text = Vec::new(self.alloc);
-        let line = self.line_of(b"restore ", name)?;
+        let line = self.line_of(restore_word(form), name)?;
         push_written(&mut text, self.manner, &line, false, &note, &reply)?;
         Ok(text)
     }
@@ -62,6 +74,7 @@ impl<A: Allocator + Copy, P: Progress, F: Files> Desk<A, P, F> {
     #[tactic(auto, unfolding(crate::specs::Desk::restored))]
     fn restore<W: Sink>(
         &mut self,
+        form: DrumForm,
         note: &[u8],
         name: &[u8],
         dump: &[u8],
@@ -70,34 +83,37 @@ impl<A: Allocator + Copy, P: Progress, F: Files> Desk<A, P, F> {
     ) -> Result<(), StreamFault>
         ensures said { IsTrue (is_some self.old.drawer)
             → HasSaid self.new (W.contents writer.old) (W.contents writer.new) tally.old tally.new
-            result (restored note.now self.old name.now dump.now) }
+            result (restored form note.now self.old name.now dump.now) }
         ensures cause { IfErr result (λ fault. HasCause fault false (W.failed writer.new)) }
     {
-        let Ok(text) = self.restore_text(note, name, dump) else {
+        let Ok(text) = self.restore_text(form, note, name, dump) else {
             return Err(StreamFault::Memory);
         };
         tally.deliver(writer, &text)
     }
 
-    /// Puts the words of a file of a dump on the drum.
-    #[tactic(auto, unfolding(crate::specs::Desk::restored))]
-    fn restore_lines<W: Sink>(
+    /// Puts the words of a dump that was checked on the drum, or refuses its file.
+    fn restore_checked<W: Sink>(
         &mut self,
+        form: DrumForm,
         note: &[u8],
         name: &[u8],
-        text: &[u8],
+        checked: Result<Result<Vec<u8, A>, FileTrouble>, AllocError>,
         writer: &mut W,
         tally: &mut Tally,
     ) -> Result<(), StreamFault>
-        ensures said { IsTrue (is_some self.old.drawer)
+        ensures said { (dump : Result (List ℕ) FileTrouble) → IsTrue (is_some self.old.drawer)
+            → IfOk checked (λ it. result_map_both (λ text. text.items) (λ trouble. trouble) it
+            ≡ dump)
             → HasSaid self.new (W.contents writer.old) (W.contents writer.new) tally.old tally.new
-            result (restored note.now self.old name.now (dump_lines (lines text.now))) }
+            result (restored_or_refused form note.now self.old name.now dump) }
         ensures cause { IfErr result (λ fault. HasCause fault false (W.failed writer.new)) }
     {
-        let Ok(dump) = dump_of_lines(self.alloc, text) else {
-            return Err(StreamFault::Memory);
-        };
-        self.restore(note, name, &dump, writer, tally)
+        match checked {
+            Ok(Ok(dump)) => self.restore(form, note, name, &dump, writer, tally),
+            Ok(Err(trouble)) => self.refuse(note, name, trouble, writer, tally),
+            Err(_) => Err(StreamFault::Memory),
+        }
     }
 
     /// The text for a tape for whose text no line has room.
@@ -235,7 +251,7 @@ impl<A: Allocator + Copy, P: Progress, F: Files> Desk<A, P, F> {
         self.answer_source(&note, text, writer, tally)
     }
 
-    /// Says that the drum was kept.
+    /// Says that something was kept.
     fn give_kept<W: Sink>(
         &self,
         note: &[u8],
@@ -255,23 +271,24 @@ impl<A: Allocator + Copy, P: Progress, F: Files> Desk<A, P, F> {
         self.give(note, &reply, writer, tally)
     }
 
-    /// Keeps the drum's dump under a name; answers whether it is kept.
-    fn keep_drum(&mut self, name: &[u8]) -> Result<bool, AllocError>
+    /// Keeps something under a name; answers whether it is kept.
+    fn keep(&mut self, made: Made, name: &[u8]) -> Result<bool, AllocError>
         ensures kept { (known : Drawer) → self.old.drawer ≡ Some known → IfOk result (λ kept.
-            IsKept known name.now (dump_of self.old.recorded.state.debugger.state.core.words)
+            IsKept known name.now (text_made made self.old.recorded.state.debugger.state)
             kept self.new.drawer) }
         ensures recorded { self.new.recorded ≡ self.old.recorded }
         ensures manner { self.new.manner ≡ self.old.manner }
         ensures left { self.new.has_left ≡ self.old.has_left }
     {
-        let dump = self.monitor.laboratory().drum_dump()?;
-        self.files.keep(name, &dump)
+        let text = text_made(self.alloc, made, self.monitor.laboratory())?;
+        self.files.keep(name, &text)
     }
 
-    /// Keeps the drum's dump under a name.
+    /// Keeps something under a name, and says so.
     #[tactic(auto, unfolding(crate::specs::Desk::saved))]
     pub(super) fn save<W: Sink>(
         &mut self,
+        made: Made,
         note: &[u8],
         name: &[u8],
         writer: &mut W,
@@ -279,10 +296,10 @@ impl<A: Allocator + Copy, P: Progress, F: Files> Desk<A, P, F> {
     ) -> Result<(), StreamFault>
         ensures said { IsTrue (is_some self.old.drawer)
             → HasSaid self.new (W.contents writer.old) (W.contents writer.new) tally.old tally.new
-            result (saved note.now self.old name.now) }
+            result (saved made note.now self.old name.now) }
         ensures cause { IfErr result (λ fault. HasCause fault false (W.failed writer.new)) }
     {
-        match self.keep_drum(name) {
+        match self.keep(made, name) {
             Ok(true) => self.give_kept(note, name, writer, tally),
             Ok(false) => self.refuse(note, name, FileTrouble::NotWritten, writer, tally),
             Err(_) => Err(StreamFault::Memory),
@@ -306,18 +323,22 @@ impl<A: Allocator + Copy, P: Progress, F: Files> Desk<A, P, F> {
     {
         match work {
             Work::Source => self.take_source(note, name, text, writer, tally),
-            Work::Tape => {
-                self.mount_checked(note, name, checked_tape(self.alloc, text), writer, tally)
-            }
-            Work::Archive => self.mount_checked(
+            Work::Tape(form) => self.mount_checked(
                 note,
                 name,
-                checked_archive(self.alloc, text),
+                checked_tape(self.alloc, form, text),
                 writer,
                 tally,
             ),
-            Work::Restore => self.restore_lines(note, name, text, writer, tally),
-            Work::Lines | Work::Save => Ok(()),
+            Work::Restore(form) => self.restore_checked(
+                form,
+                note,
+                name,
+                checked_drum(self.alloc, form, text),
+                writer,
+                tally,
+            ),
+            Work::Lines | Work::Keep(_) => Ok(()),
         }
     }
 

@@ -1,9 +1,8 @@
 //! What is written is known where files and input are: the promise of a session is not empty.
 
-ghost use Rattle.std.specs.Prelude.{◌≡◌, Err, IfOk, Ok, Some, [], codes, false, if◌then◌else◌};
+ghost use Rattle.std.specs.Prelude.{◌≡◌, Err, IfOk, Ok, Some, [], false, if◌then◌else◌};
 ghost use Rattle.std.specs.Io.KnownBytes.{Appends};
 ghost use Rattle.std.specs.List.{concat};
-ghost use Rattle.std.specs.Str.{bytes_eq};
 ghost use Rattle.lgp_stream.specs.Language.{question_count};
 ghost use Rattle.lgp_desk.specs.Desk.{session_texts};
 ghost use Rattle.lgp_desk_tests.specs.Shelf.{shelf};

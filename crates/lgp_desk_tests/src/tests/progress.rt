@@ -109,12 +109,12 @@ const ROWS: [Row; 10] = [
         &[],
         0,
     ),
-    // It comes to rest after the last order of a portion.
+    // It comes to rest after the last order of a portion, which shows when one more is asked for.
     (
         2,
         b"put 0003 z 0000\npress start\nrun 45\n",
         b"ok\nlive\nran 4 rest\n",
-        &[2],
+        &[2, 4],
         1,
     ),
     // Two runs; a portion of no order is one order.

@@ -1,6 +1,6 @@
 use Rattle.std.proofs.Common.{◌≡◌, ◌∙◌, ◌++◌, List, length, ℕ, ap, rules}
 use Rattle.std.specs.Str.Lines.{lines}
-use Rattle.lgp_desk.specs.Desk.{dump_lines}
+use Rattle.lgp_desk.specs.FileForms.{dump_lines}
 use Rattle.lgp_desk.proofs.FormLemmas.{dump-more, dump-none}
 use Rattle.lgp_desk.proofs.file_forms.dump_of_lines.Goals as goal
 

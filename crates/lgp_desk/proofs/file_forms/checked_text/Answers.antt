@@ -1,7 +1,7 @@
 use Rattle.std.proofs.Common.{◌≡◌, Err, ap}
 use Rattle.lgp_flexo.specs.TapeText.{codes_of_text}
 use Rattle.lgp_desk.proofs.FormLemmas.{tape-bad}
-use Rattle.lgp_desk.proofs.file_forms.checked_tape.Goals as goal
+use Rattle.lgp_desk.proofs.file_forms.checked_text.Goals as goal
 
 pub returns-in-Err-BadSign : goal.returns-in-Err-BadSign
 returns-in-Err-BadSign g c =

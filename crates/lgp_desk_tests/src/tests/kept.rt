@@ -1,0 +1,106 @@
+//! What is kept in files: each row's bytes are written out by hand.
+
+use crate::tests::answer;
+use lgp_desk::{Filing, Manner};
+use lgp_lab::{FeedOf, READS};
+use lgp_monitor::Silence;
+use std::alloc::Global;
+use std::cell::Cell;
+
+/// Files of which one may be written, and whether these bytes were to be kept at last.
+#[derive(Clone, Copy, Drop)]
+struct Wanting<'a> {
+    wanted: &'static [u8],
+    is_kept: &'a Cell<bool>,
+}
+
+impl Filing for Wanting<'_> {
+    type Reader = FeedOf<&'static [u8]>;
+
+    fn open(&self, _name: &str) -> Option<FeedOf<&'static [u8]>> {
+        Some(FeedOf::new(b"12[16]3'", READS))
+    }
+
+    fn keep(&self, name: &str, text: &[u8]) -> bool {
+        self.is_kept.set(text == self.wanted);
+        name == "kept"
+    }
+}
+
+/// Typed lines, and the bytes that they keep.
+type Row = (&'static [u8], &'static [u8]);
+
+/// Upper case, a one and a carriage return printed; then two codes of a tape read.
+const ROWS: [Row; 10] = [
+    (b"put 0100 = 5\nsave kept\n", b"0100 0000000f\n"),
+    (b"put 0100 = 5\nsave-simh kept\n", b"d -lt 0100 0000000f\n"),
+    (b"save-simh kept\n", b""),
+    (
+        b"put 0000 p 0800\nput 0001 p 0600\nput 0002 p 1600\nput 0003 z\npress start\nrun 9\npunch kept\n",
+        b"[08]1[16]",
+    ),
+    (
+        b"put 0000 p 0800\nput 0001 p 0600\nput 0002 p 1600\nput 0003 z\npress start\nrun 9\npunch-archive kept\n",
+        b"!081\r",
+    ),
+    (
+        b"put 0000 p 0800\nput 0001 p 0600\nput 0002 p 1600\nput 0003 z\npress start\nrun 9\npunch-bytes kept\n",
+        b"\x08\x06\x10",
+    ),
+    // The whole tape, though the reader has passed a part of it.
+    (
+        b"tape any\npress manual\npress read\nrun 1\ncopy kept\n",
+        b"12[16]3'",
+    ),
+    (
+        b"tape any\npress manual\npress read\nrun 1\ncopy-archive kept\n",
+        b"12\r3'",
+    ),
+    (
+        b"tape any\npress manual\npress read\nrun 1\ncopy-bytes kept\n",
+        b"\x06\x0a\x10\x0e\x20",
+    ),
+    (b"copy-bytes kept\n", b""),
+];
+
+/// Whether a row's bytes are kept, and nothing is refused.
+fn is_kept(alloc: Global, row: &Row, written: &mut Vec<u8>) -> bool {
+    let is_kept = Cell::new(false);
+    let wanting = Wanting {
+        wanted: row.1,
+        is_kept: &is_kept,
+    };
+    let outcome = answer(alloc, Manner::Bare, wanting, Silence, row.0, written);
+    outcome == Ok(0) && is_kept.get()
+}
+
+#[test]
+fn tapes_and_drums_are_kept(rt: HostRuntime) {
+    for row in &ROWS {
+        let mut written = Vec::new(rt.alloc());
+        assert!(rt; is_kept(rt.alloc(), row, &mut written));
+        assert!(rt; written.as_slice().ends_with(b"saved kept\n"));
+    }
+}
+
+/// Nothing is said to be kept that is not.
+#[test]
+fn what_cannot_be_kept_is_refused(rt: HostRuntime) {
+    let is_kept = Cell::new(false);
+    let wanting = Wanting {
+        wanted: b"",
+        is_kept: &is_kept,
+    };
+    let mut written = Vec::new(rt.alloc());
+    let outcome = answer(
+        rt.alloc(),
+        Manner::Bare,
+        wanting,
+        Silence,
+        b"punch locked\ncopy-archive locked\ntranscript\n",
+        &mut written,
+    );
+    let wanted =
+        b"? 13 File locked: it cannot be written, and is as it was\n? 13 File locked: it cannot be written, and is as it was\n";
+    assert_eq!(rt; (outcome, written.as_slice()), (Ok(2), wanted.as_slice()));
+}
