@@ -14,6 +14,8 @@ use lgp_machine::{
 use lgp_table::{Action, Event, Mode, Status, Switches};
 use lgp_word::{Address, Op, Word};
 use std::alloc::Allocator;
+use std::fmt::Debug;
+use std::process::Abort;
 use std::test::Fail;
 
 const CLOCK_END: u64 = 1 << 62;
@@ -26,6 +28,11 @@ const PRINT: u32 = 0x0008_3900;
 
 /// An order that switches the reader on, and an input.
 const INPUT: [(u16, u32); 2] = [(0, 0x0008_0000), (1, 0x0004_0000)];
+
+/// Expects a value in a function of its own, so that a test that has a machine needs no more than the call.
+fn expect_eq<T: PartialEq + Debug + Drop>(rt: &impl Abort, seen: T, wanted: T) {
+    assert_eq!(rt; seen, wanted);
+}
 
 // The machine's methods without their contracts, which would fill the context of each test.
 

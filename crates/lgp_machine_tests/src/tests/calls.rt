@@ -1,8 +1,8 @@
 //! Single calls, and what shows after each.
 
 use super::{
-    CLOCK_END, PRINT, TRANSFER, address, ahead, live, look, mount, next_order, parts_at, press,
-    printed, put, rest, shown, started, status_after, tape_left, turn, turns, with_input,
+    CLOCK_END, PRINT, TRANSFER, address, ahead, expect_eq, live, look, mount, next_order, parts_at,
+    press, printed, put, rest, shown, started, status_after, tape_left, turn, turns, with_input,
     with_words, within_an_order, word_at,
 };
 use lgp_drum::Drum;
@@ -45,9 +45,10 @@ fn a_word_shows_its_parts(rt: HostRuntime) -> Result<(), Fail> {
         status_after(&mut machine),
         parts_at(&machine, 0),
     );
-    assert_eq!(rt;
+    expect_eq(
+        &rt,
         seen,
-        (transfer_parts(), Ok(Status::Going), transfer_parts())
+        (transfer_parts(), Ok(Status::Going), transfer_parts()),
     );
     Ok(())
 }
@@ -91,14 +92,15 @@ fn a_tape_is_read_to_its_stop(rt: HostRuntime) -> Result<(), Fail> {
     let mut machine = with_input(rt.alloc(), b"12[16]3'")?;
     let mounted = tape_left(&machine);
     let statuses = [status_after(&mut machine), status_after(&mut machine)];
-    assert_eq!(rt;
+    expect_eq(
+        &rt,
         (mounted, statuses, look(&machine), tape_left(&machine)),
         (
             Some(5),
             [Ok(Status::Going); 2],
             shown(2, 0x123, 0x0004_0000, Status::Going, 1996),
-            Some(0)
-        )
+            Some(0),
+        ),
     );
     Ok(())
 }
@@ -138,9 +140,10 @@ fn enter_six_bits<A: Allocator>(machine: &mut Machine<A>) -> SixBits {
 fn six_bits_enter_where_the_switch_is_down(rt: HostRuntime) -> Result<(), Fail> {
     let mut machine = with_input(rt.alloc(), b"a'")?;
     let seen = enter_six_bits(&mut machine);
-    assert_eq!(rt;
+    expect_eq(
+        &rt,
         seen,
-        (Ok(Pressed::Live), [Ok(Status::Going); 2], Some(0x39))
+        (Ok(Pressed::Live), [Ok(Status::Going); 2], Some(0x39)),
     );
     Ok(())
 }
@@ -185,7 +188,7 @@ fn keys_enter_in_manual(rt: HostRuntime) -> Result<(), Fail> {
     let mut machine = Machine::new(rt.alloc())?;
     let pressed = press(&mut machine, Action::Mode(Mode::Manual));
     let other = first_other_key(&mut machine);
-    assert_eq!(rt; (pressed, other), (Ok(Pressed::Live), None));
+    expect_eq(&rt, (pressed, other), (Ok(Pressed::Live), None));
     Ok(())
 }
 
@@ -200,15 +203,16 @@ fn a_code_is_printed(rt: HostRuntime) -> Result<(), Fail> {
         rest(&mut machine, 1),
     );
     let going = Status::Going;
-    assert_eq!(rt;
+    expect_eq(
+        &rt,
         seen,
         (
             Some((451, Code::new(57))),
             Ok((451, going, Code::new(57))),
             (1, Code::new(57)),
             shown(1, 0, PRINT, going, 451),
-            Err(RestFault::AtWork)
-        )
+            Err(RestFault::AtWork),
+        ),
     );
     Ok(())
 }
@@ -288,7 +292,7 @@ fn copied_words<A: Allocator + Copy>(machine: &Machine<A>) -> Result<[u32; 2], A
 fn a_machine_begins_with_a_drum(rt: HostRuntime) -> Result<(), Fail> {
     let machine = with_drum(rt.alloc())?;
     let copied = copied_words(&machine)?;
-    assert_eq!(rt; [two_words(&machine), copied], [[4, 0x8000_0000]; 2]);
+    expect_eq(&rt, [two_words(&machine), copied], [[4, 0x8000_0000]; 2]);
     Ok(())
 }
 
@@ -312,7 +316,7 @@ fn ends_within<A: Allocator>(machine: &mut Machine<A>) -> bool {
 fn the_clock_ends_within_an_order(rt: HostRuntime) -> Result<(), Fail> {
     let mut machine = with_words(rt.alloc(), &[(0, TRANSFER)])?;
     let ended = [begins_at_the_end(&mut machine), ends_within(&mut machine)];
-    assert_eq!(rt; ended, [true, true]);
+    expect_eq(&rt, ended, [true, true]);
     Ok(())
 }
 
@@ -337,7 +341,7 @@ fn the_clock_ends_at_rest(rt: HostRuntime) -> Result<(), Fail> {
 fn a_tape_above_the_limit_is_handed_back(rt: HostRuntime) -> Result<(), Fail> {
     let mut machine = Machine::new(rt.alloc())?;
     let mounted = mount_codes(&mut machine, rt.alloc(), TAPE_LIMIT + 1)?;
-    assert_eq!(rt; mounted, Err((MountFault::TooLong, 1_048_577)));
+    expect_eq(&rt, mounted, Err((MountFault::TooLong, 1_048_577)));
     Ok(())
 }
 
@@ -355,6 +359,6 @@ fn mounted_and_left(
 fn a_tape_of_1048576_codes_is_mounted(rt: HostRuntime) -> Result<(), Fail> {
     let mut machine = Machine::new(rt.alloc())?;
     let found = mounted_and_left(&mut machine, rt.alloc(), 1_048_576)?;
-    assert_eq!(rt; found, (Ok(()), Some(1_048_576)));
+    expect_eq(&rt, found, (Ok(()), Some(1_048_576)));
     Ok(())
 }

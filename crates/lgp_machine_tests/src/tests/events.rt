@@ -1,8 +1,8 @@
 //! Presses within an order, and word times and presses played in one call.
 
 use super::{
-    CLOCK_END, PRINT, TRANSFER, look, play, press, printed, rest, shown, turns, with_words,
-    within_an_order,
+    CLOCK_END, PRINT, TRANSFER, expect_eq, look, play, press, printed, rest, shown, turns,
+    with_words, within_an_order,
 };
 use lgp_flexo::Code;
 use lgp_limited::Limited;
@@ -48,13 +48,14 @@ fn sixteen_actions_act_at_the_end(rt: HostRuntime) -> Result<(), Fail> {
     let mut machine = within_an_order(rt.alloc())?;
     let kept = keep(&mut machine, &seventeen_actions());
     let turned = turns(&mut machine, 100);
-    assert_eq!(rt;
+    expect_eq(
+        &rt,
         (kept, turned, look(&machine)),
         (
             (16, Err(PressFault::Full)),
             (66, Ok(true)),
-            shown_after_sixteen()
-        )
+            shown_after_sixteen(),
+        ),
     );
     Ok(())
 }
@@ -125,7 +126,7 @@ fn a_play_stops_at_the_clocks_end(rt: HostRuntime) -> Result<(), Fail> {
         done: 3,
         fault: TurnFault::ClockEnd,
     };
-    assert_eq!(rt; played, (Err(stopped), false));
+    expect_eq(&rt, played, (Err(stopped), false));
     Ok(())
 }
 
@@ -168,17 +169,18 @@ fn a_play_stops_where_there_is_no_room(rt: HostRuntime) -> Result<(), Fail> {
         done: 451,
         fault: TurnFault::Memory,
     };
-    assert_eq!(rt;
+    expect_eq(
+        &rt,
         (unprinted, limited.blocks_out()),
         (
             (
                 (Err(stopped), true),
                 ((0, None), None),
                 Ok(()),
-                (1, Code::new(57))
+                (1, Code::new(57)),
             ),
-            0
-        )
+            0,
+        ),
     );
     Ok(())
 }

@@ -1,8 +1,8 @@
 //! Growths refused one after the other.
 
 use super::{
-    PRINT, address, look, next_order, printed, shown, start_with_tape, started, turn, turns,
-    with_words, word_at,
+    PRINT, address, expect_eq, look, next_order, printed, shown, start_with_tape, started, turn,
+    turns, with_words, word_at,
 };
 use lgp_drum::Drum;
 use lgp_flexo::Code;
@@ -84,7 +84,11 @@ fn made<B: Allocator>(limited: &Limited<B>) -> Option<Whole> {
 fn each_growth_of_a_new_machine_is_refused(rt: HostRuntime) -> Result<(), Fail> {
     let heap = LocalHeap::new(rt.alloc(), 262144)?;
     let limited = Limited::new(&heap);
-    assert_eq!(rt; (made(&limited), heap.used()), (opening((0, [0; 3])), 0));
+    expect_eq(
+        &rt,
+        (made(&limited), heap.used()),
+        (opening((0, [0; 3])), 0),
+    );
     Ok(())
 }
 
@@ -122,7 +126,11 @@ fn each_growth_beside_a_drum_is_refused(rt: HostRuntime) -> Result<(), Fail> {
     let limited = Limited::new(rt.alloc());
     let drum = drum_of_two(&limited)?;
     let made = made_with(&limited, drum);
-    assert_eq!(rt; (made, limited.blocks_out()), (opening((2, [0, 4, 0])), 0));
+    expect_eq(
+        &rt,
+        (made, limited.blocks_out()),
+        (opening((2, [0, 4, 0])), 0),
+    );
     Ok(())
 }
 
@@ -188,9 +196,10 @@ fn each_growth_of_a_copy_is_refused(rt: HostRuntime) -> Result<(), Fail> {
     let machine = within_a_tape(&limited)?;
     let before = limited.blocks_out();
     let copied = copied(&limited, &machine);
-    assert_eq!(rt;
+    expect_eq(
+        &rt,
         (copied, limited.blocks_out()),
-        (shown_within_a_tape(), before)
+        (shown_within_a_tape(), before),
     );
     Ok(())
 }
@@ -241,14 +250,15 @@ fn a_code_without_room_is_not_printed(rt: HostRuntime) -> Result<(), Fail> {
     let before = shown_at_print(0, shown(0, 0, 0, Status::Going, 0));
     let after = shown_at_print(1, shown(1, 0, PRINT, Status::Going, 451));
     let by_turns = (451, Err(TurnFault::Memory));
-    assert_eq!(rt;
+    expect_eq(
+        &rt,
         (refused, still, ended, limited.blocks_out()),
         (
             (Err(OrderFault::Memory), before, by_turns, true),
             ((0, None), None),
             (Ok(true), false, after),
-            0
-        )
+            0,
+        ),
     );
     Ok(())
 }

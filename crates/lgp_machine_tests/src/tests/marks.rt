@@ -1,9 +1,9 @@
 //! Orders that change orders, whichever way they are performed, and marks to return to.
 
 use super::{
-    CLOCK_END, PRINT, TRANSFER, address, look, mount_text, next_order, press, printed, put, shown,
-    shown_at_input, started, status_after, tape_left, tape_passed, turns, with_input, with_words,
-    word_at,
+    CLOCK_END, PRINT, TRANSFER, address, expect_eq, look, mount_text, next_order, press, printed,
+    put, shown, shown_at_input, started, status_after, tape_left, tape_passed, turns, with_input,
+    with_words, word_at,
 };
 use lgp_flexo::{Code, TAPE_LIMIT, read_tape_text};
 use lgp_machine::{Look, Machine, Mark, OrderFault, PressFault, Pressed, PutFault};
@@ -110,13 +110,14 @@ fn transfer_and_stop<A: Allocator>(machine: &mut Machine<A>) -> Replaced {
 fn a_put_word_is_performed(rt: HostRuntime) -> Result<(), Fail> {
     let mut machine = started(rt.alloc(), &[(0, TRANSFER)])?;
     let stopped = Status::Halted(Cause::Stop);
-    assert_eq!(rt;
+    expect_eq(
+        &rt,
         transfer_and_stop(&mut machine),
         (
             [Ok(Status::Going), Ok(stopped)],
             ([Ok(Pressed::Live); 3], Ok(())),
-            shown(1, 0, 0, stopped, 131)
-        )
+            shown(1, 0, 0, stopped, 131),
+        ),
     );
     Ok(())
 }
@@ -182,9 +183,10 @@ fn input_twice<A: Allocator>(machine: &mut Machine<A>) -> Option<Inputs> {
 fn the_tape_goes_back(rt: HostRuntime) -> Result<(), Fail> {
     let mut machine = with_input(rt.alloc(), b"12[16]3'")?;
     let shows = [before_input(), after_input(), before_input(), after_input()];
-    assert_eq!(rt;
+    expect_eq(
+        &rt,
         input_twice(&mut machine),
-        Some(([Ok(Status::Going); 3], shows))
+        Some(([Ok(Status::Going); 3], shows)),
     );
     Ok(())
 }
@@ -232,7 +234,7 @@ fn a_printed_code_goes_back(rt: HostRuntime) -> Result<(), Fail> {
         before_print(),
         before_print(),
     ];
-    assert_eq!(rt; seen, Some(([Some(true), Some(false)], papers)));
+    expect_eq(&rt, seen, Some(([Some(true), Some(false)], papers)));
     Ok(())
 }
 
@@ -310,9 +312,10 @@ fn mounted_and_set<A: Allocator + Copy>(
 #[test]
 fn a_tape_is_set_within_itself(rt: HostRuntime) -> Result<(), Fail> {
     let mut machine = with_words(rt.alloc(), &[])?;
-    assert_eq!(rt;
+    expect_eq(
+        &rt,
         mounted_and_set(&mut machine, rt.alloc()),
-        (true, true, Some(2), Some(1))
+        (true, true, Some(2), Some(1)),
     );
     Ok(())
 }

@@ -1,8 +1,8 @@
 //! A machine with a long tape and many printed codes, its copy, and a copy within an activity.
 
 use super::{
-    PRINT, TRANSFER, look, mount, next_order, press, printed, shown, tape_left, turns, with_words,
-    within_an_order,
+    PRINT, TRANSFER, expect_eq, look, mount, next_order, press, printed, shown, tape_left, turns,
+    with_words, within_an_order,
 };
 use lgp_flexo::{Code, TAPE_LIMIT};
 use lgp_machine::{Look, Machine, TurnFault};
@@ -52,9 +52,10 @@ fn a_long_tape_and_many_codes_are_copied(rt: HostRuntime) -> Result<(), Fail> {
     let tape = vec![in rt.alloc(); Code::STOP; TAPE_LIMIT]?;
     let mut machine = with_words(rt.alloc(), &PRINTS)?;
     let sizes = (10_000, Some(1_048_576));
-    assert_eq!(rt;
+    expect_eq(
+        &rt,
         mounted_and_printed(&mut machine, tape),
-        (true, 20_000, sizes, Some(sizes))
+        (true, 20_000, sizes, Some(sizes)),
     );
     Ok(())
 }
@@ -81,6 +82,10 @@ fn ended() -> Turned {
 fn a_copy_within_an_activity_ends_it(rt: HostRuntime) -> Result<(), Fail> {
     let mut machine = within_an_order(rt.alloc())?;
     let copied = turned_copy(&machine);
-    assert_eq!(rt; (copied, turned(&mut machine)), (Some(ended()), ended()));
+    expect_eq(
+        &rt,
+        (copied, turned(&mut machine)),
+        (Some(ended()), ended()),
+    );
     Ok(())
 }
