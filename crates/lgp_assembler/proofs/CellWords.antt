@@ -1,6 +1,6 @@
 -- What the lines of a source give: words, and a start that is an address.
-use Rattle.std.proofs.Common.{◌≡◌, ◌⊎◌, ◌<◌, ◌≤◌, ◌+◌, ◌-◌, ◌*◌, ◌%◌, ◌^◌, ◌++◌, ◌==◌, ℕ, ℤ, pos, ◌+ℤ◌, ◌*ℤ◌, unsigned_abs, Bool, true, false, cond, if◌then◌else◌, List, [], ◌∷◌, length, slice_index, take, drop, Option, None, Some, Result, Ok, Err, refl, sym, ap, subst, ⊎_elim, arith, nat_le, nat_lt, IfOk, IfSome, option_to_list, option_map, ok_or, position}
-use Rattle.std.specs.List.{All, position_or_len}
+use Rattle.std.proofs.Common.{◌≡◌, ◌⊎◌, ◌<◌, ◌≤◌, ◌+◌, ◌-◌, ◌*◌, ◌^◌, ◌++◌, ◌==◌, ℕ, ℤ, pos, ◌*ℤ◌, Bool, true, false, cond, if◌then◌else◌, List, [], ◌∷◌, length, slice_index, Option, None, Some, Result, Ok, Err, refl, sym, subst, ⊎_elim, arith, nat_lt, IfOk, IfSome, option_to_list, option_map, ok_or, position}
+use Rattle.std.specs.List.{All}
 use Rattle.std.specs.Option.{option_map_or, option_or}
 use Rattle.std.specs.Str.{byte}
 use Rattle.std.proofs.lemmas.Bool.Decides.{nat_tests}
@@ -26,8 +26,8 @@ use Rattle.lgp_assembler.specs.declared.operands.Meaning.TheVariants.{Cell, Plac
 use Rattle.lgp_assembler.specs.declared.address_operands.Offset.{Offset}
 use Rattle.lgp_assembler.specs.declared.operands.OperandFault.{OperandFault}
 use Rattle.lgp_assembler.specs.declared.operands.OperandFault.TheVariants.{Misformed, Outside}
-use Rattle.lgp_assembler.specs.AddressOperands.{address_operand, base_number, in_range, is_sign, address_beside, offset_of}
-use Rattle.lgp_assembler.specs.Operands.{cell_of_fraction, cell_of_order, integer_word, meaning_of, order_operand, place_meaning, printing_cell, scaled_word, sign_operand, unsigned_part, word_of_parts}
+use Rattle.lgp_assembler.specs.AddressOperands.{address_operand, in_range, address_beside}
+use Rattle.lgp_assembler.specs.Operands.{cell_of_fraction, cell_of_order, integer_word, meaning_of, order_operand, place_meaning, printing_cell, scaled_word, sign_operand, word_of_parts}
 use Rattle.lgp_assembler.specs.Fields.{LineFields}
 use Rattle.lgp_assembler.specs.Faults.{line_meaning}
 use Rattle.lgp_assembler.specs.Image.{cell_at, cells_in, start_at, start_in}

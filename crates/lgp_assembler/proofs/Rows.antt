@@ -1,5 +1,5 @@
 -- The first row of the table that holds.
-use Rattle.std.proofs.Common.{◌≡◌, ◌<◌, ◌&&◌, ℕ, Bool, true, false, List, [], ◌∷◌, ◌++◌, Some, Result, sym, ap, ◌∙◌, arith, ⊎_elim, nat_lt, nat_le, find, option_map, slice_index_or, is_none}
+use Rattle.std.proofs.Common.{◌≡◌, ◌<◌, ◌&&◌, ℕ, Bool, true, false, List, [], ◌∷◌, ◌++◌, Some, Result, sym, ap, ◌∙◌, arith, ⊎_elim, nat_lt, nat_le, slice_index_or, is_none}
 use Rattle.std.specs.Option.{option_map_or}
 use Rattle.std.proofs.lemmas.Bool.{le-leb, cases_Bool, cases_lt, cond-true, cond-false, and_from}
 use Rattle.lgp_assembler.specs.declared.operands.Meaning.{Meaning}

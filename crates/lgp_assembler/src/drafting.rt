@@ -1,6 +1,6 @@
 //! The pass over a source for its words and its faults.
 
-ghost use Rattle.std.specs.Prelude.{◌≡◌, ◌++◌, [], None, true, IfOk, OnOk, option_to_list, option_map, slice_set, if◌then◌else◌, length, ◌≤◌};
+ghost use Rattle.std.specs.Prelude.{◌≡◌, ◌++◌, [], None, true, IfOk, OnOk, option_to_list, option_map, slice_set, if◌then◌else◌};
 ghost use Rattle.std.specs.Option.{option_copied, option_or};
 ghost use Rattle.lgp_word.specs.Address.{IsAddress};
 ghost use Rattle.lgp_word.specs.Word.{IsWord};

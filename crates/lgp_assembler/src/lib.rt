@@ -1,7 +1,7 @@
 //! The assembler: a source's words, or its faults, and a faulty line as it is shown.
 #![tactic(auto)]
 
-ghost use Rattle.std.specs.Prelude.{◌≡◌, ◌≢◌, ◌+◌, ◌++◌, ◌<◌, ◌^◌, [], ◌∷◌, IfOk, OnOk, IfErr, length, ◌≤◌};
+ghost use Rattle.std.specs.Prelude.{◌≡◌, ◌≢◌, ◌+◌, ◌++◌, ◌<◌, ◌^◌, [], IfOk, OnOk, IfErr};
 ghost use Rattle.lgp_assembler.specs.Answers.{IfFaults};
 ghost use Rattle.lgp_assembler.specs.Faults.{end_fault};
 ghost use Rattle.lgp_assembler.specs.Image.{faults_of, image_of};

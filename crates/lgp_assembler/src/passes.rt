@@ -1,6 +1,6 @@
 //! The pass over a source for its names.
 
-ghost use Rattle.std.specs.Prelude.{◌≡◌, ◌+◌, ◌<◌, ◌≤◌, ◌^◌, ◌++◌, false, unwrap_or, option_to_list, if◌then◌else◌, OnOk, IfOk, [], ◌||◌, max};
+ghost use Rattle.std.specs.Prelude.{◌≡◌, ◌+◌, ◌<◌, ◌≤◌, ◌^◌, ◌++◌, false, option_to_list, if◌then◌else◌, OnOk, IfOk, [], ◌||◌, max};
 ghost use Rattle.std.specs.Option.{option_copied};
 ghost use Rattle.lgp_assembler.specs.Places as spec;
 ghost use Rattle.lgp_assembler.specs.FieldsSeenInside.{fields_seen};

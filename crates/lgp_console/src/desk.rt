@@ -2,7 +2,7 @@
 
 ghost use Rattle.std.specs.Prelude.{◌≡◌};
 ghost use Rattle.lgp_table.specs.Activity.{resume};
-ghost use Rattle.lgp_table.specs.Console.{Desk, after_key, desk_after, is_live, key_is_live, status_in_mode, takes_codes, with_break_point};
+ghost use Rattle.lgp_table.specs.Console.{after_key, desk_after, is_live, key_is_live, status_in_mode, takes_codes, with_break_point};
 
 use lgp_flexo::{Code, enter, skipped};
 use lgp_reader::Reader;

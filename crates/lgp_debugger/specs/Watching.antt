@@ -11,7 +11,6 @@ use Rattle.lgp_debugger.specs.Run.{IsOrderOfRun, IsRun, UnlessMemory, orders_of,
 use Rattle.lgp_debugger.specs.declared.fault.Ran.{Ran}
 use Rattle.lgp_debugger.specs.declared.fault.Reason.TheVariants.{Limit}
 use Rattle.lgp_debugger.specs.declared.fault.RunFault.{RunFault}
-use Rattle.lgp_debugger.specs.declared.fault.StepFault.{StepFault}
 use Rattle.lgp_debugger.specs.declared.watcher.WatchFault.{WatchFault}
 use Rattle.lgp_debugger.specs.declared.watcher.WatchFault.TheVariants.{Refused, Unseen}
 

@@ -1,6 +1,6 @@
 //! The debugger: a machine with its history and its rules, its steps, its runs and its way back.
 
-ghost use Rattle.std.specs.Prelude.{◌≡◌, ◌≢◌, ◌==◌, ◌+◌, ◌<◌, ◌≤◌, ◌↔◌, ◌++◌, ◌∷◌, ℕ, [], List, length, map, remove, slice_get, vec_len, false, None, Some, Err, Ok, IfErr, IfOk, IfSome, IsTrue, OnErr, OnOk, if◌then◌else◌};
+ghost use Rattle.std.specs.Prelude.{◌≡◌, ◌≢◌, ◌==◌, ◌+◌, ◌<◌, ◌≤◌, ◌↔◌, ◌++◌, ◌∷◌, ℕ, [], length, map, remove, slice_get, vec_len, false, None, Some, Err, Ok, IfErr, IfOk, IsTrue, OnErr, OnOk, if◌then◌else◌};
 ghost use Rattle.lgp_table.specs.Activity.{cost, print_of};
 ghost use Rattle.lgp_table.specs.Console.{is_at_rest, is_live};
 ghost use Rattle.lgp_table.specs.Interleaving.{at_boundary};

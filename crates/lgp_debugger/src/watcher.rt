@@ -1,6 +1,6 @@
 //! What watches the orders of a run.
 
-ghost use Rattle.std.specs.Prelude.{◌≡◌, ◌≢◌, Bool, IfErr, IsTrue, List, OnErr, OnOk, true, Err};
+ghost use Rattle.std.specs.Prelude.{◌≡◌, ◌≢◌, Bool, IsTrue, List, OnErr, OnOk, true, Err};
 ghost use Rattle.lgp_history.specs.declared.rule.Rule.{Rule};
 ghost use Rattle.lgp_debugger.specs.Debugging.{Debugging};
 ghost use Rattle.lgp_debugger.specs.Watching.{IsWatchedOrder, rules_in_force};

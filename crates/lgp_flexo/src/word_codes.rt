@@ -1,7 +1,7 @@
 //! Words as the codes of their digits.
 
 ghost use Rattle.std.specs.Prelude.{◌≡◌, ◌<◌};
-ghost use Rattle.lgp_flexo.specs.WordCodes.{digit_code, four_digit_codes, word_codes};
+ghost use Rattle.lgp_flexo.specs.WordCodes.{four_digit_codes, word_codes};
 
 use crate::code::Code;
 use lgp_word::Word;

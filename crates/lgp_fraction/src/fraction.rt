@@ -1,6 +1,6 @@
 //! Fractions, and their texts as decimals.
 
-ghost use Rattle.std.specs.Prelude.{◌≡◌, ℕ, ◌+◌, ◌-◌, ◌*◌, ◌/◌, ◌%◌, ◌^◌, ◌<◌, ◌≤◌, ◌↔◌, ◌==◌, ℤ, pos, neg_ℤ, ◌*ℤ◌, unsigned_abs, IsTrue, IsFalse, IfOk, length, drop, slice_index, Ok, Err, Some, None, if◌then◌else◌};
+ghost use Rattle.std.specs.Prelude.{◌≡◌, ℕ, ◌+◌, ◌-◌, ◌*◌, ◌/◌, ◌%◌, ◌^◌, ◌<◌, ◌≤◌, ◌↔◌, ◌==◌, ℤ, pos, ◌*ℤ◌, unsigned_abs, IsTrue, IsFalse, IfOk, length, drop, slice_index, Ok, Err, Some, None, if◌then◌else◌};
 ghost use Rattle.std.specs.Str.{byte};
 ghost use Rattle.lgp_word.specs.Word.{IsWord, signed};
 ghost use Rattle.lgp_fraction.specs.Arithmetic.{half, low_bits};

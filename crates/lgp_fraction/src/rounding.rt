@@ -1,6 +1,6 @@
 //! Quotients to the nearest whole number.
 
-ghost use Rattle.std.specs.Prelude.{◌≡◌, ℕ, ◌+◌, ◌*◌, ◌/◌, ◌^◌, ◌<◌, ℤ, unsigned_abs};
+ghost use Rattle.std.specs.Prelude.{◌≡◌, ◌+◌, ◌*◌, ◌/◌, ◌^◌, ◌<◌, ℤ, unsigned_abs};
 ghost use Rattle.lgp_fraction.specs.Rounding.{IsNearest, nearest, nearest_size, with_sign};
 
 /// The whole number nearest to a quotient, ties away from zero.

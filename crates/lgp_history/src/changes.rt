@@ -2,7 +2,6 @@
 
 ghost use Rattle.std.specs.Prelude.{◌≡◌, ◌≤◌, ℕ, List, Some, length, option_map, position, IfOk, IsTrue};
 ghost use Rattle.lgp_flexo.specs.TapeText.{tape_limit};
-ghost use Rattle.lgp_word.specs.Address.{address_after};
 ghost use Rattle.lgp_table.specs.Activity.{begun_order};
 ghost use Rattle.lgp_table.specs.Interleaving.{at_boundary, is_boundary};
 ghost use Rattle.lgp_table.specs.declared.panel.Panel.{Panel};

@@ -1,11 +1,11 @@
 //! History by copies of the machine and by doing steps again.
 
-ghost use Rattle.std.specs.Prelude.{◌≡◌, false, ◌<◌, ◌≤◌, ◌+◌, ◌-◌, ◌%◌, ◌==◌, ◌^◌, ◌++◌, ◌∷◌, ℕ, [], IfOk, OnOk, OnErr, IsSome, IsTrue, length, drop, take, if◌then◌else◌, Some, None};
+ghost use Rattle.std.specs.Prelude.{◌≡◌, false, ◌<◌, ◌≤◌, ◌+◌, ◌-◌, ◌%◌, ◌==◌, ◌^◌, ◌++◌, ◌∷◌, [], IfOk, OnOk, IsSome, length, drop, take, if◌then◌else◌, Some, None};
 ghost use Rattle.lgp_table.specs.Activity.{cost, next};
 ghost use Rattle.lgp_table.specs.Console.{is_at_rest};
 ghost use Rattle.lgp_machine.specs.Answers.{clock_end};
 ghost use Rattle.lgp_table.specs.State.{State};
-ghost use Rattle.lgp_table.specs.Interleaving.{at_boundary, is_boundary};
+ghost use Rattle.lgp_table.specs.Interleaving.{at_boundary};
 ghost use Rattle.lgp_history.specs.Step.{plain};
 ghost use Rattle.lgp_history.specs.Steps.{CanStep, is_order, orders_in, state_back, stepped, steps_back};
 ghost use Rattle.lgp_history.specs.CheckpointsInside.{IsNoted, hit_more, noted_after, played, played_to, start_of};

@@ -1,8 +1,8 @@
 //! What every history does.
 
-ghost use Rattle.std.specs.Prelude.{◌≡◌, ◌↔◌, ◌<◌, ◌≤◌, ◌^◌, ◌++◌, ℕ, [], ◌∷◌, List, length, Bool, IfOk, OnOk, OnErr, IfErr, IsTrue, Ok, Err, ◌≢◌};
+ghost use Rattle.std.specs.Prelude.{◌≡◌, ◌↔◌, ◌<◌, ◌≤◌, ℕ, [], List, length, Bool, IfOk, OnOk, OnErr, IsTrue, Err, ◌≢◌};
 ghost use Rattle.lgp_table.specs.State.{State};
-ghost use Rattle.lgp_table.specs.Interleaving.{at_boundary, is_boundary};
+ghost use Rattle.lgp_table.specs.Interleaving.{at_boundary};
 ghost use Rattle.lgp_history.specs.Step.{KeptStep, Step as PlainStep, plain};
 ghost use Rattle.lgp_history.specs.Steps.{CanStep, Leads, orders_in, state_back, stepped, steps_back, with_step};
 ghost use Rattle.lgp_history.specs.Hits.{last_hit};

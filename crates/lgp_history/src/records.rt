@@ -1,9 +1,9 @@
 //! History by records.
 
-ghost use Rattle.std.specs.Prelude.{◌≡◌, ◌<◌, ◌≤◌, ℕ, [], true, IfOk, OnOk, length};
+ghost use Rattle.std.specs.Prelude.{◌≡◌, ◌<◌, ◌≤◌, [], true, IfOk};
 ghost use Rattle.lgp_table.specs.State.{State};
 ghost use Rattle.lgp_table.specs.Interleaving.{at_boundary};
-ghost use Rattle.lgp_history.specs.Steps.{Leads, orders_in, state_back, steps_back};
+ghost use Rattle.lgp_history.specs.Steps.{Leads, state_back, steps_back};
 ghost use Rattle.lgp_history.specs.RecordedInside.{orders_recorded, read, recorded};
 
 use crate::changes::Record;

@@ -1,6 +1,6 @@
 //! Keying words in.
 
-ghost use Rattle.std.specs.Prelude.{◌≡◌, ◌+◌, ◌<◌, ◌≤◌, ◌↔◌, true, false, ℕ, IsTrue, OnOk, Ok, Err, length};
+ghost use Rattle.std.specs.Prelude.{◌≡◌, ◌+◌, ◌<◌, ◌≤◌, ◌↔◌, false, ℕ, IsTrue, OnOk, Ok, Err, length};
 ghost use Rattle.std.specs.Bool.{OnFalse, OnTrue};
 ghost use Rattle.lgp_table.specs.Activity.{cost, next};
 ghost use Rattle.lgp_table.specs.Interleaving.{at_boundary, is_boundary};

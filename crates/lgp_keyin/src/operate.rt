@@ -1,11 +1,11 @@
 //! What an operator can do with a machine.
 
-ghost use Rattle.std.specs.Prelude.{◌≡◌, ◌+◌, ◌<◌, ◌≤◌, ◌↔◌, ℕ, Bool, true, false, List, length, fold, is_some, IsTrue, IfOk, OnOk, OnErr, IfErr, Err};
+ghost use Rattle.std.specs.Prelude.{◌≡◌, ◌+◌, ◌<◌, ◌≤◌, ◌↔◌, ℕ, false, List, length, is_some, IsTrue, IfOk, OnOk, OnErr, IfErr, Err};
 ghost use Rattle.std.specs.Result.{IsErrAnd};
 ghost use Rattle.lgp_flexo.specs.TapeText.{tape_limit};
 ghost use Rattle.lgp_table.specs.Activity.{cost, next, print_of};
 ghost use Rattle.lgp_table.specs.Console.{is_at_rest};
-ghost use Rattle.lgp_table.specs.Interleaving.{Configuration, after_actions, after_mount, after_press, at_boundary, is_boundary, latch_limit};
+ghost use Rattle.lgp_table.specs.Interleaving.{Configuration, after_actions, after_mount, after_press, at_boundary, is_boundary};
 ghost use Rattle.lgp_machine.specs.Answers.{press_outcome, clock_end};
 ghost use Rattle.lgp_machine.specs.Look.{look_of, seen_at_boundary};
 

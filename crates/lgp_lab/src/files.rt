@@ -1,10 +1,10 @@
 //! What the program's commands write for a file.
 
 ghost use Rattle.std.specs.Prelude.{◌≡◌, ◌++◌, ℕ, List, Some, option_map, IfErr, IfOk, IfSome, OnOk, false};
-ghost use Rattle.std.specs.Io.KnownBytes.{Appends, IsAtEnd};
+ghost use Rattle.std.specs.Io.KnownBytes.{IsAtEnd};
 ghost use Rattle.lgp_lab.specs.Files.{FileAnswer, IsFileAnswer, answer_left, answer_of, asm_answer, listed, run_answer, run_to, tape_answer, taped};
 ghost use Rattle.lgp_table.specs.Interleaving.{at_boundary};
-ghost use Rattle.lgp_stream.specs.Language.{HasCause, StandsOf};
+ghost use Rattle.lgp_stream.specs.Language.{HasCause};
 ghost use Rattle.lgp_lab.specs.Refusal.{refusal_text};
 ghost use Rattle.lgp_lab.specs.SourceCommands.{faults_text};
 ghost use Rattle.lgp_lab.specs.SourceText.{source_of};

@@ -1,6 +1,6 @@
 //! The laboratory: a machine with its history and the source at hand, and what is answered to a line.
 
-ghost use Rattle.std.specs.Prelude.{◌≡◌, ◌++◌, ◌≤◌, List, ℕ, IfOk, OnOk, is_some, length};
+ghost use Rattle.std.specs.Prelude.{◌≡◌, ◌≤◌, List, ℕ, IfOk, OnOk, is_some, length};
 ghost use Rattle.lgp_stream.specs.Language.{IsAnswered};
 ghost use Rattle.lgp_stream.specs.KeptLine.{line_limit};
 ghost use Rattle.lgp_stream.specs.KeptLine.{kept_of};

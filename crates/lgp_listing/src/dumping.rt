@@ -1,6 +1,6 @@
 //! The dump of a drum.
 
-ghost use Rattle.std.specs.Prelude.{◌≡◌, ◌++◌, ◌≤◌, ◌<◌, ◌+◌, ℕ, List, IfOk, OnOk, slice_index, length, count_by};
+ghost use Rattle.std.specs.Prelude.{◌≡◌, ◌++◌, ◌<◌, ◌+◌, ℕ, List, IfOk, OnOk, slice_index, length, count_by};
 ghost use Rattle.lgp_word.specs.Word.{IsWord};
 ghost use Rattle.lgp_word.specs.Drum.{drum_size};
 ghost use Rattle.lgp_listing.specs.Dump as spec;

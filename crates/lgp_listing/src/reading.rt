@@ -1,6 +1,6 @@
 //! The drum of a dump.
 
-ghost use Rattle.std.specs.Prelude.{◌≡◌, ◌++◌, ◌≤◌, ◌<◌, ◌+◌, ℕ, IfOk, IfErr, IfSome, IfNone, IsErrOf, MatchResult, None, List, length};
+ghost use Rattle.std.specs.Prelude.{◌≡◌, ◌<◌, ◌+◌, ℕ, IfOk, IfErr, IfSome, IfNone, IsErrOf, MatchResult, None, List};
 ghost use Rattle.lgp_word.specs.Drum.{blank_words};
 ghost use Rattle.lgp_listing.specs.Dump as spec;
 

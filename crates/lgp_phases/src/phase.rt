@@ -1,13 +1,11 @@
 //! The phases of an activity.
 
-ghost use Rattle.std.specs.Prelude.{◌≡◌, ℕ, ◌≢◌, ◌+◌, ◌*◌, ◌%◌, ◌^◌, ◌<◌, ◌≤◌, ◌↔◌, if◌then◌else◌, IsNone, IfSome, IsTrue, false, ◌==◌};
-ghost use Rattle.lgp_word.specs.Address.{sector_of};
+ghost use Rattle.std.specs.Prelude.{◌≡◌, ◌≢◌, ◌+◌, ◌*◌, ◌%◌, ◌^◌, ◌<◌, ◌↔◌, if◌then◌else◌, IsNone, IfSome, IsTrue, false, ◌==◌};
 ghost use Rattle.lgp_word.specs.Drum.{position_of, position_under_head};
-ghost use Rattle.lgp_word.specs.Order.{address_at, op_at};
 ghost use Rattle.lgp_table.specs.State.{core_of};
 ghost use Rattle.lgp_table.specs.Wait.{wait};
 ghost use Rattle.lgp_phases.specs.Processor.{remaining};
-ghost use Rattle.lgp_table.specs.Activity.{act_time, cost_at, rest_time, seek_time};
+ghost use Rattle.lgp_table.specs.Activity.{act_time, cost_at, seek_time};
 
 use crate::times::act_time;
 use lgp_drum::Drum;

@@ -1,7 +1,6 @@
 //! Times: waits, what the phases of an order take, and what an activity will cost and print.
 
 ghost use Rattle.std.specs.Prelude.{◌≡◌, ◌+◌, ◌^◌, ◌<◌, ◌≤◌};
-ghost use Rattle.lgp_word.specs.Address.{sector_of};
 ghost use Rattle.lgp_flexo.specs.Tape.{Tape};
 ghost use Rattle.lgp_table.specs.State.{Core, core_of};
 ghost use Rattle.lgp_table.specs.Rows.{effect_of};

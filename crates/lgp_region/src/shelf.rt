@@ -1,6 +1,6 @@
 //! Which block a request takes.
 ghost use Rattle.std.specs.Prelude.{◌≡◌, ◌%◌, ◌^◌, ◌<◌, ◌≤◌, ◌*◌};
-ghost use Rattle.lgp_region.specs.Room.{shelf_of, block_size};
+ghost use Rattle.lgp_region.specs.Room.{shelf_of};
 
 /// How many sizes of blocks there are: from 16 bytes to 32 gigabytes, each twice the one before it.
 pub(crate) const SHELVES: u32 = 32;

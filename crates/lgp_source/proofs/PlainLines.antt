@@ -2,9 +2,9 @@
 use Rattle.std.proofs.Common.{◌≡◌, ◌≢◌, ◌≤◌, ◌+◌, ◌++◌, ◌&&◌, ◌==◌, ℕ, suc, Bool, true, false, List, [], ◌∷◌, length, take, drop, Some, None, refl, sym, ap, ◌∙◌, arith}
 use Rattle.std.specs.List.{position_or_len, position}
 use Rattle.std.specs.Prelude.{if◌then◌else◌, is_some}
-use Rattle.std.proofs.lemmas.Bool.{cond-false, ne_eqb, le-leb, le-ltb, and_from}
+use Rattle.std.proofs.lemmas.Bool.{cond-false, ne_eqb, and_from}
 use Rattle.std.proofs.lemmas.List.{append-nil, take_at, drop_at}
-use Rattle.lgp_source.specs.Source.{SourceToken, SourceLine, before_pieces, pieces, text_of, is_blank, is_bad, body_from, before_comment, tokens_from, tokens_of, line_of, line_with}
+use Rattle.lgp_source.specs.Source.{SourceToken, SourceLine, pieces, text_of, is_blank, is_bad, body_from, before_comment, tokens_from, tokens_of, line_of, line_with}
 use Rattle.lgp_source.proofs.Places.{run_more, run_none, past_token}
 
 -- a byte from the space to `~`, but no `;`

@@ -1,6 +1,6 @@
 //! What answers lines and keeps them.
 
-ghost use Rattle.std.specs.Prelude.{◌≡◌, ◌++◌, ◌∷◌, [], List, ℕ, IfOk, OnOk, codes};
+ghost use Rattle.std.specs.Prelude.{◌≡◌, ◌++◌, ◌∷◌, [], List, ℕ, OnOk};
 ghost use Rattle.lgp_stream.specs.KeptLine.{kept_of};
 ghost use Rattle.std.specs.Borrow.{sem};
 ghost use Rattle.lgp_stream.specs.Language.{IsAnswered};

@@ -1,6 +1,6 @@
 //! Answering a text line by line while it is read, and writing the replies.
 
-ghost use Rattle.std.specs.Prelude.{◌≡◌, ◌++◌, ◌∷◌, ◌≤◌, [], List, Option, ℕ, IfErr, IfOk, IfSome, IsErr, OnOk, false, true, length, take};
+ghost use Rattle.std.specs.Prelude.{◌≡◌, ◌++◌, ◌∷◌, ◌≤◌, [], List, ℕ, IfErr, IfOk, IfSome, IsErr, OnOk, false, true, length, take};
 ghost use Rattle.std.specs.Io.KnownBytes.{Appends, IsAtEnd};
 ghost use Rattle.std.specs.List.{concat};
 ghost use Rattle.lgp_stream.specs.Language.{StandsOf, HasCause, Language, StandsWritten, is_question, question_count, text_replies, fault_after, HasStopped};

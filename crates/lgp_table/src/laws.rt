@@ -1,6 +1,6 @@
 //! What follows from the definitions, each law as the contract of a function that does nothing.
 
-ghost use Rattle.std.specs.Prelude.{◌≡◌, ◌≢◌, ◌+◌, ◌<◌, ◌≤◌, ℕ, Bool, List, IsTrue, true, false, [], ◌∷◌, length};
+ghost use Rattle.std.specs.Prelude.{◌≡◌, ◌≢◌, ◌+◌, ◌<◌, ◌≤◌, ℕ, Bool, List, true, false, [], ◌∷◌, length};
 ghost use Rattle.lgp_flexo.specs.Code.{is_skipped};
 ghost use Rattle.lgp_flexo.specs.Input.{accumulator_after_all};
 ghost use Rattle.lgp_word.specs.declared.order.Op.{Op};

@@ -2,7 +2,7 @@
 //! 0050, `order Op.B 0 50` the word of b 0050, and `Begins s 67 (at 0 1) word` says that at clock 67 the machine begins the
 //! order at 0001, whose word this is.
 
-ghost use Rattle.std.specs.Prelude.{◌≡◌, ◌+◌, ◌*◌, ◌-◌, ◌%◌, ◌^◌, ◌<◌, ℕ, List, true, false, length, [], ◌∷◌, Some};
+ghost use Rattle.std.specs.Prelude.{◌≡◌, ◌+◌, ◌*◌, ◌-◌, ◌%◌, ◌^◌, ℕ, true, false, length, [], ◌∷◌, Some};
 ghost use Rattle.lgp_table.specs.State.{State, word_at};
 ghost use Rattle.lgp_table.specs.Activity.{cost, next, print_of};
 ghost use Rattle.lgp_table.specs.Console.{Desk, desk_after, is_live};

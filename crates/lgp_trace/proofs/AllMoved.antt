@@ -1,14 +1,13 @@
 -- All words of a freedom at their best sectors at once: the same orders save the sum of what each word saves alone.
-use Rattle.std.proofs.Common.{◌≡◌, ◌≢◌, ◌∙◌, ℕ, zero, suc, ◌+◌, ◌-◌, ◌<◌, ◌≤◌, ◌==◌, Bool, true, false, cond, List, map, slice_index, sum, ap, refl, sym, subst, arith}
+use Rattle.std.proofs.Common.{◌≡◌, ◌≢◌, ◌∙◌, ℕ, zero, suc, ◌+◌, ◌-◌, ◌≤◌, ◌==◌, Bool, false, cond, map, sum, ap, refl, subst, arith}
 use Rattle.std.proofs.lemmas.Bool.Decides.{nat_tests}
 use Rattle.std.proofs.lemmas.List.FromFn.{sum_by-map-range_with_len_more}
 use Rattle.std.specs.List.{range_with_len}
 use Rattle.lgp_word.specs.Address.{sector_of}
 use Rattle.lgp_table.specs.After.{after}
 use Rattle.lgp_table.specs.State.{State}
-use Rattle.lgp_trace.specs.Optimum.{clock_with, moved, took_with, with_sector}
-use Rattle.lgp_trace.specs.Gains.{Moves, best_in, best_of, best_sectors, gain_if, gain_of, gains_of, least_sector, moves_of, sector_if, times_of}
-use Rattle.lgp_trace.specs.declared.optimum.Best.{Best}
+use Rattle.lgp_trace.specs.Optimum.{clock_with, moved}
+use Rattle.lgp_trace.specs.Gains.{Moves, best_of, best_sectors, gain_if, gain_of, gains_of, moves_of, sector_if}
 use Rattle.lgp_trace.specs.declared.uses.Freedom.{Freedom}
 use Rattle.lgp_trace.specs.declared.uses.Freedom.TheVariants as freedoms
 use Rattle.lgp_trace.proofs.GainLemmas.{best_saves}

@@ -2,7 +2,6 @@
 use Rattle.std.proofs.Common.{◌≡◌, ◌∙◌, ℕ, ◌+◌, List, ap, arith}
 use Rattle.std.specs.Prelude.{Result}
 use Rattle.lgp_table.specs.After.{after}
-use Rattle.lgp_table.specs.State.{State}
 use Rattle.lgp_history.specs.declared.rule.Rule.{Rule}
 use Rattle.lgp_debugger.specs.Debugging.{Debugging}
 use Rattle.lgp_debugger.specs.Run.{IsRun, orders_of}

@@ -1,5 +1,5 @@
 -- What is appended to a text in columns.
-use Rattle.std.proofs.Common.{◌≡◌, ◌∙◌, ℕ, ◌+◌, ◌-◌, ◌++◌, [], ◌∷◌, List, length, replicate, length-append, append_assoc, refl, sym, ap, arith}
+use Rattle.std.proofs.Common.{◌≡◌, ◌∙◌, ℕ, ◌+◌, ◌-◌, ◌++◌, [], ◌∷◌, List, length, replicate, length-append, append_assoc, ap, arith}
 use Rattle.std.proofs.lemmas.List.{append-nil, replicate_more}
 use Rattle.lgp_trace.specs.Columns.{blanks, left_aligned}
 

@@ -4,7 +4,7 @@ ghost use Rattle.std.specs.Prelude.{◌≡◌, ◌+◌, ◌-◌, ◌≤◌, IsTr
 ghost use Rattle.lgp_table.specs.Activity.{next};
 ghost use Rattle.lgp_table.specs.Interleaving.{at_boundary, is_boundary};
 ghost use Rattle.lgp_table.specs.State.{State};
-ghost use Rattle.lgp_machine.specs.Look.{look_of, seen_at_boundary};
+ghost use Rattle.lgp_machine.specs.Look.{seen_at_boundary};
 ghost use Rattle.lgp_trace.specs.Account.{account_of, begun_of, finished, found_of, operand_in, order_of, place_of};
 ghost use Rattle.lgp_trace.specs.Phases.{only_act, phases_of};
 

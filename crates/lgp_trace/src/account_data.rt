@@ -2,7 +2,6 @@
 
 ghost use Rattle.std.specs.Prelude.{◌≡◌, ◌++◌, OnOk, [], if◌then◌else◌, is_some};
 ghost use Rattle.std.specs.Option.{option_map_or};
-ghost use Rattle.lgp_flexo.specs.Code.{sign_at};
 ghost use Rattle.lgp_word.specs.Order.{decoded};
 ghost use Rattle.lgp_trace.specs.AccountData.{account_data, accumulator_data, activity_data, begun_data, changer_data, digits_data, effect_data, found_data, hand_data, left_data, lost_data, number_data, operand_data, order_data, origin_data, passed_data, phases_data, place_data, printed_data, putter_data, sign_data, at_data, status_data, stood_data, stored_data, value_data};
 

@@ -1,6 +1,6 @@
 //! Accounts drawn along the drum.
 
-ghost use Rattle.std.specs.Prelude.{◌≡◌, ◌+◌, ◌++◌, ◌^◌, ◌≤◌, length, replicate, OnOk};
+ghost use Rattle.std.specs.Prelude.{◌≡◌, ◌+◌, ◌++◌, ◌≤◌, replicate, OnOk};
 ghost use Rattle.lgp_trace.specs.DrumRows.{rows_begun, rows_ended, seek_signs, sign_in_row, signs_in_rows, signs_of, use_sign, waited};
 ghost use Rattle.lgp_trace.specs.Account.{stored_address};
 ghost use Rattle.lgp_trace.specs.Phases.{all_phases};

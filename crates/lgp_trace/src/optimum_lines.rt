@@ -1,6 +1,6 @@
 //! The lines of what words have to gain.
 
-ghost use Rattle.std.specs.Prelude.{◌≡◌, ◌++◌, ◌<◌, ◌≤◌, ◌^◌, ℕ, List, OnOk, codes, flat_map, length, slice_index};
+ghost use Rattle.std.specs.Prelude.{◌≡◌, ◌++◌, ◌<◌, ℕ, OnOk, flat_map};
 ghost use Rattle.lgp_table.specs.State.{State};
 ghost use Rattle.lgp_trace.specs.Gains.{moves_in, moves_of};
 ghost use Rattle.lgp_trace.specs.OptimumKept.{IsOptimumOf};

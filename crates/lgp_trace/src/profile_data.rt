@@ -1,6 +1,6 @@
 //! The lines of a profile for programs, each a key and a value.
 
-ghost use Rattle.std.specs.Prelude.{◌≡◌, ◌++◌, ◌<◌, None, OnOk};
+ghost use Rattle.std.specs.Prelude.{◌≡◌, ◌++◌, ◌<◌, OnOk};
 ghost use Rattle.lgp_trace.specs.ProfileData.{dear_data, profile_data, profile_in, summary_data, totals_data};
 
 use crate::account_data::{push_number_data, push_phases_data, push_place_data};

@@ -1,6 +1,6 @@
 //! Addresses of words on the drum.
 
-ghost use Rattle.std.specs.Prelude.{◌≡◌, ℕ, ◌+◌, ◌-◌, ◌*◌, ◌/◌, ◌%◌, ◌^◌, ◌<◌, ◌↔◌, IsSome, IfSome, IsTrue, Some};
+ghost use Rattle.std.specs.Prelude.{◌≡◌, ℕ, ◌+◌, ◌-◌, ◌*◌, ◌/◌, ◌%◌, ◌<◌, ◌↔◌, IsSome, IfSome, IsTrue, Some};
 ghost use Rattle.std.specs.Char.{is_ascii_digit};
 ghost use Rattle.lgp_word.specs.Decimal.{decimal_value};
 ghost use Rattle.lgp_word.specs.Digits.{address_digits, address_text};

@@ -1,8 +1,7 @@
 //! The sixteen orders, and the words that hold them.
 
-ghost use Rattle.std.specs.Prelude.{◌≡◌, ℕ, ◌+◌, ◌-◌, ◌*◌, ◌/◌, ◌%◌, ◌^◌, ◌<◌, ◌↔◌, IsTrue, IsSome, IfSome, Some, Bool};
-ghost use Rattle.lgp_word.specs.Address.{IsAddress};
-ghost use Rattle.lgp_word.specs.Order.{IsOrder, OrderParts, address_at, decoded, letter_number, op_at, op_letter, op_number, op_of, op_of_letter, order_word, parts_of, plain_order, sign_of, with_address_of};
+ghost use Rattle.std.specs.Prelude.{◌≡◌, ◌+◌, ◌-◌, ◌*◌, ◌/◌, ◌%◌, ◌<◌, IfSome, Some};
+ghost use Rattle.lgp_word.specs.Order.{IsOrder, OrderParts, address_at, decoded, letter_number, op_at, op_letter, op_number, op_of, op_of_letter, order_word, plain_order, sign_of, with_address_of};
 
 use crate::address::Address;
 use crate::word::Word;

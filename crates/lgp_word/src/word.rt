@@ -1,6 +1,6 @@
 //! Words of 32 bits.
 
-ghost use Rattle.std.specs.Prelude.{◌≡◌, ℕ, ◌*◌, ◌/◌, ◌^◌, ◌<◌, ◌↔◌, IsSome, IfSome};
+ghost use Rattle.std.specs.Prelude.{◌≡◌, ℕ, ◌*◌, ◌/◌, ◌<◌, ◌↔◌, IsSome, IfSome};
 ghost use Rattle.lgp_word.specs.Word.{IsWord, stored};
 
 use std::marker::Model;

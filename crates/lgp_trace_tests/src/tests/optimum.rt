@@ -1,6 +1,6 @@
 //! Where words would have cost least, against numbers made by hand.
 
-ghost use Rattle.std.specs.Prelude.{◌^◌, ◌<◌, ◌≤◌, IsTrue};
+ghost use Rattle.std.specs.Prelude.{◌^◌, ◌<◌, IsTrue};
 ghost use Rattle.lgp_trace.specs.Phases.{all_phases};
 
 use super::steps::{debugger, debugger_of, put_all};

@@ -1,4 +1,4 @@
-use Rattle.std.proofs.Common.{◌≡◌, ◌∙◌, ℕ, List, Result, Ok, Err, [], ap, cond, length, nat_lt, rules, sym}
+use Rattle.std.proofs.Common.{◌≡◌, ◌∙◌, ℕ, List, Result, Err, [], ap, cond, length, nat_lt, rules, sym}
 use Rattle.std.proofs.lemmas.Result.{on_ok_weaker}
 use Rattle.std.specs.Result.{result_unwrap_or}
 use Rattle.lgp_flexo.specs.TapeText.{codes_of_text, tape_limit}
