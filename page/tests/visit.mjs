@@ -252,7 +252,7 @@ async function operated(browser) {
     await press(browser, "#operated");
     await press(browser, "#run");
     assert.deepEqual(await now(), ["hih", "0007", true]);
-    assert.deepEqual([await textOf(browser, "#progress"), await textOf(browser, "#notice")], ["Starts after a print: 3", ""]);
+    assert.equal(await textOf(browser, "#notice"), "");
     await picture(browser, "operated");
     await browser.value("(() => { const it = document.getElementById('language'); it.value = 'de'; it.dispatchEvent(new Event('change')); })()");
     assert.match(await textOf(browser, ".operated"), /^ ?Laufen startet die Maschine nach jedem Drucken wieder/);
