@@ -34,19 +34,12 @@ impl<P: Progress> Portions<'_, P> {
     {
         match self.left.checked_sub(1) {
             Some(left) => self.left = left,
-            None => self.report(),
+            None => {
+                self.reported = self.reported.saturating_add(self.portion);
+                self.left = self.portion.saturating_sub(1);
+                self.progress.performed(self.reported);
+            }
         }
-    }
-
-    /// Reports the orders of the portions done, and begins a new one.
-    #[cold]
-    #[inline(never)]
-    fn report(&mut self)
-        ensures { self.new.quiet ≡ self.old.quiet }
-    {
-        self.reported = self.reported.saturating_add(self.portion);
-        self.left = self.portion.saturating_sub(1);
-        self.progress.performed(self.reported);
     }
 }
 
