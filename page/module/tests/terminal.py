@@ -72,7 +72,7 @@ def lines_that_are_typed():
     # commands, labels and addresses are completed
     terminal.type("pri\t", "printed ")
     terminal.type("\r", "going> ")
-    terminal.type("help res\t", "restore ")
+    terminal.type("help tran\t", "transcript ")
     terminal.type("\r", "going> ")
     terminal.type("break 0105\r", "rule 0\n0000 going> ")
     terminal.type("show on\t", "one")
