@@ -16,7 +16,7 @@ use Rattle.lgp_listing.specs.Dump.{dump_of}
 use Rattle.lgp_stream.specs.KeptLine.{IsFirstLine, Kept}
 use Rattle.lgp_stream.specs.Language.{is_line_feed}
 use Rattle.lgp_stream.specs.LineWords.{has_no_word, is_space}
-use Rattle.lgp_desk.specs.FileForms.{coded, dump_line, dump_lines, examined_trouble, simh_dump, tape_in}
+use Rattle.lgp_desk.specs.FileForms.{coded, dump_line, dump_lines, examined_trouble, simh_dump, tape_in, within_limit}
 use Rattle.lgp_desk.specs.Requests.{trimmed}
 use Rattle.lgp_desk.specs.declared.files.FileTrouble.{FileTrouble}
 use Rattle.lgp_desk.specs.declared.files.FileTrouble.TheVariants as troubles
@@ -104,12 +104,18 @@ dump-none so_far all (byte ∷ text) none so = absurd (omega (arith, none))
 abbrev with_text : Result (List ℕ) FileTrouble → Result (List ℕ) FileTrouble
 with_text read = result_map_both written_tape (λ trouble. trouble) read
 
-pub tape-ok : (read : Result (List ℕ) ℕ) (tape text : List ℕ) → read ≡ Ok tape → length tape ≤ tape_limit → Ok (written_tape tape) ≡ result_map_both written_tape (λ trouble. trouble) (tape_in read text)
-unfolding tape_in
-tape-ok read tape text is short =
+-- a tape that is not too long is kept whole
+pub short-kept : (tape : List ℕ) → length tape ≤ tape_limit → within_limit tape ≡ Ok tape
+short-kept tape short =
     let test : nat_lt tape_limit (length tape) ≡ false = grind (arith, nat_tests) in
-    sym (ap (λ (it : Result (List ℕ) ℕ). with_text (tape_in it text)) is
-    ∙ ap (λ (long : Bool). with_text (cond long (Err troubles.LongTape) (Ok tape))) test)
+    ap (λ long. cond long (Err troubles.LongTape) (Ok tape)) test
+
+pub read-short : (read : Result (List ℕ) ℕ) (tape text : List ℕ) → read ≡ Ok tape → length tape ≤ tape_limit → tape_in read text ≡ Ok tape
+unfolding tape_in
+read-short read tape text is short = ap (λ (it : Result (List ℕ) ℕ). tape_in it text) is ∙ short-kept tape short
+
+pub tape-ok : (read : Result (List ℕ) ℕ) (tape text : List ℕ) → read ≡ Ok tape → length tape ≤ tape_limit → Ok (written_tape tape) ≡ result_map_both written_tape (λ trouble. trouble) (tape_in read text)
+tape-ok read tape text is short = sym (ap (λ (it : Result (List ℕ) FileTrouble). with_text it) (read-short read tape text is short))
 
 pub tape-bad : (read : Result (List ℕ) ℕ) (place : ℕ) (text : List ℕ) → read ≡ Err place
     → Err (troubles.BadSign place (count_by is_line_feed (take place text) + 1)) ≡ result_map_both written_tape (λ trouble. trouble) (tape_in read text)
@@ -137,20 +143,19 @@ none-of (Some place) none = absurd (none place refl)
 pub bytes-ok : (bytes : List ℕ) → ((place : ℕ) → first_no_code bytes ≡ Some place → ⊥) → length bytes ≤ tape_limit → Ok (written_tape bytes) ≡ result_map_both written_tape (λ trouble. trouble) (coded bytes)
 unfolding coded
 bytes-ok bytes none short =
-    let test : nat_lt tape_limit (length bytes) ≡ false = grind (arith, nat_tests) in
-    sym (ap (λ (it : Option ℕ). with_text (option_map_or (λ place. Err (troubles.NoCode place)) it (cond (nat_lt tape_limit (length bytes)) (Err troubles.LongTape) (Ok bytes)))) (none-of (first_no_code bytes) none)
-    ∙ ap (λ (long : Bool). with_text (cond long (Err troubles.LongTape) (Ok bytes))) test)
+    sym (ap (λ (it : Option ℕ). with_text (option_map_or (λ place. Err (troubles.NoCode place)) it (within_limit bytes))) (none-of (first_no_code bytes) none)
+    ∙ ap (λ (it : Result (List ℕ) FileTrouble). with_text it) (short-kept bytes short))
 
 pub bytes-bad : (bytes : List ℕ) (place : ℕ) → first_no_code bytes ≡ Some place → Err (troubles.NoCode place) ≡ result_map_both written_tape (λ trouble. trouble) (coded bytes)
 unfolding coded
 bytes-bad bytes place is =
-    sym (ap (λ (it : Option ℕ). with_text (option_map_or (λ place. Err (troubles.NoCode place)) it (cond (nat_lt tape_limit (length bytes)) (Err troubles.LongTape) (Ok bytes)))) is)
+    sym (ap (λ (it : Option ℕ). with_text (option_map_or (λ place. Err (troubles.NoCode place)) it (within_limit bytes))) is)
 
 pub bytes-long : (bytes : List ℕ) → first_no_code bytes ≡ None → tape_limit < length bytes → Err troubles.LongTape ≡ result_map_both written_tape (λ trouble. trouble) (coded bytes)
 unfolding coded
 bytes-long bytes none long =
     let test : nat_lt tape_limit (length bytes) ≡ true = grind (arith, nat_tests) in
-    sym (ap (λ (it : Option ℕ). with_text (option_map_or (λ place. Err (troubles.NoCode place)) it (cond (nat_lt tape_limit (length bytes)) (Err troubles.LongTape) (Ok bytes)))) none
+    sym (ap (λ (it : Option ℕ). with_text (option_map_or (λ place. Err (troubles.NoCode place)) it (within_limit bytes))) none
     ∙ ap (λ (it : Bool). with_text (cond it (Err troubles.LongTape) (Ok bytes))) test)
 
 pub ruleset bytes = (bytes-ok, bytes-bad, bytes-long)
@@ -161,14 +166,7 @@ same-fault : {T : Type 0} (result : Result T ExaminedFault) (fault it : Examined
 same-fault result fault it one other = cc (one, other)
 
 module _ {T : Type 0} (text : List ℕ) (result : Result T ExaminedFault) (faulty : IfSome (first_fault text) (λ fault. IsErrOf result fault)) where
-  -- what was read has no fault
-  pub simh-read : (value : T) → result ≡ Ok value → first_fault text ≡ None
-  simh-read value is = by_fault (first_fault text) faulty where
-    by_fault : (found : Option ExaminedFault) → IfSome found (λ fault. IsErrOf result fault) → found ≡ None
-    by_fault None so = refl
-    by_fault (Some fault) so = absurd (no-fault result value fault is so)
-
-  -- and a fault that is not memory's is its first
+  -- a fault that is not memory's is its first
   pub simh-fault : (fault : ExaminedFault) → result ≡ Err fault → IfNone (first_fault text) (IfErr result (λ it. it ≡ Memory)) → (fault ≡ Memory → ⊥) → first_fault text ≡ Some fault
   simh-fault fault is faultless other = by_fault (first_fault text) faulty faultless where
     by_fault : (found : Option ExaminedFault) → IfSome found (λ it. IsErrOf result it) → IfNone found (IfErr result (λ it. it ≡ Memory)) → found ≡ Some fault

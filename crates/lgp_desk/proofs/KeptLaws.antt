@@ -1,8 +1,8 @@
 -- What is kept of a tape or a drum is read back.
-use Rattle.std.proofs.Common.{◌≡◌, ℕ, suc, ◌≤◌, false, List, [], ◌∷◌, length, nat_lt, cond, Option, Result, Ok, Err, sym, ap, ◌∙◌, arith}
+use Rattle.std.proofs.Common.{◌≡◌, ℕ, ◌≤◌, List, [], ◌∷◌, length, Option, Ok, Err, sym, ap, ◌∙◌, arith}
 use Rattle.std.specs.List.{All}
 use Rattle.std.specs.Option.{option_map_or}
-use Rattle.std.proofs.lemmas.Bool.Decides.{nat_tests}
+use Rattle.std.proofs.lemmas.List.Elements.{All-head, All-tail}
 use Rattle.lgp_flexo.specs.Archive.{codes_of_archive}
 use Rattle.lgp_flexo.specs.Code.{IsCode}
 use Rattle.lgp_flexo.specs.TapeText.{codes_of_text, tape_limit, written_code, written_tape}
@@ -13,33 +13,18 @@ use Rattle.lgp_exchange.specs.Deposits.{deposits_of}
 use Rattle.lgp_exchange.proofs.Archives.{archive_reads_back}
 use Rattle.lgp_exchange.proofs.Bytes.{codes_none}
 use Rattle.lgp_exchange.proofs.Drums.{deposits_read_back}
-use Rattle.lgp_desk.specs.FileForms.{coded, dump_in, tape_in, tape_of, tape_text, within_limit}
+use Rattle.lgp_desk.specs.FileForms.{coded, dump_in, tape_of, tape_text, within_limit}
 use Rattle.lgp_desk.specs.declared.files.FileTrouble.TheVariants as troubles
 use Rattle.lgp_desk.specs.declared.request.DrumForm.TheVariants as drums
 use Rattle.lgp_desk.specs.declared.request.TapeForm.{TapeForm}
 use Rattle.lgp_desk.specs.declared.request.TapeForm.TheVariants as tapes
-use Rattle.lgp_desk.proofs.FormLemmas.{simh-dump}
-
-first_of : (code : ℕ) (tape : List ℕ) → All IsCode (code ∷ tape) → IsCode code
-first_of code tape all = all 0 0 (omega arith)
-
-rest_of : (code : ℕ) (tape : List ℕ) → All IsCode (code ∷ tape) → All IsCode tape
-rest_of code tape all = λ k d small. all (suc k) d (omega arith)
+use Rattle.lgp_desk.proofs.FormLemmas.{read-short, short-kept, simh-dump}
 
 text-read : (tape : List ℕ) → All IsCode tape → ReadsBack (written_tape tape) tape
 text-read [] all = grind arith
 text-read (code ∷ tape) all =
-    let is_code : IsCode code = first_of code tape all in
-    ReadsBack-append (written_code code) (written_tape tape) (code ∷ []) tape (ReadsBack-code code (omega (arith, is_code))) (text-read tape (rest_of code tape all))
-
-short-kept : (tape : List ℕ) → length tape ≤ tape_limit → within_limit tape ≡ Ok tape
-short-kept tape short =
-    let test : nat_lt tape_limit (length tape) ≡ false = grind (arith, nat_tests) in
-    ap (λ long. cond long (Err troubles.LongTape) (Ok tape)) test
-
-read-short : (read : Result (List ℕ) ℕ) (tape text : List ℕ) → read ≡ Ok tape → length tape ≤ tape_limit → tape_in read text ≡ Ok tape
-unfolding tape_in
-read-short read tape text is short = ap (λ (it : Result (List ℕ) ℕ). tape_in it text) is ∙ short-kept tape short
+    let is_code : IsCode code = All-head IsCode code tape all in
+    ReadsBack-append (written_code code) (written_tape tape) (code ∷ []) tape (ReadsBack-code code (omega (arith, is_code))) (text-read tape (All-tail IsCode code tape all))
 
 pub tapes_are_read : (form : TapeForm) (tape : List ℕ) → All IsCode tape → length tape ≤ tape_limit → tape_of form (tape_text form tape) ≡ Ok tape
 unfolding coded

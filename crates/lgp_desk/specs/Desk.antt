@@ -179,14 +179,16 @@ abbrev pub tape_or_refused : List ℕ → Seat → List ℕ → Result (List ℕ
 tape_or_refused note seat name (Ok tape) = mounted note seat name (written_tape tape)
 tape_or_refused note seat name (Err trouble) = refused note seat name trouble
 
-abbrev pub restored_or_refused : DrumForm → List ℕ → Seat → List ℕ → Result (List ℕ) FileTrouble → Said
+abbrev pub restored_or_refused : DrumForm → List ℕ → Seat → List ℕ
+    → Result (List ℕ) FileTrouble → Said
 restored_or_refused form note seat name (Ok dump) = restored form note seat name dump
 restored_or_refused form note seat name (Err trouble) = refused note seat name trouble
 
 -- a source is taken line by line, where none of its lines would end it
 unfoldable pub source_said : List ℕ → Seat → List ℕ → List ℕ → Said
 source_said note seat name text =
-    if list_any (λ line. bytes_eq line (codes ".")) (lines text) then refused note seat name troubles.HasPoint
+    if list_any (λ line. bytes_eq line (codes ".")) (lines text)
+    then refused note seat name troubles.HasPoint
     else all_answered (within name note) seat (codes "source" ∷ (lines text ++ codes "." ∷ []))
 
 -- something is kept under a name
@@ -201,7 +203,8 @@ saved made note seat name =
 
 -- what a file holds, or why it is refused
 abbrev pub text_at : Seat → List ℕ → Result (List ℕ) FileTrouble
-text_at seat name = option_map_or (λ drawer. text_in drawer name) seat.drawer (Err troubles.NotOpened)
+text_at seat name =
+    option_map_or (λ drawer. text_in drawer name) seat.drawer (Err troubles.NotOpened)
 
 -- a text of a file, used as its work says
 abbrev pub used : Work → List ℕ → Seat → List ℕ → List ℕ → Said

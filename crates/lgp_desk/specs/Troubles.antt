@@ -22,9 +22,11 @@ counted_trouble (troubles.BadSign place line) =
 counted_trouble (troubles.NoCode place) =
     codes "the byte at place " ++ (decimal place ++ codes ", counted from 0, is above 63")
 counted_trouble (troubles.BadLine line) =
-    codes "line " ++ (decimal line ++ codes " is neither a word that SIMH shows nor one that it is given")
+    codes "line " ++ (decimal line
+    ++ codes " is neither a word that SIMH shows nor one that it is given")
 counted_trouble (troubles.LowAddress line) =
-    codes "the address of line " ++ (decimal line ++ codes " is not above that of the line before it")
+    codes "the address of line " ++ (decimal line
+    ++ codes " is not above that of the line before it")
 counted_trouble trouble = []
 
 -- the refusal of a file

@@ -1,8 +1,9 @@
 -- A tape written as an archive has it reads back.
-use Rattle.std.proofs.Common.{◌≡◌, ℕ, suc, ◌+◌, ◌/◌, ◌%◌, ◌<◌, ◌^◌, Bool, true, false, not, ◌&&◌, eqb, ltb, List, [], ◌∷◌, ◌++◌, length, Option, Some, None, Ok, refl, ap, ◌∙◌, arith}
+use Rattle.std.proofs.Common.{◌≡◌, ℕ, ◌+◌, ◌/◌, ◌%◌, ◌<◌, ◌^◌, Bool, true, false, not, ◌&&◌, eqb, ltb, List, [], ◌∷◌, ◌++◌, length, Option, Some, None, Ok, refl, ap, ◌∙◌, arith}
 use Rattle.std.specs.List.{All}
 use Rattle.std.proofs.lemmas.Bool.{and_parts, ltb-true, not-true}
 use Rattle.std.specs.Option.{option_map}
+use Rattle.std.proofs.lemmas.List.Elements.{All-head, All-tail}
 use Rattle.lgp_flexo.specs.Code.{IsCode, sign_at, code_at}
 use Rattle.lgp_flexo.specs.Archive.{archived_from, code_of_archived, codes_of_archive, codes_of_archived}
 use Rattle.lgp_flexo.specs.TapeText.{before, code_of_group, joined, single}
@@ -63,20 +64,14 @@ piece-read code place None following small h =
     ap (λ p. joined place (option_map single p) (archived_from (place + 3) following))
     (found-code code (code_of_group (decimal_digit (code / 10)) (decimal_digit (code % 10))) (all_below-at group_reads_back 64 code all_groups_read_back small))
 
-first_of : (code : ℕ) (tape : List ℕ) → All IsCode (code ∷ tape) → IsCode code
-first_of code tape all = all 0 0 (omega arith)
-
-rest_of : (code : ℕ) (tape : List ℕ) → All IsCode (code ∷ tape) → All IsCode tape
-rest_of code tape all = λ k d small. all (suc k) d (omega arith)
-
 tape-read : (tape : List ℕ) (place : ℕ) → All IsCode tape → archived_from place (archived_tape tape) ≡ Ok tape
 unfolding archived_from
 tape-read [] place all = refl
 tape-read (code ∷ tape) place all =
-    let is_code : IsCode code = first_of code tape all in
+    let is_code : IsCode code = All-head IsCode code tape all in
     let small : code < 64 = omega arith in
     piece-read code place (archive_byte code) (archived_tape tape) small (all_below-at (λ c. reads_back c (archive_byte c)) 64 code all_read_back small)
-    ∙ ap (before (code ∷ [])) (tape-read tape (place + length (archived_code code)) (rest_of code tape all))
+    ∙ ap (before (code ∷ [])) (tape-read tape (place + length (archived_code code)) (All-tail IsCode code tape all))
 
 pub archive_reads_back : (tape : List ℕ) → All IsCode tape → codes_of_archive (archived_tape tape) ≡ Ok tape
 archive_reads_back tape all = tape-read tape 0 all

@@ -1,8 +1,9 @@
 -- The words of a drum are read from the lines of its words.
-use Rattle.std.proofs.Common.{◌≡◌, ◌⊎◌, ◌≤◌, ◌+◌, ◌++◌, ◌==◌, ℕ, suc, List, [], ◌∷◌, length, map, replicate, None, refl, sym, ap, subst, ◌∙◌, arith, inl, inr, ⊎_elim}
+use Rattle.std.proofs.Common.{◌≡◌, ◌⊎◌, ◌≤◌, ◌+◌, ◌++◌, ◌==◌, ℕ, List, [], ◌∷◌, length, map, replicate, None, refl, sym, ap, subst, ◌∙◌, arith, inl, inr, ⊎_elim}
 use Rattle.std.specs.List.{All}
 use Rattle.std.proofs.lemmas.Bool.{cond-true, cond-false, cases_eq, eq-eqb, ne_eqb}
 use Rattle.std.proofs.lemmas.List.{append_assoc, set_at, length_push}
+use Rattle.std.proofs.lemmas.List.Elements.{All-head, All-tail}
 use Rattle.bstr.specs.Text.{without_terminator}
 use Rattle.bstr.proofs.lemmas.LineLemmas.{lines-nil}
 use Rattle.lgp_word.specs.Address.{IsAddress}
@@ -19,12 +20,6 @@ abbrev Reads : (ℕ → ℕ → List ℕ) → Type 0
 Reads line = (address word : ℕ) → IsAddress address → IsWord word
     → ((line address word ≡ []) × (word ≡ 0)) ⊎ IsLineRead (line address word) address word
 
-first_of : (word : ℕ) (words : List ℕ) → All IsWord (word ∷ words) → IsWord word
-first_of word words all = all 0 0 (omega arith)
-
-rest_of : (word : ℕ) (words : List ℕ) → All IsWord (word ∷ words) → All IsWord words
-rest_of word words all = λ k d small. all (suc k) d (omega arith)
-
 -- the lines of a text that begins with a line
 lines_more : (line rest : List ℕ) (address word : ℕ) → IsLineRead line address word → lines_in (line ++ rest) ≡ without_terminator line ∷ lines_in rest
 lines_more line rest address word is = ap (map without_terminator) (is.first rest)
@@ -38,11 +33,11 @@ module _ (line : ℕ → ℕ → List ℕ) (reads : Reads line) where
       let rest = lines_from line (from + 1) words in
       ⊎_elim
       (λ none. ap (λ l. fault_from number least (lines_in (l ++ rest))) none.0
-      ∙ faultless_from number least (from + 1) words (omega arith) (omega arith) (rest_of word words all))
+      ∙ faultless_from number least (from + 1) words (omega arith) (omega arith) (All-tail IsWord word words all))
       (λ some. ap (fault_from number least) (lines_more (line from word) rest from word some)
       ∙ onward (without_terminator (line from word)) (lines_in rest) number least (from, word) some.cell low
-      ∙ faultless_from (number + 1) (from + 1) (from + 1) words (omega arith) (omega arith) (rest_of word words all))
-      (reads from word (omega arith) (first_of word words all))
+      ∙ faultless_from (number + 1) (from + 1) (from + 1) words (omega arith) (omega arith) (All-tail IsWord word words all))
+      (reads from word (omega arith) (All-head IsWord word words all))
 
   -- words that were put, and zeros, after the lines of as many words more
   words_put : (done words : List ℕ) → length done + length words ≤ 4096 → All IsWord words
@@ -57,7 +52,7 @@ module _ (line : ℕ → ℕ → List ℕ) (reads : Reads line) where
       let size : length more ≡ from + 1 = length_push done word in
       let after : words_after (more ++ zeros) (lines_in rest) ≡ more ++ words =
       subst (λ n. words_after (more ++ zeros) (lines_in (lines_from line n words)) ≡ more ++ words) size
-      (words_put more words (omega (arith, size)) (rest_of word words all)) in
+      (words_put more words (omega (arith, size)) (All-tail IsWord word words all)) in
       let last : words_after (done ++ word ∷ zeros) (lines_in rest) ≡ done ++ word ∷ words =
       ap (λ ws. words_after ws (lines_in rest)) (sym (append_assoc done (word ∷ []) zeros)) ∙ after ∙ append_assoc done (word ∷ []) words in
       ⊎_elim
@@ -66,7 +61,7 @@ module _ (line : ℕ → ℕ → List ℕ) (reads : Reads line) where
       (λ some. ap (words_after (done ++ 0 ∷ zeros)) (lines_more (line from word) rest from word some)
       ∙ sym (words-some (done ++ 0 ∷ zeros) (without_terminator (line from word)) (lines_in rest) (from, word) some.cell)
       ∙ ap (λ ws. words_after ws (lines_in rest)) (set_at done 0 zeros word from refl) ∙ last)
-      (reads from word (omega arith) (first_of word words all))
+      (reads from word (omega arith) (All-head IsWord word words all))
 
   is_read_as : (words : List ℕ) → IsDrum words → IsReadAs (lines_from line 0 words) words
   unfolding blank_words

@@ -1,9 +1,10 @@
 -- The paper of signs and carriage returns alone.
-use Rattle.std.proofs.Common.{◌≡◌, ℕ, suc, ◌+◌, ◌++◌, ◌&&◌, ◌||◌, ◌==◌, not, Bool, true, false, List, [], ◌∷◌, length, refl, sym, ap, ◌∙◌, arith, ⊎_elim}
+use Rattle.std.proofs.Common.{◌≡◌, ℕ, ◌+◌, ◌++◌, ◌&&◌, ◌||◌, ◌==◌, not, Bool, true, false, List, [], ◌∷◌, length, refl, sym, ap, ◌∙◌, arith, ⊎_elim}
 use Rattle.std.specs.List.{All, flat_map, list_all}
 use Rattle.std.proofs.lemmas.Bool.{and_parts, cases_eq, cond-false, cond-true, eq-eqb, ne_eqb, not-true}
 use Rattle.std.proofs.lemmas.Grind.{flat_map-append}
 use Rattle.std.proofs.lemmas.List.{append_assoc, append-nil, length_push}
+use Rattle.std.proofs.lemmas.List.Elements.{All-head, All-tail}
 use Rattle.lgp_flexo.specs.Code.{IsCode, sign_at}
 use Rattle.lgp_flexo.specs.TapeText.{written_code}
 use Rattle.lgp_flexo.proofs.Writing.{all_below, all_below-at}
@@ -30,12 +31,6 @@ after-struck at code h no_return =
     let fourth = and_parts (not (code == 20)) (not (code == 24)) third.1 in
     rw (not-true ((code == 0) || (code == 12) || (code == 63)) first.0, not-true (code == 4) second.0, not-true (code == 8) third.0, no_return, not-true (code == 20) fourth.0, not-true (code == 24) fourth.1) refl
 
-first_of : (code : ℕ) (tape : List ℕ) → All IsCode (code ∷ tape) → IsCode code
-first_of code tape all = all 0 0 (omega arith)
-
-rest_of : (code : ℕ) (tape : List ℕ) → All IsCode (code ∷ tape) → All IsCode tape
-rest_of code tape all = λ k d small. all (suc k) d (omega arith)
-
 -- the carriage at the end of a row of signs in lower case
 abbrev at_end : List Struck → Carriage
 at_end row = record { upper = false; column = length row; row = row }
@@ -59,14 +54,14 @@ plain_from : (row : List Struck) (tape : List ℕ) → All IsCode tape → list_
 unfolding paper_from
 plain_from row [] codes plain = sym (append-nil (row_text row))
 plain_from row (code ∷ tape) codes plain =
-    let is_code : IsCode code = first_of code tape codes in
+    let is_code : IsCode code = All-head IsCode code tape codes in
     let parts = and_parts (is_plain code) (list_all is_plain tape) plain in
     let rest = flat_map plain_text tape in
     ⊎_elim
     (λ return.
     ap (λ c. completed (at_end row) c ++ paper_from (carriage_after (at_end row) c) tape) return
     ∙ ap (λ at. (row_text row ++ 10 ∷ []) ++ paper_from at tape) (after-return row)
-    ∙ ap (λ t. (row_text row ++ 10 ∷ []) ++ t) (plain_from [] tape (rest_of code tape codes) parts.1)
+    ∙ ap (λ t. (row_text row ++ 10 ∷ []) ++ t) (plain_from [] tape (All-tail IsCode code tape codes) parts.1)
     ∙ append_assoc (row_text row) (10 ∷ []) rest
     ∙ ap (λ (t : List ℕ). row_text row ++ (t ++ rest)) (sym (cond-true (code == 16) (10 ∷ []) (written_code code) (eq-eqb code 16 return))))
     (λ other.
@@ -75,7 +70,7 @@ plain_from row (code ∷ tape) codes plain =
     let longer = row ++ (false, code) ∷ [] in
     ap (λ t. t ++ paper_from (carriage_after (at_end row) code) tape) (cond-false (code == 16) (row_text row ++ 10 ∷ []) [] no_return)
     ∙ ap (λ at. paper_from at tape) (after-struck (at_end row) code struck no_return ∙ struck-end row code)
-    ∙ plain_from longer tape (rest_of code tape codes) parts.1
+    ∙ plain_from longer tape (All-tail IsCode code tape codes) parts.1
     ∙ ap (λ t. t ++ rest) (row-end row code)
     ∙ append_assoc (row_text row) (written_code code) rest
     ∙ ap (λ (t : List ℕ). row_text row ++ (t ++ rest)) (sym (cond-false (code == 16) (10 ∷ []) (written_code code) no_return)))

@@ -1,8 +1,9 @@
 -- Each drum's dump is read back: it has no fault, and no other drum has it.
-use Rattle.std.proofs.Common.{◌≡◌, ◌≢◌, ◌<◌, ◌≤◌, ◌+◌, ◌%◌, ◌++◌, ◌==◌, ℕ, suc, List, [], ◌∷◌, length, take, drop, Some, None, refl, sym, ap, ◌∙◌, arith, ⊎_elim, codes, rules}
+use Rattle.std.proofs.Common.{◌≡◌, ◌≢◌, ◌<◌, ◌≤◌, ◌+◌, ◌%◌, ◌++◌, ◌==◌, ℕ, List, [], ◌∷◌, length, take, drop, Some, None, refl, sym, ap, ◌∙◌, arith, ⊎_elim, codes, rules}
 use Rattle.std.specs.List.{All}
 use Rattle.std.proofs.lemmas.Bool.{cond-true, cond-false, cases_eq, eq-eqb, ne_eqb}
 use Rattle.std.proofs.lemmas.List.{append_assoc, take_at, drop_at, length-append}
+use Rattle.std.proofs.lemmas.List.Elements.{All-head, All-tail}
 use Rattle.std.proofs.lemmas.List.Elements.{All-get_or}
 use Rattle.bstr.specs.Text.{line_len, lines_of}
 use Rattle.bstr.proofs.lemmas.LineLemmas.{lines-nil, lines-step}
@@ -96,12 +97,6 @@ word_yes address word some = cond-false (word == 0) [] (cell_line address word) 
 word_no : (address word : ℕ) → word ≡ 0 → word_line address word ≡ []
 word_no address word zero_is = cond-true (word == 0) [] (cell_line address word) (eq-eqb word 0 zero_is)
 
-first_of : (word : ℕ) (words : List ℕ) → All IsWord (word ∷ words) → IsWord word
-first_of word words all = all 0 0 (omega arith)
-
-rest_of : (word : ℕ) (words : List ℕ) → All IsWord (word ∷ words) → All IsWord words
-rest_of word words all = λ k d small. all (suc k) d (omega arith)
-
 faultless_from : (number least from : ℕ) (words : List ℕ) → least ≤ from → from + length words ≤ 4096 → All IsWord words
     → fault_from number least (lines_of (dump_from from words)) ≡ None
 unfolding fault_from
@@ -110,14 +105,14 @@ faultless_from number least from (word ∷ words) low high all =
     let rest = dump_from (from + 1) words in
     ⊎_elim
     (λ none. ap (λ l. fault_from number least (lines_of (l ++ rest))) (word_no _ _ none)
-    ∙ faultless_from number least (from + 1) words (omega arith) (omega arith) (rest_of _ _ all))
+    ∙ faultless_from number least (from + 1) words (omega arith) (omega arith) (All-tail IsWord _ _ all))
     (λ some.
     let is_address : IsAddress from = omega arith in
-    let is_word : IsWord word = first_of word words all in
+    let is_word : IsWord word = All-head IsWord word words all in
     ap (λ l. fault_from number least (lines_of (l ++ rest))) (word_yes _ _ some)
     ∙ ap (fault_from number least) (cell_first _ _ _ is_address is_word)
     ∙ onward (cell_line from _) (lines_of rest) number least (from, word) (cell_in-cell_line _ _ is_address is_word some) low
-    ∙ faultless_from (number + 1) (from + 1) (from + 1) words (omega arith) (omega arith) (rest_of _ _ all))
+    ∙ faultless_from (number + 1) (from + 1) (from + 1) words (omega arith) (omega arith) (All-tail IsWord _ _ all))
     (cases_eq word 0)
 
 pub dump_faultless : (words text : List ℕ) → IsDrum words → text ≡ dump_of words → first_fault text ≡ None
@@ -149,11 +144,11 @@ unfolding digits_of four_digits
 begins_at from [] address word rest high all is_address is_word e = cc (e)
 begins_at from (first ∷ words) address word rest high all is_address is_word e = ⊎_elim
     (λ none.
-    let later = begins_at (from + 1) words address word rest (omega arith) (rest_of first words all) is_address is_word
+    let later = begins_at (from + 1) words address word rest (omega arith) (All-tail IsWord first words all) is_address is_word
     (sym (ap (λ l. l ++ dump_from (from + 1) words) (word_no from first none)) ∙ e) in
     omega arith)
     (λ some.
-    let same = same_cell from address first word (dump_from (from + 1) words) rest (omega arith) is_address (first_of first words all) is_word
+    let same = same_cell from address first word (dump_from (from + 1) words) rest (omega arith) is_address (All-head IsWord first words all) is_word
     (sym (ap (λ l. l ++ dump_from (from + 1) words) (word_yes from first some)) ∙ e) in
     omega (arith, same.0))
     (cases_eq first 0)
@@ -168,24 +163,24 @@ same_from from (x ∷ xs) (y ∷ ys) size high all_x all_y e =
     let more_y = dump_from (from + 1) ys in
     let is_address : IsAddress from = omega arith in
     let high_y : from + 1 + length ys ≤ 4096 = omega arith in
-    let rests : dump_from (from + 1) xs ≡ dump_from (from + 1) ys → xs ≡ ys = same_from (from + 1) xs ys (omega arith) (omega arith) (rest_of x xs all_x) (rest_of y ys all_y) in
+    let rests : dump_from (from + 1) xs ≡ dump_from (from + 1) ys → xs ≡ ys = same_from (from + 1) xs ys (omega arith) (omega arith) (All-tail IsWord x xs all_x) (All-tail IsWord y ys all_y) in
     ⊎_elim
     (λ x_none. ⊎_elim
     (λ y_none.
     let both = sym (ap (λ l. l ++ more_x) (word_no from x x_none)) ∙ e ∙ ap (λ l. l ++ more_y) (word_no from y y_none) in
     ap (λ w. w ∷ xs) (x_none ∙ sym y_none) ∙ ap (λ l. y ∷ l) (rests both))
     (λ y_some.
-    let later = begins_at (from + 1) xs from y more_y (omega arith) (rest_of x xs all_x) is_address (first_of y ys all_y)
+    let later = begins_at (from + 1) xs from y more_y (omega arith) (All-tail IsWord x xs all_x) is_address (All-head IsWord y ys all_y)
     (sym (ap (λ l. l ++ more_x) (word_no from x x_none)) ∙ e ∙ ap (λ l. l ++ more_y) (word_yes from y y_some)) in
     absurd (omega arith))
     (cases_eq y 0))
     (λ x_some. ⊎_elim
     (λ y_none.
-    let later = begins_at (from + 1) ys from x more_x high_y (rest_of y ys all_y) is_address (first_of x xs all_x)
+    let later = begins_at (from + 1) ys from x more_x high_y (All-tail IsWord y ys all_y) is_address (All-head IsWord x xs all_x)
     (sym (ap (λ l. l ++ more_y) (word_no from y y_none)) ∙ sym e ∙ ap (λ l. l ++ more_x) (word_yes from x x_some)) in
     absurd (omega arith))
     (λ y_some.
-    let same = same_cell from from x y more_x more_y is_address is_address (first_of x xs all_x) (first_of y ys all_y)
+    let same = same_cell from from x y more_x more_y is_address is_address (All-head IsWord x xs all_x) (All-head IsWord y ys all_y)
     (sym (ap (λ l. l ++ more_x) (word_yes from x x_some)) ∙ e ∙ ap (λ l. l ++ more_y) (word_yes from y y_some)) in
     ap (λ w. w ∷ xs) same.1 ∙ ap (λ l. y ∷ l) (rests same.2))
     (cases_eq y 0))
