@@ -1,6 +1,6 @@
 use Rattle.std.proofs.Common.{refl}
 use Rattle.lgp_trace.proofs.Telling.{seen_profile}
-use Rattle.lgp_trace.proofs.runs.note_orders.Goals as goal
+use Rattle.lgp_trace.proofs.runs.note_orders_so.Goals as goal
 
 pub returns-clause-noted : goal.returns-clause-noted
 returns-clause-noted g c =
