@@ -562,13 +562,18 @@ async function sound(browser) {
             createOscillator() { const made = super.createOscillator(); const { frequency } = made; const set = frequency.setTargetAtTime.bind(frequency); frequency.setTargetAtTime = (...all) => { heard.hum.push(all[0]); return set(...all); }; return made; }
         };
     })()`);
-    await started(browser, "put 0000 p =h", "put 0001 p =i", "put 0002 z 0000");
+    await started(browser, "put 0000 p =h", "put 0001 p =i", "put 0002 b 0034", "put 0003 b 0034", "put 0004 b 0034", "put 0005 p =h", "put 0006 z 0000");
     await steps(browser, 1);
     assert.deepEqual([await browser.value("heard"), await browser.value("document.querySelector('#sound').getAttribute('aria-pressed')")], [{ contexts: 0, strokes: 0, hum: [] }, "false"]);
     await press(browser, "#sound");
     await press(browser, "#step");
     assert.deepEqual(await browser.value("[heard.contexts, heard.strokes]"), [1, 0]);
     await browser.waitFor(`!(${isMoving})`);
+    // a busy engine shows few pictures of an order, and each picture has one hum: then those after it are listened to
+    for (let order = 0; order < 3 && (await browser.value("heard.hum.length")) < 2; order += 1) {
+        await press(browser, "#step");
+        await browser.waitFor(`!(${isMoving})`);
+    }
     assert.deepEqual(await browser.value("[heard.contexts, heard.strokes, heard.hum.length > 1]"), [1, 1, true]);
     await press(browser, "#sound");
     const before = await browser.value("heard");
