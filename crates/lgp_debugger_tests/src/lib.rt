@@ -1,5 +1,9 @@
-//! Tests of the debugger by its public calls, over each history.
+//! The tests of loading, of histories and of the debugger, over their public calls.
 #![tactic(auto)]
 
 #[cfg(test)]
-mod tests;
+mod debugger;
+#[cfg(test)]
+mod history;
+#[cfg(test)]
+mod loader;

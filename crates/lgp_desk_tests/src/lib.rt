@@ -1,5 +1,9 @@
-//! Tests of what is written at a desk, by its public call.
+//! The tests of the monitor, of the desk and of calls for other languages, over their public calls.
 #![tactic(auto)]
 
 #[cfg(test)]
-mod tests;
+mod call;
+#[cfg(test)]
+mod desk;
+#[cfg(test)]
+mod monitor;

@@ -1,5 +1,9 @@
-//! Tests of scripts and of what is written for files, by the laboratory's public calls.
+//! The tests of accounts, of the command line and of the laboratory, over their public calls.
 #![tactic(auto)]
 
 #[cfg(test)]
-mod tests;
+mod lab;
+#[cfg(test)]
+mod task;
+#[cfg(test)]
+mod trace;

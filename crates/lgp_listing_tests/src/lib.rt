@@ -1,5 +1,9 @@
-//! Tests of listings and dumps.
+//! The tests of the assembler, of listings and of the forms of other programs, over their public calls.
 #![tactic(auto)]
 
 #[cfg(test)]
-mod tests;
+mod assembler;
+#[cfg(test)]
+mod exchange;
+#[cfg(test)]
+mod listing;

@@ -1,5 +1,11 @@
-//! The tests of `lgp_machine`, over its public calls.
+//! The tests of the machine and its parts, over their public calls.
 #![tactic(auto)]
 
 #[cfg(test)]
-mod tests;
+mod console;
+#[cfg(test)]
+mod keyin;
+#[cfg(test)]
+mod machine;
+#[cfg(test)]
+mod phases;

@@ -1,6 +1,6 @@
 //! Each growth of a session is refused in turn.
 
-use crate::tests::run;
+use super::run;
 use lgp_desk::Manner;
 use lgp_limited::Limited;
 use lgp_stream::StreamFault;

@@ -1,6 +1,6 @@
 //! What is kept in files: each row's bytes are written out by hand.
 
-use crate::tests::answer;
+use super::answer;
 use lgp_desk::{Filing, Manner};
 use lgp_lab::{FeedOf, READS};
 use lgp_monitor::Silence;

@@ -1,6 +1,6 @@
 //! Replies as objects of JSON, an object on a line for each line that is typed.
 
-use crate::tests::{Row, expect, run};
+use super::{Row, expect, run};
 use lgp_desk::Manner;
 use std::alloc::Global;
 

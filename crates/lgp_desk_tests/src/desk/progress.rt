@@ -1,6 +1,6 @@
 //! What is reported of long runs while they go on.
 
-use crate::tests::{Made, answer};
+use super::{Made, answer};
 use lgp_desk::Manner;
 use lgp_monitor::Progress;
 use std::alloc::Global;

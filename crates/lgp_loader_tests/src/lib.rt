@@ -1,5 +1,0 @@
-//! Tests of the loader.
-#![tactic(auto)]
-
-#[cfg(test)]
-mod tests;
