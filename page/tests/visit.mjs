@@ -82,6 +82,17 @@ const outside = (browser) => browser.value(`[...document.querySelectorAll("#page
     return left < -1 || top < -1 || right > innerWidth + 1 || bottom > innerHeight + 1 || (it.matches(".kiosk-bar button") && height < 84);
 }).map((it) => it.tagName + "." + it.className)`);
 
+/** What of the kiosk's name plate and of the names of its colours lies on the round of the drum. */
+const onTheDrum = (browser) => browser.value(`(() => {
+    const round = document.querySelector(".drum-box").getBoundingClientRect();
+    const [x, y, radius] = [round.left + round.width / 2, round.top + round.height / 2, Math.min(round.width, round.height) / 2];
+    return [...document.querySelectorAll(".cabinet .plate b, .cabinet > :last-child *")].filter((it) => it.checkVisibility()).filter((it) => {
+        const { left, top, right, bottom } = it.getBoundingClientRect();
+        const [nearX, nearY] = [Math.max(left, Math.min(x, right)), Math.max(top, Math.min(y, bottom))];
+        return right > left && Math.hypot(nearX - x, nearY - y) < 0.86 * radius;
+    }).map((it) => it.textContent);
+})()`);
+
 /** The kiosk plays by itself, with captions, and fills its window. A visitor takes over by a touch and presses its buttons; left alone, it begins anew. */
 async function kiosk(browser) {
     await browser.open(`${address}?kiosk=message&lang=en&idle=4`);
@@ -93,7 +104,7 @@ async function kiosk(browser) {
     assert.deepEqual(await buttons(), ["Start", "One order", "Let it run", "From the beginning"]);
     for (const [width, height] of [[1920, 1080], [1024, 768], [768, 1024]]) {
         await browser.size(width, height);
-        assert.deepEqual([await outside(browser), await browser.value("document.documentElement.scrollHeight <= innerHeight")], [[], true], `at ${width} by ${height}`);
+        assert.deepEqual([await outside(browser), await onTheDrum(browser), await browser.value("document.documentElement.scrollHeight <= innerHeight")], [[], [], true], `at ${width} by ${height}`);
     }
     await browser.size(1500, 1250);
     await press(browser, ".kiosk-told");

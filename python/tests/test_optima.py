@@ -1,4 +1,4 @@
-"""What `optimum` tells is read from lines as the tests of crates/lgp_trace_tests have them."""
+"""What `optimum` tells is read from lines as the tests of crates/lgp_lab_tests have them."""
 
 import pytest
 

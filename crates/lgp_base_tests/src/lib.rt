@@ -8,7 +8,11 @@ mod flexo;
 #[cfg(test)]
 mod fraction;
 #[cfg(test)]
+mod limited;
+#[cfg(test)]
 mod reader;
+#[cfg(test)]
+mod region;
 #[cfg(test)]
 mod source;
 #[cfg(test)]

@@ -5,7 +5,7 @@ ghost use Rattle.std.specs.Prelude.{◌≡◌, ◌<◌, ◌≤◌, IfSome, IsNon
 ghost use Rattle.lgp_call.specs.Room.{filled};
 ghost use Rattle.lgp_call.specs.Session.{after_line, closing_reply, no_outcome, opening_session, outcome_of, questions_in};
 ghost use Rattle.lgp_call.specs.Status.{answered_status, closed_status, memory_status, open_status, unread_status};
-ghost use Rattle.lgp_lab.specs.Script.{script_faults, script_text};
+ghost use Rattle.lgp_script.specs.Script.{script_faults, script_text};
 ghost use Rattle.std.specs.Global.{Global};
 
 use lgp_call::{Outcome, Session, refuse, run_into};

@@ -3,8 +3,8 @@ use Rattle.std.proofs.Common.{◌≡◌, ℕ, ◌||◌, Bool, true, false, cond,
 use Rattle.lgp_stream.specs.Language.{is_line_feed}
 use Rattle.lgp_stream.specs.Transcript.{IsLine, IsReportedByTranscript, Recorded}
 use Rattle.lgp_stream.proofs.LineLaws.{IsReported, IsReported-all, IsReported-meaning, IsReported-none}
-use Rattle.lgp_lab.specs.Script.{script_language}
-use Rattle.lgp_lab.specs.LabState.{LabState, opening_state}
+use Rattle.lgp_script.specs.Script.{script_language}
+use Rattle.lgp_script.specs.LabState.{LabState, opening_state}
 use Rattle.lgp_monitor.specs.Monitor.{meaning_at, monitor_language}
 use Rattle.lgp_monitor.proofs.LineLemmas.{free-at}
 use Rattle.lgp_call.specs.Session.{SessionState, after_all, after_line, has_line_feed, more_than_a_line, opening_session}

@@ -3,7 +3,7 @@ use Rattle.std.specs.Prelude.{ℕ, Bool, fold, if◌then◌else◌, List, [], co
 use Rattle.std.specs.List.{list_any}
 use Rattle.lgp_stream.specs.Language.{is_line_feed, is_question}
 use Rattle.lgp_stream.specs.Transcript.{Recorded, untouched}
-use Rattle.lgp_lab.specs.LabState.{LabState, opening_state}
+use Rattle.lgp_script.specs.LabState.{LabState, opening_state}
 use Rattle.lgp_monitor.specs.Monitor.{monitor_language}
 use Rattle.lgp_call.specs.declared.script.Outcome.{Outcome}
 

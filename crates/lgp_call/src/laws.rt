@@ -2,8 +2,8 @@
 
 ghost use Rattle.std.specs.Prelude.{List, ℕ};
 ghost use Rattle.lgp_stream.specs.Transcript.{IsReportedByTranscript};
-ghost use Rattle.lgp_lab.specs.Script.{script_language};
-ghost use Rattle.lgp_lab.specs.LabState.{opening_state};
+ghost use Rattle.lgp_script.specs.Script.{script_language};
+ghost use Rattle.lgp_script.specs.LabState.{opening_state};
 ghost use Rattle.lgp_call.specs.Session.{after_all, opening_session};
 
 /// Whatever lines a session is given, with line feeds among their bytes or without: the laboratory is where the script language

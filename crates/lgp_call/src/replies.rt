@@ -1,7 +1,7 @@
 //! Replies as they are written.
 ghost use Rattle.std.specs.Prelude.{Some};
 
-use lgp_lab::{Failed, Sink};
+use lgp_stream::{Failed, Sink};
 use std::alloc::Allocator;
 
 /// The replies of a script, one after the other. A write that takes memory may be refused, and then fails.

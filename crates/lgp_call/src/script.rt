@@ -2,11 +2,12 @@
 ghost use Rattle.std.specs.Prelude.{◌≡◌, ◌++◌, ◌<◌, ◌≤◌, IfOk, OnOk, false, length};
 ghost use Rattle.lgp_call.specs.Room.{filled};
 ghost use Rattle.lgp_call.specs.Status.{answered_status, memory_status, unread_status};
-ghost use Rattle.lgp_lab.specs.Script.{script_faults, script_text};
+ghost use Rattle.lgp_script.specs.Script.{script_faults, script_text};
 
 use crate::replies::Replies;
 use crate::room::fill;
-use lgp_lab::{FeedOf, LabFault, READS, run_script};
+use lgp_script::{READS, run_script};
+use lgp_stream::{FeedOf, StreamFault};
 use std::alloc::Allocator;
 
 /// What a script was answered.
@@ -24,7 +25,7 @@ fn write_replies<A: Allocator + Copy>(
     alloc: A,
     script: &[u8],
     replies: &mut Replies<A>,
-) -> Result<u64, LabFault>
+) -> Result<u64, StreamFault>
     requires { replies.old.refused ≡ false }
     ensures text { OnOk result (replies.new.text.items
         ≡ replies.old.text.items ++ script_text script.now) }
@@ -77,8 +78,8 @@ pub fn run_into<A: Allocator + Copy>(
                 length: 0,
             };
             match fault {
-                LabFault::Read => 2,
-                LabFault::Write(_) | LabFault::Memory => 3,
+                StreamFault::Read => 2,
+                StreamFault::Write(_) | StreamFault::Memory => 3,
             }
         }
     }

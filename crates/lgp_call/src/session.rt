@@ -7,8 +7,8 @@ ghost use Rattle.lgp_call.specs.Status.{answered_status, memory_status, unread_s
 
 use crate::room::fill;
 use crate::script::Outcome;
-use lgp_lab::Laboratory;
 use lgp_monitor::Monitor;
+use lgp_script::Laboratory;
 use lgp_stream::{Answers, LineBytes, is_question};
 use std::alloc::{AllocError, Allocator};
 use std::marker::Model;

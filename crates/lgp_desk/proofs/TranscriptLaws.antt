@@ -15,8 +15,8 @@ use Rattle.lgp_stream.specs.Language.{is_line_feed}
 use Rattle.lgp_stream.specs.Speech.{after_said}
 use Rattle.lgp_stream.specs.Transcript.{IsLine, IsReportedByTranscript, after_lines}
 use Rattle.lgp_stream.proofs.LineLaws.{IsReported, IsReported-all, IsReported-lines, IsReported-meaning, IsReported-none, lines_are_lines}
-use Rattle.lgp_lab.specs.Script.{script_language}
-use Rattle.lgp_lab.specs.LabState.{opening_state}
+use Rattle.lgp_script.specs.Script.{script_language}
+use Rattle.lgp_script.specs.LabState.{opening_state}
 use Rattle.lgp_monitor.specs.FileTexts.{restore_lines}
 use Rattle.lgp_monitor.specs.Monitor.{meaning_at}
 use Rattle.lgp_monitor.proofs.LineLemmas.{free-at}

@@ -16,7 +16,7 @@ use Rattle.lgp_stream.specs.Language.{is_question}
 use Rattle.lgp_stream.specs.Speech.{Speech, after_said, text_said}
 use Rattle.lgp_stream.specs.Transcript.{Recorded, untouched}
 use Rattle.lgp_text.specs.PanelWords.{status_text}
-use Rattle.lgp_lab.specs.LabState.{LabState, opening_state}
+use Rattle.lgp_script.specs.LabState.{LabState, opening_state}
 use Rattle.lgp_monitor.specs.FileTexts.{answer_to_dump, answer_to_tape}
 use Rattle.lgp_monitor.specs.Monitor.{monitor_language, panel_at}
 use Rattle.lgp_desk.specs.FileForms.{dump_in, tape_of, text_made}

@@ -8,8 +8,8 @@ ghost use Rattle.lgp_desk.specs.FileForms.{tape_text, text_made};
 use crate::request::{DrumForm, Made, TapeForm};
 use lgp_exchange::{deposits_of, tape_bytes, write_archive_text};
 use lgp_flexo::{Code, write_tape_text};
-use lgp_lab::Laboratory;
 use lgp_machine::Machine;
+use lgp_script::Laboratory;
 use std::alloc::{AllocError, Allocator};
 
 /// A tape as it is kept.

@@ -11,10 +11,10 @@ use Rattle.lgp_task.specs.declared.task.Task.{Task}
 use Rattle.lgp_task.specs.declared.task.Task.TheVariants.{Stdin, Asm, Tape, Run, Script, Batch}
 use Rattle.lgp_task.specs.declared.task.TaskFault.{TaskFault}
 use Rattle.lgp_task.specs.declared.task.TaskFault.TheVariants as faults
-use Rattle.lgp_lab.specs.Files.{FileAnswer, asm_answer, heading, run_answer, tape_answer}
+use Rattle.lgp_script.specs.Files.{FileAnswer, asm_answer, heading, run_answer, tape_answer}
 use Rattle.lgp_stream.specs.Language.{HasCause, StandsOf, StandsWritten}
-use Rattle.lgp_lab.specs.Script.{script_faults, script_language, script_replies}
-use Rattle.lgp_lab.specs.LabState.{opening_state}
+use Rattle.lgp_script.specs.Script.{script_faults, script_language, script_replies}
+use Rattle.lgp_script.specs.LabState.{opening_state}
 use Rattle.lgp_stream.specs.declared.stream.StreamFault.{StreamFault}
 use Rattle.lgp_stream.specs.declared.stream.StreamFault.TheVariants.{Memory}
 use Rattle.lgp_lab.specs.declared.tasks.FileFault.{FileFault}

@@ -6,8 +6,7 @@ ghost use Rattle.std.specs.Io.KnownBytes.{Appends};
 ghost use Rattle.lgp_stream.specs.Language.{HasCause};
 ghost use Rattle.lgp_lab.specs.Tasks.{HasDone, IsBatch, IsObeyed, IsOpenedAs, IsPerformed, IsRefused, IsReported, IsUnread, IsWorked, part_work, read_limit, script_work, status_for, unread_text, unseen_reads, usage_status, work_for};
 
-use crate::files::{asm_file, run_file, tape_file};
-use crate::script::{batch_part, run_script};
+use lgp_script::{asm_file, batch_part, run_file, run_script, tape_file};
 use lgp_stream::{Feed, Sink, StreamFault, write_whole};
 use lgp_task::{FileNames, Task, TaskFault, task_of};
 use std::alloc::{Allocator, Global};

@@ -9,6 +9,3 @@ mod counts;
 mod limited;
 
 pub use limited::Limited;
-
-#[cfg(test)]
-mod tests;

@@ -9,8 +9,8 @@ use Rattle.lgp_stream.specs.Language.{is_line_feed, state_after}
 use Rattle.lgp_stream.specs.LineWords.{after_word, first_word, has_no_word, without_spaces}
 use Rattle.lgp_stream.specs.Transcript.{AreLines, IsLine, IsReportedByTranscript, Recorded, stand_in, untouched}
 use Rattle.lgp_stream.proofs.LineLaws.{reported_by_transcript}
-use Rattle.lgp_lab.specs.Script.{script_language}
-use Rattle.lgp_lab.specs.LabState.{LabState, opening_state}
+use Rattle.lgp_script.specs.Script.{script_language}
+use Rattle.lgp_script.specs.LabState.{LabState, opening_state}
 use Rattle.lgp_monitor.specs.Monitor.{go_lines, jump_line, meaning_at, meaning_of, monitor_language, placed_line, put_line, run_line, run_operands}
 use Rattle.lgp_monitor.specs.Operating.{Operated, ended_with, once_more, operated, operated_on, waits_for_typewriter}
 use Rattle.lgp_monitor.specs.declared.entry.Entry.{Entry}

@@ -3,8 +3,8 @@ use Rattle.std.proofs.Common.{◌≡◌, ◌∙◌, ◌+◌, ℕ, zero, suc, Boo
 use Rattle.std.proofs.lemmas.List.{append-nil}
 use Rattle.lgp_stream.specs.Transcript.{Recorded, after_lines, replies_text}
 use Rattle.lgp_stream.proofs.AfterLemmas.{after-append, after-none}
-use Rattle.lgp_lab.specs.Script.{script_language}
-use Rattle.lgp_lab.specs.LabState.{LabState}
+use Rattle.lgp_script.specs.Script.{script_language}
+use Rattle.lgp_script.specs.LabState.{LabState}
 use Rattle.lgp_monitor.specs.Operating.{Operated, ended_with, once_more, operated, operated_on, waits_for_typewriter}
 
 -- where a run has this reply and Start may be pressed a number of times more, what follows leads to the end

@@ -13,8 +13,8 @@ use Rattle.lgp_listing.specs.declared.reading.DumpFault.{DumpFault}
 use Rattle.lgp_listing.specs.declared.reading.DumpFault.TheVariants.{Memory}
 use Rattle.lgp_listing.proofs.ReadingSteps.{IsReadSo, in_form, read_all, read_more, read_none}
 use Rattle.lgp_listing.proofs.DumpsReadBack.{dump_faultless, one_drum}
-use Rattle.lgp_lab.specs.Script.{script_language}
-use Rattle.lgp_lab.specs.LabState.{LabState}
+use Rattle.lgp_script.specs.Script.{script_language}
+use Rattle.lgp_script.specs.LabState.{LabState}
 use Rattle.lgp_monitor.specs.FileTexts.{cells_changed, changed_cells, dump_fault_text, dumped_words, put_cell, restore_lines, restore_reply, rests_at}
 use Rattle.lgp_monitor.specs.Reasons.{reasoned}
 use Rattle.lgp_monitor.proofs.LineLemmas.{free-put}

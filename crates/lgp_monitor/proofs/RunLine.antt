@@ -9,12 +9,12 @@ use Rattle.std.specs.Str.{bytes_eq}
 use Rattle.lgp_stream.specs.KeptLine.{Kept, kept_of, line_limit}
 use Rattle.lgp_stream.specs.LineWords.{after_word, first_word, has_no_word, is_space, is_visible, without_spaces}
 use Rattle.lgp_text.specs.NamedValues.{named}
-use Rattle.lgp_lab.specs.Command.{command_of, lone_number, number_at}
-use Rattle.lgp_lab.specs.declared.command.Command.TheVariants as commands
-use Rattle.lgp_lab.specs.HistoryCommands.{answer_to_run, orders_run}
-use Rattle.lgp_lab.specs.Script.{answer_to_command, answer_to_line, script_language}
-use Rattle.lgp_lab.specs.SourceText.{SourceText}
-use Rattle.lgp_lab.specs.LabState.{Answer, LabState, labels_of}
+use Rattle.lgp_script.specs.Command.{command_of, lone_number, number_at}
+use Rattle.lgp_script.specs.declared.command.Command.TheVariants as commands
+use Rattle.lgp_script.specs.HistoryCommands.{answer_to_run, orders_run}
+use Rattle.lgp_script.specs.Script.{answer_to_command, answer_to_line, script_language}
+use Rattle.lgp_script.specs.SourceText.{SourceText}
+use Rattle.lgp_script.specs.LabState.{Answer, LabState, labels_of}
 use Rattle.lgp_stream.specs.Transcript.{Recorded, after_lines, ended, replies_text, with_line, with_state}
 use Rattle.lgp_monitor.specs.Monitor.{counter_at, names_at, run_line, run_operands, reported_reply, entry_at}
 use Rattle.lgp_monitor.specs.Entry.{address_at, asked_alone, asked_at, asked_by, asked_with, numbers_entry, optimum_entry, point_at, range_at, entry_by, entry_of, value_at}

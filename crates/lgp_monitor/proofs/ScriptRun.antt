@@ -3,11 +3,11 @@ use Rattle.std.proofs.Common.{◌≡◌, ◌∙◌, ℕ, ◌≤◌, false, None,
 use Rattle.std.proofs.lemmas.List.{append-nil}
 use Rattle.lgp_stream.specs.KeptLine.{line_limit}
 use Rattle.lgp_stream.specs.Transcript.{Recorded, after_lines, ended, replies_text, with_line, with_state}
-use Rattle.lgp_lab.specs.Command.{command_of}
-use Rattle.lgp_lab.specs.HistoryCommands.{answer_to_run}
-use Rattle.lgp_lab.specs.Script.{answer_to_command, answer_to_line, is_passed_over, script_language}
-use Rattle.lgp_lab.specs.LabState.{Answer, LabState}
-use Rattle.lgp_lab.specs.declared.command.Command.TheVariants as commands
+use Rattle.lgp_script.specs.Command.{command_of}
+use Rattle.lgp_script.specs.HistoryCommands.{answer_to_run}
+use Rattle.lgp_script.specs.Script.{answer_to_command, answer_to_line, is_passed_over, script_language}
+use Rattle.lgp_script.specs.LabState.{Answer, LabState}
+use Rattle.lgp_script.specs.declared.command.Command.TheVariants as commands
 
 -- outside a source, passed over by nothing and not too long
 record AsksForRun (line : List ℕ) (limit : ℕ) : Type 0 where

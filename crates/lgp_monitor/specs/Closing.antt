@@ -9,9 +9,9 @@ use Rattle.lgp_assembler.specs.Image.{faults_of}
 use Rattle.lgp_assembler.specs.declared.refusal.Fault.{Fault}
 use Rattle.lgp_assembler.specs.Marks.{marked_text}
 use Rattle.lgp_stream.specs.KeptLine.{Kept}
-use Rattle.lgp_lab.specs.SourceCommands.{fault_line}
-use Rattle.lgp_lab.specs.SourceText.{SourceText}
-use Rattle.lgp_lab.specs.LabState.{opened_text}
+use Rattle.lgp_script.specs.SourceCommands.{fault_line}
+use Rattle.lgp_script.specs.SourceText.{SourceText}
+use Rattle.lgp_script.specs.LabState.{opened_text}
 
 -- the text of the line at a place, counted from 0; after the last line there is none
 abbrev pub text_at : List SourceLine → ℕ → Option (List ℕ)

@@ -13,8 +13,8 @@ use Rattle.lgp_assembler.specs.Patch.{operation_word}
 use Rattle.lgp_stream.specs.KeptLine.{Kept}
 use Rattle.lgp_stream.specs.LineWords.{after_word, first_word, has_no_word}
 use Rattle.lgp_text.specs.NamedValues.{named}
-use Rattle.lgp_lab.specs.Command.{command_of, lone_number}
-use Rattle.lgp_lab.specs.Span.{WordRange, range_of}
+use Rattle.lgp_script.specs.Command.{command_of, lone_number}
+use Rattle.lgp_script.specs.Span.{WordRange, range_of}
 use Rattle.lgp_monitor.specs.Scaled.{point_of}
 use Rattle.lgp_monitor.specs.Verbs.{verb_names}
 use Rattle.lgp_monitor.specs.declared.question.Question.TheVariants as questions

@@ -12,8 +12,8 @@ use Rattle.lgp_stream.specs.Transcript.{Recorded, with_line, with_state}
 use Rattle.lgp_listing.specs.Dump.{cell_in, first_fault}
 use Rattle.lgp_listing.specs.declared.reading.DumpFault.{DumpFault}
 use Rattle.lgp_listing.specs.declared.reading.DumpFault.TheVariants as faults
-use Rattle.lgp_lab.specs.LabState.{LabState}
-use Rattle.lgp_lab.specs.TapeCommands.{answer_to_tape_text}
+use Rattle.lgp_script.specs.LabState.{LabState}
+use Rattle.lgp_script.specs.TapeCommands.{answer_to_tape_text}
 use Rattle.lgp_monitor.specs.Monitor.{answered_with, panel_at, put_line}
 use Rattle.lgp_monitor.specs.Reasons.{reasoned}
 

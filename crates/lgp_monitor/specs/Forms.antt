@@ -16,7 +16,7 @@ use Rattle.lgp_assembler.specs.declared.operands.OperandFault.TheVariants.{Misfo
 use Rattle.lgp_assembler.specs.declared.operands.OperandFault.TheVariants.{Outside}
 use Rattle.lgp_stream.specs.LineWords.{after_word, first_word, has_no_word}
 use Rattle.lgp_text.specs.NamedValues.{named}
-use Rattle.lgp_lab.specs.Command.{lone_number}
+use Rattle.lgp_script.specs.Command.{lone_number}
 use Rattle.lgp_monitor.specs.Verbs.{only_asks, operands_form, operands_kind, takes_address}
 use Rattle.lgp_monitor.specs.Verbs.{verb_names}
 use Rattle.lgp_monitor.specs.declared.verb.Verb.{Verb}

@@ -12,9 +12,9 @@ use Rattle.lgp_table.specs.declared.panel.Panel.{Panel}
 use Rattle.lgp_stream.specs.Transcript.{Meaning, Lines, Anew, Recorded, after_lines}
 use Rattle.lgp_stream.specs.Transcript.{after_meaning, replies_text, stand_in}
 use Rattle.lgp_debugger.specs.Debugging.{order_origins}
-use Rattle.lgp_lab.specs.Script.{script_language}
-use Rattle.lgp_lab.specs.HistoryCommands.{orders_run}
-use Rattle.lgp_lab.specs.LabState.{LabState, labels_of, opening_state}
+use Rattle.lgp_script.specs.Script.{script_language}
+use Rattle.lgp_script.specs.HistoryCommands.{orders_run}
+use Rattle.lgp_script.specs.LabState.{LabState, labels_of, opening_state}
 use Rattle.lgp_monitor.specs.Closing.{closing_reply}
 use Rattle.lgp_monitor.specs.Questions.{answer_to}
 use Rattle.lgp_monitor.specs.Forms.{form_line, help_text, misformed_text}

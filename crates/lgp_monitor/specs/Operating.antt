@@ -9,8 +9,8 @@ use Rattle.lgp_word.specs.declared.order.Op.TheVariants.{Z, P}
 use Rattle.lgp_table.specs.declared.panel.Cause.TheVariants.{Stop}
 use Rattle.lgp_table.specs.declared.panel.Status.{Status}
 use Rattle.lgp_table.specs.declared.panel.Status.TheVariants.{Halted}
-use Rattle.lgp_lab.specs.LabState.{LabState}
-use Rattle.lgp_lab.specs.Script.{script_language}
+use Rattle.lgp_script.specs.LabState.{LabState}
+use Rattle.lgp_script.specs.Script.{script_language}
 
 -- ---- when Start is pressed
 

@@ -9,9 +9,9 @@ use Rattle.lgp_fraction.specs.Decimal.{decimal_text}
 use Rattle.lgp_exchange.specs.Paper.{paper_of}
 use Rattle.lgp_history.specs.declared.rule.Rule.{Rule}
 use Rattle.lgp_history.specs.declared.rule.Rule.TheVariants.{At, Changed}
-use Rattle.lgp_lab.specs.DrumCommands.{lines_text}
-use Rattle.lgp_lab.specs.Names.{button_names}
-use Rattle.lgp_lab.specs.LabState.{LabState, labels_of}
+use Rattle.lgp_script.specs.DrumCommands.{lines_text}
+use Rattle.lgp_script.specs.Names.{button_names}
+use Rattle.lgp_script.specs.LabState.{LabState, labels_of}
 use Rattle.lgp_table.specs.Console.{is_halted, is_live, is_manual, is_waiting, takes_codes}
 use Rattle.lgp_table.specs.declared.action.Action.{Action}
 use Rattle.lgp_table.specs.declared.panel.Mode.{Mode}

@@ -4,7 +4,7 @@ use Rattle.std.specs.Prelude.{ℕ, List}
 use Rattle.std.specs.List.{concat}
 use Rattle.lgp_stream.specs.Language.{question_count, text_replies}
 use Rattle.lgp_stream.specs.Transcript.{untouched}
-use Rattle.lgp_lab.specs.LabState.{opening_state}
+use Rattle.lgp_script.specs.LabState.{opening_state}
 use Rattle.lgp_monitor.specs.Monitor.{monitor_language}
 
 unfoldable pub monitor_replies : List ℕ → List (List ℕ)

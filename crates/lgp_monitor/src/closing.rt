@@ -9,7 +9,7 @@ ghost use Rattle.lgp_source.specs.Source.{lines_of};
 ghost use Rattle.lgp_monitor.specs.Closing.{closing_reply, marked_fault, shown_faults, text_at};
 
 use lgp_assembler::{AssembleError, Fault, FaultKind, assemble, push_marked};
-use lgp_lab::{Laboratory, push_fault_line};
+use lgp_script::{Laboratory, push_fault_line};
 use lgp_source::Lines;
 use lgp_stream::LineBytes;
 use std::alloc::{AllocError, Allocator};

@@ -3,17 +3,18 @@
 ghost use Rattle.std.specs.Prelude.{◌≡◌, ◌++◌, ◌==◌, ◌∷◌, [], if◌then◌else◌, length, map, decimal, codes, IfOk, OnOk};
 ghost use Rattle.lgp_monitor.specs.Monitor.{answered_with};
 ghost use Rattle.lgp_stream.specs.Language.{IsAnswered};
-ghost use Rattle.lgp_stream.specs.Transcript.{after_lines};
-ghost use Rattle.lgp_lab.specs.Script.{script_language};
+ghost use Rattle.lgp_stream.specs.Transcript.{after_lines, with_line, with_state};
+ghost use Rattle.lgp_script.specs.TapeCommands.{answer_to_tape_text};
+ghost use Rattle.lgp_script.specs.Script.{script_language};
 ghost use Rattle.lgp_monitor.specs.FileTexts.{answer_to_dump, answer_to_tape, changed_cells, dump_fault_text, put_cell, rests_at};
 ghost use Rattle.lgp_monitor.specs.Reasons.{reasoned};
 
 use crate::monitor::put_line;
 use crate::reason::push_reasoned;
 use lgp_drum::Drum;
-use lgp_lab::Laboratory;
 use lgp_listing::{DumpFault, read_dump};
 use lgp_machine::Machine;
+use lgp_script::Laboratory;
 use lgp_stream::Recorder;
 use lgp_text::{Piece, push_pieces};
 use lgp_word::{Address, Word};
@@ -149,6 +150,39 @@ pub(crate) fn restore<A: Allocator + Copy, B: Allocator>(
     }
 }
 
+/// Keeps the line by which a transcript names a tape.
+fn keep_tape_line<A: Allocator + Copy>(
+    alloc: A,
+    recorder: &mut Recorder<Laboratory<A>, A>,
+    name: &[u8],
+) -> Result<(), AllocError>
+    ensures { OnOk result (recorder.new
+        ≡ with_line recorder.old (codes "tape " ++ name.now)) }
+{
+    let mut line = Vec::new(alloc);
+    line.extend_from_slice(b"tape ")?;
+    line.extend_from_slice(name)?;
+    recorder.keep_line(&line)
+}
+
+/// Mounts a tape by its text; the answer has the reason of a refusal.
+fn mount_text<A: Allocator + Copy, B: Allocator>(
+    alloc: A,
+    recorder: &mut Recorder<Laboratory<A>, A>,
+    text: &[u8],
+    reply: &mut Vec<u8, B>,
+) -> Result<(), AllocError>
+    ensures { OnOk result (IsAnswered reply.old.items reply.new.items recorder.new (record {
+      reply = reasoned (answer_to_tape_text recorder.old.state text.now).reply;
+      after = with_state recorder.old
+          (answer_to_tape_text recorder.old.state text.now).after;
+    })) }
+{
+    let mut said = Vec::new(alloc);
+    recorder.answers_mut().mount_text(text, &mut said)?;
+    push_reasoned(reply, &said)
+}
+
 /// Mounts a tape, with its name in the transcript.
 #[tactic(auto, unfolding(crate::specs::FileTexts::tape_reply, crate::specs::FileTexts::after_tape))]
 pub(crate) fn mount_tape<A: Allocator + Copy, B: Allocator>(
@@ -161,11 +195,6 @@ pub(crate) fn mount_tape<A: Allocator + Copy, B: Allocator>(
     ensures { OnOk result (IsAnswered reply.old.items reply.new.items recorder.new
         (answer_to_tape recorder.old name.now text.now)) }
 {
-    let mut line = Vec::new(alloc);
-    line.extend_from_slice(b"tape ")?;
-    line.extend_from_slice(name)?;
-    recorder.keep_line(&line)?;
-    let mut said = Vec::new(alloc);
-    recorder.answers_mut().mount_text(text, &mut said)?;
-    push_reasoned(reply, &said)
+    keep_tape_line(alloc, recorder, name)?;
+    mount_text(alloc, recorder, text, reply)
 }

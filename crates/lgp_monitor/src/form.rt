@@ -12,7 +12,7 @@ use crate::verb::{
     VERBS, Verb, only_asks, operands_form, operands_kind, takes_address, verb_named,
 };
 use lgp_assembler::{Name, OperandFault, Symbols, address_operand};
-use lgp_lab::lone_number;
+use lgp_script::lone_number;
 use lgp_stream::{has_no_word, split_word};
 use lgp_text::{Named, Piece, push_pieces};
 use lgp_word::{Address, Op, read_decimal};

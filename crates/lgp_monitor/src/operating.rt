@@ -3,12 +3,12 @@
 ghost use Rattle.std.specs.Prelude.{◌≡◌, ◌++◌, ◌∷◌, ◌≤◌, [], OnOk, codes};
 ghost use Rattle.lgp_stream.specs.Language.{IsAnswered};
 ghost use Rattle.lgp_stream.specs.Transcript.{after_lines};
-ghost use Rattle.lgp_lab.specs.Script.{script_language};
+ghost use Rattle.lgp_script.specs.Script.{script_language};
 ghost use Rattle.lgp_monitor.specs.Monitor.{answer_to_operating};
 ghost use Rattle.lgp_monitor.specs.Operating.{has_stopped, is_print, is_stop, op_before, starts_text, waits_for_typewriter};
 
 use crate::reason::push_reasoned;
-use lgp_lab::Laboratory;
+use lgp_script::Laboratory;
 use lgp_stream::Recorder;
 use lgp_table::{Cause, Status};
 use lgp_text::{Piece, push_pieces};

@@ -4,13 +4,13 @@ ghost use Rattle.std.specs.Prelude.{◌≡◌, [], OnOk, true};
 ghost use Rattle.lgp_stream.specs.Language.{IsAnswered};
 ghost use Rattle.lgp_debugger.specs.Run.{IsRun};
 ghost use Rattle.lgp_debugger.specs.Watching.{rules_in_force};
-ghost use Rattle.lgp_lab.specs.HistoryCommands.{answer_to_run};
+ghost use Rattle.lgp_script.specs.HistoryCommands.{answer_to_run};
 
 use crate::progress::Progress;
 use lgp_assembler::Name;
 use lgp_debugger::{Debugger, Quiet, Ran, RunFault, WatchFault, Watcher};
 use lgp_history::{History, Records};
-use lgp_lab::{Laboratory, Teller};
+use lgp_script::{Laboratory, Teller};
 use std::alloc::{AllocError, Allocator};
 
 /// Counts the orders of a run in portions.

@@ -2,9 +2,9 @@
 
 ghost use Rattle.std.specs.Prelude.{◌≡◌, ◌++◌, ◌+◌, ◌<◌, OnOk, codes, flat_map, if◌then◌else◌, nat_lt};
 ghost use Rattle.lgp_word.specs.Digits.{address_digits};
-ghost use Rattle.lgp_lab.specs.DrumCommands.{lines_text};
-ghost use Rattle.lgp_lab.specs.Names.{button_names};
-ghost use Rattle.lgp_lab.specs.LabState.{labels_of};
+ghost use Rattle.lgp_script.specs.DrumCommands.{lines_text};
+ghost use Rattle.lgp_script.specs.Names.{button_names};
+ghost use Rattle.lgp_script.specs.LabState.{labels_of};
 ghost use Rattle.lgp_trace.specs.OriginLines.{why_text};
 ghost use Rattle.lgp_monitor.specs.Telling.{label_of};
 ghost use Rattle.lgp_text.specs.NamedValues.{pairs_of};
@@ -20,8 +20,8 @@ use lgp_exchange::push_paper;
 use lgp_flexo::Code;
 use lgp_fraction::Fraction;
 use lgp_history::{Records, Rule};
-use lgp_lab::{BUTTONS, Laboratory, Span};
 use lgp_machine::{Look, Machine};
+use lgp_script::{BUTTONS, Laboratory, Span};
 use lgp_table::{Action, Mode, Status};
 use lgp_text::{Named, Piece, push_pieces};
 use lgp_trace::push_why;

@@ -4,7 +4,7 @@ ghost use Rattle.std.specs.Prelude.{◌≡◌, [], IfErr, IfOk, IfSome, OnOk};
 ghost use Rattle.std.specs.Io.KnownBytes.{Appends, IsAtEnd};
 ghost use Rattle.lgp_stream.specs.Language.{HasCause, StandsWritten};
 ghost use Rattle.lgp_stream.specs.Transcript.{untouched};
-ghost use Rattle.lgp_lab.specs.LabState.{opening_state};
+ghost use Rattle.lgp_script.specs.LabState.{opening_state};
 ghost use Rattle.lgp_monitor.specs.Running.{monitor_faults, monitor_text};
 ghost use Rattle.lgp_monitor.specs.Monitor.{monitor_language};
 

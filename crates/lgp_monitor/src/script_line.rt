@@ -4,18 +4,18 @@ ghost use Rattle.std.specs.Prelude.{◌≡◌, ◌≤◌, ◌∷◌, [], List, �
 ghost use Rattle.lgp_stream.specs.KeptLine.{kept_of, line_limit};
 ghost use Rattle.lgp_stream.specs.Language.{IsAnswered};
 ghost use Rattle.lgp_stream.specs.Transcript.{lines_answered, stand_in};
-ghost use Rattle.lgp_lab.specs.Command.{command_of};
-ghost use Rattle.lgp_lab.specs.Script.{is_passed_over, script_language};
-ghost use Rattle.lgp_lab.specs.declared.command.Command.TheVariants.{Run};
+ghost use Rattle.lgp_script.specs.Command.{command_of};
+ghost use Rattle.lgp_script.specs.Script.{is_passed_over, script_language};
+ghost use Rattle.lgp_script.specs.declared.command.Command.TheVariants.{Run};
 
 use crate::portions::run_shown;
 use crate::progress::Progress;
-use lgp_lab::{Laboratory, is_comment, lone_number};
+use lgp_script::{Laboratory, is_comment, lone_number};
 use lgp_stream::{LineBytes, Recorder, Split, has_no_word, split_word};
 use std::alloc::{AllocError, Allocator};
 
 /// The limit of the run for which a line asks as a script's command.
-#[tactic(auto, unfolding(lgp_lab::specs::Command::command_of))]
+#[tactic(auto, unfolding(lgp_script::specs::Command::command_of))]
 fn run_limit(line: &[u8]) -> Option<u64>
     ensures command { IfSome result (λ limit. command_of line.now ≡ Some (Run limit)) }
     ensures answered { IfSome result (λ limit. is_passed_over line.now ≡ false) }

@@ -4,15 +4,15 @@ ghost use Rattle.std.specs.Prelude.{◌≡◌, OnOk};
 ghost use Rattle.lgp_stream.specs.Language.{IsAnswered};
 ghost use Rattle.lgp_debugger.specs.Debugging.{order_origins};
 ghost use Rattle.lgp_debugger.specs.Run.{orders_of};
-ghost use Rattle.lgp_lab.specs.HistoryCommands.{answer_to_run, orders_run};
-ghost use Rattle.lgp_lab.specs.LabState.{after_text, labels_of};
+ghost use Rattle.lgp_script.specs.HistoryCommands.{answer_to_run, orders_run};
+ghost use Rattle.lgp_script.specs.LabState.{after_text, labels_of};
 ghost use Rattle.lgp_monitor.specs.Telling.{reported_text};
 
 use crate::labels::NamedAddresses;
 use lgp_assembler::Name;
 use lgp_debugger::{Debugger, Ran, RunFault, RunRefusal};
 use lgp_history::Records;
-use lgp_lab::{Laboratory, Teller};
+use lgp_script::{Laboratory, Teller};
 use lgp_trace::{
     Form, Optimum, Profile, draw_run, optimum_run, profile_run, push_heading_in, push_optimum,
     push_profile_in, push_rows_begun, push_rows_ended, push_word_optimum, trace_run,

@@ -14,6 +14,3 @@ mod shelf;
 pub use block::Block;
 pub use memory::Memory;
 pub use region::Region;
-
-#[cfg(test)]
-mod tests;

@@ -1,6 +1,6 @@
 use Rattle.std.proofs.Common.{◌∙◌, ap, arith, map}
 use Rattle.lgp_stream.specs.Transcript.{after_lines}
-use Rattle.lgp_lab.specs.Script.{script_language}
+use Rattle.lgp_script.specs.Script.{script_language}
 use Rattle.lgp_monitor.specs.FileTexts.{put_cell}
 use Rattle.lgp_monitor.proofs.RestoreLemmas.{put_all, put_more}
 use Rattle.lgp_monitor.proofs.file_texts.put_cells.Goals as goal

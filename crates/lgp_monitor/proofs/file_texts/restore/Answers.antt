@@ -4,7 +4,7 @@ use Rattle.lgp_stream.specs.Transcript.{after_lines}
 use Rattle.lgp_listing.specs.Dump.{first_fault}
 use Rattle.lgp_listing.specs.declared.reading.DumpFault.{DumpFault}
 use Rattle.lgp_listing.specs.declared.reading.DumpFault.TheVariants.{Form, Order, Memory}
-use Rattle.lgp_lab.specs.Script.{script_language}
+use Rattle.lgp_script.specs.Script.{script_language}
 use Rattle.lgp_monitor.specs.FileTexts.{dump_fault_text}
 use Rattle.lgp_monitor.proofs.RestoreLemmas.{fault_is, faulty_after, faulty_reply, restored_lines, restored_reply}
 use Rattle.lgp_monitor.proofs.file_texts.restore.Goals as goal

@@ -1,6 +1,6 @@
 use Rattle.std.proofs.Common.{◌≡◌, ◌∙◌, ◌++◌, ◌∷◌, [], List, ℕ, ap, codes}
 use Rattle.std.proofs.lemmas.Result.{on_ok_weaker}
-use Rattle.lgp_lab.specs.Script.{script_language}
+use Rattle.lgp_script.specs.Script.{script_language}
 use Rattle.lgp_stream.specs.Transcript.{after_lines, replies_text}
 use Rattle.lgp_monitor.specs.Monitor.{go_lines, jump_line}
 use Rattle.lgp_monitor.proofs.GoLemmas.{after-three, replies-three}

@@ -1,7 +1,7 @@
 use Rattle.std.proofs.Common.{◌≡◌, ◌∙◌, ◌++◌, rules, sym, ap}
 use Rattle.std.specs.Result.{OnOk}
-use Rattle.lgp_lab.specs.Script.{script_language}
-use Rattle.lgp_lab.specs.LabState.{opening_state}
+use Rattle.lgp_script.specs.Script.{script_language}
+use Rattle.lgp_script.specs.LabState.{opening_state}
 use Rattle.lgp_stream.specs.Transcript.{after_meaning}
 use Rattle.lgp_stream.proofs.AfterLemmas.{after-none}
 use Rattle.lgp_stream.proofs.AnswerLemmas.{both_on_ok, on_ok_always}

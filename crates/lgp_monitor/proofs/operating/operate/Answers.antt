@@ -1,7 +1,7 @@
 use Rattle.std.proofs.Common.{◌≡◌, ◌∙◌, ◌++◌, ◌≤◌, ◌-◌, ◌+◌, ◌∷◌, [], suc, ℕ, List, append_assoc, ap, arith, sym, true}
 use Rattle.std.proofs.lemmas.Result.{on_ok_weaker}
 use Rattle.lgp_stream.specs.Transcript.{after_lines, replies_text}
-use Rattle.lgp_lab.specs.Script.{script_language}
+use Rattle.lgp_script.specs.Script.{script_language}
 use Rattle.lgp_monitor.specs.Operating.{Operated, operated, starts_text, waits_for_typewriter}
 use Rattle.lgp_monitor.specs.Reasons.{reasoned}
 use Rattle.lgp_monitor.proofs.OperatingLemmas.{IsDone, operated_begun, operated_limit, operated_more, operated_rest}

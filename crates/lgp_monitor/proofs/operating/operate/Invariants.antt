@@ -1,6 +1,6 @@
 use Rattle.std.proofs.Common.{◌≤◌, ◌-◌}
 use Rattle.lgp_stream.specs.Transcript.{after_lines}
-use Rattle.lgp_lab.specs.Script.{script_language}
+use Rattle.lgp_script.specs.Script.{script_language}
 use Rattle.lgp_monitor.specs.Operating.{operated}
 use Rattle.lgp_monitor.proofs.OperatingLemmas.{IsOperated}
 use Rattle.lgp_monitor.proofs.operating.operate.Given as goal

@@ -3,8 +3,8 @@ use Rattle.std.proofs.lemmas.List.{append-nil}
 use Rattle.std.proofs.lemmas.Result.{on_ok_weaker}
 use Rattle.lgp_stream.specs.Transcript.{Recorded, after_lines, replies_text}
 use Rattle.lgp_stream.proofs.AfterLemmas.{after-append}
-use Rattle.lgp_lab.specs.LabState.{LabState}
-use Rattle.lgp_lab.specs.Script.{script_language}
+use Rattle.lgp_script.specs.LabState.{LabState}
+use Rattle.lgp_script.specs.Script.{script_language}
 use Rattle.lgp_monitor.proofs.operating.start_again.Goals as goal
 
 pub returns-clause-reply : goal.returns-clause-reply

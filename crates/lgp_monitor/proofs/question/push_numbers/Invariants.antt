@@ -1,5 +1,5 @@
 use Rattle.std.proofs.Common.{◌≡◌, ◌++◌}
-use Rattle.lgp_lab.specs.DrumCommands.{lines_text}
+use Rattle.lgp_script.specs.DrumCommands.{lines_text}
 use Rattle.lgp_monitor.specs.Questions.{number_line}
 use Rattle.lgp_monitor.proofs.question.push_numbers.Given as goal
 

@@ -1,6 +1,6 @@
 use Rattle.lgp_stream.proofs.StreamLemmas.{StandsWritten-none}
 use Rattle.lgp_stream.specs.Transcript.{untouched}
-use Rattle.lgp_lab.specs.LabState.{opening_state}
+use Rattle.lgp_script.specs.LabState.{opening_state}
 use Rattle.lgp_monitor.specs.Monitor.{monitor_language}
 use Rattle.lgp_monitor.proofs.running.run_monitor.Goals as goal
 

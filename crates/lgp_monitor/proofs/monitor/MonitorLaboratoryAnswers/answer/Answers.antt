@@ -1,8 +1,8 @@
 use Rattle.std.proofs.Common.{◌≡◌, ◌∙◌, ◌++◌, List, ℕ, ap, is_some, refl}
 use Rattle.std.proofs.lemmas.Result.{on_ok_weaker}
 use Rattle.lgp_stream.specs.KeptLine.{Kept, kept_of}
-use Rattle.lgp_lab.specs.Script.{script_language}
-use Rattle.lgp_lab.specs.LabState.{LabState, labels_of, opening_state}
+use Rattle.lgp_script.specs.Script.{script_language}
+use Rattle.lgp_script.specs.LabState.{LabState, labels_of, opening_state}
 use Rattle.lgp_stream.specs.Transcript.{Recorded, after_meaning}
 use Rattle.lgp_monitor.specs.Monitor.{meaning_at, meaning_of, reply_at, reply_of, entry_at}
 use Rattle.lgp_monitor.specs.Entry.{entry_of}

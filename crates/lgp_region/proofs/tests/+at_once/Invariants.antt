@@ -1,5 +1,0 @@
--- Each call inside asks for a block less.
-use Rattle.lgp_region.proofs.tests.+at_once.Given as goal
-
-abbrev pub decreases-at_once : goal.decreases-at_once
-decreases-at_once l = l.most

@@ -1,0 +1,6 @@
+pub mod TapeLemmas
+pub mod KeptLemmas
+pub mod SourceLemmas
+pub mod FileLemmas
+pub mod LoadLaws
+pub mod AskingLaws

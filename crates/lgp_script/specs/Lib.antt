@@ -1,0 +1,17 @@
+pub mod Limits
+pub mod Span
+pub mod Names
+pub mod Command
+pub mod Refusal
+pub mod SourceText
+pub mod LabState
+pub mod MachineCommands
+pub mod TapeCommands
+pub mod DrumCommands
+pub mod SourceCommands
+pub mod LoadCommand
+pub mod HistoryCommands
+pub mod Script
+pub mod Files
+pub mod LaboratoryInside
+pub mod FilesInside

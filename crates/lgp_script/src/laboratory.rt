@@ -1,0 +1,201 @@
+//! The laboratory: a machine with its history and the source at hand, and what is answered to a line.
+
+ghost use Rattle.std.specs.Prelude.{◌≡◌, ◌≤◌, List, ℕ, IfOk, OnOk, is_some, length};
+ghost use Rattle.lgp_stream.specs.Language.{IsAnswered};
+ghost use Rattle.lgp_stream.specs.KeptLine.{line_limit};
+ghost use Rattle.lgp_stream.specs.KeptLine.{kept_of};
+ghost use Rattle.lgp_script.specs.Script.{answer_to, answer_to_command, is_passed_over, script_language};
+ghost use Rattle.lgp_script.specs.LabState.{labels_of, opened_text, opening_state};
+
+use crate::command::{Asked, Command, asked_in, is_comment};
+use crate::limits::KEPT_LIMIT;
+use crate::program::Program;
+use crate::refusal::{Refusal, push_refusal};
+use crate::source_text::SourceText;
+use lgp_assembler::Name;
+use lgp_debugger::Debugger;
+use lgp_history::{Records, Rule};
+use lgp_machine::Machine;
+use lgp_stream::{Answers, LineBytes};
+use std::alloc::{AllocError, Allocator};
+use std::marker::Model;
+
+mod drum_commands;
+mod history_commands;
+mod load_command;
+mod machine_commands;
+mod source_commands;
+mod tape_commands;
+
+pub use machine_commands::push_panel;
+pub use source_commands::{push_fault_line, push_faults};
+pub use tape_commands::push_printed;
+
+/// A machine with its history and its rules, on which a script's commands are performed, with the last source that assembled and
+/// the one that is open. It is seen as its state.
+#[derive(Drop)]
+pub struct Laboratory<A: Allocator + Clone> {
+    alloc: A,
+    debugger: Debugger<Records<A>, A>,
+    program: Option<Program<A>>,
+    opened: Option<SourceText<A>>,
+}
+
+impl<A: Allocator + Clone> Model for Laboratory<A> {
+    ghost use Rattle.lgp_script.specs.LabState.{LabState};
+
+    ghost Value = { LabState };
+
+    ghost view = { λ laboratory. record {
+      debugger = laboratory.debugger;
+      source = laboratory.program;
+      opened = laboratory.opened;
+    } };
+}
+
+impl<A: Allocator + Copy> Laboratory<A> {
+    /// A laboratory with a new machine.
+    #[tactic(auto, unfolding(crate::specs::LabState::opening_state))]
+    pub fn new(alloc: A) -> Result<Laboratory<A>, AllocError>
+        ensures { IfOk result (λ laboratory. laboratory ≡ opening_state) }
+    {
+        let machine = Machine::new(alloc)?;
+        let history = Records::new(alloc, KEPT_LIMIT)?;
+        Ok(Laboratory {
+            alloc,
+            debugger: Debugger::new(machine, history),
+            program: None,
+            opened: None,
+        })
+    }
+
+    /// Whether a source is open, so that lines are the source's.
+    pub fn has_open_source(&self) -> bool
+        ensures { result ≡ is_some self.now.opened }
+    {
+        self.opened.is_some()
+    }
+
+    /// The bytes of the open source so far; none where no source is open, and where it is too long.
+    #[tactic(auto, unfolding(crate::specs::LabState::opened_text))]
+    pub fn source_so_far(&self) -> &[u8]
+        ensures { result.now ≡ opened_text self.now.opened }
+    {
+        match &self.opened {
+            Some(source) => source.text(),
+            None => &[],
+        }
+    }
+
+    /// The machine with its kept steps and its rules.
+    pub fn debugger(&self) -> &Debugger<Records<A>, A>
+        ensures { result.now ≡ self.now.debugger }
+    {
+        &self.debugger
+    }
+
+    /// The names of the last source that assembled, with their values, 0 to 4096; none where none has assembled yet.
+    pub fn labels(&self) -> &[(Name, u16)]
+        ensures { result.now ≡ labels_of self.now.source }
+    {
+        labels_in(&self.program)
+    }
+
+    /// Does what a command asks for and answers it; the text is that of `mount` and `type`. A refused growth leaves open
+    /// what was done.
+    fn perform_command(
+        &mut self,
+        command: &Command,
+        text: &[u8],
+        reply: &mut Vec<u8, A>,
+    ) -> Result<(), AllocError>
+        requires short { length text.now ≤ line_limit }
+        ensures { OnOk result (IsAnswered reply.old.items reply.new.items self.new
+            (answer_to self.old command.now text.now)) }
+    {
+        match command {
+            Command::Put(address, word) => self.put(*address, *word, reply),
+            Command::Mount => self.mount(text, reply),
+            Command::Press(action) => self.press(*action, reply),
+            Command::Type => self.type_text(text, reply),
+            Command::Turn(times) => self.turn(*times, reply),
+            Command::Orders(limit) => self.orders(*limit, reply),
+            Command::Panel => self.panel(reply),
+            Command::Words(span) => self.words(span, reply),
+            Command::Show(span) => self.show(span, reply),
+            Command::Printed => self.printed(reply),
+            Command::Dump => self.dump(reply),
+            Command::Source => {
+                self.open_source();
+                Ok(())
+            }
+            Command::List => self.list(reply),
+            Command::Load => self.load(reply),
+            Command::Break(address) => self.add_rule(Rule::At(*address), reply),
+            Command::Watch(address) => self.add_rule(Rule::Changed(*address), reply),
+            Command::Drop(number) => self.drop_rule(*number, reply),
+            Command::Run(limit) => self.run(*limit, reply),
+            Command::Back(orders) => self.back(*orders, reply),
+            Command::Last => self.last(reply),
+        }
+    }
+}
+
+/// The names of a program with their values.
+#[tactic(auto, unfolding(crate::specs::LabState::labels_of))]
+fn labels_in<A: Allocator + Copy>(program: &Option<Program<A>>) -> &[(Name, u16)]
+    ensures { result.now ≡ labels_of program.now }
+{
+    match program {
+        Some(program) => program.image().symbols(),
+        None => &[],
+    }
+}
+
+/// Whether a line has no reply: there is no word on it, or it begins with a semicolon.
+fn is_passed_over(line: &LineBytes) -> bool
+    ensures { (text : List ℕ) → line.now ≡ kept_of text → result ≡ is_passed_over text }
+{
+    line.has_no_word() || is_comment(line.front())
+}
+
+impl<A: Allocator + Copy> Laboratory<A> {
+    /// Answers a line outside a source.
+    fn answer_command(&mut self, line: &LineBytes, reply: &mut Vec<u8, A>) -> Result<(), AllocError>
+        ensures { (text : List ℕ) → line.now ≡ kept_of text
+            → OnOk result (IsAnswered reply.old.items reply.new.items self.new
+            (answer_to_command self.old text)) }
+    {
+        if is_passed_over(line) {
+            return Ok(());
+        }
+        if line.is_longer() {
+            push_refusal(reply, Refusal::TooLong)?;
+            return Ok(());
+        }
+        let Asked { command, text } = asked_in(line.front());
+        match command {
+            Some(command) => self.perform_command(&command, text, reply)?,
+            None => push_refusal(reply, Refusal::Form)?,
+        }
+        Ok(())
+    }
+}
+
+impl<A: Allocator + Copy> Answers<A> for Laboratory<A> {
+    ghost language = { script_language };
+
+    fn answer(&mut self, line: &LineBytes, reply: &mut Vec<u8, A>) -> Result<(), AllocError> {
+        match self.opened.take() {
+            Some(source) => self.take_line(source, line, reply),
+            None => self.answer_command(line, reply),
+        }
+    }
+
+    fn close(&mut self, reply: &mut Vec<u8, A>) -> Result<(), AllocError> {
+        match self.opened.take() {
+            Some(source) => self.close_source(source, reply),
+            None => Ok(()),
+        }
+    }
+}

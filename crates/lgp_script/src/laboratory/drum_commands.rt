@@ -1,0 +1,149 @@
+//! The drum.
+
+ghost use Rattle.std.specs.Prelude.{◌≡◌, ◌++◌, IfOk, OnOk, codes, decimal};
+ghost use Rattle.lgp_stream.specs.Language.{IsAnswered};
+ghost use Rattle.lgp_listing.specs.Dump.{cell_line, dump_of};
+ghost use Rattle.lgp_history.specs.Step.{Put};
+ghost use Rattle.lgp_script.specs.LabState.{answer_to_step};
+ghost use Rattle.lgp_script.specs.DrumCommands.{answer_to_words, dump_text, lines_text, order_line};
+
+use super::Laboratory;
+use crate::refusal::{Refusal, push_counted, push_refusal};
+use crate::span::Span;
+use lgp_debugger::PutFault;
+use lgp_listing::{DrumWords, disassemble, push_cell_line, push_dump};
+use lgp_machine::Machine;
+use lgp_text::{Piece, push_pieces};
+use lgp_word::{Address, Word};
+use std::alloc::{AllocError, Allocator};
+
+impl<A: Allocator + Copy> Laboratory<A> {
+    /// Puts a word on the drum.
+    pub(super) fn put(
+        &mut self,
+        address: Address,
+        word: Word,
+        reply: &mut Vec<u8, A>,
+    ) -> Result<(), AllocError>
+        ensures { OnOk result (IsAnswered reply.old.items reply.new.items self.new
+            (answer_to_step (codes "ok\n") self.old (Put address word))) }
+    {
+        match self.debugger.put(address, word) {
+            Ok(()) => reply.extend_from_slice(b"ok\n"),
+            Err(PutFault::Moving) => push_refusal(reply, Refusal::Moving),
+            Err(PutFault::Memory) => Err(AllocError),
+        }
+    }
+
+    /// Shows words by their digits.
+    pub(super) fn words(&self, span: &Span, reply: &mut Vec<u8, A>) -> Result<(), AllocError>
+        ensures { OnOk result (reply.new.items
+            ≡ reply.old.items ++ (answer_to_words cell_line self.now span.now).reply) }
+    {
+        push_words(reply, self.debugger.machine(), span)
+    }
+
+    /// Shows words by their disassembly.
+    pub(super) fn show(&self, span: &Span, reply: &mut Vec<u8, A>) -> Result<(), AllocError>
+        ensures { OnOk result (reply.new.items
+            ≡ reply.old.items ++ (answer_to_words order_line self.now span.now).reply) }
+    {
+        push_orders(reply, self.debugger.machine(), span)
+    }
+
+    /// The dump of the drum: a line for each word that is not zero.
+    pub fn drum_dump(&self) -> Result<Vec<u8, A>, AllocError>
+        ensures { IfOk result (λ text. text.items
+            ≡ dump_of self.now.debugger.state.core.words) }
+    {
+        let mut lines = Vec::new(self.alloc);
+        push_dump(&mut lines, self)?;
+        Ok(lines)
+    }
+
+    /// Shows all words that are not zero.
+    #[tactic(auto, unfolding(crate::specs::DrumCommands::dump_text))]
+    pub(super) fn dump(&self, reply: &mut Vec<u8, A>) -> Result<(), AllocError>
+        ensures { OnOk result (reply.new.items
+            ≡ reply.old.items ++ dump_text self.now.debugger.state.core.words) }
+    {
+        let mut lines = Vec::new(self.alloc);
+        let count = push_dump(&mut lines, self)?;
+        push_lines(reply, count, &lines)
+    }
+}
+
+impl<A: Allocator + Copy> DrumWords for Laboratory<A> {
+    ghost words = { λ laboratory. laboratory.debugger.state.core.words };
+
+    fn word_at(&self, address: Address) -> Word {
+        self.debugger.machine().word(address)
+    }
+}
+
+/// Appends a word's line by its disassembly.
+#[tactic(auto, unfolding(crate::specs::DrumCommands::order_line))]
+fn push_order<A: Allocator>(
+    text: &mut Vec<u8, A>,
+    address: Address,
+    word: Word,
+) -> Result<(), AllocError>
+    ensures { OnOk result (text.new.items ≡ text.old.items ++ order_line address word) }
+{
+    let order = disassemble(word);
+    push_pieces(
+        text,
+        &[
+            Piece::Place(address),
+            Piece::Text(b" "),
+            Piece::Text(&order),
+            Piece::Text(b"\n"),
+        ],
+    )
+}
+
+/// Appends the words of a range.
+fn push_words<A: Allocator>(
+    text: &mut Vec<u8, A>,
+    machine: &Machine<A>,
+    span: &Span,
+) -> Result<(), AllocError>
+    ensures { OnOk result (text.new.items ≡ text.old.items
+        ++ lines_text cell_line machine.now.state span.now.first span.now.count) }
+{
+    for place in 0..span.count() {
+        let address = span.address(place);
+        push_cell_line(text, address, machine.word(address))?;
+    }
+    Ok(())
+}
+
+/// Appends the words of a range, each by its disassembly.
+fn push_orders<A: Allocator>(
+    text: &mut Vec<u8, A>,
+    machine: &Machine<A>,
+    span: &Span,
+) -> Result<(), AllocError>
+    ensures { OnOk result (text.new.items ≡ text.old.items
+        ++ lines_text order_line machine.now.state span.now.first span.now.count) }
+{
+    for place in 0..span.count() {
+        let address = span.address(place);
+        push_order(text, address, machine.word(address))?;
+    }
+    Ok(())
+}
+
+/// Appends how many words are not zero, and their lines.
+fn push_lines<A: Allocator>(
+    text: &mut Vec<u8, A>,
+    count: u64,
+    lines: &[u8],
+) -> Result<(), AllocError>
+    ensures { OnOk result (text.new.items ≡ text.old.items
+        ++ (codes "dump " ++ (decimal count ++ (codes "\n" ++ lines.now)))) }
+{
+    push_counted(text, b"dump ", count)?;
+    text.extend_from_slice(lines)?;
+    Ok(())
+}

@@ -1,0 +1,160 @@
+//! Sources and their listings.
+
+ghost use Rattle.std.specs.Prelude.{◌≡◌, ◌++◌, [], List, ℕ, Some, OnOk, codes};
+ghost use Rattle.lgp_stream.specs.Language.{IsAnswered};
+ghost use Rattle.lgp_stream.specs.KeptLine.{kept_of};
+ghost use Rattle.lgp_script.specs.SourceCommands.{answer_in_source, answer_to_end, cells_text, fault_line, faults_text, list_text, start_text};
+ghost use Rattle.lgp_script.specs.SourceText.{source_of};
+ghost use Rattle.lgp_assembler.specs.Image.{image_of};
+
+use super::Laboratory;
+use crate::program::Program;
+use crate::refusal::{Refusal, push_refusal};
+use crate::source_text::SourceText;
+use lgp_assembler::{AssembleError, Fault, Image};
+use lgp_stream::LineBytes;
+use lgp_text::{Piece, push_pieces};
+use lgp_word::Address;
+use std::alloc::{AllocError, Allocator};
+
+impl<A: Allocator + Copy> Laboratory<A> {
+    /// Opens a source: the lines that follow are its lines.
+    pub(super) fn open_source(&mut self)
+        ensures { self.new ≡ record self.old { opened = Some (source_of []) } }
+    {
+        self.opened = Some(SourceText::new(self.alloc));
+    }
+
+    /// Takes a line of the source that is open; a point alone closes the source.
+    pub(super) fn take_line(
+        &mut self,
+        source: SourceText<A>,
+        line: &LineBytes,
+        reply: &mut Vec<u8, A>,
+    ) -> Result<(), AllocError>
+        ensures { (text : List ℕ) → line.now ≡ kept_of text
+            → OnOk result (IsAnswered reply.old.items reply.new.items self.new
+            (answer_in_source self.old source text)) }
+    {
+        if line.is_word(b".") {
+            return self.close_source(source, reply);
+        }
+        let mut source = source;
+        source.push_line(line)?;
+        self.opened = Some(source);
+        Ok(())
+    }
+
+    /// Closes a source.
+    pub(super) fn close_source(
+        &mut self,
+        source: SourceText<A>,
+        reply: &mut Vec<u8, A>,
+    ) -> Result<(), AllocError>
+        ensures { OnOk result (IsAnswered reply.old.items reply.new.items self.new
+            (answer_to_end self.old source)) }
+    {
+        self.opened = None;
+        if source.is_too_long() {
+            return push_refusal(reply, Refusal::TooLong);
+        }
+        match Program::new(self.alloc, source.into_text()) {
+            Ok(program) => self.keep(program, reply),
+            Err(AssembleError::Faults(list)) => push_fault_list(reply, list.faults()),
+            Err(AssembleError::Memory) => Err(AllocError),
+        }
+    }
+
+    /// Keeps a program as the last one, and tells what it has made.
+    fn keep(&mut self, program: Program<A>, reply: &mut Vec<u8, A>) -> Result<(), AllocError>
+        ensures reply { OnOk result (reply.new.items
+            ≡ reply.old.items ++ cells_text (image_of program)) }
+        ensures after { OnOk result (self.new ≡ record {
+          debugger = self.old.debugger;
+          source = Some program;
+          opened = self.old.opened;
+        }) }
+    {
+        push_cells(reply, program.image())?;
+        self.program = Some(program);
+        Ok(())
+    }
+
+    /// Lists the last source that assembled.
+    #[tactic(auto, unfolding(crate::specs::SourceCommands::list_text))]
+    pub(super) fn list(&self, reply: &mut Vec<u8, A>) -> Result<(), AllocError>
+        ensures { OnOk result (reply.new.items
+            ≡ reply.old.items ++ list_text self.now.source) }
+    {
+        let Some(program) = &self.program else {
+            push_refusal(reply, Refusal::NoImage)?;
+            return Ok(());
+        };
+        let listing = program.listing(self.alloc)?;
+        reply.extend_from_slice(&listing)?;
+        Ok(())
+    }
+}
+
+/// Appends the start of a program.
+fn push_start<A: Allocator>(text: &mut Vec<u8, A>, start: Option<Address>) -> Result<(), AllocError>
+    ensures { OnOk result (text.new.items ≡ text.old.items ++ start_text start) }
+{
+    match start {
+        Some(start) => push_pieces(text, &[Piece::Place(start), Piece::Text(b"\n")]),
+        None => text.extend_from_slice(b"none\n"),
+    }
+}
+
+/// Appends how many words a source has made, and where it starts.
+fn push_cells<A: Allocator>(text: &mut Vec<u8, A>, image: &Image<A>) -> Result<(), AllocError>
+    ensures { OnOk result (text.new.items ≡ text.old.items ++ cells_text image.now) }
+{
+    push_pieces(
+        text,
+        &[
+            Piece::Text(b"cells "),
+            Piece::Number(image.cells().len() as u64),
+            Piece::Text(b" start "),
+        ],
+    )?;
+    push_start(text, image.start())?;
+    Ok(())
+}
+
+/// Appends that a source has faults, and a line for each of them.
+fn push_fault_list<A: Allocator>(text: &mut Vec<u8, A>, faults: &[Fault]) -> Result<(), AllocError>
+    ensures { OnOk result (text.new.items
+        ≡ text.old.items ++ (codes "? 9 Faults\n" ++ faults_text faults.now)) }
+{
+    text.extend_from_slice(b"? 9 Faults\n")?;
+    push_faults(text, faults)?;
+    Ok(())
+}
+
+/// Appends the line of a fault: the number of its line and its kind.
+pub fn push_fault_line<A: Allocator>(text: &mut Vec<u8, A>, fault: &Fault) -> Result<(), AllocError>
+    ensures { OnOk result (text.new.items ≡ text.old.items ++ fault_line fault.now) }
+{
+    push_pieces(
+        text,
+        &[
+            Piece::Text(b"line "),
+            Piece::Number(fault.line),
+            Piece::Text(b" "),
+            Piece::Text(fault.kind.name().as_bytes()),
+            Piece::Text(b"\n"),
+        ],
+    )
+}
+
+/// Appends a line for each fault.
+#[tactic(auto, unfolding(crate::specs::SourceCommands::faults_text))]
+pub fn push_faults<A: Allocator>(text: &mut Vec<u8, A>, faults: &[Fault]) -> Result<(), AllocError>
+    ensures { OnOk result (text.new.items ≡ text.old.items ++ faults_text faults.now) }
+{
+    for fault in faults {
+        push_fault_line(text, fault)?;
+    }
+    Ok(())
+}

@@ -1,0 +1,140 @@
+//! The tape and the paper.
+
+ghost use Rattle.std.specs.Prelude.{◌≡◌, ◌++◌, ◌≤◌, IfErr, IfOk, OnOk, codes, decimal, length, vec_len};
+ghost use Rattle.lgp_stream.specs.Language.{IsAnswered};
+ghost use Rattle.lgp_flexo.specs.TapeText.{codes_of_text};
+ghost use Rattle.lgp_stream.specs.KeptLine.{line_limit};
+ghost use Rattle.lgp_script.specs.TapeCommands.{answer_to_tape, answer_to_tape_text, printed_text};
+ghost use Rattle.lgp_script.specs.Refusal.{counted_text};
+
+use super::Laboratory;
+use crate::refusal::{Refusal, push_refusal};
+use lgp_debugger::MountFault;
+use lgp_flexo::{Code, TextFault, read_tape_text, write_tape_text};
+use lgp_text::{Piece, push_pieces};
+use std::alloc::{AllocError, Allocator};
+
+impl<A: Allocator + Copy> Laboratory<A> {
+    /// Mounts a tape given by its text.
+    pub(super) fn mount(&mut self, text: &[u8], reply: &mut Vec<u8, A>) -> Result<(), AllocError>
+        requires { length text.now ≤ line_limit }
+        ensures { OnOk result (IsAnswered reply.old.items reply.new.items self.new
+            (answer_to_tape self.old (codes_of_text text.now))) }
+    {
+        match read_codes(self.alloc, text)? {
+            Ok(codes) => self.mount_codes(codes, reply),
+            Err(place) => push_refusal(reply, Refusal::BadSign(place)),
+        }
+    }
+
+    /// Mounts a tape given by its text, of any length, and answers as the command `mount` does; a tape of more than 1,048,576 codes is
+    /// refused as too long. A refused growth leaves open what was done.
+    pub fn mount_text(&mut self, text: &[u8], reply: &mut Vec<u8, A>) -> Result<(), AllocError>
+        ensures { OnOk result (IsAnswered reply.old.items reply.new.items self.new
+            (answer_to_tape_text self.old text.now)) }
+    {
+        match read_tape_text(self.alloc, text) {
+            Ok(codes) => self.mount_codes(codes, reply),
+            Err(TextFault::BadSign(place)) => {
+                push_refusal(reply, Refusal::BadSign(place as u64))
+            }
+            Err(TextFault::TooLong) => push_refusal(reply, Refusal::TooLong),
+            Err(TextFault::Memory(refused)) => Err(refused),
+        }
+    }
+
+    /// Mounts a tape.
+    fn mount_codes(&mut self, codes: Vec<Code, A>, reply: &mut Vec<u8, A>) -> Result<(), AllocError>
+        requires { vec_len codes ≤ 1048576 }
+        ensures { OnOk result (IsAnswered reply.old.items reply.new.items self.new
+            (answer_to_tape self.old (Ok codes.items))) }
+    {
+        let count = codes.len() as u64;
+        match self.debugger.mount(codes) {
+            Ok(()) => push_count(reply, count),
+            Err((MountFault::Moving, _)) => push_refusal(reply, Refusal::Moving),
+            Err((MountFault::TooLong, _)) => unreachable!(),
+            Err((MountFault::Memory, _)) => Err(AllocError),
+        }
+    }
+
+    /// Shows what is printed.
+    pub(super) fn printed(&self, reply: &mut Vec<u8, A>) -> Result<(), AllocError>
+        ensures { OnOk result (reply.new.items
+            ≡ reply.old.items ++ printed_text self.now.debugger.state.printed) }
+    {
+        push_printed(self.alloc, reply, self.debugger.machine().printed())
+    }
+}
+
+/// Reads a tape's text of at most one line: its codes, or its first bad place.
+pub(super) fn read_codes<A: Allocator + Copy>(
+    alloc: A,
+    text: &[u8],
+) -> Result<Result<Vec<Code, A>, u64>, AllocError>
+    requires { length text.now ≤ line_limit }
+    ensures codes { IfOk result (λ read. IfOk read (λ codes.
+        codes_of_text text.now ≡ Ok codes.items)) }
+    ensures few { IfOk result (λ read. IfOk read (λ codes. vec_len codes ≤ 1048576)) }
+    ensures bad_place { IfOk result (λ read. IfErr read (λ place.
+        codes_of_text text.now ≡ Err place)) }
+{
+    match read_tape_text(alloc, text) {
+        Ok(codes) => Ok(Ok(codes)),
+        Err(TextFault::BadSign(place)) => Ok(Err(place as u64)),
+        Err(TextFault::TooLong) => unreachable!(),
+        Err(TextFault::Memory(refused)) => Err(refused),
+    }
+}
+
+/// Appends the number of codes mounted.
+fn push_count<A: Allocator>(text: &mut Vec<u8, A>, count: u64) -> Result<(), AllocError>
+    ensures { OnOk result (text.new.items ≡ text.old.items ++ counted_text (codes "ok ") count) }
+{
+    push_pieces(
+        text,
+        &[
+            Piece::Text(b"ok "),
+            Piece::Number(count),
+            Piece::Text(b"\n"),
+        ],
+    )
+}
+
+/// Appends a given number of codes by their text.
+fn push_written<A: Allocator>(
+    text: &mut Vec<u8, A>,
+    count: u64,
+    written: &[u8],
+) -> Result<(), AllocError>
+    ensures { OnOk result (text.new.items ≡ text.old.items
+        ++ (codes "printed " ++ (decimal count ++ (codes " " ++ (written.now ++ codes "\n"))))) }
+{
+    push_pieces(
+        text,
+        &[
+            Piece::Text(b"printed "),
+            Piece::Number(count),
+            Piece::Text(b" "),
+        ],
+    )?;
+    text.extend_from_slice(written)?;
+    text.push(b'\n')?;
+    Ok(())
+}
+
+/// Appends what is printed.
+#[tactic(auto, unfolding(crate::specs::TapeCommands::printed_text))]
+pub fn push_printed<A: Allocator + Copy>(
+    alloc: A,
+    text: &mut Vec<u8, A>,
+    codes: &[Code],
+) -> Result<(), AllocError>
+    ensures { OnOk result (text.new.items ≡ text.old.items ++ printed_text codes.now) }
+{
+    if codes.is_empty() {
+        return text.extend_from_slice(b"printed 0\n");
+    }
+    let written = write_tape_text(alloc, codes)?;
+    push_written(text, codes.len() as u64, &written)
+}

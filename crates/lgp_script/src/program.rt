@@ -1,0 +1,57 @@
+//! A source that has assembled.
+
+ghost use Rattle.std.specs.Prelude.{◌≡◌, ◌≢◌, [], IfErr, IfOk, OnOk};
+ghost use Rattle.lgp_assembler.specs.Answers.{IfFaults};
+ghost use Rattle.lgp_assembler.specs.Image.{faults_of, image_of};
+ghost use Rattle.lgp_listing.specs.Listing.{listing_of};
+
+use lgp_assembler::{AssembleError, Image, assemble};
+use lgp_listing::listing_from_image;
+use std::alloc::{AllocError, Allocator};
+use std::marker::Model;
+
+/// A source without faults, and what it has made. Clauses see the source.
+#[derive(Drop)]
+pub struct Program<A: Allocator> {
+    source: Vec<u8, A>,
+    image: Image<A>,
+}
+
+impl<A: Allocator> Model for Program<A> {
+    ghost use Rattle.std.specs.Prelude.{List, ℕ};
+    ghost use Rattle.lgp_script.specs.LaboratoryInside.{IsProgram};
+
+    ghost Value = { List ℕ };
+
+    ghost view = { λ program. program.source.items };
+
+    ghost invariant = { λ program. IsProgram program.source.items program.image };
+}
+
+impl<A: Allocator + Copy> Program<A> {
+    /// Assembles a source; the refusals are those of `assemble`.
+    pub fn new(alloc: A, source: Vec<u8, A>) -> Result<Program<A>, AssembleError<A>>
+        ensures source { IfOk result (λ program. program ≡ source.items) }
+        ensures faultless { OnOk result (faults_of source.items ≡ []) }
+        ensures faults { IfErr result (λ error.
+            IfFaults error (λ faults. faults ≡ faults_of source.items)) }
+        ensures faulty { IfErr result (λ error. IfFaults error (λ faults. faults ≢ [])) }
+    {
+        let image = assemble(alloc, &source)?;
+        Ok(Program { source, image })
+    }
+
+    /// What the source has made.
+    pub fn image(&self) -> &Image<A>
+        ensures { result.now ≡ image_of self.now }
+    {
+        &self.image
+    }
+
+    /// The listing of the source.
+    pub fn listing(&self, alloc: A) -> Result<Vec<u8, A>, AllocError>
+        ensures { IfOk result (λ text. text.items ≡ listing_of self.now) }
+    {
+        listing_from_image(alloc, &self.source, &self.image)
+    }
+}
