@@ -1,10 +1,10 @@
 //! The drum by addresses, by tracks and under its heads.
 
+use crate::expect_eq;
 use lgp_drum::Drum;
 use lgp_limited::Limited;
 use lgp_word::{Address, Word};
-use std::alloc::Allocator;
-use std::test::Fail;
+use std::alloc::{AllocError, Allocator, Global};
 
 /// The text of an address, and the bits of its word.
 type Cell = (&'static [u8], u32);
@@ -38,11 +38,11 @@ fn bits_at<A: Allocator>(drum: &Drum<A>, text: &[u8]) -> Option<u32> {
     Some(drum.word(address).get())
 }
 
-/// The place of the first of these cells whose word is another one.
-fn first_other<A: Allocator>(drum: &Drum<A>, cells: &[Cell]) -> Option<usize> {
-    for (place, (text, bits)) in cells.iter().enumerate() {
+/// The address of the first of these cells whose word is another one.
+fn first_other<A: Allocator>(drum: &Drum<A>, cells: &[Cell]) -> Option<&'static [u8]> {
+    for (text, bits) in cells {
         if bits_at(drum, text) != Some(*bits) {
-            return Some(place);
+            return Some(*text);
         }
     }
     None
@@ -74,11 +74,15 @@ fn first_not_blank<A: Allocator>(drum: &Drum<A>) -> Option<u16> {
     None
 }
 
+/// The same of a new drum; `None` also without memory.
+fn first_not_blank_of_new(global: Global) -> Option<u16> {
+    let drum = Drum::new(global).ok()?;
+    first_not_blank(&drum)
+}
+
 #[test]
-fn a_new_drum_is_blank(rt: HostRuntime) -> Result<(), Fail> {
-    let drum = Drum::new(rt.alloc())?;
-    assert_eq!(rt; first_not_blank(&drum), Some(4096));
-    Ok(())
+fn a_new_drum_is_blank(rt: HostRuntime) {
+    expect_eq(&rt, first_not_blank_of_new(rt.alloc()), Some(4096));
 }
 
 /// The first word of track 1 and the last one of all.
@@ -94,14 +98,25 @@ const BESIDE: [Cell; 6] = [
     (b"0000", 0),
 ];
 
+/// Puts words on a new drum; whether all are words at addresses, and the address of the first of these cells whose word is
+/// another one.
+fn put_and_read(
+    global: Global,
+    put: &[Cell],
+    read: &[Cell],
+) -> Option<(bool, Option<&'static [u8]>)> {
+    let mut drum = Drum::new(global).ok()?;
+    let are_put = put_all(&mut drum, put);
+    Some((are_put, first_other(&drum, read)))
+}
+
 #[test]
-fn one_word_is_put(rt: HostRuntime) -> Result<(), Fail> {
-    let mut drum = Drum::new(rt.alloc())?;
-    assert_eq!(rt;
-        (put_all(&mut drum, &TWO), first_other(&drum, &BESIDE)),
-        (true, None)
+fn one_word_is_put(rt: HostRuntime) {
+    expect_eq(
+        &rt,
+        put_and_read(rt.alloc(), &TWO, &BESIDE),
+        Some((true, None)),
     );
-    Ok(())
 }
 
 /// Sectors of track 5 in the order in which they pass the head, each with another word.
@@ -119,44 +134,49 @@ const PASSING: [Cell; 11] = [
     (b"0558", 216),
 ];
 
-/// The place of the first of these words that the head of track 5 does not read in its turn, the first one at clock 64.
-fn first_not_passing<A: Allocator>(drum: &Drum<A>, cells: &[Cell]) -> Option<usize> {
-    for (place, (_, bits)) in cells.iter().enumerate() {
-        if bits_under_head(drum, 64 + place as u64, 5) != Some(*bits) {
-            return Some(place);
+/// The first clock from 64 on at which the head of track 5 does not read the next of these words.
+fn first_not_passing<A: Allocator>(drum: &Drum<A>, cells: &[Cell]) -> Option<u64> {
+    let mut clock = 64u64;
+    for (_, bits) in cells {
+        if bits_under_head(drum, clock, 5) != Some(*bits) {
+            return Some(clock);
         }
+        clock = clock.saturating_add(1);
     }
     None
 }
 
+/// The same of a new drum with these words, and whether all are words at addresses.
+fn put_and_passed(global: Global, cells: &[Cell]) -> Option<(bool, Option<u64>)> {
+    let mut drum = Drum::new(global).ok()?;
+    let are_put = put_all(&mut drum, cells);
+    Some((are_put, first_not_passing(&drum, cells)))
+}
+
 #[test]
-fn the_sectors_pass_the_head_in_their_order(rt: HostRuntime) -> Result<(), Fail> {
-    let mut drum = Drum::new(rt.alloc())?;
-    assert_eq!(rt;
-        (
-            put_all(&mut drum, &PASSING),
-            first_not_passing(&drum, &PASSING)
-        ),
-        (true, None)
+fn the_sectors_pass_the_head_in_their_order(rt: HostRuntime) {
+    expect_eq(
+        &rt,
+        put_and_passed(rt.alloc(), &PASSING),
+        Some((true, None)),
     );
-    Ok(())
 }
 
 /// A word of the first track, put, and what the heads of the first two tracks read as it passes.
-fn under_two_heads<A: Allocator>(drum: &mut Drum<A>) -> (bool, [Option<u32>; 2]) {
-    let is_put = put(drum, b"0001", 0x000e_00cc);
-    let read = [bits_under_head(drum, 73, 0), bits_under_head(drum, 73, 1)];
-    (is_put, read)
+fn under_two_heads(global: Global) -> Option<(bool, [Option<u32>; 2])> {
+    let mut drum = Drum::new(global).ok()?;
+    let is_put = put(&mut drum, b"0001", 0x000e_00cc);
+    let read = [bits_under_head(&drum, 73, 0), bits_under_head(&drum, 73, 1)];
+    Some((is_put, read))
 }
 
 #[test]
-fn the_head_reads_the_sector_below_it(rt: HostRuntime) -> Result<(), Fail> {
-    let mut drum = Drum::new(rt.alloc())?;
-    assert_eq!(rt;
-        under_two_heads(&mut drum),
-        (true, [Some(0x000e_00cc), Some(0)])
+fn the_head_reads_the_sector_below_it(rt: HostRuntime) {
+    expect_eq(
+        &rt,
+        under_two_heads(rt.alloc()),
+        Some((true, [Some(0x000e_00cc), Some(0)])),
     );
-    Ok(())
 }
 
 /// Two words of the first track and one of the second.
@@ -171,75 +191,80 @@ fn wanted_at(place: usize) -> u32 {
     }
 }
 
-/// How many words the first track has, and the place of the first one that is not as wanted.
-fn first_track<A: Allocator>(drum: &Drum<A>) -> (usize, Option<usize>) {
-    let track = drum.track(0);
-    for (place, word) in track.iter().enumerate() {
+/// The place of the first of these words that is not as wanted.
+fn first_unwanted(track: &[Word]) -> Option<usize> {
+    let mut place = 0usize;
+    for word in track {
         if word.get() != wanted_at(place) {
-            return (track.len(), Some(place));
+            return Some(place);
         }
+        place = place.saturating_add(1);
     }
-    (track.len(), None)
+    None
+}
+
+/// Whether words are put on a new drum, how many words its first track has then, and the first of those that is not as wanted.
+fn put_and_laid(global: Global, cells: &[Cell]) -> Option<(bool, usize, Option<usize>)> {
+    let mut drum = Drum::new(global).ok()?;
+    let are_put = put_all(&mut drum, cells);
+    let track = drum.track(0);
+    Some((are_put, track.len(), first_unwanted(track)))
 }
 
 #[test]
-fn a_track_lies_as_it_passes_the_head(rt: HostRuntime) -> Result<(), Fail> {
-    let mut drum = Drum::new(rt.alloc())?;
-    assert_eq!(rt;
-        (put_all(&mut drum, &THREE), first_track(&drum)),
-        (true, (64, None))
+fn a_track_lies_as_it_passes_the_head(rt: HostRuntime) {
+    expect_eq(
+        &rt,
+        put_and_laid(rt.alloc(), &THREE),
+        Some((true, 64, None)),
     );
-    Ok(())
 }
 
 /// Two words of a copy and one of the drum, which has another one since; `None` without a copy.
-fn copy_and_change<A: Allocator + Clone>(drum: &mut Drum<A>) -> Option<[Option<u32>; 3]> {
-    put(drum, b"0100", 4);
+fn copy_and_change(global: Global) -> Option<[Option<u32>; 3]> {
+    let mut drum = Drum::new(global).ok()?;
+    put(&mut drum, b"0100", 4);
     let copy = drum.copy().ok()?;
-    put(drum, b"0100", 6);
+    put(&mut drum, b"0100", 6);
     Some([
         bits_at(&copy, b"0100"),
         bits_at(&copy, b"0101"),
-        bits_at(drum, b"0100"),
+        bits_at(&drum, b"0100"),
     ])
 }
 
 #[test]
-fn a_copy_has_the_same_words(rt: HostRuntime) -> Result<(), Fail> {
-    let mut drum = Drum::new(rt.alloc())?;
-    assert_eq!(rt;
-        copy_and_change(&mut drum),
-        Some([Some(4), Some(0), Some(6)])
+fn a_copy_has_the_same_words(rt: HostRuntime) {
+    expect_eq(
+        &rt,
+        copy_and_change(rt.alloc()),
+        Some([Some(4), Some(0), Some(6)]),
     );
-    Ok(())
 }
 
-/// The word at 0050 of a new drum; `None` where there is none.
-fn word_of_new<A: Allocator + Copy>(alloc: A) -> Option<u32> {
-    let drum = Drum::new(alloc).ok()?;
-    bits_at(&drum, b"0050")
+/// The word at 0050 of a drum that could be made; `None` where it could not.
+fn word_of<A: Allocator>(drum: Result<Drum<A>, AllocError>) -> Option<u32> {
+    match drum {
+        Ok(drum) => bits_at(&drum, b"0050"),
+        Err(_) => None,
+    }
 }
 
 /// Makes a drum with the nth growth refused: its word at 0050, and whether a growth was refused.
 fn made<B: Allocator>(limited: &Limited<B>, nth: u64) -> (Option<u32>, bool) {
     limited.refuse(nth);
-    (word_of_new(limited), limited.was_refused())
+    (word_of(Drum::new(limited)), limited.was_refused())
 }
 
 #[test]
-fn a_drum_without_room_is_refused(rt: HostRuntime) -> Result<(), Fail> {
+fn a_drum_without_room_is_refused(rt: HostRuntime) {
     let limited = Limited::new(rt.alloc());
-    assert_eq!(rt;
-        ([made(&limited, 1), made(&limited, 2)], limited.blocks_out()),
-        ([(None, true), (Some(0), false)], 0)
+    let made = [made(&limited, 1), made(&limited, 2)];
+    expect_eq(
+        &rt,
+        (made, limited.blocks_out()),
+        ([(None, true), (Some(0), false)], 0),
     );
-    Ok(())
-}
-
-/// The word at 0050 of a copy; `None` where there is none.
-fn word_of_copy<A: Allocator + Clone>(drum: &Drum<A>) -> Option<u32> {
-    let copy = drum.copy().ok()?;
-    bits_at(&copy, b"0050")
 }
 
 /// Copies a drum with the nth growth refused: the copy's word at 0050, whether a growth was refused, and the drum's own word.
@@ -250,29 +275,31 @@ fn copied<B: Allocator>(
 ) -> (Option<u32>, bool, Option<u32>) {
     limited.refuse(nth);
     (
-        word_of_copy(drum),
+        word_of(drum.copy()),
         limited.was_refused(),
         bits_at(drum, b"0050"),
     )
 }
 
-/// Copies a drum with its first growth refused, and then with none.
-fn copied_twice<B: Allocator>(
-    limited: &Limited<B>,
-    drum: &mut Drum<&Limited<B>>,
-) -> [(Option<u32>, bool, Option<u32>); 2] {
-    put(drum, b"0050", 6);
-    [copied(limited, drum, 1), copied(limited, drum, 2)]
+/// How many blocks are out beside a new drum, what its copies come to, with the first growth refused and then with none, and how
+/// many blocks are out then.
+type Copies = (u64, [(Option<u32>, bool, Option<u32>); 2], u64);
+
+fn copied_twice<B: Allocator>(limited: &Limited<B>) -> Option<Copies> {
+    let mut drum = Drum::new(limited).ok()?;
+    let before = limited.blocks_out();
+    put(&mut drum, b"0050", 6);
+    let copies = [copied(limited, &drum, 1), copied(limited, &drum, 2)];
+    Some((before, copies, limited.blocks_out()))
 }
 
 #[test]
-fn a_copy_without_room_is_refused(rt: HostRuntime) -> Result<(), Fail> {
-    let limited = Limited::new(rt.alloc());
-    let mut drum = Drum::new(&limited)?;
-    let before = limited.blocks_out();
-    assert_eq!(rt;
-        (copied_twice(&limited, &mut drum), limited.blocks_out()),
-        ([(None, true, Some(6)), (Some(6), false, Some(6))], before)
+fn a_copy_without_room_is_refused(rt: HostRuntime) {
+    let refused = (None, true, Some(6));
+    let copied = (Some(6), false, Some(6));
+    expect_eq(
+        &rt,
+        copied_twice(&Limited::new(rt.alloc())),
+        Some((1, [refused, copied], 1)),
     );
-    Ok(())
 }

@@ -1,11 +1,12 @@
 //! Codes and tape text on the table and on values from outside.
 
+use crate::expect_eq;
 use lgp_flexo::{
     Code, TAPE_LIMIT, TextFault, code_of, digit_of, enter, read_tape_text, sign_of, skipped,
     write_tape_text,
 };
 use linked_list_allocator::LocalHeap;
-use std::alloc::Global;
+use std::alloc::{Allocator, Global};
 use std::test::Fail;
 
 mod archives;
@@ -75,25 +76,55 @@ fn has_sign(number: u8) -> bool {
 
 /// Whether a number is in the table.
 fn is_in_table(number: u8) -> bool {
-    SIGNS.iter().any(|entry| entry.0 == number)
+    for (known, _) in &SIGNS {
+        if *known == number {
+            return true;
+        }
+    }
+    false
+}
+
+/// The first number of the table whose sign does not stand for it.
+fn first_apart() -> Option<u8> {
+    for (number, sign) in &SIGNS {
+        if !stands(*number, *sign) {
+            return Some(*number);
+        }
+    }
+    None
+}
+
+/// The first number of a code that has a sign and is not in the table, or has none and is in it.
+fn first_unlisted() -> Option<u8> {
+    for number in 0..64u8 {
+        if has_sign(number) != is_in_table(number) {
+            return Some(number);
+        }
+    }
+    None
 }
 
 #[test]
 fn the_table_stands(rt: HostRuntime) {
-    for (number, sign) in SIGNS {
-        assert!(rt; stands(number, sign), "{number} and {sign}");
-    }
-    for number in 0..64 {
-        assert!(rt; has_sign(number) == is_in_table(number), "at {number}");
-    }
+    expect_eq(&rt, [first_apart(), first_unlisted()], [None, None]);
+}
+
+/// The number of a code, where there is one.
+fn number_of(code: Option<Code>) -> Option<u8> {
+    Some(code?.number())
 }
 
 #[test]
 fn other_signs_and_codes(rt: HostRuntime) {
-    let signs = [code_of('l'), code_of('_'), Code::new(64), Some(Code::STOP)];
-    assert_eq!(rt;
-        signs.map(|code| code.map(|it| it.number())),
-        [Some(6), None, None, Some(32)]
+    expect_eq(
+        &rt,
+        [
+            number_of(code_of('l')),
+            number_of(code_of('_')),
+            number_of(Code::new(64)),
+            number_of(Some(Code::STOP)),
+        ],
+        [Some(6), None, None, Some(32)],
     );
 }
 
@@ -102,32 +133,64 @@ fn digit_at(number: u8) -> Option<u8> {
     digit_of(Code::new(number)?)
 }
 
-/// Whether the code of a number is skipped.
-fn is_skipped(number: u8) -> bool {
-    match Code::new(number) {
-        Some(code) => skipped(code),
-        None => false,
-    }
-}
-
 #[test]
 fn digits_stand_at_their_codes(rt: HostRuntime) {
-    for (number, digit) in [(2, 0), (6, 1), (38, 9), (42, 10), (62, 15)] {
-        assert!(rt; digit_at(number) == Some(digit), "at {number}");
-    }
-    for number in [0, 1, 3, 32, 57, 63] {
-        assert!(rt; digit_at(number).is_none(), "at {number}");
-    }
+    expect_eq(
+        &rt,
+        (
+            [
+                digit_at(2),
+                digit_at(6),
+                digit_at(38),
+                digit_at(42),
+                digit_at(62),
+            ],
+            [
+                digit_at(0),
+                digit_at(1),
+                digit_at(3),
+                digit_at(32),
+                digit_at(57),
+                digit_at(63),
+            ],
+        ),
+        ([Some(0), Some(1), Some(9), Some(10), Some(15)], [None; 6]),
+    );
+}
+
+/// Whether the code of a number is skipped; `None` where it is no code's.
+fn skips(number: u8) -> Option<bool> {
+    Some(skipped(Code::new(number)?))
 }
 
 #[test]
 fn codes_are_skipped(rt: HostRuntime) {
-    for number in [0, 4, 8, 12, 16, 20, 24, 60, 63] {
-        assert!(rt; is_skipped(number), "at {number}");
-    }
-    for number in [1, 2, 3, 32, 33, 61, 62] {
-        assert!(rt; !is_skipped(number), "at {number}");
-    }
+    expect_eq(
+        &rt,
+        (
+            [
+                skips(0),
+                skips(4),
+                skips(8),
+                skips(12),
+                skips(16),
+                skips(20),
+                skips(24),
+                skips(60),
+                skips(63),
+            ],
+            [
+                skips(1),
+                skips(2),
+                skips(3),
+                skips(32),
+                skips(33),
+                skips(61),
+                skips(62),
+            ],
+        ),
+        ([Some(true); 9], [Some(false); 7]),
+    );
 }
 
 /// What the accumulator holds once the code of a number has entered.
@@ -137,104 +200,189 @@ fn entered(six_bit: bool, accumulator: u32, number: u8) -> Option<u32> {
 
 #[test]
 fn codes_enter_by_four_or_six_bits(rt: HostRuntime) {
-    for (six_bit, before, number, after) in [
-        (false, 0x12, 14, 0x123),
-        (false, 0xf123_4567, 62, 0x1234_567f),
-        (true, 0, 57, 0x39),
-        (true, 0x0400_0001, 1, 0x41),
-    ] {
-        assert!(rt;
-            entered(six_bit, before, number) == Some(after),
-            "of {number}"
-        );
+    expect_eq(
+        &rt,
+        [
+            entered(false, 0x12, 14),
+            entered(false, 0xf123_4567, 62),
+            entered(true, 0, 57),
+            entered(true, 0x0400_0001, 1),
+        ],
+        [Some(0x123), Some(0x1234_567f), Some(0x39), Some(0x41)],
+    );
+}
+
+/// How a text is read: how many codes it has and the number of the one at a place; or else the place of its first bad sign and
+/// whether it has too many codes. Neither is so for want of memory.
+type Reading = Result<(usize, Option<u8>), (Option<usize>, bool)>;
+
+const TOO_LONG: Reading = Err((None, true));
+
+const NO_MEMORY: Reading = Err((None, false));
+
+/// A text with a bad sign at this place.
+fn bad(place: usize) -> Reading {
+    Err((Some(place), false))
+}
+
+/// The number of the code at a place.
+fn number_at(codes: &[Code], place: usize) -> Option<u8> {
+    Some(codes.get(place)?.number())
+}
+
+/// How a text was read.
+fn reading<A: Allocator>(read: Result<Vec<Code, A>, TextFault>, place: usize) -> Reading {
+    match read {
+        Ok(codes) => Ok((codes.len(), number_at(codes.as_slice(), place))),
+        Err(TextFault::BadSign(bad)) => Err((Some(bad), false)),
+        Err(TextFault::TooLong) => TOO_LONG,
+        Err(TextFault::Memory(_)) => NO_MEMORY,
     }
 }
 
-/// Whether a text is read as the codes of these numbers.
-fn is_read_as(global: Global, text: &[u8], numbers: &[u8]) -> bool {
-    match read_tape_text(global, text) {
-        Ok(codes) => codes
-            .iter()
-            .map(|code| code.number())
-            .eq(numbers.iter().copied()),
+/// How a tape's text is read, and the first code of it.
+fn read<A: Allocator + Copy>(alloc: A, text: &[u8]) -> Reading {
+    reading(read_tape_text(alloc, text), 0)
+}
+
+/// Whether codes have these numbers.
+fn have_numbers(codes: &[Code], numbers: &[u8]) -> bool {
+    let mut place = 0usize;
+    for code in codes {
+        match numbers.get(place) {
+            Some(number) if *number == code.number() => place = place.saturating_add(1),
+            _ => return false,
+        }
+    }
+    place == numbers.len()
+}
+
+/// Whether a text was read as the codes of these numbers.
+fn has_numbers<A: Allocator>(read: Result<Vec<Code, A>, TextFault>, numbers: &[u8]) -> bool {
+    match read {
+        Ok(codes) => have_numbers(codes.as_slice(), numbers),
         Err(_) => false,
     }
 }
 
-/// Whether the codes of these numbers are written as a text.
-fn is_written_as(global: Global, numbers: &[u8], text: &[u8]) -> bool {
-    let mut codes = Vec::new(global);
-    for number in numbers {
-        let Some(code) = Code::new(*number) else {
-            return false;
-        };
-        if codes.push(code).is_err() {
-            return false;
-        }
-    }
-    match write_tape_text(global, codes.as_slice()) {
+/// Whether a tape's text is read as the codes of these numbers.
+fn is_read_as(global: Global, text: &[u8], numbers: &[u8]) -> bool {
+    has_numbers(read_tape_text(global, text), numbers)
+}
+
+/// Whether codes are written as a text.
+fn is_written_as(global: Global, codes: &[Code], text: &[u8]) -> bool {
+    match write_tape_text(global, codes) {
         Ok(written) => written.as_slice() == text,
         Err(_) => false,
     }
 }
 
+/// The code of a number, or the conditional stop above all.
+fn code(number: u8) -> Code {
+    Code::new(number).unwrap_or(Code::STOP)
+}
+
 #[test]
 fn tapes_are_read(rt: HostRuntime) {
-    assert!(rt; is_read_as(rt.alloc(), b"12[16]3'", &[6, 10, 16, 14, 32]));
-    assert!(rt; is_read_as(rt.alloc(), b"l\r\n[02]\n", &[6, 2]));
+    expect_eq(
+        &rt,
+        [
+            is_read_as(rt.alloc(), b"12[16]3'", &[6, 10, 16, 14, 32]),
+            is_read_as(rt.alloc(), b"l\r\n[02]\n", &[6, 2]),
+        ],
+        [true; 2],
+    );
+}
+
+/// The codes of the text `12[16]3'`.
+fn five_codes() -> [Code; 5] {
+    [code(6), code(10), code(16), code(14), code(32)]
 }
 
 #[test]
 fn tapes_are_written(rt: HostRuntime) {
-    assert!(rt; is_written_as(rt.alloc(), &[6, 10, 16, 14, 32], b"12[16]3'"));
-    assert!(rt; is_written_as(rt.alloc(), &[63, 0, 28], b"[63][00][28]"));
+    let others = [code(63), code(0), code(28)];
+    expect_eq(
+        &rt,
+        [
+            is_written_as(rt.alloc(), &five_codes(), b"12[16]3'"),
+            is_written_as(rt.alloc(), &others, b"[63][00][28]"),
+        ],
+        [true; 2],
+    );
+}
+
+/// Bad texts, and the places of their first bad signs.
+const BAD_TEXTS: [(&[u8], usize); 8] = [
+    (b"[6", 0),
+    (b"[64]", 0),
+    (b"[0a]", 0),
+    (b"[[02]", 0),
+    (b"1[02", 1),
+    (b"12A", 2),
+    (b"1[03]A_", 5),
+    (b"\n[03]]", 5),
+];
+
+/// How the first of these texts is read that is not refused at its place.
+fn first_not_refused(global: Global) -> Option<Reading> {
+    for (text, place) in &BAD_TEXTS {
+        let reading = read(global, text);
+        if reading != bad(*place) {
+            return Some(reading);
+        }
+    }
+    None
 }
 
 #[test]
 fn bad_texts_are_refused(rt: HostRuntime) {
-    for (text, place) in [
-        (b"[6".as_slice(), 0),
-        (b"[64]", 0),
-        (b"[0a]", 0),
-        (b"[[02]", 0),
-        (b"1[02", 1),
-        (b"12A", 2),
-        (b"1[03]A_", 5),
-        (b"\n[03]]", 5),
-    ] {
-        assert!(rt;
-            matches!(
-                read_tape_text(rt.alloc(), text),
-                Err(TextFault::BadSign(bad)) if bad == place
-            ),
-            "at {place}"
-        );
+    expect_eq(&rt, first_not_refused(rt.alloc()), None);
+}
+
+/// Whether a tape's text is read as these codes.
+fn is_read_back(global: Global, text: &[u8], codes: &[Code]) -> bool {
+    match read_tape_text(global, text) {
+        Ok(read) => read.as_slice() == codes,
+        Err(_) => false,
     }
 }
 
-/// Whether a tape of a given number of codes without a sign is written by groups, and its text is read as that tape.
-fn is_written_and_read(global: Global, count: usize) -> Option<bool> {
-    let codes = vec![in global; Code::new(16)?; count].ok()?;
-    let text = write_tape_text(global, codes.as_slice()).ok()?;
-    let read = read_tape_text(global, text.as_slice()).ok()?;
-    Some(text.len() == count.saturating_mul(4) && read.as_slice() == codes.as_slice())
+/// Whether codes without a sign are written by groups, and their text is read as these codes.
+fn is_written_and_read(global: Global, codes: &[Code]) -> bool {
+    match write_tape_text(global, codes) {
+        Ok(text) => {
+            text.len() == codes.len().saturating_mul(4) && is_read_back(global, &text, codes)
+        }
+        Err(_) => false,
+    }
+}
+
+/// The same of a tape of a given number of codes; `None` without memory.
+fn long_is_written_and_read(global: Global, count: usize) -> Option<bool> {
+    let codes = vec![in global; code(16); count].ok()?;
+    Some(is_written_and_read(global, codes.as_slice()))
 }
 
 #[test]
 fn the_longest_tape_is_written_and_read(rt: HostRuntime) {
-    assert_eq!(rt; is_written_and_read(rt.alloc(), TAPE_LIMIT), Some(true));
+    expect_eq(
+        &rt,
+        long_is_written_and_read(rt.alloc(), TAPE_LIMIT),
+        Some(true),
+    );
+}
+
+/// How a text of a given number of codes is read; `None` without memory for the text.
+fn read_long(global: Global, count: usize) -> Option<Reading> {
+    let text = vec![in global; b'a'; count].ok()?;
+    Some(read(global, text.as_slice()))
 }
 
 #[test]
-fn one_code_too_many_is_refused(rt: HostRuntime) -> Result<(), Fail> {
-    let text = vec![in rt.alloc(); b'a'; TAPE_LIMIT + 1]?;
-    assert!(rt;
-        matches!(
-            read_tape_text(rt.alloc(), text.as_slice()),
-            Err(TextFault::TooLong)
-        )
-    );
-    Ok(())
+fn one_code_too_many_is_refused(rt: HostRuntime) {
+    expect_eq(&rt, read_long(rt.alloc(), TAPE_LIMIT + 1), Some(TOO_LONG));
 }
 
 /// The number of the code that a byte alone stands for in a tape's text, where it stands for one.
@@ -242,71 +390,101 @@ fn code_of_byte(byte: u8) -> Option<u8> {
     if byte == b'l' {
         return Some(6);
     }
-    let found = SIGNS.iter().find(|(_, sign)| *sign == char::from(byte));
-    found.map(|(number, _)| *number)
-}
-
-/// How a text is read: how many codes it has and the number of the one at a place, or the place of its first bad sign.
-fn reading(
-    global: Global,
-    text: &[u8],
-    place: usize,
-) -> Result<(usize, Option<u8>), Option<usize>> {
-    match read_tape_text(global, text) {
-        Ok(codes) => Ok((codes.len(), codes.get(place).map(|code| code.number()))),
-        Err(TextFault::BadSign(bad)) => Err(Some(bad)),
-        Err(_) => Err(None),
+    for (number, sign) in &SIGNS {
+        if *sign == char::from(byte) {
+            return Some(*number);
+        }
     }
+    None
 }
 
 /// Whether a byte at one of three places of a text is read as the table says.
 fn is_read_right(global: Global, byte: u8, place: usize) -> bool {
     let mut text = *b"aaa";
     text[place % 3] = byte;
-    let read = reading(global, &text, place % 3);
+    let read = reading(read_tape_text(global, &text), place % 3);
     match code_of_byte(byte) {
         Some(number) => read == Ok((3, Some(number))),
         None if matches!(byte, b'\n' | b'\r') => matches!(read, Ok((2, _))),
-        None => read == Err(Some(place % 3)),
+        None => read == bad(place % 3),
     }
+}
+
+/// The first byte that is not.
+fn first_misread(global: Global) -> Option<u8> {
+    for byte in 0..=255u8 {
+        if !(is_read_right(global, byte, 0)
+            && is_read_right(global, byte, 1)
+            && is_read_right(global, byte, 2))
+        {
+            return Some(byte);
+        }
+    }
+    None
 }
 
 #[test]
 fn each_byte_anywhere_in_a_text(rt: HostRuntime) {
-    for byte in 0..=255u8 {
-        for place in 0..3usize {
-            assert!(rt; is_read_right(rt.alloc(), byte, place), "{byte} at {place}");
-        }
-    }
+    expect_eq(&rt, first_misread(rt.alloc()), None);
 }
 
-/// Whether the reading and the writing of a text of codes are refused for want of memory where there is so much room.
-fn refused(heap: &LocalHeap, room: usize, codes: &[Code]) -> Result<[bool; 2], Fail> {
-    let _filler: Vec<u8, &LocalHeap> = Vec::with_capacity(heap, heap.free().saturating_sub(room))?;
-    let read = read_tape_text(heap, b"12[16]3'");
-    Ok([
-        matches!(read, Err(TextFault::Memory(_))),
-        write_tape_text(heap, codes).is_err(),
-    ])
+/// How a text of five codes is read, and whether these codes can be written.
+fn read_and_written(heap: &LocalHeap, codes: &[Code]) -> (Reading, bool) {
+    (
+        read(heap, b"12[16]3'"),
+        write_tape_text(heap, codes).is_ok(),
+    )
+}
+
+/// The same where the heap has so much room.
+fn within_room(heap: &LocalHeap, room: usize, codes: &[Code]) -> Option<(Reading, bool)> {
+    let filler: Vec<u8, &LocalHeap> = Vec::with_capacity(
+        heap,
+        heap.free().saturating_sub(room),
+    ).ok()?;
+    let done = read_and_written(heap, codes);
+    drop(filler);
+    Some(done)
+}
+
+/// The first room below 512 bytes in which something is left in the heap.
+fn first_leak(heap: &LocalHeap, codes: &[Code]) -> Option<usize> {
+    for room in 0..512usize {
+        if within_room(heap, room, codes).is_none() || heap.used() != 0 {
+            return Some(room);
+        }
+    }
+    None
+}
+
+/// What is read and written without room and with enough, and the first leak between.
+fn growths(heap: &LocalHeap, codes: &[Code]) -> ([Option<(Reading, bool)>; 2], Option<usize>) {
+    let refused = within_room(heap, 0, codes);
+    let leak = first_leak(heap, codes);
+    ([refused, within_room(heap, 512, codes)], leak)
 }
 
 #[test]
 fn each_growth_may_be_refused(rt: HostRuntime) -> Result<(), Fail> {
     let heap = LocalHeap::new(rt.alloc(), 1024)?;
-    let codes = read_tape_text(rt.alloc(), b"12[16]3'")?;
-    assert_eq!(rt; refused(&heap, 0, codes.as_slice())?, [true, true]);
-    for room in 0..512usize {
-        refused(&heap, room, codes.as_slice())?;
-        assert_eq!(rt; heap.used(), 0);
-    }
-    assert_eq!(rt; refused(&heap, 512, codes.as_slice())?, [false, false]);
+    let grown = growths(&heap, &five_codes());
+    let done = Some((Ok((5, Some(6))), true));
+    expect_eq(&rt, grown, ([Some((NO_MEMORY, false)), done], None));
     Ok(())
+}
+
+/// How a bad text is read where the heap has no room.
+fn bad_without_room(heap: &LocalHeap) -> Option<Reading> {
+    let filler: Vec<u8, &LocalHeap> = Vec::with_capacity(heap, 1024).ok()?;
+    let reading = read(heap, b"1A");
+    drop(filler);
+    Some(reading)
 }
 
 #[test]
 fn a_bad_sign_is_reported_without_room(rt: HostRuntime) -> Result<(), Fail> {
     let heap = LocalHeap::new(rt.alloc(), 1024)?;
-    let _filler: Vec<u8, &LocalHeap> = Vec::with_capacity(&heap, 1024)?;
-    assert!(rt; matches!(read_tape_text(&heap, b"1A"), Err(TextFault::BadSign(1))));
+    let reading = bad_without_room(&heap);
+    expect_eq(&rt, reading, Some(bad(1)));
     Ok(())
 }

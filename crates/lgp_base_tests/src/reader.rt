@@ -1,5 +1,6 @@
 //! A reader with its tape, and one that is refused memory.
 
+use crate::expect_eq;
 use lgp_flexo::{Code, TAPE_LIMIT, read_tape_text};
 use lgp_limited::Limited;
 use lgp_reader::{Input, Reader};
@@ -68,41 +69,41 @@ fn back_up<A: Allocator>(reader: &mut Reader<A>, count: usize) -> (bool, Shown) 
 
 /// What shows of a new reader, of it switched on, with a tape of three codes, and switched on and off; and whether the tape is
 /// taken.
-fn switched(reader: &mut Reader, global: Global) -> (bool, [Shown; 5]) {
-    let (new, on) = (shown(reader), start(reader));
-    let taken = mount(reader, global, b"12'");
-    (taken, [new, on, shown(reader), start(reader), stop(reader)])
+fn switched(global: Global) -> (bool, [Shown; 5]) {
+    let mut reader = Reader::new(global);
+    let (new, on) = (shown(&reader), start(&mut reader));
+    let taken = mount(&mut reader, global, b"12'");
+    let mounted = [shown(&reader), start(&mut reader), stop(&mut reader)];
+    (taken, [new, on, mounted[0], mounted[1], mounted[2]])
 }
 
 #[test]
 fn a_reader_is_on_or_off(rt: HostRuntime) {
-    let mut reader = Reader::new(rt.alloc());
-    let empty = [(false, 0, 0), (true, 0, 0)];
-    let mounted = [(false, 0, 3), (true, 0, 3), (false, 0, 3)];
-    assert_eq!(rt;
-        switched(&mut reader, rt.alloc()),
-        (
-            true,
-            [empty[0], empty[1], mounted[0], mounted[1], mounted[2]]
-        )
-    );
+    let shows = [
+        (false, 0, 0),
+        (true, 0, 0),
+        (false, 0, 3),
+        (true, 0, 3),
+        (false, 0, 3),
+    ];
+    expect_eq(&rt, switched(rt.alloc()), (true, shows));
 }
 
 /// The numbers of the codes of a tape of three, and what passes at its end.
-fn passing(reader: &mut Reader, global: Global) -> (bool, [Option<u8>; 4]) {
-    let taken = mount(reader, global, b"12'");
-    (
-        taken,
-        [pass(reader), pass(reader), pass(reader), pass(reader)],
-    )
+fn passing(global: Global) -> (bool, [Option<u8>; 4]) {
+    let mut reader = Reader::new(global);
+    let taken = mount(&mut reader, global, b"12'");
+    let first = [pass(&mut reader), pass(&mut reader)];
+    let last = [pass(&mut reader), pass(&mut reader)];
+    (taken, [first[0], first[1], last[0], last[1]])
 }
 
 #[test]
 fn codes_pass_in_order(rt: HostRuntime) {
-    let mut reader = Reader::new(rt.alloc());
-    assert_eq!(rt;
-        passing(&mut reader, rt.alloc()),
-        (true, [Some(6), Some(10), Some(32), None])
+    expect_eq(
+        &rt,
+        passing(rt.alloc()),
+        (true, [Some(6), Some(10), Some(32), None]),
     );
 }
 
@@ -114,13 +115,14 @@ fn input(reader: &mut Reader, six_bit: bool, accumulator: u32) -> (usize, Input,
 }
 
 /// Three inputs from one tape, with the reader off and twice with it on; and whether the tape is taken.
-fn three_inputs(reader: &mut Reader, global: Global) -> (bool, [(usize, Input, Shown); 3]) {
-    let taken = mount(reader, global, b"12[16]3'45");
-    let off = input(reader, false, 7);
-    start(reader);
-    let first = input(reader, false, 0);
-    start(reader);
-    (taken, [off, first, input(reader, false, 0x12)])
+fn three_inputs(global: Global) -> (bool, [(usize, Input, Shown); 3]) {
+    let mut reader = Reader::new(global);
+    let taken = mount(&mut reader, global, b"12[16]3'45");
+    let off = input(&mut reader, false, 7);
+    start(&mut reader);
+    let first = input(&mut reader, false, 0);
+    start(&mut reader);
+    (taken, [off, first, input(&mut reader, false, 0x12)])
 }
 
 /// What an input leaves.
@@ -130,45 +132,46 @@ fn left(accumulator: u32, done: bool) -> Input {
 
 #[test]
 fn an_input_ends_at_the_stop(rt: HostRuntime) {
-    let mut reader = Reader::new(rt.alloc());
     let inputs = [
         (0, left(7, false), (false, 0, 7)),
         (5, left(0x123, true), (false, 5, 2)),
         (2, left(0x1245, false), (false, 7, 0)),
     ];
-    assert_eq!(rt; three_inputs(&mut reader, rt.alloc()), (true, inputs));
+    expect_eq(&rt, three_inputs(rt.alloc()), (true, inputs));
 }
 
 /// An input by six bits from a tape of two codes.
-fn six_bits(reader: &mut Reader, global: Global) -> (bool, (usize, Input, Shown)) {
-    let taken = mount(reader, global, b"a'");
-    start(reader);
-    (taken, input(reader, true, 0))
+fn six_bits(global: Global) -> (bool, (usize, Input, Shown)) {
+    let mut reader = Reader::new(global);
+    let taken = mount(&mut reader, global, b"a'");
+    start(&mut reader);
+    (taken, input(&mut reader, true, 0))
 }
 
 #[test]
 fn six_bits_of_a_code_enter(rt: HostRuntime) {
-    let mut reader = Reader::new(rt.alloc());
-    assert_eq!(rt;
-        six_bits(&mut reader, rt.alloc()),
-        (true, (2, left(0x39, true), (false, 2, 0)))
+    expect_eq(
+        &rt,
+        six_bits(rt.alloc()),
+        (true, (2, left(0x39, true), (false, 2, 0))),
     );
 }
 
 /// A tape of as many codes as may be, and one of a code more with the reader on: how many codes are handed back of each.
-fn longest(reader: &mut Reader, global: Global) -> ([Option<usize>; 2], Shown) {
-    let taken = mount_stops(reader, global, TAPE_LIMIT);
-    start(reader);
-    let back = mount_stops(reader, global, TAPE_LIMIT + 1);
-    ([taken, back], shown(reader))
+fn longest(global: Global) -> ([Option<usize>; 2], Shown) {
+    let mut reader = Reader::new(global);
+    let taken = mount_stops(&mut reader, global, TAPE_LIMIT);
+    start(&mut reader);
+    let back = mount_stops(&mut reader, global, TAPE_LIMIT + 1);
+    ([taken, back], shown(&reader))
 }
 
 #[test]
 fn a_tape_above_the_limit_is_handed_back(rt: HostRuntime) {
-    let mut reader = Reader::new(rt.alloc());
-    assert_eq!(rt;
-        longest(&mut reader, rt.alloc()),
-        ([Some(0), Some(1_048_577)], (true, 0, 1_048_576))
+    expect_eq(
+        &rt,
+        longest(rt.alloc()),
+        ([Some(0), Some(1_048_577)], (true, 0, 1_048_576)),
     );
 }
 
@@ -191,38 +194,29 @@ fn copied_within_limit<B: Allocator>(
     (copied(reader), limited.was_refused(), shown(reader))
 }
 
+/// Whether the tape was taken, the code that passed first, what became of both copies, and how many blocks are out then.
+type Copies = (bool, Option<u8>, [(Copied, bool, Shown); 2], u64);
+
 /// Copies a reader that is on and within its tape, with the first growth refused and then with none.
-fn copied_twice<'s, B: Allocator>(
-    limited: &'s Limited<B>,
-    reader: &mut Reader<&'s Limited<B>>,
-) -> (bool, [(Copied, bool, Shown); 2]) {
-    let taken = mount(reader, limited, b"12");
-    start(reader);
-    let first = pass(reader);
-    let refused = copied_within_limit(limited, reader, 1);
-    (
-        taken && first == Some(6),
-        [refused, copied_within_limit(limited, reader, 2)],
-    )
+fn copied_twice<B: Allocator>(limited: &Limited<B>) -> Copies {
+    let mut reader = Reader::new(limited);
+    let taken = mount(&mut reader, limited, b"12");
+    start(&mut reader);
+    let first = pass(&mut reader);
+    let refused = copied_within_limit(limited, &reader, 1);
+    let copied = copied_within_limit(limited, &reader, 2);
+    (taken, first, [refused, copied], limited.blocks_out())
 }
 
 #[test]
 fn a_refused_copy_changes_nothing(rt: HostRuntime) {
-    let limited = Limited::new(rt.alloc());
-    let mut reader = Reader::new(&limited);
     let within = (true, 1, 1);
-    assert_eq!(rt;
-        (copied_twice(&limited, &mut reader), limited.blocks_out()),
-        (
-            (
-                true,
-                [
-                    (None, true, within),
-                    (Some((within, Some(10))), false, within)
-                ]
-            ),
-            1
-        )
+    let refused = (None, true, within);
+    let copied = (Some((within, Some(10))), false, within);
+    expect_eq(
+        &rt,
+        copied_twice(&Limited::new(rt.alloc())),
+        (true, Some(6), [refused, copied], 1),
     );
 }
 
@@ -233,7 +227,9 @@ fn first_passed<A: Allocator>(reader: &Reader<A>) -> Option<u8> {
 }
 
 /// The first code of a tape that has passed in an input, and what shows after it; and whether the tape is taken.
-fn after_the_input(reader: &mut Reader, global: Global) -> (bool, Shown, Option<u8>, Shown) {
+type Read = (bool, Shown, Option<u8>, Shown);
+
+fn after_the_input(reader: &mut Reader, global: Global) -> Read {
     let taken = mount(reader, global, b"12'3");
     let mounted = shown(reader);
     start(reader);
@@ -241,71 +237,67 @@ fn after_the_input(reader: &mut Reader, global: Global) -> (bool, Shown, Option<
     (taken, mounted, first_passed(reader), shown(reader))
 }
 
-/// The tape moved back by more codes than have passed, and by fewer; the code that passes then, and what a copy has.
-fn moved_back(reader: &mut Reader) -> ([(bool, Shown); 2], Option<u8>, Copied) {
-    let moved = [back_up(reader, 4), back_up(reader, 2)];
-    (moved, pass(reader), copied(reader))
+/// The tape then moved back by more codes than have passed, and by fewer; the code that passes then, and what a copy has.
+fn moved_back(global: Global) -> (Read, [(bool, Shown); 2], Option<u8>, Copied) {
+    let mut reader = Reader::new(global);
+    let read = after_the_input(&mut reader, global);
+    let moved = [back_up(&mut reader, 4), back_up(&mut reader, 2)];
+    (read, moved, pass(&mut reader), copied(&reader))
 }
 
 #[test]
 fn a_tape_goes_back(rt: HostRuntime) {
-    let mut reader = Reader::new(rt.alloc());
     let later = (false, 3, 1);
-    assert_eq!(rt;
-        after_the_input(&mut reader, rt.alloc()),
-        (true, (false, 0, 4), Some(6), later)
-    );
-    assert_eq!(rt;
-        moved_back(&mut reader),
+    expect_eq(
+        &rt,
+        moved_back(rt.alloc()),
         (
+            (true, (false, 0, 4), Some(6), later),
             [(false, later), (true, (false, 1, 3))],
             Some(10),
-            Some(((false, 2, 2), Some(32)))
-        )
+            Some(((false, 2, 2), Some(32))),
+        ),
     );
+}
+
+/// Another tape in the place of that one; whether it is taken, and what shows then.
+fn replaced(global: Global) -> (bool, Shown) {
+    let mut reader = Reader::new(global);
+    after_the_input(&mut reader, global);
+    (mount(&mut reader, global, b"ab"), shown(&reader))
 }
 
 #[test]
 fn a_tape_takes_anothers_place(rt: HostRuntime) {
-    let mut reader = Reader::new(rt.alloc());
-    after_the_input(&mut reader, rt.alloc());
-    assert_eq!(rt;
-        (mount(&mut reader, rt.alloc(), b"ab"), shown(&reader)),
-        (true, (false, 0, 2))
-    );
+    expect_eq(&rt, replaced(rt.alloc()), (true, (false, 0, 2)));
 }
 
 /// Puts a tape in, another one in its place, and sets a third one: whether each was taken, and how many blocks are out then.
-fn taken_in_turn<'s, B: Allocator>(
-    limited: &'s Limited<B>,
-    reader: &mut Reader<&'s Limited<B>>,
-) -> [(bool, u64); 3] {
+fn taken_in_turn<B: Allocator>(limited: &Limited<B>) -> [(bool, u64); 3] {
+    let mut reader = Reader::new(limited);
     [
-        (mount(reader, limited, b"12'"), limited.blocks_out()),
-        (mount(reader, limited, b"ab"), limited.blocks_out()),
-        (set(reader, limited, b"12'3", 3), limited.blocks_out()),
+        (mount(&mut reader, limited, b"12'"), limited.blocks_out()),
+        (mount(&mut reader, limited, b"ab"), limited.blocks_out()),
+        (set(&mut reader, limited, b"12'3", 3), limited.blocks_out()),
     ]
 }
 
 #[test]
 fn a_reader_has_the_memory_of_one_tape(rt: HostRuntime) {
-    let limited = Limited::new(rt.alloc());
-    let mut reader = Reader::new(&limited);
-    assert_eq!(rt; taken_in_turn(&limited, &mut reader), [(true, 1); 3]);
+    let taken = taken_in_turn(&Limited::new(rt.alloc()));
+    expect_eq(&rt, taken, [(true, 1); 3]);
 }
 
 /// A tape of four codes of which three have passed, in a reader that is on; the code that passes then; and whether it has
 /// that many codes.
-fn set_within(reader: &mut Reader, global: Global) -> (bool, Shown, Option<u8>) {
-    start(reader);
-    (set(reader, global, b"12'3", 3), shown(reader), pass(reader))
+fn set_within(global: Global) -> (bool, Shown, Option<u8>) {
+    let mut reader = Reader::new(global);
+    start(&mut reader);
+    let is_set = set(&mut reader, global, b"12'3", 3);
+    (is_set, shown(&reader), pass(&mut reader))
 }
 
 #[test]
 fn a_tape_is_set_within_itself(rt: HostRuntime) {
-    let mut reader = Reader::new(rt.alloc());
-    assert_eq!(rt;
-        set_within(&mut reader, rt.alloc()),
-        (true, (true, 3, 1), Some(14))
-    );
+    expect_eq(&rt, set_within(rt.alloc()), (true, (true, 3, 1), Some(14)));
 }

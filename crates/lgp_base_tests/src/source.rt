@@ -1,5 +1,6 @@
 //! Lines and tokens.
 
+use crate::expect_eq;
 use lgp_source::{Line, Lines, Token, tokens_are_longest_runs};
 
 /// The next line, if it has this number and this text.
@@ -89,7 +90,7 @@ fn tokens_by_their_use(rt: HostRuntime) {
         has_semicolon(&mut lines),
         is_at_end(&mut lines),
     ];
-    assert_eq!(rt; seen, [true; 6]);
+    expect_eq(&rt, seen, [true; 6]);
     tokens_are_longest_runs(b"z;a b");
 }
 
@@ -116,7 +117,7 @@ fn lines_end_at_line_feeds(rt: HostRuntime) {
         has_nothing(&mut lines, 3, b" \r", Some(1)),
         is_at_end(&mut lines),
     ];
-    assert_eq!(rt; seen, [true; 4]);
+    expect_eq(&rt, seen, [true; 4]);
 }
 
 #[test]
@@ -127,7 +128,7 @@ fn a_source_may_be_empty(rt: HostRuntime) {
         has_nothing(&mut only, 1, b"", None),
         is_at_end(&mut only),
     ];
-    assert_eq!(rt; seen, [true; 3]);
+    expect_eq(&rt, seen, [true; 3]);
 }
 
 /// Whether the next line has this number, this text and this first bad byte.
@@ -147,5 +148,5 @@ fn bad_bytes_by_their_place(rt: HostRuntime) {
         has_bad_byte(&mut lines, 3, b"\x7f", Some(0)),
         is_at_end(&mut lines),
     ];
-    assert_eq!(rt; seen, [true; 4]);
+    expect_eq(&rt, seen, [true; 4]);
 }

@@ -3,6 +3,7 @@
 ghost use Rattle.std.specs.Prelude.{◌++◌, codes};
 ghost use Rattle.lgp_stream.specs.KeptLine.{kept_of};
 
+use crate::expect_eq;
 use lgp_stream::{
     Answers, FeedOf, LINE_LIMIT, LineBytes, SinkOf, StreamFault, run_text, write_whole,
 };
@@ -50,14 +51,19 @@ fn is_echoed(alloc: Global, text: &[u8], wanted: &[u8], questions: u64) -> bool 
     echoed(alloc, text, &mut replies) == Ok(questions) && replies.as_slice() == wanted
 }
 
+/// The replies that the first text should have that has others.
+fn first_not_echoed(alloc: Global) -> Option<&'static [u8]> {
+    for (text, wanted, questions) in &TEXTS {
+        if !is_echoed(alloc, text, wanted, *questions) {
+            return Some(wanted);
+        }
+    }
+    None
+}
+
 #[test]
 fn each_line_has_its_reply(rt: HostRuntime) {
-    for (place, (text, wanted, questions)) in TEXTS.into_iter().enumerate() {
-        assert!(rt;
-            is_echoed(rt.alloc(), text, wanted, questions),
-            "of text {place}"
-        );
-    }
+    expect_eq(&rt, first_not_echoed(rt.alloc()), None);
 }
 
 /// A text of a given number of lines of fifteen bytes, after a line of a given length.
@@ -73,13 +79,6 @@ fn long_text(alloc: Global, first: usize, lines: usize) -> Result<Vec<u8>, Alloc
     Ok(text)
 }
 
-/// The first line's length, the number of lines after it, and how many bytes its replies have.
-const LENGTHS: [(usize, usize, usize); 3] = [
-    (LINE_LIMIT, 1, 4097 + 16 + 2),
-    (LINE_LIMIT + 1, 1, 4097 + 16 + 2),
-    (10_000, 4_096, 4097 + 65_536 + 2),
-];
-
 /// How many replies to such a text begin with a question mark, and how many bytes the replies have; `None` without memory.
 fn long_echoed(alloc: Global, first: usize, lines: usize) -> Option<(u64, usize)> {
     let text = long_text(alloc, first, lines).ok()?;
@@ -90,9 +89,19 @@ fn long_echoed(alloc: Global, first: usize, lines: usize) -> Option<(u64, usize)
 
 #[test]
 fn of_a_line_4096_bytes_are_kept(rt: HostRuntime) {
-    for (first, lines, wanted) in LENGTHS {
-        assert_eq!(rt; long_echoed(rt.alloc(), first, lines), Some((0, wanted)));
-    }
+    expect_eq(
+        &rt,
+        [
+            long_echoed(rt.alloc(), LINE_LIMIT, 1),
+            long_echoed(rt.alloc(), LINE_LIMIT + 1, 1),
+            long_echoed(rt.alloc(), 10_000, 4_096),
+        ],
+        [
+            Some((0, 4097 + 16 + 2)),
+            Some((0, 4097 + 16 + 2)),
+            Some((0, 4097 + 65_536 + 2)),
+        ],
+    );
 }
 
 /// What is kept of bytes: whether they are longer, whether all are spaces, whether they are the word `ab`, and whether their
@@ -124,7 +133,7 @@ fn bytes_are_kept_in_their_order(rt: HostRuntime) {
         [false, false, true, true],
         [false, false, false, true],
     ];
-    assert_eq!(rt; rows, wanted);
+    expect_eq(&rt, rows, wanted);
 }
 
 /// Whether a text is written whole.
@@ -135,17 +144,23 @@ fn is_written(alloc: Global, text: &[u8]) -> bool {
 
 #[test]
 fn a_write_is_counted_after_what_was_written(rt: HostRuntime) {
-    assert!(rt; is_written(rt.alloc(), b"file a\n"));
-    assert_eq!(rt;
-        [
-            StreamFault::Read.after_bytes(7),
-            StreamFault::Write(2).after_bytes(7),
-            StreamFault::Memory.after_bytes(7)
-        ],
-        [
-            StreamFault::Read,
-            StreamFault::Write(9),
-            StreamFault::Memory
-        ]
+    expect_eq(
+        &rt,
+        (
+            is_written(rt.alloc(), b"file a\n"),
+            [
+                StreamFault::Read.after_bytes(7),
+                StreamFault::Write(2).after_bytes(7),
+                StreamFault::Memory.after_bytes(7),
+            ],
+        ),
+        (
+            true,
+            [
+                StreamFault::Read,
+                StreamFault::Write(9),
+                StreamFault::Memory,
+            ],
+        ),
     );
 }

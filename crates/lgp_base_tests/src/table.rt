@@ -1,59 +1,92 @@
 //! The plain types.
 
+use crate::expect_eq;
 use lgp_table::{Cause, Ending, Mode, Panel, Status, Switches};
 use lgp_word::{Address, Word};
+
+/// How each mode goes on, and its status at the end of a tape.
+fn modes() -> [(Status, Status); 3] {
+    [
+        (Mode::Normal.resume(), Mode::Normal.status_at_end()),
+        (
+            Mode::OneOperation.resume(),
+            Mode::OneOperation.status_at_end(),
+        ),
+        (Mode::Manual.resume(), Mode::Manual.status_at_end()),
+    ]
+}
 
 #[test]
 fn modes_say_how_it_goes_on(rt: HostRuntime) {
     let operator = Status::Halted(Cause::Operator);
-    for (mode, resumed, at_end) in [
-        (Mode::Normal, Status::Going, Status::Waiting),
-        (
-            Mode::OneOperation,
-            Status::Halted(Cause::Step),
-            Status::Waiting,
-        ),
-        (Mode::Manual, operator, operator),
-    ] {
-        assert_eq!(rt; mode.resume(), resumed, "{mode:?}");
-        assert_eq!(rt; mode.status_at_end(), at_end, "{mode:?}");
-    }
+    expect_eq(
+        &rt,
+        modes(),
+        [
+            (Status::Going, Status::Waiting),
+            (Status::Halted(Cause::Step), Status::Waiting),
+            (operator, operator),
+        ],
+    );
+}
+
+/// Whether a status is halted, waits, and is at rest.
+fn kinds(status: Status) -> (bool, bool, bool) {
+    (status.is_halted(), status.is_waiting(), status.is_at_rest())
 }
 
 #[test]
 fn a_machine_is_at_rest_or_at_work(rt: HostRuntime) {
-    for (status, halted, waiting) in [
-        (Status::Halted(Cause::Stop), true, false),
-        (Status::Waiting, false, true),
-        (Status::Going, false, false),
-        (Status::Executing, false, false),
-        (Status::Reading, false, false),
-    ] {
-        assert_eq!(rt; status.is_halted(), halted, "{status:?}");
-        assert_eq!(rt; status.is_waiting(), waiting, "{status:?}");
-        assert_eq!(rt; status.is_at_rest(), halted || waiting, "{status:?}");
-    }
+    expect_eq(
+        &rt,
+        [
+            kinds(Status::Halted(Cause::Stop)),
+            kinds(Status::Waiting),
+            kinds(Status::Going),
+            kinds(Status::Executing),
+            kinds(Status::Reading),
+        ],
+        [
+            (true, false, true),
+            (false, true, true),
+            (false, false, false),
+            (false, false, false),
+            (false, false, false),
+        ],
+    );
 }
 
 #[test]
 fn orders_end_in_four_ways(rt: HostRuntime) {
-    for (ending, status) in [
-        (Ending::Plain, Status::Going),
-        (Ending::Stopped, Status::Halted(Cause::Stop)),
-        (Ending::Overflowed, Status::Halted(Cause::Overflow)),
-        (Ending::Unfinished, Status::Waiting),
-    ] {
-        assert_eq!(rt; ending.status_after(Status::Going), status, "{ending:?}");
-    }
+    expect_eq(
+        &rt,
+        [
+            Ending::Plain.status_after(Status::Going),
+            Ending::Stopped.status_after(Status::Going),
+            Ending::Overflowed.status_after(Status::Going),
+            Ending::Unfinished.status_after(Status::Going),
+        ],
+        [
+            Status::Going,
+            Status::Halted(Cause::Stop),
+            Status::Halted(Cause::Overflow),
+            Status::Waiting,
+        ],
+    );
 }
 
 #[test]
 fn the_opening_registers(rt: HostRuntime) {
-    let panel = Panel::opening();
-    assert_eq!(rt; panel.counter, Address::default());
-    assert_eq!(rt; panel.accumulator, 0);
-    assert_eq!(rt; panel.register, Word::default());
-    assert_eq!(rt; panel.status, Status::Halted(Cause::Operator));
-    assert_eq!(rt; panel.mode, Mode::Normal);
-    assert_eq!(rt; panel.switches, Switches::default());
+    expect_eq(
+        &rt,
+        Panel::opening(),
+        Panel {
+            counter: Address::default(),
+            accumulator: 0,
+            register: Word::default(),
+            status: Status::Halted(Cause::Operator),
+            mode: Mode::Normal,
+            switches: Switches::default(),
+        },
+    );
 }

@@ -1,9 +1,10 @@
 //! Texts of archives, read as SIMH's simulator reads them.
 
-use lgp_flexo::{TAPE_LIMIT, TextFault, read_archive_text};
+use super::{NO_MEMORY, Reading, TOO_LONG, bad, has_numbers, reading};
+use crate::expect_eq;
+use lgp_flexo::{TAPE_LIMIT, read_archive_text};
 use lgp_limited::Limited;
 use std::alloc::{Allocator, Global};
-use std::test::Fail;
 
 /// The bytes that stand for a code, and its number.
 const CODES: [(u8, u8); 88] = [
@@ -97,44 +98,49 @@ const CODES: [(u8, u8); 88] = [
     (b'~', 30),
 ];
 
-/// How a text is read: how many codes it has and the number of the one at a place, or the place of its first bad byte.
-fn reading<A: Allocator + Copy>(
-    alloc: A,
-    text: &[u8],
-    place: usize,
-) -> Result<(usize, Option<u8>), Option<usize>> {
-    match read_archive_text(alloc, text) {
-        Ok(codes) => Ok((codes.len(), codes.get(place).map(|code| code.number()))),
-        Err(TextFault::BadSign(bad)) => Err(Some(bad)),
-        Err(_) => Err(None),
-    }
+/// How an archive's text is read, and the code of it at a place.
+fn read<A: Allocator + Copy>(alloc: A, text: &[u8], place: usize) -> Reading {
+    reading(read_archive_text(alloc, text), place)
 }
 
 /// The number of the code that a byte stands for by itself.
 fn number_of(byte: u8) -> Option<u8> {
-    let found = CODES.iter().find(|(known, _)| *known == byte);
-    found.map(|(_, number)| *number)
+    for (known, number) in &CODES {
+        if *known == byte {
+            return Some(*number);
+        }
+    }
+    None
 }
 
 /// Whether a byte at one of three places of a text is read as the table says.
 fn is_read_right(global: Global, byte: u8, place: usize) -> bool {
     let mut text = *b"aaa";
     text[place % 3] = byte;
-    let read = reading(global, &text, place % 3);
+    let read = read(global, &text, place % 3);
     match number_of(byte) {
         Some(number) => read == Ok((3, Some(number))),
         None if byte == b'\n' => matches!(read, Ok((2, _))),
-        None => read == Err(Some(place % 3)),
+        None => read == bad(place % 3),
     }
+}
+
+/// The first byte that is not.
+fn first_misread(global: Global) -> Option<u8> {
+    for byte in 0..=255u8 {
+        if !(is_read_right(global, byte, 0)
+            && is_read_right(global, byte, 1)
+            && is_read_right(global, byte, 2))
+        {
+            return Some(byte);
+        }
+    }
+    None
 }
 
 #[test]
 fn each_byte_anywhere_in_a_text(rt: HostRuntime) {
-    for byte in 0..=255u8 {
-        for place in 0..3usize {
-            assert!(rt; is_read_right(rt.alloc(), byte, place), "{byte} at {place}");
-        }
-    }
+    expect_eq(&rt, first_misread(rt.alloc()), None);
 }
 
 /// Whether the group of a number stands for its code, and from 64 on for none.
@@ -146,49 +152,55 @@ fn is_group_right(global: Global, number: u8) -> bool {
         b'0' + number % 10,
         b's',
     ];
-    let read = reading(global, &text, 1);
+    let read = read(global, &text, 1);
     if number < 64 {
         read == Ok((3, Some(number)))
     } else {
-        read == Err(Some(1))
+        read == bad(1)
     }
+}
+
+/// The first number of a group that does not.
+fn first_wrong_group(global: Global) -> Option<u8> {
+    for number in 0..100u8 {
+        if !is_group_right(global, number) {
+            return Some(number);
+        }
+    }
+    None
 }
 
 #[test]
 fn each_group_of_a_text(rt: HostRuntime) {
-    for number in 0..100u8 {
-        assert!(rt; is_group_right(rt.alloc(), number), "{number}");
+    expect_eq(&rt, first_wrong_group(rt.alloc()), None);
+}
+
+/// Bad texts, and the places of their first bad bytes.
+const BAD_TEXTS: [(&[u8], usize); 8] = [
+    (b"!", 0),
+    (b"!1", 0),
+    (b"a!6", 1),
+    (b"!0a", 0),
+    (b"!!04", 0),
+    (b"!04!64)", 3),
+    (b"12\n<34", 3),
+    (b"[02]@", 4),
+];
+
+/// How the first of these texts is read that is not refused at its place.
+fn first_not_refused(global: Global) -> Option<Reading> {
+    for (text, place) in &BAD_TEXTS {
+        let reading = read(global, text, 0);
+        if reading != bad(*place) {
+            return Some(reading);
+        }
     }
+    None
 }
 
 #[test]
 fn the_first_bad_byte_is_reported(rt: HostRuntime) {
-    for (text, place) in [
-        (b"!".as_slice(), 0),
-        (b"!1", 0),
-        (b"a!6", 1),
-        (b"!0a", 0),
-        (b"!!04", 0),
-        (b"!04!64)", 3),
-        (b"12\n<34", 3),
-        (b"[02]@", 4),
-    ] {
-        assert!(rt;
-            reading(rt.alloc(), text, 0) == Err(Some(place)),
-            "at {place}"
-        );
-    }
-}
-
-/// Whether a text is read as the codes of these numbers.
-fn is_read_as<A: Allocator + Copy>(alloc: A, text: &[u8], numbers: &[u8]) -> bool {
-    match read_archive_text(alloc, text) {
-        Ok(codes) => codes
-            .iter()
-            .map(|code| code.number())
-            .eq(numbers.iter().copied()),
-        Err(_) => false,
-    }
+    expect_eq(&rt, first_not_refused(rt.alloc()), None);
 }
 
 /// A line of a program, its end as the tape has it, and a heading in upper case.
@@ -197,63 +209,73 @@ const LINE: &[u8] = b";000L'/0r\r\n!08LOG!04'";
 /// The codes of that line.
 const LINE_CODES: [u8; 16] = [15, 2, 2, 2, 6, 32, 19, 2, 13, 16, 8, 6, 35, 46, 4, 32];
 
-#[test]
-fn a_line_of_a_tape(rt: HostRuntime) {
-    assert!(rt; is_read_as(rt.alloc(), LINE, &LINE_CODES));
+/// Whether that line is read as these codes.
+fn line_is_read<A: Allocator + Copy>(alloc: A) -> bool {
+    has_numbers(read_archive_text(alloc, LINE), &LINE_CODES)
 }
 
-/// How a text of a given number of carriage returns is read, with line feeds after it.
-fn many(global: Global, count: usize, feeds: usize) -> Option<bool> {
+#[test]
+fn a_line_of_a_tape(rt: HostRuntime) {
+    expect_eq(&rt, line_is_read(rt.alloc()), true);
+}
+
+/// How a text of a given number of carriage returns is read, with line feeds after it; `None` without memory for the text.
+fn read_many(global: Global, count: usize, feeds: &[u8]) -> Option<Reading> {
     let mut text = vec![in global; b'\r'; count].ok()?;
-    text.resize(count.saturating_add(feeds), b'\n').ok()?;
-    match read_archive_text(global, text.as_slice()) {
-        Ok(codes) => Some(codes.len() == count),
-        Err(TextFault::TooLong) => Some(false),
-        Err(_) => None,
-    }
+    text.extend_from_slice(feeds).ok()?;
+    Some(read(global, text.as_slice(), 0))
 }
 
 #[test]
 fn one_code_too_many_is_refused(rt: HostRuntime) {
-    assert!(rt; many(rt.alloc(), TAPE_LIMIT, 2) == Some(true));
-    assert!(rt; many(rt.alloc(), TAPE_LIMIT + 1, 0) == Some(false));
+    expect_eq(
+        &rt,
+        [
+            read_many(rt.alloc(), TAPE_LIMIT, b"\n\n"),
+            read_many(rt.alloc(), TAPE_LIMIT + 1, b""),
+        ],
+        [Some(Ok((TAPE_LIMIT, Some(16)))), Some(TOO_LONG)],
+    );
 }
 
 /// Reads the line with the nth growth refused: whether it was read, and whether a growth was refused.
 fn read_within_limit<B: Allocator>(limited: &Limited<B>, nth: u64) -> (bool, bool) {
     limited.refuse(nth);
-    (
-        is_read_as(limited, LINE, &LINE_CODES),
-        limited.was_refused(),
-    )
+    (line_is_read(limited), limited.was_refused())
+}
+
+/// That with the first growth and with the second one, and how many blocks are out then.
+fn read_twice(global: Global) -> ([(bool, bool); 2], u64) {
+    let limited = Limited::new(global);
+    let reads = [
+        read_within_limit(&limited, 1),
+        read_within_limit(&limited, 2),
+    ];
+    (reads, limited.blocks_out())
 }
 
 #[test]
 fn a_growth_may_be_refused(rt: HostRuntime) {
-    let limited = Limited::new(rt.alloc());
-    assert!(rt; read_within_limit(&limited, 1) == (false, true));
-    assert!(rt; read_within_limit(&limited, 2) == (true, false) && limited.blocks_out() == 0);
+    expect_eq(
+        &rt,
+        read_twice(rt.alloc()),
+        ([(false, true), (true, false)], 0),
+    );
+}
+
+/// How a text is read where the first growth is refused, and how many blocks are out then.
+fn refused(global: Global, text: &[u8]) -> (Reading, u64) {
+    let limited = Limited::new(global);
+    limited.refuse(1);
+    (read(&limited, text, 0), limited.blocks_out())
 }
 
 #[test]
-fn a_refused_growth_is_reported_as_such(rt: HostRuntime) -> Result<(), Fail> {
-    let limited = Limited::new(rt.alloc());
-    limited.refuse(1);
-    assert!(rt; matches!(read_archive_text(&limited, b"1"), Err(TextFault::Memory(_))));
-    assert!(rt; limited.blocks_out() == 0);
-    Ok(())
-}
-
-/// How a bad text is read where the first growth is refused.
-fn bad_read_within_limit<B: Allocator>(
-    limited: &Limited<B>,
-) -> Result<(usize, Option<u8>), Option<usize>> {
-    limited.refuse(1);
-    reading(limited, b"1<", 0)
+fn a_refused_growth_is_reported_as_such(rt: HostRuntime) {
+    expect_eq(&rt, refused(rt.alloc(), b"1"), (NO_MEMORY, 0));
 }
 
 #[test]
 fn a_bad_byte_is_reported_without_memory(rt: HostRuntime) {
-    let limited = Limited::new(rt.alloc());
-    assert!(rt; bad_read_within_limit(&limited) == Err(Some(1)));
+    expect_eq(&rt, refused(rt.alloc(), b"1<"), (bad(1), 0));
 }
