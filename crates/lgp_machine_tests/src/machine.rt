@@ -6,6 +6,7 @@ mod growths;
 mod marks;
 mod sizes;
 
+use crate::expect_eq;
 use lgp_flexo::{Code, read_tape_text};
 use lgp_machine::{
     Look, Machine, MountFault, OrderFault, PlayFault, PressFault, Pressed, PutFault, RestFault,
@@ -13,10 +14,7 @@ use lgp_machine::{
 };
 use lgp_table::{Action, Event, Mode, Status, Switches};
 use lgp_word::{Address, Op, Word};
-use std::alloc::Allocator;
-use std::fmt::Debug;
-use std::process::Abort;
-use std::test::Fail;
+use std::alloc::{Allocator, Global};
 
 const CLOCK_END: u64 = 1 << 62;
 
@@ -27,12 +25,7 @@ const TRANSFER: u32 = 0x000a_0000;
 const PRINT: u32 = 0x0008_3900;
 
 /// An order that switches the reader on, and an input.
-const INPUT: [(u16, u32); 2] = [(0, 0x0008_0000), (1, 0x0004_0000)];
-
-/// Expects a value in a function of its own, so that a test that has a machine needs no more than the call.
-fn expect_eq<T: PartialEq + Debug + Drop>(rt: &impl Abort, seen: T, wanted: T) {
-    assert_eq!(rt; seen, wanted);
-}
+static INPUT: [(u16, u32); 2] = [(0, 0x0008_0000), (1, 0x0004_0000)];
 
 // The machine's methods without their contracts, which would fill the context of each test.
 
@@ -153,26 +146,14 @@ fn shown_at_input() -> Option<Look> {
     Some(look)
 }
 
-/// Puts words on the drum.
-fn put_all<A: Allocator>(machine: &mut Machine<A>, words: &[(u16, u32)]) -> Result<(), PutFault> {
+/// Puts words on the drum; whether all were put.
+fn put_all<A: Allocator>(machine: &mut Machine<A>, words: &[(u16, u32)]) -> bool {
     for (at, bits) in words {
-        put(machine, *at, *bits)?;
+        if put(machine, *at, *bits).is_err() {
+            return false;
+        }
     }
-    Ok(())
-}
-
-/// A machine with these words.
-fn with_words<A: Allocator + Copy>(alloc: A, words: &[(u16, u32)]) -> Result<Machine<A>, Fail> {
-    let mut machine = Machine::new(alloc)?;
-    put_all(&mut machine, words)?;
-    Ok(machine)
-}
-
-/// A machine with these words, started.
-fn started<A: Allocator + Copy>(alloc: A, words: &[(u16, u32)]) -> Result<Machine<A>, Fail> {
-    let mut machine = with_words(alloc, words)?;
-    press(&mut machine, Action::Start)?;
-    Ok(machine)
+    true
 }
 
 /// Mounts the tape of a text; whether it was taken.
@@ -183,25 +164,58 @@ fn mount_text<A: Allocator + Copy>(machine: &mut Machine<A>, alloc: A, text: &[u
     }
 }
 
-/// Mounts the tape of a text, and starts; whether both were done.
-fn start_with_tape<A: Allocator + Copy>(machine: &mut Machine<A>, alloc: A, text: &[u8]) -> bool {
-    mount_text(machine, alloc, text) && press(machine, Action::Start) == Ok(Pressed::Live)
+/// Mounts a tape of a given number of codes; `None` without memory.
+fn mount_codes(
+    machine: &mut Machine,
+    global: Global,
+    count: usize,
+) -> Option<Result<(), (MountFault, usize)>> {
+    let codes = vec![in global; Code::STOP; count].ok()?;
+    Some(mount(machine, codes))
 }
 
-/// A machine that switches the reader on and performs an input of this tape, started.
-fn with_input<A: Allocator + Copy>(alloc: A, text: &[u8]) -> Result<Machine<A>, Fail> {
-    let mut machine = with_words(alloc, &INPUT)?;
-    if !start_with_tape(&mut machine, alloc, text) {
-        return Err(Fail::from("not started"));
-    }
-    Ok(machine)
+/// Presses START; whether it was live.
+fn start<A: Allocator>(machine: &mut Machine<A>) -> bool {
+    press(machine, Action::Start) == Ok(Pressed::Live)
+}
+
+/// A machine if it has been made ready.
+fn if_ready<A: Allocator>(machine: Machine<A>, ready: bool) -> Option<Machine<A>> {
+    if ready { Some(machine) } else { None }
+}
+
+/// A machine with these words.
+fn with_words<A: Allocator + Copy>(alloc: A, words: &[(u16, u32)]) -> Option<Machine<A>> {
+    let mut machine = Machine::new(alloc).ok()?;
+    let ready = put_all(&mut machine, words);
+    if_ready(machine, ready)
+}
+
+/// A machine with these words, started.
+fn started<A: Allocator + Copy>(alloc: A, words: &[(u16, u32)]) -> Option<Machine<A>> {
+    let mut machine = Machine::new(alloc).ok()?;
+    let ready = put_all(&mut machine, words) && start(&mut machine);
+    if_ready(machine, ready)
+}
+
+/// A machine with these words and the tape of a text, started.
+fn with_tape<A: Allocator + Copy>(
+    alloc: A,
+    words: &[(u16, u32)],
+    text: &[u8],
+) -> Option<Machine<A>> {
+    let mut machine = Machine::new(alloc).ok()?;
+    let ready = put_all(&mut machine, words)
+        && mount_text(&mut machine, alloc, text)
+        && start(&mut machine);
+    if_ready(machine, ready)
 }
 
 /// A transfer to itself, one word time after its start.
-fn within_an_order<A: Allocator + Copy>(alloc: A) -> Result<Machine<A>, Fail> {
+fn within_an_order<A: Allocator + Copy>(alloc: A) -> Option<Machine<A>> {
     let mut machine = started(alloc, &[(0, TRANSFER)])?;
-    turn(&mut machine)?;
-    Ok(machine)
+    let ready = turn(&mut machine) == Ok(false);
+    if_ready(machine, ready)
 }
 
 /// Word times until one ends at a boundary or is refused: how many there were, and what the last one answered.

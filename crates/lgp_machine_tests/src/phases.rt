@@ -2,18 +2,18 @@
 
 mod bench;
 
-use bench::{Bench, CASE, Case, END, End, UP, Way, at, perform_all};
+use crate::expect_eq;
+use bench::{Bench, CASE, Case, END, End, Performed, UP, Way, at, perform_all};
 use lgp_flexo::Code;
 use lgp_phases::{Outcome, Processor, Progress, act_time, seek_time, wait};
 use lgp_reader::Reader;
 use lgp_table::{Cause, Mode, Status, Switches};
 use lgp_word::{Address, Op};
 use linked_list_allocator::LocalHeap;
-use std::alloc::{AllocError, Allocator};
-use std::test::Fail;
+use std::alloc::{Allocator, Global};
 
 /// A load, a sum, a store and a stop.
-const SUM: Case = Case {
+static SUM: Case = Case {
     cells: &[
         (*b"0000", *b"000100j8"),
         (*b"0001", *b"000q00jj"),
@@ -55,18 +55,23 @@ const SUM: Case = Case {
 };
 
 #[test]
-fn a_sum_is_stored(rt: HostRuntime) -> Result<(), Fail> {
-    perform_all(&rt, rt.alloc(), &SUM)
+fn a_sum_is_stored(rt: HostRuntime) {
+    expect_eq(&rt, perform_all(rt.alloc(), &SUM), Ok(()));
+}
+
+/// The same over a heap of a given size; `None` where there is none.
+fn perform_sum_within(global: Global, size: usize) -> Option<Performed> {
+    let heap = LocalHeap::new(global, size).ok()?;
+    Some(perform_all(&heap, &SUM))
 }
 
 #[test]
-fn a_sum_is_stored_over_a_small_heap(rt: HostRuntime) -> Result<(), Fail> {
-    let heap = LocalHeap::new(rt.alloc(), 262144)?;
-    perform_all(&rt, &heap, &SUM)
+fn a_sum_is_stored_over_a_small_heap(rt: HostRuntime) {
+    expect_eq(&rt, perform_sum_within(rt.alloc(), 262144), Some(Ok(())));
 }
 
 /// Two loads that wait long.
-const WAITS: [Case; 2] = [
+static WAITS: [Case; 2] = [
     Case {
         cells: &[(*b"0000", *b"000100j8")],
         ends: &[End {
@@ -88,46 +93,61 @@ const WAITS: [Case; 2] = [
     },
 ];
 
-#[test]
-fn orders_wait_for_their_sectors(rt: HostRuntime) -> Result<(), Fail> {
-    for case in &WAITS {
-        perform_all(&rt, rt.alloc(), case)?;
+/// The clock at which a sector is read.
+fn read_at(sector: u16, clock: u64, after: u64) -> Option<u64> {
+    if sector >= 64 || clock > 1000 || after > 1000 {
+        return None;
     }
-    for (sector, clock, after, read) in [(1, 67, 0, 73), (1, 129, 0, 137), (1, 60, 69, 137)] {
-        assert_eq!(rt; clock + after + wait(sector, clock, after), read);
-    }
-    Ok(())
+    Some(clock + after + wait(sector, clock, after))
 }
 
 #[test]
-fn the_seek_takes_its_word_times(rt: HostRuntime) -> Result<(), Fail> {
-    for (op, address, clock, after, time) in [
-        (Op::B, b"0050", 65, 0, 1),
-        (Op::B, b"0000", 60, 5, 63),
-        (Op::Z, b"0000", 65, 0, 1),
-    ] {
-        assert_eq!(rt; seek_time(op, at(address)?, clock, after), time, "{op:?}");
-    }
-    Ok(())
+fn orders_wait_for_their_sectors(rt: HostRuntime) {
+    expect_eq(
+        &rt,
+        (
+            [
+                perform_all(rt.alloc(), &WAITS[0]),
+                perform_all(rt.alloc(), &WAITS[1]),
+            ],
+            [read_at(1, 67, 0), read_at(1, 129, 0), read_at(1, 60, 69)],
+        ),
+        ([Ok(()); 2], [Some(73), Some(137), Some(137)]),
+    );
 }
 
 #[test]
-fn the_last_phase_takes_its_word_times(rt: HostRuntime) -> Result<(), Fail> {
-    let reader = Reader::new(rt.alloc());
-    for (op, address, time) in [
-        (Op::B, b"0050", 1),
-        (Op::M, b"0050", 65),
-        (Op::P, b"0063", 1),
-        (Op::P, b"0100", 385),
-        (Op::I, b"0000", 1),
-    ] {
-        assert_eq!(rt; act_time(op, at(address)?, &reader), time, "{op:?}");
-    }
-    Ok(())
+fn the_seek_takes_its_word_times(rt: HostRuntime) {
+    expect_eq(
+        &rt,
+        [
+            seek_time(Op::B, at(b"0050"), 65, 0),
+            seek_time(Op::B, at(b"0000"), 60, 5),
+            seek_time(Op::Z, at(b"0000"), 65, 0),
+        ],
+        [1, 63, 1],
+    );
+}
+
+/// The word times of the last phase of five orders, without a tape.
+fn act_times(global: Global) -> [u64; 5] {
+    let reader = Reader::new(global);
+    [
+        act_time(Op::B, at(b"0050"), &reader),
+        act_time(Op::M, at(b"0050"), &reader),
+        act_time(Op::P, at(b"0063"), &reader),
+        act_time(Op::P, at(b"0100"), &reader),
+        act_time(Op::I, at(b"0000"), &reader),
+    ]
+}
+
+#[test]
+fn the_last_phase_takes_its_word_times(rt: HostRuntime) {
+    expect_eq(&rt, act_times(rt.alloc()), [1, 65, 1, 385, 1]);
 }
 
 /// A sum above the largest fraction.
-const OVERFLOW: Case = Case {
+static OVERFLOW: Case = Case {
     cells: &[
         (*b"0000", *b"000100j8"),
         (*b"0001", *b"000q00jj"),
@@ -154,12 +174,12 @@ const OVERFLOW: Case = Case {
 };
 
 #[test]
-fn an_overflow_halts(rt: HostRuntime) -> Result<(), Fail> {
-    perform_all(&rt, rt.alloc(), &OVERFLOW)
+fn an_overflow_halts(rt: HostRuntime) {
+    expect_eq(&rt, perform_all(rt.alloc(), &OVERFLOW), Ok(()));
 }
 
 /// An address that is stored into a later order.
-const ADDRESS: Case = Case {
+static ADDRESS: Case = Case {
     cells: &[
         (*b"0000", *b"000100j8"),
         (*b"0001", *b"00020008"),
@@ -194,7 +214,7 @@ const ADDRESS: Case = Case {
 };
 
 /// An order that replaces itself, and is read again.
-const REPLACED: Case = Case {
+static REPLACED: Case = Case {
     cells: &[
         (*b"0000", *b"000100j8"),
         (*b"0001", *b"000k0004"),
@@ -231,15 +251,19 @@ const REPLACED: Case = Case {
 };
 
 #[test]
-fn orders_are_changed_before_they_are_read(rt: HostRuntime) -> Result<(), Fail> {
-    for case in &[ADDRESS, REPLACED] {
-        perform_all(&rt, rt.alloc(), case)?;
-    }
-    Ok(())
+fn orders_are_changed_before_they_are_read(rt: HostRuntime) {
+    expect_eq(
+        &rt,
+        [
+            perform_all(rt.alloc(), &ADDRESS),
+            perform_all(rt.alloc(), &REPLACED),
+        ],
+        [Ok(()); 2],
+    );
 }
 
 /// Return addresses, the last one after the last word of the drum.
-const RETURNS: [Case; 2] = [
+static RETURNS: [Case; 2] = [
     Case {
         cells: &[
             (*b"0100", *b"00030128"),
@@ -285,42 +309,55 @@ const RETURNS: [Case; 2] = [
 ];
 
 #[test]
-fn return_addresses_are_stored(rt: HostRuntime) -> Result<(), Fail> {
-    for case in &RETURNS {
-        perform_all(&rt, rt.alloc(), case)?;
-    }
-    Ok(())
+fn return_addresses_are_stored(rt: HostRuntime) {
+    expect_eq(
+        &rt,
+        [
+            perform_all(rt.alloc(), &RETURNS[0]),
+            perform_all(rt.alloc(), &RETURNS[1]),
+        ],
+        [Ok(()); 2],
+    );
 }
 
 /// A break point at track 32.
-const BREAK_POINT: Case = Case {
+static BREAK_POINT: Case = Case {
     cells: &[(*b"0000", *b"00002000")],
     ..CASE
 };
 
-#[test]
-fn a_break_point_is_passed(rt: HostRuntime) -> Result<(), Fail> {
-    for (b32, status) in [(true, Status::Going), (false, Status::Halted(Cause::Stop))] {
-        let ends = [End {
+/// Performs that with the switch down or up.
+fn perform_break_point(global: Global, b32: bool, status: Status) -> Performed {
+    let case = Case {
+        switches: Switches { b32, ..UP },
+        ends: &[End {
             clock: 67,
             status,
             register: *b"00002000",
             ..END
-        }];
-        let case = Case {
-            switches: Switches { b32, ..UP },
-            ends: &ends,
-            ..BREAK_POINT
-        };
-        perform_all(&rt, rt.alloc(), &case)?;
-    }
-    Ok(())
+        }],
+        ..BREAK_POINT
+    };
+    perform_all(global, &case)
+}
+
+#[test]
+fn a_break_point_is_passed(rt: HostRuntime) {
+    let stopped = Status::Halted(Cause::Stop);
+    expect_eq(
+        &rt,
+        [
+            perform_break_point(rt.alloc(), true, Status::Going),
+            perform_break_point(rt.alloc(), false, stopped),
+        ],
+        [Ok(()); 2],
+    );
 }
 
 /// An order, the accumulator before it, the word at 0050, the accumulator after it and the clock then.
 type Sum = ([u8; 8], u32, [u8; 8], u32, u64);
 
-const SUMS: [Sum; 6] = [
+static SUMS: [Sum; 6] = [
     (*b"000500j8", 2, *b"00000006", 0x2aaa_aaaa, 131),
     (*b"000600j8", 6, *b"0000000f", 0x3c, 131),
     (*b"000700j8", 6, *b"0000000f", 0, 131),
@@ -329,8 +366,8 @@ const SUMS: [Sum; 6] = [
     (*b"000w00j8", 10, *b"00000006", 4, 67),
 ];
 
-#[test]
-fn arithmetic_takes_a_revolution_more(rt: HostRuntime) -> Result<(), Fail> {
+/// Performs these one after the other.
+fn perform_sums(global: Global) -> Performed {
     for (order, before, memory, accumulator, clock) in &SUMS {
         let case = Case {
             cells: &[(*b"0000", *order), (*b"0050", *memory)],
@@ -343,21 +380,26 @@ fn arithmetic_takes_a_revolution_more(rt: HostRuntime) -> Result<(), Fail> {
             }],
             ..CASE
         };
-        perform_all(&rt, rt.alloc(), &case)?;
+        perform_all(global, &case)?;
     }
     Ok(())
 }
 
+#[test]
+fn arithmetic_takes_a_revolution_more(rt: HostRuntime) {
+    expect_eq(&rt, perform_sums(rt.alloc()), Ok(()));
+}
+
 /// A test order, the accumulator, whether TRANSFER CONTROL is down, and the counter after it.
-const TESTS: [([u8; 8], u32, bool, [u8; 4]); 4] = [
+static TESTS: [([u8; 8], u32, bool, [u8; 4]); 4] = [
     (*b"800g0100", 0, false, *b"0001"),
     (*b"800g0100", 0, true, *b"0100"),
     (*b"000g0100", 0, true, *b"0001"),
     (*b"000g0100", 0x8000_0000, false, *b"0100"),
 ];
 
-#[test]
-fn a_test_transfers_by_sign_or_switch(rt: HostRuntime) -> Result<(), Fail> {
+/// Performs these one after the other.
+fn perform_tests(global: Global) -> Performed {
     for (order, accumulator, transfer, counter) in &TESTS {
         let case = Case {
             cells: &[(*b"0000", *order)],
@@ -375,13 +417,18 @@ fn a_test_transfers_by_sign_or_switch(rt: HostRuntime) -> Result<(), Fail> {
             }],
             ..CASE
         };
-        perform_all(&rt, rt.alloc(), &case)?;
+        perform_all(global, &case)?;
     }
     Ok(())
 }
 
+#[test]
+fn a_test_transfers_by_sign_or_switch(rt: HostRuntime) {
+    expect_eq(&rt, perform_tests(rt.alloc()), Ok(()));
+}
+
 /// The code 57, printed.
-const PRINT: Case = Case {
+static PRINT: Case = Case {
     cells: &[(*b"0000", *b"00083900")],
     ends: &[End {
         clock: 451,
@@ -393,36 +440,36 @@ const PRINT: Case = Case {
 };
 
 #[test]
-fn a_code_is_printed(rt: HostRuntime) -> Result<(), Fail> {
-    perform_all(&rt, rt.alloc(), &PRINT)
+fn a_code_is_printed(rt: HostRuntime) {
+    expect_eq(&rt, perform_all(rt.alloc(), &PRINT), Ok(()));
 }
 
-/// Whether all but the last word time of a print pass as they should, and whether the last one, of a copy of the processor, is
-/// predicted to print; and that one.
-fn last_of_a_print<A: Allocator + Copy>(
-    bench: &mut Bench<A>,
-) -> Result<(bool, bool, Progress), Fail> {
+/// Whether all but the last word time of a print pass as they should, whether the processor could be copied, whether the last one,
+/// of the copy, is predicted to print, and that one.
+fn last_of_a_print(global: Global) -> Option<([bool; 3], Progress)> {
+    let mut bench = Bench::new(global, &PRINT)?;
     let passed = bench.turns_before(451);
-    bench.copy()?;
+    let copied = bench.copy();
     let prints = bench.prints_next();
-    Ok((passed, prints, bench.turn()))
+    Some(([passed, copied, prints], bench.turn()))
 }
 
 #[test]
-fn the_last_word_time_prints(rt: HostRuntime) -> Result<(), Fail> {
-    let mut bench = Bench::new(rt.alloc(), &PRINT)?;
+fn the_last_word_time_prints(rt: HostRuntime) {
     let outcome = Outcome {
         cost: 451,
         status: Status::Going,
         printed: Code::new(57),
     };
-    let wanted = (true, true, Progress::Done(outcome));
-    assert_eq!(rt; last_of_a_print(&mut bench)?, wanted);
-    Ok(())
+    expect_eq(
+        &rt,
+        last_of_a_print(rt.alloc()),
+        Some(([true; 3], Progress::Done(outcome))),
+    );
 }
 
 /// Switches the reader on, and performs an input.
-const INPUT: Case = Case {
+static INPUT: Case = Case {
     cells: &[(*b"0000", *b"00080000"), (*b"0001", *b"00040000")],
     ..CASE
 };
@@ -430,14 +477,14 @@ const INPUT: Case = Case {
 /// A tape, whether 6 BIT INPUT is down, its codes, the clock after the input, the status and the accumulator then.
 type Tape<'a> = (&'a [u8], bool, usize, u64, Status, u32);
 
-const TAPES: [Tape; 3] = [
+static TAPES: [Tape; 3] = [
     (b"12[16]3'", false, 5, 1996, Status::Going, 0x123),
     (b"12[16]3", false, 4, 1612, Status::Waiting, 0x123),
     (b"a'", true, 2, 844, Status::Going, 0x39),
 ];
 
-#[test]
-fn an_input_passes_codes(rt: HostRuntime) -> Result<(), Fail> {
+/// Performs an input of each of these tapes.
+fn perform_inputs(global: Global) -> Performed {
     for (tape, six_bit, codes, clock, status, accumulator) in &TAPES {
         let started = End {
             clock: 67,
@@ -463,13 +510,18 @@ fn an_input_passes_codes(rt: HostRuntime) -> Result<(), Fail> {
             ends: &[started, done],
             ..INPUT
         };
-        perform_all(&rt, rt.alloc(), &case)?;
+        perform_all(global, &case)?;
     }
     Ok(())
 }
 
+#[test]
+fn an_input_passes_codes(rt: HostRuntime) {
+    expect_eq(&rt, perform_inputs(rt.alloc()), Ok(()));
+}
+
 /// A tape that is read from the console, the mode, the clock and the status after it, and the codes that are left.
-const READ: [(&[u8], Mode, u64, Status, usize); 5] = [
+static READ: [(&[u8], Mode, u64, Status, usize); 5] = [
     (b"12'3", Mode::Normal, 1153, Status::Going, 1),
     (
         b"12'3",
@@ -489,8 +541,8 @@ const READ: [(&[u8], Mode, u64, Status, usize); 5] = [
     (b"12", Mode::Manual, 769, Status::Halted(Cause::Operator), 0),
 ];
 
-#[test]
-fn a_tape_is_read_from_the_console(rt: HostRuntime) -> Result<(), Fail> {
+/// Reads each of these tapes.
+fn perform_reads(global: Global) -> Performed {
     for (tape, mode, clock, status, left) in &READ {
         let case = Case {
             tape: *tape,
@@ -506,13 +558,18 @@ fn a_tape_is_read_from_the_console(rt: HostRuntime) -> Result<(), Fail> {
             }],
             ..CASE
         };
-        perform_all(&rt, rt.alloc(), &case)?;
+        perform_all(global, &case)?;
     }
     Ok(())
 }
 
+#[test]
+fn a_tape_is_read_from_the_console(rt: HostRuntime) {
+    expect_eq(&rt, perform_reads(rt.alloc()), Ok(()));
+}
+
 /// A load in the instruction register.
-const EXECUTED: Case = Case {
+static EXECUTED: Case = Case {
     cells: &[(*b"0050", *b"00000006")],
     register: *b"000100j8",
     status: Status::Executing,
@@ -528,12 +585,12 @@ const EXECUTED: Case = Case {
 };
 
 #[test]
-fn the_register_is_executed(rt: HostRuntime) -> Result<(), Fail> {
-    perform_all(&rt, rt.alloc(), &EXECUTED)
+fn the_register_is_executed(rt: HostRuntime) {
+    expect_eq(&rt, perform_all(rt.alloc(), &EXECUTED), Ok(()));
 }
 
-#[test]
-fn at_rest_the_clock_goes_on(rt: HostRuntime) -> Result<(), Fail> {
+/// Lets a word time pass where the machine has halted, and where it waits.
+fn perform_rests(global: Global) -> Performed {
     for status in [Status::Halted(Cause::Operator), Status::Waiting] {
         let end = End {
             clock: 1,
@@ -546,95 +603,116 @@ fn at_rest_the_clock_goes_on(rt: HostRuntime) -> Result<(), Fail> {
             ends: &[end],
             ..CASE
         };
-        perform_all(&rt, rt.alloc(), &case)?;
+        perform_all(global, &case)?;
     }
     Ok(())
+}
+
+#[test]
+fn at_rest_the_clock_goes_on(rt: HostRuntime) {
+    expect_eq(&rt, perform_rests(rt.alloc()), Ok(()));
 }
 
 /// What is decoded at 0000 and at 0001.
 type Decoded = [Option<(bool, Op, Address)>; 2];
 
-fn decoded<A: Allocator>(bench: &Bench<A>) -> Result<Decoded, Fail> {
-    Ok([bench.decoded(b"0000")?, bench.decoded(b"0001")?])
+fn decoded<A: Allocator>(bench: &Bench<A>) -> Decoded {
+    [bench.decoded(b"0000"), bench.decoded(b"0001")]
 }
 
-/// Two activities, and what is decoded after them.
-fn decoded_after_two<A: Allocator>(bench: &mut Bench<A>, way: Way) -> Result<Decoded, Fail> {
-    bench.activity(way)?;
-    bench.activity(way)?;
-    decoded(bench)
+/// Whether two activities are as foretold, and what is decoded after them.
+fn decoded_after_two<A: Allocator>(bench: &mut Bench<A>, way: Way) -> (bool, Decoded) {
+    let are_performed = bench.activity(way).is_some() && bench.activity(way).is_some();
+    (are_performed, decoded(bench))
 }
 
-/// What is decoded at first, after two orders, by a copy after four, and when all is forgotten.
-fn decoded_on_the_way<A: Allocator + Copy>(
-    bench: &mut Bench<A>,
-    way: Way,
-) -> Result<[Decoded; 4], Fail> {
-    let first = decoded(bench)?;
-    let second = decoded_after_two(bench, way)?;
-    decoded_after_two(bench, way)?;
-    bench.copy()?;
-    let fourth = decoded(bench)?;
+/// What is decoded at first, after two orders, by a copy after four, and when all is forgotten; and whether all went well.
+fn decoded_on_the_way(global: Global, way: Way) -> Option<([bool; 3], [Decoded; 4])> {
+    let mut bench = Bench::new(global, &REPLACED)?;
+    let first = decoded(&bench);
+    let (performed_two, second) = decoded_after_two(&mut bench, way);
+    let (performed_four, _) = decoded_after_two(&mut bench, way);
+    let copied = bench.copy();
+    let fourth = decoded(&bench);
     bench.clear();
-    Ok([first, second, fourth, decoded(bench)?])
+    Some((
+        [performed_two, performed_four, copied],
+        [first, second, fourth, decoded(&bench)],
+    ))
 }
 
-/// The same of a bench of its own.
-fn decoded_each_time<A: Allocator + Copy>(alloc: A, way: Way) -> Result<[Decoded; 4], Fail> {
-    let mut bench = Bench::new(alloc, &REPLACED)?;
-    decoded_on_the_way(&mut bench, way)
+/// The parts of an order without a minus.
+fn parts(op: Op, text: &[u8; 4]) -> Option<(bool, Op, Address)> {
+    Some((false, op, at(text)))
 }
 
 /// The second of four orders stores another order over itself, and so is decoded no more; the fourth is that other order.
 #[test]
-fn orders_are_kept_decoded(rt: HostRuntime) -> Result<(), Fail> {
-    let load = Some((false, Op::B, at(b"0050")?));
-    let transfer = Some((false, Op::U, at(b"0000")?));
-    let wanted = [[None, None], [load, None], [load, transfer], [None, None]];
-    for way in [Way::WordTimes, Way::OneCall, Way::Short] {
-        assert_eq!(rt; decoded_each_time(rt.alloc(), way)?, wanted, "{way:?}");
+fn orders_are_kept_decoded(rt: HostRuntime) {
+    let wanted = [
+        [None, None],
+        [parts(Op::B, b"0050"), None],
+        [parts(Op::B, b"0050"), parts(Op::U, b"0000")],
+        [None, None],
+    ];
+    expect_eq(
+        &rt,
+        [
+            decoded_on_the_way(rt.alloc(), Way::WordTimes),
+            decoded_on_the_way(rt.alloc(), Way::OneCall),
+            decoded_on_the_way(rt.alloc(), Way::Short),
+        ],
+        [Some(([true; 3], wanted)); 3],
+    );
+}
+
+/// Whether a processor can be made.
+fn is_made(heap: &LocalHeap) -> bool {
+    Processor::new(heap).is_ok()
+}
+
+/// Whether a copy can be made and has begun nothing.
+fn is_copied(processor: &Processor<&LocalHeap>) -> bool {
+    match processor.copy() {
+        Ok(copy) => copy.is_idle(),
+        Err(_) => false,
     }
-    Ok(())
 }
 
-/// All the room that a heap has left, in one block.
-fn filler(heap: &LocalHeap) -> Result<Vec<u8, &LocalHeap>, AllocError> {
-    Vec::with_capacity(heap, heap.free())
-}
-
-/// Whether a processor can be made where a heap has no room.
-fn is_made(heap: &LocalHeap) -> Result<bool, AllocError> {
-    let filler = filler(heap)?;
-    let made = Processor::new(heap).is_ok();
+/// Whether a processor can be made, or a given one copied, where the heap has no room.
+fn is_made_without_room(heap: &LocalHeap, given: Option<&Processor<&LocalHeap>>) -> Option<bool> {
+    let filler: Vec<u8, &LocalHeap> = Vec::with_capacity(heap, heap.free()).ok()?;
+    let made = match given {
+        Some(processor) => processor.copy().is_ok(),
+        None => is_made(heap),
+    };
     drop(filler);
-    Ok(made)
+    Some(made)
 }
 
-/// Whether a processor can be copied where its heap has no room.
-fn is_copied(heap: &LocalHeap, processor: &Processor<&LocalHeap>) -> Result<bool, AllocError> {
-    let filler = filler(heap)?;
-    let copied = processor.copy().is_ok();
-    drop(filler);
-    Ok(copied)
+/// Whether a processor is copied without room and with it, is idle, as its copy is, and leaves as much in the heap as before.
+fn copies(heap: &LocalHeap) -> Option<(Option<bool>, [bool; 3])> {
+    let processor = Processor::new(heap).ok()?;
+    let before = heap.used();
+    let copied = is_made_without_room(heap, Some(&processor));
+    let idle = [processor.is_idle(), is_copied(&processor)];
+    Some((copied, [idle[0], idle[1], heap.used() == before]))
 }
 
-/// Whether a copy has begun nothing.
-fn is_copy_idle<A: Allocator + Clone>(processor: &Processor<A>) -> Result<bool, AllocError> {
-    let copy = processor.copy()?;
-    Ok(copy.is_idle())
+/// Whether a processor is made without room, how much is then in the heap, and what becomes of copies with room and without.
+type Full = (Option<bool>, usize, Option<(Option<bool>, [bool; 3])>);
+
+fn within_full_heap(global: Global) -> Option<Full> {
+    let heap = LocalHeap::new(global, 262144).ok()?;
+    let made = is_made_without_room(&heap, None);
+    Some((made, heap.used(), copies(&heap)))
 }
 
 #[test]
-fn a_full_heap_refuses_a_processor(rt: HostRuntime) -> Result<(), Fail> {
-    let heap = LocalHeap::new(rt.alloc(), 262144)?;
-    let made = (is_made(&heap)?, heap.used());
-    let processor = Processor::new(&heap)?;
-    let before = heap.used();
-    let copied = is_copied(&heap, &processor)?;
-    let idle = [processor.is_idle(), is_copy_idle(&processor)?];
-    assert_eq!(rt;
-        (made, copied, idle, heap.used()),
-        ((false, 0), false, [true, true], before)
+fn a_full_heap_refuses_a_processor(rt: HostRuntime) {
+    expect_eq(
+        &rt,
+        within_full_heap(rt.alloc()),
+        Some((Some(false), 0, Some((Some(false), [true; 3])))),
     );
-    Ok(())
 }

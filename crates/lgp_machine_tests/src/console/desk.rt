@@ -1,6 +1,7 @@
 //! What each action does.
 
 use super::key;
+use crate::expect_eq;
 use lgp_console::{act, is_live};
 use lgp_reader::Reader;
 use lgp_table::{Action, Cause, Mode, Panel, Status, Switches, Which};
@@ -13,9 +14,9 @@ const STOPPED: Status = Status::Halted(Cause::Stop);
 
 const STEPPED: Status = Status::Halted(Cause::Step);
 
-const MODES: [Mode; 3] = [Mode::Normal, Mode::OneOperation, Mode::Manual];
+static MODES: [Mode; 3] = [Mode::Normal, Mode::OneOperation, Mode::Manual];
 
-const STATUSES: [Status; 8] = [
+static STATUSES: [Status; 8] = [
     OPERATOR,
     STOPPED,
     Status::Halted(Cause::Overflow),
@@ -44,11 +45,6 @@ fn pressed(global: Global, before: &Panel, action: Action) -> (bool, Panel, bool
     let mut panel = *before;
     let live = act(&mut panel, &mut reader, action);
     (live, panel, reader.is_on())
-}
-
-/// Whether an action would be live.
-fn would_be_live(before: &Panel, action: &Action) -> bool {
-    is_live(before, action)
 }
 
 /// Whether a press is live, leaves these registers and leaves the reader off.
@@ -95,10 +91,10 @@ const NEVER: Living = Living {
     at_work: false,
 };
 
-/// Whether an action is live at a status and in the mode of this number.
-fn reported(living: Living, status: Status, mode: usize) -> bool {
+/// Whether an action is live at a status and in a mode.
+fn reported(living: &Living, status: Status, mode: Mode) -> bool {
     match status {
-        Status::Halted(_) => living.halted[mode % 3],
+        Status::Halted(_) => living.halted[mode as usize % 3],
         Status::Waiting => living.waiting,
         Status::Going | Status::Executing | Status::Reading => living.at_work,
     }
@@ -107,16 +103,16 @@ fn reported(living: Living, status: Status, mode: usize) -> bool {
 /// Whether an action is live or dead as reported, both before it is pressed and then, and changes nothing where it is dead.
 fn lives(global: Global, before: &Panel, action: &Action, live: bool) -> bool {
     let (answer, after, on) = pressed(global, before, *action);
-    answer == live && would_be_live(before, action) == live && (live || (after == *before && !on))
+    answer == live && is_live(before, action) == live && (live || (after == *before && !on))
 }
 
 /// The first status and mode where an action is not live or dead as reported.
-fn first_unreported(global: Global, action: Action, living: Living) -> Option<(Status, Mode)> {
-    for (number, mode) in MODES.into_iter().enumerate() {
-        for status in STATUSES {
-            let live = reported(living, status, number);
-            if !lives(global, &panel(status, mode), &action, live) {
-                return Some((status, mode));
+fn first_unreported(global: Global, action: &Action, living: &Living) -> Option<(Status, Mode)> {
+    for mode in &MODES {
+        for status in &STATUSES {
+            let live = reported(living, *status, *mode);
+            if !lives(global, &panel(*status, *mode), action, live) {
+                return Some((*status, *mode));
             }
         }
     }
@@ -152,15 +148,19 @@ fn table() -> [(Action, Living); 15] {
     ]
 }
 
+/// The first action that is not so, and where.
+fn first_unreported_action(global: Global) -> Option<(Action, (Status, Mode))> {
+    for (action, living) in &table() {
+        if let Some(at) = first_unreported(global, action, living) {
+            return Some((*action, at));
+        }
+    }
+    None
+}
+
 #[test]
 fn actions_are_live_by_the_table(rt: HostRuntime) {
-    for (place, (action, living)) in table().into_iter().enumerate() {
-        assert_eq!(rt;
-            first_unreported(rt.alloc(), action, living),
-            None,
-            "of action {place}"
-        );
-    }
+    expect_eq(&rt, first_unreported_action(rt.alloc()), None);
 }
 
 /// A status in Normal, and the ones after the three mode buttons.
@@ -192,16 +192,22 @@ fn sets_mode(global: Global, before: Status, mode: Mode, left: Status) -> bool {
     )
 }
 
-#[test]
-fn mode_buttons_set_the_mode(rt: HostRuntime) {
+/// The first status after which a mode button does something else.
+fn first_unset(global: Global) -> Option<Status> {
     for (status, left) in BUTTONS {
-        for (mode, left) in MODES.into_iter().zip(left) {
-            assert!(rt;
-                sets_mode(rt.alloc(), status, mode, left),
-                "{status:?} {mode:?}"
-            );
+        if !(sets_mode(global, status, Mode::Normal, left[0])
+            && sets_mode(global, status, Mode::OneOperation, left[1])
+            && sets_mode(global, status, Mode::Manual, left[2]))
+        {
+            return Some(status);
         }
     }
+    None
+}
+
+#[test]
+fn mode_buttons_set_the_mode(rt: HostRuntime) {
+    expect_eq(&rt, first_unset(rt.alloc()), None);
 }
 
 /// What a machine that has halted in One Operation is to have after an action.
@@ -229,13 +235,16 @@ fn halted_leaves(global: Global, action: &Action) -> bool {
 
 #[test]
 fn halted_actions_act(rt: HostRuntime) {
-    let seen = [
-        halted_leaves(rt.alloc(), &Action::Start),
-        halted_leaves(rt.alloc(), &Action::ClearCounter),
-        halted_leaves(rt.alloc(), &Action::Fill),
-        halted_leaves(rt.alloc(), &Action::Execute),
-    ];
-    assert_eq!(rt; seen, [true; 4]);
+    expect_eq(
+        &rt,
+        [
+            halted_leaves(rt.alloc(), &Action::Start),
+            halted_leaves(rt.alloc(), &Action::ClearCounter),
+            halted_leaves(rt.alloc(), &Action::Fill),
+            halted_leaves(rt.alloc(), &Action::Execute),
+        ],
+        [true; 4],
+    );
 }
 
 /// Whether the key of code 6 changes the accumulator alone, and to this.
@@ -249,29 +258,35 @@ fn enters(global: Global, status: Status, mode: Mode, six_bit: bool, accumulator
 
 #[test]
 fn keys_enter_where_codes_are_taken(rt: HostRuntime) {
-    let seen = [
-        enters(rt.alloc(), OPERATOR, Mode::Manual, false, 0x131),
-        enters(rt.alloc(), Status::Waiting, Mode::Normal, false, 0x131),
-        enters(rt.alloc(), Status::Waiting, Mode::Normal, true, 0x4c6),
-    ];
-    assert_eq!(rt; seen, [true; 3]);
+    expect_eq(
+        &rt,
+        [
+            enters(rt.alloc(), OPERATOR, Mode::Manual, false, 0x131),
+            enters(rt.alloc(), Status::Waiting, Mode::Normal, false, 0x131),
+            enters(rt.alloc(), Status::Waiting, Mode::Normal, true, 0x4c6),
+        ],
+        [true; 3],
+    );
 }
 
-/// Whether an action ends an input in a mode with this status, and changes nothing else.
-fn ends_input(global: Global, mode: Mode, action: Action, status: Status) -> bool {
-    let wanted = panel(status, mode);
-    leaves(global, &panel(Status::Waiting, mode), action, &wanted)
+/// Whether both actions that end an input in a mode leave this status, and change nothing else.
+fn end_input(global: Global, mode: Mode, status: Status) -> bool {
+    let (before, wanted) = (panel(Status::Waiting, mode), panel(status, mode));
+    leaves(global, &before, Action::StartCompute, &wanted)
+        && leaves(global, &before, key(32), &wanted)
 }
 
 #[test]
 fn a_waiting_machine_goes_on(rt: HostRuntime) {
-    for (mode, status) in MODES.into_iter().zip([Status::Going, STEPPED, OPERATOR]) {
-        let seen = [
-            ends_input(rt.alloc(), mode, Action::StartCompute, status),
-            ends_input(rt.alloc(), mode, key(32), status),
-        ];
-        assert_eq!(rt; seen, [true; 2], "{mode:?}");
-    }
+    expect_eq(
+        &rt,
+        [
+            end_input(rt.alloc(), Mode::Normal, Status::Going),
+            end_input(rt.alloc(), Mode::OneOperation, STEPPED),
+            end_input(rt.alloc(), Mode::Manual, OPERATOR),
+        ],
+        [true; 3],
+    );
 }
 
 /// Whether the tape reader is switched on, and nothing else changes but the status.
@@ -283,13 +298,16 @@ fn starts_reading(global: Global, status: Status, mode: Mode) -> bool {
 
 #[test]
 fn the_reader_is_started(rt: HostRuntime) {
-    let seen = [
-        starts_reading(rt.alloc(), Status::Waiting, Mode::Normal),
-        starts_reading(rt.alloc(), Status::Waiting, Mode::OneOperation),
-        starts_reading(rt.alloc(), Status::Waiting, Mode::Manual),
-        starts_reading(rt.alloc(), OPERATOR, Mode::Manual),
-    ];
-    assert_eq!(rt; seen, [true; 4]);
+    expect_eq(
+        &rt,
+        [
+            starts_reading(rt.alloc(), Status::Waiting, Mode::Normal),
+            starts_reading(rt.alloc(), Status::Waiting, Mode::OneOperation),
+            starts_reading(rt.alloc(), Status::Waiting, Mode::Manual),
+            starts_reading(rt.alloc(), OPERATOR, Mode::Manual),
+        ],
+        [true; 4],
+    );
 }
 
 /// What sets a switch, or puts one up that is up already, and the switch that is down then.
@@ -331,16 +349,24 @@ fn switches_table() -> [(Action, Switches); 7] {
 }
 
 /// Whether an action at work leaves these switches, and changes nothing else.
-fn sets(global: Global, action: Action, switches: Switches) -> bool {
+fn sets(global: Global, action: &Action, switches: Switches) -> bool {
     let before = panel(Status::Going, Mode::Normal);
     let mut wanted = before;
     wanted.switches = switches;
-    leaves(global, &before, action, &wanted)
+    leaves(global, &before, *action, &wanted)
+}
+
+/// The first action that leaves others.
+fn first_not_set(global: Global) -> Option<Action> {
+    for (action, switches) in &switches_table() {
+        if !sets(global, action, *switches) {
+            return Some(*action);
+        }
+    }
+    None
 }
 
 #[test]
 fn switches_are_set(rt: HostRuntime) {
-    for (action, switches) in switches_table() {
-        assert!(rt; sets(rt.alloc(), action, switches), "{switches:?}");
-    }
+    expect_eq(&rt, first_not_set(rt.alloc()), None);
 }

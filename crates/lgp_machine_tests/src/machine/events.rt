@@ -1,15 +1,15 @@
 //! Presses within an order, and word times and presses played in one call.
 
 use super::{
-    CLOCK_END, PRINT, TRANSFER, expect_eq, look, play, press, printed, rest, shown, turns,
-    with_words, within_an_order,
+    CLOCK_END, PRINT, TRANSFER, look, play, press, printed, rest, shown, turns, with_words,
+    within_an_order,
 };
+use crate::expect_eq;
 use lgp_flexo::Code;
 use lgp_limited::Limited;
 use lgp_machine::{Look, Machine, PlayFault, PressFault, Pressed, TurnFault};
 use lgp_table::{Action, Cause, Event, Mode, Status, Which};
-use std::alloc::{AllocError, Allocator};
-use std::test::Fail;
+use std::alloc::{Allocator, Global};
 
 /// Seventeen actions. The first sixteen leave BREAK POINT 4 down only where the oldest one acts first; for the last, which would
 /// leave it up, there is no place.
@@ -34,100 +34,97 @@ fn keep<A: Allocator>(
     machine: &mut Machine<A>,
     actions: &[Action],
 ) -> (usize, Result<Pressed, PressFault>) {
-    for (count, action) in actions.iter().enumerate() {
+    let mut count = 0usize;
+    for action in actions {
         let answer = press(machine, *action);
         if answer != Ok(Pressed::Kept) {
             return (count, answer);
         }
+        count = count.saturating_add(1);
     }
-    (actions.len(), Ok(Pressed::Kept))
+    (count, Ok(Pressed::Kept))
 }
 
-#[test]
-fn sixteen_actions_act_at_the_end(rt: HostRuntime) -> Result<(), Fail> {
-    let mut machine = within_an_order(rt.alloc())?;
+/// What becomes of the seventeen actions, the word times up to the end of the activity, and what shows then.
+type Acted = (
+    (usize, Result<Pressed, PressFault>),
+    (u64, Result<bool, TurnFault>),
+    Option<Look>,
+);
+
+fn act_at_the_end(global: Global) -> Option<Acted> {
+    let mut machine = within_an_order(global)?;
     let kept = keep(&mut machine, &seventeen_actions());
     let turned = turns(&mut machine, 100);
+    Some((kept, turned, look(&machine)))
+}
+
+#[test]
+fn sixteen_actions_act_at_the_end(rt: HostRuntime) {
+    let kept = (16, Err(PressFault::Full));
     expect_eq(
         &rt,
-        (kept, turned, look(&machine)),
-        (
-            (16, Err(PressFault::Full)),
-            (66, Ok(true)),
-            shown_after_sixteen(),
-        ),
+        act_at_the_end(rt.alloc()),
+        Some((kept, (66, Ok(true)), shown_after_sixteen())),
     );
-    Ok(())
 }
 
-/// A start, a word time, these actions and as many word times as given.
-fn events_of<A: Allocator>(
-    alloc: A,
-    actions: &[Action],
-    times: usize,
-) -> Result<Vec<Event, A>, AllocError> {
-    let count = actions.len().saturating_add(times).saturating_add(2);
-    let mut events = vec![in alloc; Event::WordTime; count]?;
-    if let Some(first) = events.first_mut() {
-        *first = Event::Press(Action::Start);
+/// A start, a word time, the seventeen actions and 66 word times.
+fn events_of_actions() -> [Event; 85] {
+    let actions = seventeen_actions();
+    let mut events = [Event::WordTime; 85];
+    events[0] = Event::Press(Action::Start);
+    for place in 0..17usize {
+        events[place + 2] = Event::Press(actions[place]);
     }
-    for (event, action) in events.iter_mut().skip(2).zip(actions) {
-        *event = Event::Press(*action);
-    }
-    Ok(events)
+    events
 }
 
-/// Whether a play of these events comes to the same.
-fn is_played<A: Allocator + Copy>(alloc: A, events: &[Event]) -> Result<bool, Fail> {
-    let mut machine = with_words(alloc, &[(0, TRANSFER)])?;
-    Ok(play(&mut machine, events) == Ok(()) && look(&machine) == shown_after_sixteen())
+/// What becomes of a play of these events, and what shows then.
+fn play_actions(global: Global) -> Option<(Result<(), PlayFault>, Option<Look>)> {
+    let mut machine = with_words(global, &[(0, TRANSFER)])?;
+    let played = play(&mut machine, &events_of_actions());
+    Some((played, look(&machine)))
 }
 
 #[test]
-fn a_play_is_the_same_turns_and_presses(rt: HostRuntime) -> Result<(), Fail> {
-    let events = events_of(rt.alloc(), &seventeen_actions(), 66)?;
-    let played = is_played(rt.alloc(), events.as_slice())?;
-    assert!(rt; played);
-    Ok(())
+fn a_play_is_the_same_turns_and_presses(rt: HostRuntime) {
+    expect_eq(
+        &rt,
+        play_actions(rt.alloc()),
+        Some((Ok(()), shown_after_sixteen())),
+    );
 }
 
-/// A print to be played.
-fn printing<A: Allocator + Copy>(alloc: A) -> Result<Machine<A>, Fail> {
-    with_words(alloc, &[(0, PRINT)])
-}
+/// A start and three word times.
+const FOUR: [Event; 4] = [
+    Event::Press(Action::Start),
+    Event::WordTime,
+    Event::WordTime,
+    Event::WordTime,
+];
 
-/// What becomes of a play whose first growth is refused, and whether it came to one.
-fn play_refused<B: Allocator>(
-    limited: &Limited<B>,
-    machine: &mut Machine<&Limited<B>>,
-    events: &[Event],
-) -> (Result<(), PlayFault>, bool) {
+/// Whether a machine goes to two word times before the clock's end, what becomes of a play with the first growth refused, and
+/// whether it came to one.
+type Ended = (bool, Result<(), PlayFault>, bool);
+
+/// Plays a print there.
+fn play_at_the_end<B: Allocator>(limited: &Limited<B>) -> Option<Ended> {
+    let mut machine = with_words(limited, &[(0, PRINT)])?;
+    let rested = rest(&mut machine, CLOCK_END - 2).is_ok();
     limited.refuse(1);
-    (play(machine, events), limited.was_refused())
-}
-
-/// Plays two word times before the clock's end, with the first growth refused.
-fn play_at_the_end<B: Allocator>(
-    limited: &Limited<B>,
-    events: &[Event],
-) -> Result<(Result<(), PlayFault>, bool), Fail> {
-    let mut machine = printing(limited)?;
-    if rest(&mut machine, CLOCK_END - 2).is_err() {
-        return Err(Fail::from("no rest"));
-    }
-    Ok(play_refused(limited, &mut machine, events))
+    let played = play(&mut machine, &FOUR);
+    Some((rested, played, limited.was_refused()))
 }
 
 #[test]
-fn a_play_stops_at_the_clocks_end(rt: HostRuntime) -> Result<(), Fail> {
-    let events = events_of(rt.alloc(), &[], 2)?;
-    let played = play_at_the_end(&Limited::new(rt.alloc()), events.as_slice())?;
+fn a_play_stops_at_the_clocks_end(rt: HostRuntime) {
     let stopped = PlayFault {
         done: 3,
         fault: TurnFault::ClockEnd,
     };
-    expect_eq(&rt, played, (Err(stopped), false));
-    Ok(())
+    let played = play_at_the_end(&Limited::new(rt.alloc()));
+    expect_eq(&rt, played, Some((true, Err(stopped), false)));
 }
 
 /// What a play without room for a code comes to and whether a growth was refused, what is printed and shows then, what becomes of a
@@ -139,48 +136,31 @@ type Unprinted = (
     (usize, Option<Code>),
 );
 
-/// Plays so, and a word time more.
-fn play_without_room<B: Allocator>(
-    limited: &Limited<B>,
-    machine: &mut Machine<&Limited<B>>,
-    events: &[Event],
-) -> Unprinted {
-    let first = play_refused(limited, machine, events);
-    let before = (printed(machine), look(machine));
-    let second = play(machine, &[Event::WordTime]);
-    (first, before, second, printed(machine))
-}
-
-/// The same of a print.
-fn print_without_room<B: Allocator>(
-    limited: &Limited<B>,
-    events: &[Event],
-) -> Result<Unprinted, Fail> {
-    let mut machine = printing(limited)?;
-    Ok(play_without_room(limited, &mut machine, events))
+/// Plays a start and 451 word times of a print so, and a word time more.
+fn play_without_room<B: Allocator>(limited: &Limited<B>, events: &[Event]) -> Option<Unprinted> {
+    let mut machine = with_words(limited, &[(0, PRINT)])?;
+    limited.refuse(1);
+    let first = (play(&mut machine, events), limited.was_refused());
+    let before = (printed(&machine), look(&machine));
+    let second = play(&mut machine, &[Event::WordTime]);
+    Some((first, before, second, printed(&machine)))
 }
 
 #[test]
-fn a_play_stops_where_there_is_no_room(rt: HostRuntime) -> Result<(), Fail> {
-    let events = events_of(rt.alloc(), &[], 450)?;
+fn a_play_stops_where_there_is_no_room(rt: HostRuntime) {
     let limited = Limited::new(rt.alloc());
-    let unprinted = print_without_room(&limited, events.as_slice())?;
+    let mut events = [Event::WordTime; 452];
+    events[0] = Event::Press(Action::Start);
+    let unprinted = play_without_room(&limited, &events);
     let stopped = PlayFault {
         done: 451,
         fault: TurnFault::Memory,
     };
-    expect_eq(
-        &rt,
-        (unprinted, limited.blocks_out()),
-        (
-            (
-                (Err(stopped), true),
-                ((0, None), None),
-                Ok(()),
-                (1, Code::new(57)),
-            ),
-            0,
-        ),
+    let wanted = (
+        (Err(stopped), true),
+        ((0, None), None),
+        Ok(()),
+        (1, Code::new(57)),
     );
-    Ok(())
+    expect_eq(&rt, (unprinted, limited.blocks_out()), (Some(wanted), 0));
 }

@@ -1,9 +1,9 @@
 //! Growths refused one after the other.
 
 use super::{
-    PRINT, address, expect_eq, look, next_order, printed, shown, start_with_tape, started, turn,
-    turns, with_words, word_at,
+    PRINT, address, look, next_order, printed, shown, started, turn, turns, with_tape, word_at,
 };
+use crate::expect_eq;
 use lgp_drum::Drum;
 use lgp_flexo::Code;
 use lgp_limited::Limited;
@@ -11,7 +11,7 @@ use lgp_machine::{Look, Machine, OrderFault, TurnFault};
 use lgp_table::{Cause, Status};
 use lgp_word::Word;
 use linked_list_allocator::LocalHeap;
-use std::alloc::{AllocError, Allocator};
+use std::alloc::Allocator;
 use std::test::Fail;
 
 /// More growths than any call has.
@@ -24,12 +24,21 @@ type Codes = (usize, [u8; 3]);
 /// and that are left.
 type Whole = (Look, (u16, [u32; 3]), Codes, Codes, Codes);
 
-fn codes(codes: &[Code]) -> Codes {
-    let mut numbers = [0; 3];
-    for (number, code) in numbers.iter_mut().zip(codes) {
-        *number = code.number();
+/// The number of the code at a place, or 0 past the last one.
+fn number_at(codes: &[Code], place: usize) -> u8 {
+    match codes.get(place) {
+        Some(code) => code.number(),
+        None => 0,
     }
-    (codes.len(), numbers)
+}
+
+fn codes(codes: &[Code]) -> Codes {
+    let first = [
+        number_at(codes, 0),
+        number_at(codes, 1),
+        number_at(codes, 2),
+    ];
+    (codes.len(), first)
 }
 
 fn words<A: Allocator>(machine: &Machine<A>) -> (u16, [u32; 3]) {
@@ -64,17 +73,25 @@ fn opening(words: (u16, [u32; 3])) -> Option<Whole> {
     Some((look, words, (0, [0; 3]), (0, [0; 3]), (0, [0; 3])))
 }
 
+/// What a machine has that was made with the nth growth refused; `None` where that is the first one, and where a growth was
+/// refused.
+fn whole_if_last<A: Allocator>(machine: &Machine<A>, nth: u64, refused: bool) -> Option<Whole> {
+    if nth == 1 || refused {
+        return None;
+    }
+    whole(machine)
+}
+
 /// Makes a machine with each growth refused in turn. What it has; `None` where a growth is refused and it is made, or where none
 /// is and it is not.
 fn made<B: Allocator>(limited: &Limited<B>) -> Option<Whole> {
     for nth in 1..MOST {
         limited.refuse(nth);
-        let made = Machine::new(limited);
-        if made.is_ok() == limited.was_refused() {
-            return None;
+        if let Ok(machine) = Machine::new(limited) {
+            return whole_if_last(&machine, nth, limited.was_refused());
         }
-        if let Ok(machine) = made {
-            return if nth > 1 { whole(&machine) } else { None };
+        if !limited.was_refused() {
+            return None;
         }
     }
     None
@@ -83,35 +100,27 @@ fn made<B: Allocator>(limited: &Limited<B>) -> Option<Whole> {
 #[test]
 fn each_growth_of_a_new_machine_is_refused(rt: HostRuntime) -> Result<(), Fail> {
     let heap = LocalHeap::new(rt.alloc(), 262144)?;
-    let limited = Limited::new(&heap);
-    expect_eq(
-        &rt,
-        (made(&limited), heap.used()),
-        (opening((0, [0; 3])), 0),
-    );
+    let made = made(&Limited::new(&heap));
+    expect_eq(&rt, (made, heap.used()), (opening((0, [0; 3])), 0));
     Ok(())
 }
 
 /// A drum with two words.
-fn drum_of_two<A: Allocator + Copy>(alloc: A) -> Result<Drum<A>, AllocError> {
-    let mut drum = Drum::new(alloc)?;
+fn drum_of_two<A: Allocator + Copy>(alloc: A) -> Option<Drum<A>> {
+    let mut drum = Drum::new(alloc).ok()?;
     drum.put(address(1), Word::of_bits(4));
     drum.put(address(4095), Word::of_bits(6));
-    Ok(drum)
+    Some(drum)
 }
 
 /// Makes a machine that begins with a drum, with each growth refused in turn; a drum that is handed back is tried again. What it
-/// has; `None` as above.
-fn made_with<'s, B: Allocator>(
-    limited: &'s Limited<B>,
-    drum: Drum<&'s Limited<B>>,
-) -> Option<Whole> {
-    let mut drum = drum;
+/// has; `None` as above, and without a drum.
+fn made_with<B: Allocator>(limited: &Limited<B>) -> Option<Whole> {
+    let mut drum = drum_of_two(limited)?;
     for nth in 1..MOST {
         limited.refuse(nth);
         match Machine::with_drum(limited, drum) {
-            Ok(machine) if nth > 1 && !limited.was_refused() => return whole(&machine),
-            Ok(_) => return None,
+            Ok(machine) => return whole_if_last(&machine, nth, limited.was_refused()),
             Err(refused) => drum = refused.value,
         }
         if !limited.was_refused() {
@@ -122,20 +131,18 @@ fn made_with<'s, B: Allocator>(
 }
 
 #[test]
-fn each_growth_beside_a_drum_is_refused(rt: HostRuntime) -> Result<(), Fail> {
+fn each_growth_beside_a_drum_is_refused(rt: HostRuntime) {
     let limited = Limited::new(rt.alloc());
-    let drum = drum_of_two(&limited)?;
-    let made = made_with(&limited, drum);
+    let made = made_with(&limited);
     expect_eq(
         &rt,
         (made, limited.blocks_out()),
         (opening((2, [0, 4, 0])), 0),
     );
-    Ok(())
 }
 
 /// A print, and then an input.
-const PRINT_AND_INPUT: [(u16, u32); 3] = [(0, PRINT), (1, 0x0008_0000), (2, 0x0004_0000)];
+static PRINT_AND_INPUT: [(u16, u32); 3] = [(0, PRINT), (1, 0x0008_0000), (2, 0x0004_0000)];
 
 /// Performs three orders; whether none was refused.
 fn perform_three<A: Allocator>(machine: &mut Machine<A>) -> bool {
@@ -145,20 +152,6 @@ fn perform_three<A: Allocator>(machine: &mut Machine<A>) -> bool {
         }
     }
     true
-}
-
-/// Starts with a tape of five codes, and performs three orders; whether all was done.
-fn start_and_perform<A: Allocator + Copy>(machine: &mut Machine<A>, alloc: A) -> bool {
-    start_with_tape(machine, alloc, b"12'3'") && perform_three(machine)
-}
-
-/// A machine that has printed, and has read the first three of the five codes on its tape.
-fn within_a_tape<A: Allocator + Copy>(alloc: A) -> Result<Machine<A>, Fail> {
-    let mut machine = with_words(alloc, &PRINT_AND_INPUT)?;
-    if !start_and_perform(&mut machine, alloc) {
-        return Err(Fail::from("not performed"));
-    }
-    Ok(machine)
 }
 
 /// What it has. The print ends at 451, the order that switches the reader on at 460, and the input at 468 and three codes later.
@@ -179,29 +172,33 @@ fn shown_within_a_tape() -> Option<Whole> {
 fn copied<B: Allocator>(limited: &Limited<B>, machine: &Machine<&Limited<B>>) -> Option<Whole> {
     for nth in 1..MOST {
         limited.refuse(nth);
-        let copied = machine.copy();
-        if copied.is_ok() == limited.was_refused() || whole(machine) != shown_within_a_tape() {
-            return None;
+        if let Ok(copy) = machine.copy() {
+            return whole_if_last(&copy, nth, limited.was_refused());
         }
-        if let Ok(copy) = copied {
-            return if nth > 1 { whole(&copy) } else { None };
+        if !limited.was_refused() || whole(machine) != shown_within_a_tape() {
+            return None;
         }
     }
     None
 }
 
-#[test]
-fn each_growth_of_a_copy_is_refused(rt: HostRuntime) -> Result<(), Fail> {
-    let limited = Limited::new(rt.alloc());
-    let machine = within_a_tape(&limited)?;
+/// Whether a machine has printed, and has read the first three of the five codes on its tape; what its copy has, and then it
+/// itself; and whether as many blocks are out after the copies as before them.
+type Copies = (bool, [Option<Whole>; 2], bool);
+
+fn copied_within_a_tape<B: Allocator>(limited: &Limited<B>) -> Option<Copies> {
+    let mut machine = with_tape(limited, &PRINT_AND_INPUT, b"12'3'")?;
+    let performed = perform_three(&mut machine);
     let before = limited.blocks_out();
-    let copied = copied(&limited, &machine);
-    expect_eq(
-        &rt,
-        (copied, limited.blocks_out()),
-        (shown_within_a_tape(), before),
-    );
-    Ok(())
+    let copied = copied(limited, &machine);
+    let wholes = [copied, whole(&machine)];
+    Some((performed, wholes, limited.blocks_out() == before))
+}
+
+#[test]
+fn each_growth_of_a_copy_is_refused(rt: HostRuntime) {
+    let copies = copied_within_a_tape(&Limited::new(rt.alloc()));
+    expect_eq(&rt, copies, Some((true, [shown_within_a_tape(); 2], true)));
 }
 
 /// What the next order answers: its word times, the status after it and what it prints.
@@ -209,6 +206,14 @@ type Answer = Result<(u64, Status, Option<Code>), OrderFault>;
 
 /// A print whose growth is refused: the answer, and what the machine has then; and the same by word times.
 type Refused = (Answer, Option<Whole>, (u64, Result<bool, TurnFault>), bool);
+
+/// What becomes of a print without room as above; what is printed and shows then; and the last word time of the print with the
+/// second growth refused, which does not come, and what the machine has then.
+type Prints = (
+    Refused,
+    ((usize, Option<Code>), Option<Look>),
+    (Result<bool, TurnFault>, bool, Option<Whole>),
+);
 
 /// Prints in one call and then by its word times, with the first growth refused.
 fn print_refused<B: Allocator>(
@@ -223,14 +228,14 @@ fn print_refused<B: Allocator>(
     (answer, after, turned, limited.was_refused())
 }
 
-/// The last word time of the print with the second growth refused, which does not come; and what the machine has then.
-fn print_ended<B: Allocator>(
-    limited: &Limited<B>,
-    machine: &mut Machine<&Limited<B>>,
-) -> (Result<bool, TurnFault>, bool, Option<Whole>) {
+fn print_without_room<B: Allocator>(limited: &Limited<B>) -> Option<Prints> {
+    let mut machine = started(limited, &[(0, PRINT)])?;
+    let refused = print_refused(limited, &mut machine);
+    let still = (printed(&machine), look(&machine));
     limited.refuse(2);
-    let answer = turn(machine);
-    (answer, limited.was_refused(), whole(machine))
+    let answer = turn(&mut machine);
+    let ended = (answer, limited.was_refused(), whole(&machine));
+    Some((refused, still, ended))
 }
 
 /// A machine that is started on a print, and has printed a given number of codes.
@@ -240,25 +245,16 @@ fn shown_at_print(printed: usize, look: Option<Look>) -> Option<Whole> {
 }
 
 #[test]
-fn a_code_without_room_is_not_printed(rt: HostRuntime) -> Result<(), Fail> {
+fn a_code_without_room_is_not_printed(rt: HostRuntime) {
     let limited = Limited::new(rt.alloc());
-    let mut machine = started(&limited, &[(0, PRINT)])?;
-    let refused = print_refused(&limited, &mut machine);
-    let still = (printed(&machine), look(&machine));
-    let ended = print_ended(&limited, &mut machine);
-    drop(machine);
+    let prints = print_without_room(&limited);
     let before = shown_at_print(0, shown(0, 0, 0, Status::Going, 0));
     let after = shown_at_print(1, shown(1, 0, PRINT, Status::Going, 451));
     let by_turns = (451, Err(TurnFault::Memory));
-    expect_eq(
-        &rt,
-        (refused, still, ended, limited.blocks_out()),
-        (
-            (Err(OrderFault::Memory), before, by_turns, true),
-            ((0, None), None),
-            (Ok(true), false, after),
-            0,
-        ),
+    let wanted = (
+        (Err(OrderFault::Memory), before, by_turns, true),
+        ((0, None), None),
+        (Ok(true), false, after),
     );
-    Ok(())
+    expect_eq(&rt, (prints, limited.blocks_out()), (Some(wanted), 0));
 }

@@ -1,17 +1,17 @@
 //! A machine with a long tape and many printed codes, its copy, and a copy within an activity.
 
 use super::{
-    PRINT, TRANSFER, expect_eq, look, mount, next_order, press, printed, shown, tape_left, turns,
+    PRINT, TRANSFER, look, mount_codes, next_order, printed, shown, start, tape_left, turns,
     with_words, within_an_order,
 };
-use lgp_flexo::{Code, TAPE_LIMIT};
-use lgp_machine::{Look, Machine, TurnFault};
-use lgp_table::{Action, Status};
-use std::alloc::Allocator;
-use std::test::Fail;
+use crate::expect_eq;
+use lgp_flexo::TAPE_LIMIT;
+use lgp_machine::{Look, Machine, MountFault, TurnFault};
+use lgp_table::Status;
+use std::alloc::{Allocator, Global};
 
 /// A print, and a transfer back to it.
-const PRINTS: [(u16, u32); 2] = [(0, PRINT), (1, TRANSFER)];
+static PRINTS: [(u16, u32); 2] = [(0, PRINT), (1, TRANSFER)];
 
 /// How many of a given number of orders are performed before one is refused.
 fn performed<A: Allocator>(machine: &mut Machine<A>, orders: u32) -> u32 {
@@ -36,28 +36,32 @@ fn sizes_of_copy<A: Allocator + Clone>(machine: &Machine<A>) -> Option<Sizes> {
     Some(sizes(&copy))
 }
 
-/// Mounts a tape, starts a machine that prints, and performs 20,000 orders: whether the tape is taken, how many are performed, and
+/// What becomes of the longest tape of a machine that prints, whether that is started, how many of 20,000 orders it performs, and
 /// the sizes then and of a copy.
-fn mounted_and_printed<A: Allocator + Clone>(
-    machine: &mut Machine<A>,
-    tape: Vec<Code, A>,
-) -> (bool, u32, Sizes, Option<Sizes>) {
-    let is_mounted = mount(machine, tape).is_ok() && press(machine, Action::Start).is_ok();
-    let orders = performed(machine, 20_000);
-    (is_mounted, orders, sizes(machine), sizes_of_copy(machine))
+type Long = (
+    Option<Result<(), (MountFault, usize)>>,
+    bool,
+    u32,
+    [Option<Sizes>; 2],
+);
+
+fn mounted_and_printed(global: Global) -> Option<Long> {
+    let mut machine = with_words(global, &PRINTS)?;
+    let mounted = mount_codes(&mut machine, global, TAPE_LIMIT);
+    let started = start(&mut machine);
+    let orders = performed(&mut machine, 20_000);
+    let sizes = [Some(sizes(&machine)), sizes_of_copy(&machine)];
+    Some((mounted, started, orders, sizes))
 }
 
 #[test]
-fn a_long_tape_and_many_codes_are_copied(rt: HostRuntime) -> Result<(), Fail> {
-    let tape = vec![in rt.alloc(); Code::STOP; TAPE_LIMIT]?;
-    let mut machine = with_words(rt.alloc(), &PRINTS)?;
-    let sizes = (10_000, Some(1_048_576));
+fn a_long_tape_and_many_codes_are_copied(rt: HostRuntime) {
+    let sizes = Some((10_000, Some(1_048_576)));
     expect_eq(
         &rt,
-        mounted_and_printed(&mut machine, tape),
-        (true, 20_000, sizes, Some(sizes)),
+        mounted_and_printed(rt.alloc()),
+        Some((Some(Ok(())), true, 20_000, [sizes; 2])),
     );
-    Ok(())
 }
 
 /// How many word times there are up to the end of the activity, and what shows then.
@@ -73,19 +77,20 @@ fn turned_copy<A: Allocator + Clone>(machine: &Machine<A>) -> Option<Turned> {
     Some(turned(&mut copy))
 }
 
-/// The transfer takes 67 word times, and ends 66 after the first one.
-fn ended() -> Turned {
-    ((66, Ok(true)), shown(0, 0, TRANSFER, Status::Going, 67))
+/// The same of a copy and then of the machine.
+fn turned_twice(global: Global) -> Option<[Option<Turned>; 2]> {
+    let mut machine = within_an_order(global)?;
+    let copied = turned_copy(&machine);
+    Some([copied, Some(turned(&mut machine))])
 }
 
+/// The transfer takes 67 word times, and ends 66 after the first one.
 #[test]
-fn a_copy_within_an_activity_ends_it(rt: HostRuntime) -> Result<(), Fail> {
-    let mut machine = within_an_order(rt.alloc())?;
-    let copied = turned_copy(&machine);
+fn a_copy_within_an_activity_ends_it(rt: HostRuntime) {
+    let look = shown(0, 0, TRANSFER, Status::Going, 67);
     expect_eq(
         &rt,
-        (copied, turned(&mut machine)),
-        (Some(ended()), ended()),
+        turned_twice(rt.alloc()),
+        Some([Some(((66, Ok(true)), look)); 2]),
     );
-    Ok(())
 }

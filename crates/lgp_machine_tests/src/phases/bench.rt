@@ -8,8 +8,6 @@ use lgp_table::{Mode, Panel, Status, Switches};
 use lgp_word::{Address, Op, Word, read_digits, write_digits};
 use std::alloc::Allocator;
 use std::marker::Model;
-use std::process::Abort;
-use std::test::Fail;
 
 /// How an activity is performed.
 #[derive(Clone, Copy, Debug, PartialEq, Eq)]
@@ -90,58 +88,55 @@ pub const END: End = End {
     left: 0,
 };
 
-/// The word of these digits.
-fn word(digits: &[u8; 8]) -> Result<Word, Fail> {
-    Ok(read_digits(digits.as_slice()).ok_or("not a word")?)
+/// The word of these digits, or 0 where they are none.
+fn word(digits: &[u8; 8]) -> Word {
+    read_digits(digits.as_slice()).unwrap_or_default()
 }
 
-/// The address of this text.
-pub fn at(text: &[u8; 4]) -> Result<Address, Fail> {
-    Ok(Address::parse(text.as_slice()).ok_or("not an address")?)
+/// The address of this text, or 0000 where it is none.
+pub fn at(text: &[u8; 4]) -> Address {
+    Address::parse(text.as_slice()).unwrap_or_default()
 }
 
 /// A drum with these words.
-fn drum_of<A: Allocator + Copy>(alloc: A, cells: &[Cell]) -> Result<Drum<A>, Fail> {
-    let mut drum = Drum::new(alloc)?;
+fn drum_of<A: Allocator + Copy>(alloc: A, cells: &[Cell]) -> Option<Drum<A>> {
+    let mut drum = Drum::new(alloc).ok()?;
     for (address, digits) in cells {
-        drum.put(at(address)?, word(digits)?);
+        drum.put(at(address), word(digits));
     }
-    Ok(drum)
+    Some(drum)
 }
 
-/// Puts these codes in the reader, and switches it on where the tape is read from the console.
-fn load<A: Allocator>(
-    reader: &mut Reader<A>,
-    codes: Vec<Code, A>,
-    status: Status,
-) -> Result<(), Fail> {
-    if reader.mount(codes).is_err() {
-        return Err(Fail::from("the tape is too long"));
-    }
+/// Puts these codes in the reader, and switches it on where the tape is read from the console; whether they were taken.
+fn load<A: Allocator>(reader: &mut Reader<A>, codes: Vec<Code, A>, status: Status) -> bool {
+    let taken = reader.mount(codes).is_ok();
     if status == Status::Reading {
         reader.start();
     }
-    Ok(())
+    taken
 }
 
 /// A reader with the tape of a case.
-fn reader_of<A: Allocator + Copy>(alloc: A, case: &Case) -> Result<Reader<A>, Fail> {
-    let codes = read_tape_text(alloc, case.tape)?;
+fn reader_of<A: Allocator + Copy>(alloc: A, case: &Case) -> Option<Reader<A>> {
+    let codes = read_tape_text(alloc, case.tape).ok()?;
     let mut reader = Reader::new(alloc);
-    load(&mut reader, codes, case.status)?;
-    Ok(reader)
+    if load(&mut reader, codes, case.status) {
+        Some(reader)
+    } else {
+        None
+    }
 }
 
 /// The registers of a case.
-fn panel_of(case: &Case) -> Result<Panel, Fail> {
-    Ok(Panel {
-        counter: at(&case.counter)?,
+fn panel_of(case: &Case) -> Panel {
+    Panel {
+        counter: at(&case.counter),
         accumulator: case.accumulator,
-        register: word(&case.register)?,
+        register: word(&case.register),
         status: case.status,
         mode: case.mode,
         switches: case.switches,
-    })
+    }
 }
 
 /// A processor with its registers, drum, reader and clock.
@@ -171,12 +166,14 @@ impl<A: Allocator> Model for Bench<A> {
 
 impl<A: Allocator + Copy> Bench<A> {
     /// The bench of a case, at clock 0.
-    pub fn new(alloc: A, case: &Case) -> Result<Bench<A>, Fail> {
-        let panel = panel_of(case)?;
-        let processor = Processor::new(alloc)?;
+    pub fn new(alloc: A, case: &Case) -> Option<Bench<A>> {
+        let panel = panel_of(case);
+        let Ok(processor) = Processor::new(alloc) else {
+            return None;
+        };
         let drum = drum_of(alloc, case.cells)?;
         let reader = reader_of(alloc, case)?;
-        Ok(Bench {
+        Some(Bench {
             panel,
             drum,
             reader,
@@ -185,10 +182,15 @@ impl<A: Allocator + Copy> Bench<A> {
         })
     }
 
-    /// Goes on with a copy of the processor.
-    pub fn copy(&mut self) -> Result<(), Fail> {
-        self.processor = self.processor.copy()?;
-        Ok(())
+    /// Goes on with a copy of the processor; whether there is one.
+    pub fn copy(&mut self) -> bool {
+        match self.processor.copy() {
+            Ok(copy) => {
+                self.processor = copy;
+                true
+            }
+            Err(_) => false,
+        }
     }
 }
 
@@ -227,19 +229,19 @@ impl<A: Allocator> Bench<A> {
         })
     }
 
-    /// One activity.
-    pub fn activity(&mut self, way: Way) -> Result<Outcome, Fail> {
+    /// One activity, and the state of the machine after it; `None` where it is not as foretold.
+    pub fn activity(&mut self, way: Way) -> Option<End> {
         let outcome = match way {
-            Way::WordTimes => self.order(),
-            Way::OneCall => self.at_once(),
-            Way::Short => self.short(),
+            Way::WordTimes => self.order()?,
+            Way::OneCall => self.at_once()?,
+            Way::Short => self.short()?,
         };
-        Ok(outcome.ok_or("not as foretold")?)
+        Some(self.end(&outcome))
     }
 
     /// The parts of the word that is kept decoded at an address.
-    pub fn decoded(&self, text: &[u8; 4]) -> Result<Option<(bool, Op, Address)>, Fail> {
-        Ok(self.processor.decoded(at(text)?))
+    pub fn decoded(&self, text: &[u8; 4]) -> Option<(bool, Op, Address)> {
+        self.processor.decoded(at(text))
     }
 
     /// Forgets what is decoded.
@@ -300,9 +302,8 @@ impl<A: Allocator> Bench<A> {
     }
 
     /// Whether this word is on the drum.
-    fn holds(&self, cell: Cell) -> Result<bool, Fail> {
-        let (address, digits) = cell;
-        Ok(self.drum.word(at(&address)?) == word(&digits)?)
+    fn holds(&self, cell: &Cell) -> bool {
+        self.drum.word(at(&cell.0)) == word(&cell.1)
     }
 
     /// The state of the machine after an activity of this outcome.
@@ -320,43 +321,36 @@ impl<A: Allocator> Bench<A> {
     }
 }
 
-/// Performs the activities of a case, compares the machine's state after each, and looks for the word that is then on the drum.
-fn perform_to<A: Allocator>(
-    rt: &impl Abort,
-    bench: &mut Bench<A>,
-    case: &Case,
-    way: Way,
-) -> Result<(), Fail> {
+/// Whether all went as a case says; or else the way, and the state after the first activity that ends in another one, or `None`
+/// where an activity is not as foretold or another word is then on the drum.
+pub type Performed = Result<(), (Way, Option<End>)>;
+
+/// Performs the activities of a case.
+fn perform_to<A: Allocator>(bench: &mut Bench<A>, case: &Case, way: Way) -> Performed {
     for end in case.ends {
-        let outcome = bench.activity(way)?;
-        assert_eq!(rt; bench.end(&outcome), *end, "{way:?}");
+        let seen = bench.activity(way);
+        if seen != Some(*end) {
+            return Err((way, seen));
+        }
     }
-    if bench.holds(case.stored)? {
+    if bench.holds(&case.stored) {
         Ok(())
     } else {
-        Err(Fail::from("another word is stored"))
+        Err((way, None))
     }
 }
 
-/// Performs the activities of a case.
-fn perform<A: Allocator + Copy>(
-    rt: &impl Abort,
-    alloc: A,
-    case: &Case,
-    way: Way,
-) -> Result<(), Fail> {
-    let mut bench = Bench::new(alloc, case)?;
-    perform_to(rt, &mut bench, case, way)
+/// The same on a bench of its own.
+fn perform<A: Allocator + Copy>(alloc: A, case: &Case, way: Way) -> Performed {
+    match Bench::new(alloc, case) {
+        Some(mut bench) => perform_to(&mut bench, case, way),
+        None => Err((way, None)),
+    }
 }
 
 /// Performs the activities of a case in each way.
-pub fn perform_all<A: Allocator + Copy>(
-    rt: &impl Abort,
-    alloc: A,
-    case: &Case,
-) -> Result<(), Fail> {
-    for way in [Way::WordTimes, Way::OneCall, Way::Short] {
-        perform(rt, alloc, case, way)?;
-    }
-    Ok(())
+pub fn perform_all<A: Allocator + Copy>(alloc: A, case: &Case) -> Performed {
+    perform(alloc, case, Way::WordTimes)?;
+    perform(alloc, case, Way::OneCall)?;
+    perform(alloc, case, Way::Short)
 }
