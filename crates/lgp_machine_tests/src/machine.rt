@@ -25,7 +25,7 @@ const TRANSFER: u32 = 0x000a_0000;
 const PRINT: u32 = 0x0008_3900;
 
 /// An order that switches the reader on, and an input.
-static INPUT: [(u16, u32); 2] = [(0, 0x0008_0000), (1, 0x0004_0000)];
+const INPUT: [(u16, u32); 2] = [(0, 0x0008_0000), (1, 0x0004_0000)];
 
 // The machine's methods without their contracts, which would fill the context of each test.
 

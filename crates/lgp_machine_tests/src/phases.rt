@@ -3,7 +3,7 @@
 mod bench;
 
 use crate::expect_eq;
-use bench::{Bench, CASE, Case, END, End, Performed, UP, Way, at, perform_all};
+use bench::{Bench, CASE, Case, END, End, Performed, UP, Way, at, perform_all, perform_each};
 use lgp_flexo::Code;
 use lgp_phases::{Outcome, Processor, Progress, act_time, seek_time, wait};
 use lgp_reader::Reader;
@@ -13,7 +13,7 @@ use linked_list_allocator::LocalHeap;
 use std::alloc::{Allocator, Global};
 
 /// A load, a sum, a store and a stop.
-static SUM: Case = Case {
+const SUM: Case = Case {
     cells: &[
         (*b"0000", *b"000100j8"),
         (*b"0001", *b"000q00jj"),
@@ -71,7 +71,7 @@ fn a_sum_is_stored_over_a_small_heap(rt: HostRuntime) {
 }
 
 /// Two loads that wait long.
-static WAITS: [Case; 2] = [
+const WAITS: [Case; 2] = [
     Case {
         cells: &[(*b"0000", *b"000100j8")],
         ends: &[End {
@@ -106,13 +106,10 @@ fn orders_wait_for_their_sectors(rt: HostRuntime) {
     expect_eq(
         &rt,
         (
-            [
-                perform_all(rt.alloc(), &WAITS[0]),
-                perform_all(rt.alloc(), &WAITS[1]),
-            ],
+            perform_each(rt.alloc(), &WAITS),
             [read_at(1, 67, 0), read_at(1, 129, 0), read_at(1, 60, 69)],
         ),
-        ([Ok(()); 2], [Some(73), Some(137), Some(137)]),
+        (Ok(()), [Some(73), Some(137), Some(137)]),
     );
 }
 
@@ -147,7 +144,7 @@ fn the_last_phase_takes_its_word_times(rt: HostRuntime) {
 }
 
 /// A sum above the largest fraction.
-static OVERFLOW: Case = Case {
+const OVERFLOW: Case = Case {
     cells: &[
         (*b"0000", *b"000100j8"),
         (*b"0001", *b"000q00jj"),
@@ -179,7 +176,7 @@ fn an_overflow_halts(rt: HostRuntime) {
 }
 
 /// An address that is stored into a later order.
-static ADDRESS: Case = Case {
+const ADDRESS: Case = Case {
     cells: &[
         (*b"0000", *b"000100j8"),
         (*b"0001", *b"00020008"),
@@ -214,7 +211,7 @@ static ADDRESS: Case = Case {
 };
 
 /// An order that replaces itself, and is read again.
-static REPLACED: Case = Case {
+const REPLACED: Case = Case {
     cells: &[
         (*b"0000", *b"000100j8"),
         (*b"0001", *b"000k0004"),
@@ -263,7 +260,7 @@ fn orders_are_changed_before_they_are_read(rt: HostRuntime) {
 }
 
 /// Return addresses, the last one after the last word of the drum.
-static RETURNS: [Case; 2] = [
+const RETURNS: [Case; 2] = [
     Case {
         cells: &[
             (*b"0100", *b"00030128"),
@@ -310,18 +307,11 @@ static RETURNS: [Case; 2] = [
 
 #[test]
 fn return_addresses_are_stored(rt: HostRuntime) {
-    expect_eq(
-        &rt,
-        [
-            perform_all(rt.alloc(), &RETURNS[0]),
-            perform_all(rt.alloc(), &RETURNS[1]),
-        ],
-        [Ok(()); 2],
-    );
+    expect_eq(&rt, perform_each(rt.alloc(), &RETURNS), Ok(()));
 }
 
 /// A break point at track 32.
-static BREAK_POINT: Case = Case {
+const BREAK_POINT: Case = Case {
     cells: &[(*b"0000", *b"00002000")],
     ..CASE
 };
@@ -357,7 +347,7 @@ fn a_break_point_is_passed(rt: HostRuntime) {
 /// An order, the accumulator before it, the word at 0050, the accumulator after it and the clock then.
 type Sum = ([u8; 8], u32, [u8; 8], u32, u64);
 
-static SUMS: [Sum; 6] = [
+const SUMS: [Sum; 6] = [
     (*b"000500j8", 2, *b"00000006", 0x2aaa_aaaa, 131),
     (*b"000600j8", 6, *b"0000000f", 0x3c, 131),
     (*b"000700j8", 6, *b"0000000f", 0, 131),
@@ -391,7 +381,7 @@ fn arithmetic_takes_a_revolution_more(rt: HostRuntime) {
 }
 
 /// A test order, the accumulator, whether TRANSFER CONTROL is down, and the counter after it.
-static TESTS: [([u8; 8], u32, bool, [u8; 4]); 4] = [
+const TESTS: [([u8; 8], u32, bool, [u8; 4]); 4] = [
     (*b"800g0100", 0, false, *b"0001"),
     (*b"800g0100", 0, true, *b"0100"),
     (*b"000g0100", 0, true, *b"0001"),
@@ -428,7 +418,7 @@ fn a_test_transfers_by_sign_or_switch(rt: HostRuntime) {
 }
 
 /// The code 57, printed.
-static PRINT: Case = Case {
+const PRINT: Case = Case {
     cells: &[(*b"0000", *b"00083900")],
     ends: &[End {
         clock: 451,
@@ -469,7 +459,7 @@ fn the_last_word_time_prints(rt: HostRuntime) {
 }
 
 /// Switches the reader on, and performs an input.
-static INPUT: Case = Case {
+const INPUT: Case = Case {
     cells: &[(*b"0000", *b"00080000"), (*b"0001", *b"00040000")],
     ..CASE
 };
@@ -477,7 +467,7 @@ static INPUT: Case = Case {
 /// A tape, whether 6 BIT INPUT is down, its codes, the clock after the input, the status and the accumulator then.
 type Tape<'a> = (&'a [u8], bool, usize, u64, Status, u32);
 
-static TAPES: [Tape; 3] = [
+const TAPES: [Tape; 3] = [
     (b"12[16]3'", false, 5, 1996, Status::Going, 0x123),
     (b"12[16]3", false, 4, 1612, Status::Waiting, 0x123),
     (b"a'", true, 2, 844, Status::Going, 0x39),
@@ -521,7 +511,7 @@ fn an_input_passes_codes(rt: HostRuntime) {
 }
 
 /// A tape that is read from the console, the mode, the clock and the status after it, and the codes that are left.
-static READ: [(&[u8], Mode, u64, Status, usize); 5] = [
+const READ: [(&[u8], Mode, u64, Status, usize); 5] = [
     (b"12'3", Mode::Normal, 1153, Status::Going, 1),
     (
         b"12'3",
@@ -569,7 +559,7 @@ fn a_tape_is_read_from_the_console(rt: HostRuntime) {
 }
 
 /// A load in the instruction register.
-static EXECUTED: Case = Case {
+const EXECUTED: Case = Case {
     cells: &[(*b"0050", *b"00000006")],
     register: *b"000100j8",
     status: Status::Executing,

@@ -14,9 +14,9 @@ const STOPPED: Status = Status::Halted(Cause::Stop);
 
 const STEPPED: Status = Status::Halted(Cause::Step);
 
-static MODES: [Mode; 3] = [Mode::Normal, Mode::OneOperation, Mode::Manual];
+const MODES: [Mode; 3] = [Mode::Normal, Mode::OneOperation, Mode::Manual];
 
-static STATUSES: [Status; 8] = [
+const STATUSES: [Status; 8] = [
     OPERATOR,
     STOPPED,
     Status::Halted(Cause::Overflow),

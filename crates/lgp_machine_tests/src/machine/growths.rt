@@ -142,7 +142,7 @@ fn each_growth_beside_a_drum_is_refused(rt: HostRuntime) {
 }
 
 /// A print, and then an input.
-static PRINT_AND_INPUT: [(u16, u32); 3] = [(0, PRINT), (1, 0x0008_0000), (2, 0x0004_0000)];
+const PRINT_AND_INPUT: [(u16, u32); 3] = [(0, PRINT), (1, 0x0008_0000), (2, 0x0004_0000)];
 
 /// Performs three orders; whether none was refused.
 fn perform_three<A: Allocator>(machine: &mut Machine<A>) -> bool {

@@ -11,7 +11,7 @@ use lgp_table::Status;
 use std::alloc::{Allocator, Global};
 
 /// A print, and a transfer back to it.
-static PRINTS: [(u16, u32); 2] = [(0, PRINT), (1, TRANSFER)];
+const PRINTS: [(u16, u32); 2] = [(0, PRINT), (1, TRANSFER)];
 
 /// How many of a given number of orders are performed before one is refused.
 fn performed<A: Allocator>(machine: &mut Machine<A>, orders: u32) -> u32 {

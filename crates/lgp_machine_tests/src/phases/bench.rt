@@ -354,3 +354,11 @@ pub fn perform_all<A: Allocator + Copy>(alloc: A, case: &Case) -> Performed {
     perform(alloc, case, Way::OneCall)?;
     perform(alloc, case, Way::Short)
 }
+
+/// Performs the activities of each case in each way.
+pub fn perform_each<A: Allocator + Copy>(alloc: A, cases: &[Case]) -> Performed {
+    for case in cases {
+        perform_all(alloc, case)?;
+    }
+    Ok(())
+}
