@@ -1,6 +1,6 @@
 //! Histories beside a machine.
 
-ghost use Rattle.std.specs.Prelude.{◌≡◌, ◌≤◌, IsTrue, IfOk, OnOk, OnErr};
+ghost use Rattle.std.specs.Prelude.{◌≡◌, ◌≤◌, IsTrue, IfSome, OnOk, OnErr};
 ghost use Rattle.lgp_table.specs.Interleaving.{at_boundary};
 ghost use Rattle.lgp_history.specs.Step.{plain};
 ghost use Rattle.lgp_history.specs.Steps.{CanStep, stepped};
@@ -9,20 +9,34 @@ mod growths;
 mod origins;
 mod rows;
 
-use lgp_flexo::TAPE_LIMIT;
+use lgp_flexo::{TAPE_LIMIT, read_tape_text};
 use lgp_history::laws::{last_hits, orders_again, origins_go_back, words_come};
-use lgp_history::{BackFault, Checkpoints, History, Records, Step};
+use lgp_history::{BackFault, CAPACITY_LIMIT, Checkpoints, History, Records, Step, Tape};
 use lgp_machine::Machine;
-use lgp_table::Status;
+use lgp_table::{Action, Status};
 use lgp_word::{Address, Word};
 use std::alloc::{AllocError, Allocator};
 use std::marker::Model;
-use std::test::Fail;
 
 const CLOCK_END: u64 = 1 << 62;
 
 /// A transfer to 0000.
 const TRANSFER: u32 = 0x000a_0000;
+
+// New histories without the contracts of their calls, which would fill the context of each test.
+
+/// Records of at most a given number of steps, which is at least 1 and at most the limit.
+pub fn records<A: Allocator + Clone>(alloc: A, capacity: usize) -> Result<Records<A>, AllocError> {
+    Records::new(alloc, capacity.clamp(1, CAPACITY_LIMIT))
+}
+
+/// The same with checkpoints.
+pub fn checkpoints<A: Allocator + Clone>(
+    alloc: A,
+    capacity: usize,
+) -> Result<Checkpoints<A>, AllocError> {
+    Checkpoints::new(alloc, capacity.clamp(1, CAPACITY_LIMIT))
+}
 
 /// A machine at a boundary and a history of it. Nothing is said of it but that its calls can be made.
 #[derive(Drop)]
@@ -45,13 +59,13 @@ impl<A: Allocator, H: History<A>> Model for Session<A, H> {
 }
 
 /// A machine with these words at 0000 and 0001.
-fn programmed<A: Allocator + Copy>(alloc: A, first: u32, second: u32) -> Result<Machine<A>, Fail>
-    ensures { IfOk result (λ machine. machine ≡ at_boundary machine.state) }
+fn programmed<A: Allocator + Copy>(alloc: A, words: [u32; 2]) -> Option<Machine<A>>
+    ensures { IfSome result (λ machine. machine ≡ at_boundary machine.state) }
 {
-    let mut machine = Machine::new(alloc)?;
-    machine.put(address(0), Word::of_bits(first))?;
-    machine.put(address(1), Word::of_bits(second))?;
-    Ok(machine)
+    let mut machine = Machine::new(alloc).ok()?;
+    let first = machine.put(address(0), Word::of_bits(words[0])).is_ok();
+    let second = machine.put(address(1), Word::of_bits(words[1])).is_ok();
+    if first && second { Some(machine) } else { None }
 }
 
 /// The address of that number, or 0000 above all.
@@ -68,32 +82,17 @@ fn begin<A: Allocator, H: History<A>>(machine: Machine<A>, history: H) -> Sessio
     Session { machine, history }
 }
 
-/// A session with records of at most `capacity` steps, of a machine with these words at 0000 and 0001.
-fn recording<A: Allocator + Copy>(
+/// A session with this history, of a machine with these words at 0000 and 0001.
+fn session_of<A: Allocator + Copy, H: History<A>>(
     alloc: A,
-    capacity: usize,
+    history: Result<H, AllocError>,
     words: [u32; 2],
-) -> Result<Session<A, Records<A>>, Fail>
-    requires some { 1 ≤ capacity }
-    requires few { capacity ≤ 65536 }
-{
-    let history = Records::new(alloc, capacity)?;
-    let machine = programmed(alloc, words[0], words[1])?;
-    Ok(begin(machine, history))
-}
-
-/// The same with checkpoints.
-fn checkpointing<A: Allocator + Copy>(
-    alloc: A,
-    capacity: usize,
-    words: [u32; 2],
-) -> Result<Session<A, Checkpoints<A>>, Fail>
-    requires some { 1 ≤ capacity }
-    requires few { capacity ≤ 65536 }
-{
-    let history = Checkpoints::new(alloc, capacity)?;
-    let machine = programmed(alloc, words[0], words[1])?;
-    Ok(begin(machine, history))
+) -> Option<Session<A, H>> {
+    let machine = programmed(alloc, words)?;
+    match history {
+        Ok(history) => Some(begin(machine, history)),
+        Err(_) => None,
+    }
 }
 
 /// Whether a step can be taken.
@@ -161,17 +160,64 @@ fn back<A: Allocator, H: History<A>>(
     session.history.back(orders, &mut session.machine)
 }
 
-/// Performs a given number of orders; `None` where one is refused.
-fn orders<A: Allocator + Clone, H: History<A>>(
+/// A step without its allocator.
+#[derive(Clone, Copy)]
+enum Deed {
+    Perform,
+    Idle(u64),
+    Press(Action),
+    /// A word at 0136, whose number is 100.
+    Put(u32),
+    /// The tape of 1 and 2.
+    MountFirst,
+    /// The tape of 3 and 4.
+    MountSecond,
+}
+
+/// A step that mounts the tape of a text; `None` where that is no tape, or without memory.
+fn mounting<A: Allocator + Copy>(alloc: A, text: &[u8]) -> Option<Step<A>> {
+    let Ok(codes) = read_tape_text(alloc, text) else {
+        return None;
+    };
+    Some(Step::Mount(Tape::new(codes)))
+}
+
+/// The step of a deed; `None` where there is no memory for a tape.
+fn step_of<A: Allocator + Copy>(alloc: A, deed: Deed) -> Option<Step<A>> {
+    match deed {
+        Deed::Perform => Some(Step::Perform),
+        Deed::Idle(times) => Some(Step::Idle(times)),
+        Deed::Press(action) => Some(Step::Press(action)),
+        Deed::Put(bits) => Some(Step::Put(address(100), Word::of_bits(bits))),
+        Deed::MountFirst => mounting(alloc, b"12'"),
+        Deed::MountSecond => mounting(alloc, b"34'"),
+    }
+}
+
+/// Whether a step is taken.
+fn is_taken<A: Allocator + Copy, H: History<A>>(
+    alloc: A,
     session: &mut Session<A, H>,
-    count: u64,
-) -> Option<()> {
-    for _ in 0..count {
-        if take(session, &Step::Perform) != Ok(true) {
-            return None;
+    deed: Deed,
+) -> bool {
+    match step_of(alloc, deed) {
+        Some(step) => take(session, &step) == Ok(true),
+        None => false,
+    }
+}
+
+/// Whether steps are all taken, one after another.
+fn all_taken<A: Allocator + Copy, H: History<A>>(
+    alloc: A,
+    session: &mut Session<A, H>,
+    deeds: &[Deed],
+) -> bool {
+    for deed in deeds {
+        if !is_taken(alloc, session, *deed) {
+            return false;
         }
     }
-    Some(())
+    true
 }
 
 /// The clock, the status, how many steps are kept and how many orders.

@@ -2,8 +2,19 @@
 #![tactic(auto)]
 
 #[cfg(test)]
+use std::fmt::Debug;
+#[cfg(test)]
+use std::process::Abort;
+
+#[cfg(test)]
 mod debugger;
 #[cfg(test)]
 mod history;
 #[cfg(test)]
 mod loader;
+
+/// Expects a value in a function of its own, so that a test needs no more than the call.
+#[cfg(test)]
+fn expect_eq<T: PartialEq + Debug + Drop>(rt: &impl Abort, seen: T, wanted: T) {
+    assert_eq!(rt; seen, wanted);
+}

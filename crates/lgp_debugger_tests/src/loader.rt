@@ -1,5 +1,6 @@
 //! Tapes and loads of small programs, by both loaders.
 
+use crate::expect_eq;
 use lgp_assembler::{Image, assemble};
 use lgp_flexo::{Code, write_tape_text};
 use lgp_keyin::{actions_to_jump, key_in};
@@ -11,7 +12,6 @@ use lgp_machine::{Look, Machine};
 use lgp_table::{Action, Cause, Mode, Status, Switches};
 use lgp_word::{Address, Word, read_digits};
 use std::alloc::{AllocError, Allocator, Global};
-use std::test::Fail;
 
 mod growths;
 mod loads;
@@ -49,8 +49,12 @@ enum Way<'a> {
 
 // The calls without their contracts, which would fill the context of each test.
 
-fn image(alloc: Global, source: &[u8]) -> Result<Image, Fail> {
-    Ok(assemble(alloc, source)?)
+/// The image of a source; `None` where it has faults, or without memory.
+pub fn image<A: Allocator + Copy>(alloc: A, source: &[u8]) -> Option<Image<A>> {
+    match assemble(alloc, source) {
+        Ok(image) => Some(image),
+        Err(_) => None,
+    }
 }
 
 fn tape_by<A: Allocator + Copy>(
@@ -89,16 +93,32 @@ fn press<A: Allocator>(machine: &mut Machine<A>, actions: &[Action]) {
     }
 }
 
-/// Whether a word time ends at a boundary.
-fn turn<A: Allocator>(machine: &mut Machine<A>) -> Result<bool, Fail> {
-    Ok(machine.turn()?)
+/// Where a machine is: how many word times it has been at rest, and whether it is within an order then.
+type Stand = (u64, bool);
+
+/// A new machine.
+const NEW: Stand = (0, false);
+
+/// Brings a new machine there; false where that is refused.
+fn set_up<A: Allocator>(machine: &mut Machine<A>, (clock, is_within): Stand) -> bool {
+    if machine.rest(clock).is_err() {
+        return false;
+    }
+    if !is_within {
+        return true;
+    }
+    press(machine, &[Action::Start]);
+    machine.turn().is_ok()
 }
 
-/// A new machine after a given number of word times at rest.
-fn machine_at<A: Allocator + Copy>(alloc: A, clock: u64) -> Result<Machine<A>, Fail> {
-    let mut machine = Machine::new(alloc)?;
-    machine.rest(clock)?;
-    Ok(machine)
+/// A machine that is there.
+fn machine_at<A: Allocator + Copy>(alloc: A, stand: Stand) -> Option<Machine<A>> {
+    let mut machine = Machine::new(alloc).ok()?;
+    if set_up(&mut machine, stand) {
+        Some(machine)
+    } else {
+        None
+    }
 }
 
 /// Whether the word at this place of the drum has these digits.
@@ -139,12 +159,46 @@ fn stopped(counter: &[u8], digits: &[u8], switches: Switches, clock: u64) -> Opt
 
 /// Whether the words of a loader have these digits.
 fn are_words(loader: &[Word], wanted: &[&[u8]]) -> bool {
-    for (found, digits) in loader.iter().zip(wanted) {
-        if Some(*found) != read_digits(digits) {
+    let mut place = 0usize;
+    for digits in wanted {
+        let word = read_digits(digits);
+        if word.is_none() || loader.get(place) != word.as_ref() {
             return false;
         }
+        place = place.saturating_add(1);
     }
     loader.len() == wanted.len()
+}
+
+/// A program, how it is loaded, and on which machine.
+type Task<'a> = (&'a [u8], Way<'a>, Stand);
+
+/// What a load answers, what shows then, and whether given words are at their places.
+type Loaded = (Result<u64, LoadFault>, Option<Look>, bool);
+
+fn load_on(
+    alloc: Global,
+    machine: &mut Machine,
+    (image, way): (&Image, Way),
+    words: &[(&[u8], &[u8])],
+) -> Loaded {
+    let answer = load_by(alloc, machine, image, way);
+    (answer, look(machine), has_words(machine, words))
+}
+
+/// The same of a program, on a machine of its own.
+fn loaded(alloc: Global, (source, way, stand): Task, words: &[(&[u8], &[u8])]) -> Option<Loaded> {
+    let image = image(alloc, source)?;
+    let mut machine = machine_at(alloc, stand)?;
+    Some(load_on(alloc, &mut machine, (&image, way), words))
+}
+
+/// How long the tape of an image is, or why it is not cut.
+fn tape_length<A: Allocator + Copy>(alloc: A, image: &Image, way: Way) -> Result<usize, CutFault> {
+    match tape_by(alloc, image, way) {
+        Ok(tape) => Ok(tape.len()),
+        Err(fault) => Err(fault),
+    }
 }
 
 const BLOCK_LOADER: [&[u8]; 22] = [
@@ -191,5 +245,5 @@ fn the_words_of_the_loaders(rt: HostRuntime) {
         are_words(&LOADER, &BLOCK_LOADER),
         are_words(&LOADER_10, &SINGLE_LOADER),
     ];
-    assert_eq!(rt; found, [true; 2]);
+    expect_eq(&rt, found, [true; 2]);
 }

@@ -1,10 +1,13 @@
 //! Calls of a debugger and looks at it, and what they answer, as plain values.
 
-use lgp_assembler::{Image, assemble};
+ghost use Rattle.std.specs.Prelude.{◌≡◌, IfSome};
+ghost use Rattle.lgp_table.specs.Interleaving.{at_boundary};
+
+use crate::loader::image;
+use lgp_assembler::Image;
 use lgp_debugger::{
     Debugger, HitFault, IdleFault, MountFault, PutFault, Ran, RuleFault, RunFault, StepFault,
 };
-use lgp_drum::Drum;
 use lgp_flexo::{Code, read_tape_text};
 use lgp_history::{BackFault, History, Rule};
 use lgp_loader::LoadFault;
@@ -14,7 +17,7 @@ use lgp_word::{Address, Word};
 use std::alloc::{AllocError, Allocator};
 
 /// A rule by the number of its address.
-#[derive(Clone, Copy, Debug, PartialEq, Eq)]
+#[derive(Clone, Copy)]
 pub enum Named {
     At(u16),
     Changed(u16),
@@ -30,46 +33,42 @@ pub enum Button {
     Manual,
 }
 
-/// A call of a debugger, or a look at it.
-#[derive(Clone, Copy)]
-pub enum Call {
-    Put(u16, u32),
-    Press(Button),
-    Step,
-    /// A given number of orders, or fewer where one is refused.
-    Steps(u64),
-    Idle(u64),
-    /// A tape by its text.
-    Mount(&'static [u8]),
-    Back(u64),
-    AddRule(Named),
-    /// The same rule a given number of times, or fewer where one is refused.
-    AddRules(Named, u64),
-    RemoveRule(u8),
-    Run(u64),
+/// A call of a debugger or a look at it, and last what it has to answer.
+pub enum Row {
+    Put(u16, u32, Result<(), PutFault>),
+    /// Whether the press is live.
+    Press(Button, bool),
+    /// What the order costs.
+    Step(Result<u64, StepFault>),
+    /// A given number of orders, and how many are done until one is refused.
+    Steps(u64, u64),
+    Idle(u64, Result<(), IdleFault>),
+    /// A tape by its text; a refused one is reported by the number of codes handed back.
+    Mount(&'static [u8], Result<(), (MountFault, usize)>),
+    Back(u64, Result<(), BackFault>),
+    AddRule(Named, Result<u8, RuleFault>),
+    /// The same rule a given number of times, and how many are added until one is refused.
+    AddRules(Named, u64, u64),
+    RemoveRule(u8, Option<Named>),
+    Run(u64, Result<Ran, RunFault>),
     /// A run that no rule stops.
-    RunFreely(u64),
+    RunFreely(u64, Result<Ran, RunFault>),
     /// One order of a run.
-    GoOn,
-    LastHit,
-    /// A program by its source.
-    Load(&'static [u8]),
-    See(Sight),
-}
-
-/// What is looked at.
-#[derive(Clone, Copy)]
-pub enum Sight {
-    All,
-    Clock,
-    Kept,
-    Printed,
-    TapeLeft,
-    WordAt(u16),
+    GoOn(Result<Option<u8>, StepFault>),
+    LastHit(Result<(u64, u8), HitFault>),
+    /// A program by its source, and how many orders the load takes.
+    Load(&'static [u8], Result<u64, LoadFault>),
+    All(Shown),
+    Clock(u64),
+    /// How many steps and how many orders are kept.
+    Kept((u64, u64)),
+    /// How many codes are printed, and the last one's number.
+    Printed((usize, Option<u8>)),
+    TapeLeft(usize),
+    WordAt(u16, u32),
 }
 
 /// What shows at a boundary, but for mode and switches.
-#[derive(Clone, Copy, Debug, PartialEq, Eq)]
 pub struct Shown {
     pub status: Status,
     pub counter: u16,
@@ -79,53 +78,16 @@ pub struct Shown {
     pub clock: u64,
 }
 
-/// What a call answers.
-#[derive(Clone, Copy, Debug, PartialEq, Eq)]
-pub enum Answer {
-    Put(Result<(), PutFault>),
-    /// Whether a press was live.
-    Press(Result<bool, AllocError>),
-    /// What an order costs.
-    Step(Result<u64, StepFault>),
-    /// How many were done.
-    Done(u64),
-    Idle(Result<(), IdleFault>),
-    /// A refused tape is reported by the number of codes handed back. `None` where the text is no tape's.
-    Mount(Option<Result<(), (MountFault, usize)>>),
-    Back(Result<(), BackFault>),
-    AddRule(Result<u8, RuleFault>),
-    RemoveRule(Option<Named>),
-    Run(Result<Ran, RunFault>),
-    GoOn(Result<Option<u8>, StepFault>),
-    LastHit(Result<(u64, u8), HitFault>),
-    /// How many orders a load took. `None` where the source does not assemble.
-    Load(Option<Result<u64, LoadFault>>),
-    All(Shown),
-    Clock(u64),
-    /// How many steps and how many orders are kept.
-    Kept((u64, u64)),
-    /// How many codes are printed, and the last one's number.
-    Printed((usize, Option<u8>)),
-    TapeLeft(usize),
-    WordAt(u32),
-}
-
 /// The address of that number, or 0000 above all.
 fn address(number: u16) -> Address {
     Address::new(number).unwrap_or_default()
 }
 
+/// The rule of a name.
 fn rule_of(named: Named) -> Rule {
     match named {
         Named::At(number) => Rule::At(address(number)),
         Named::Changed(number) => Rule::Changed(address(number)),
-    }
-}
-
-fn name_of(rule: Rule) -> Named {
-    match rule {
-        Rule::At(address) => Named::At(address.number()),
-        Rule::Changed(address) => Named::Changed(address.number()),
     }
 }
 
@@ -139,15 +101,14 @@ fn action_of(button: Button) -> Action {
     }
 }
 
-fn shown_of(look: Look) -> Shown {
-    Shown {
-        status: look.status,
-        counter: look.counter.number(),
-        accumulator: look.accumulator,
-        register: look.register.get(),
-        reader_on: look.reader_on,
-        clock: look.clock,
-    }
+/// Whether a machine shows this.
+fn is_shown(look: &Look, wanted: &Shown) -> bool {
+    look.status == wanted.status
+        && look.counter.number() == wanted.counter
+        && look.accumulator == wanted.accumulator
+        && look.register.get() == wanted.register
+        && look.reader_on == wanted.reader_on
+        && look.clock == wanted.clock
 }
 
 // The debugger's methods without their contracts, which would fill the context of each test.
@@ -177,7 +138,7 @@ pub fn step<H: History<A>, A: Allocator>(lab: &mut Debugger<H, A>) -> Result<u64
 
 fn steps<H: History<A>, A: Allocator>(lab: &mut Debugger<H, A>, count: u64) -> u64 {
     for done in 0..count {
-        if lab.step().is_err() {
+        if step(lab).is_err() {
             return done;
         }
     }
@@ -203,14 +164,17 @@ pub fn mount<H: History<A>, A: Allocator>(
     }
 }
 
-/// Mounts a tape of a text; `None` where there is none.
-fn mount_text<H: History<A>, A: Allocator + Copy>(
+/// Mounts a tape of a text; false also where that is no tape's.
+fn is_mounted<H: History<A>, A: Allocator + Copy>(
     lab: &mut Debugger<H, A>,
     alloc: A,
     text: &[u8],
-) -> Option<Result<(), (MountFault, usize)>> {
-    let codes = read_tape_text(alloc, text).ok()?;
-    Some(mount(lab, codes))
+    wanted: Result<(), (MountFault, usize)>,
+) -> bool {
+    match read_tape_text(alloc, text) {
+        Ok(codes) => mount(lab, codes) == wanted,
+        Err(_) => false,
+    }
 }
 
 /// Goes back by a given number of orders.
@@ -242,12 +206,17 @@ fn add_rules<H: History<A>, A: Allocator>(
     count
 }
 
-/// Takes the rule of a number out.
-pub fn remove_rule<H: History<A>, A: Allocator>(
+/// Takes the rule of a number out; whether it is this one, or whether there is none.
+pub fn is_removed<H: History<A>, A: Allocator>(
     lab: &mut Debugger<H, A>,
     number: u8,
-) -> Option<Named> {
-    lab.remove_rule(number).map(name_of)
+    wanted: Option<Named>,
+) -> bool {
+    let removed = lab.remove_rule(number);
+    match wanted {
+        Some(named) => removed == Some(rule_of(named)),
+        None => removed.is_none(),
+    }
 }
 
 /// Performs at most a given number of orders.
@@ -287,14 +256,17 @@ pub fn load<H: History<A>, A: Allocator + Copy, B: Allocator>(
     lab.load(alloc, image)
 }
 
-/// Loads a source; `None` where it does not assemble.
-fn load_source<H: History<A>, A: Allocator + Copy>(
+/// Whether the load of a source answers so; false also where it does not assemble.
+fn is_loaded<H: History<A>, A: Allocator + Copy>(
     lab: &mut Debugger<H, A>,
     alloc: A,
     source: &[u8],
-) -> Option<Result<u64, LoadFault>> {
-    let image = assemble(alloc, source).ok()?;
-    Some(load(lab, alloc, &image))
+    wanted: Result<u64, LoadFault>,
+) -> bool {
+    match image(alloc, source) {
+        Some(image) => load(lab, alloc, &image) == wanted,
+        None => false,
+    }
 }
 
 /// What the machine shows.
@@ -304,7 +276,7 @@ pub fn look<H: History<A>, A: Allocator>(lab: &Debugger<H, A>) -> Look {
 
 /// The clock.
 pub fn clock<H: History<A>, A: Allocator>(lab: &Debugger<H, A>) -> u64 {
-    lab.look().clock
+    look(lab).clock
 }
 
 /// How many steps and how many orders are kept.
@@ -315,7 +287,11 @@ pub fn kept<H: History<A>, A: Allocator>(lab: &Debugger<H, A>) -> (u64, u64) {
 /// How many codes are printed, and the last one's number.
 pub fn printed<H: History<A>, A: Allocator>(lab: &Debugger<H, A>) -> (usize, Option<u8>) {
     let codes = lab.machine().printed();
-    (codes.len(), codes.last().map(|code| code.number()))
+    let last = match codes.last() {
+        Some(code) => Some(code.number()),
+        None => None,
+    };
+    (codes.len(), last)
 }
 
 /// How many codes are left on the tape.
@@ -331,52 +307,95 @@ pub fn word_at<H: History<A>, A: Allocator>(lab: &Debugger<H, A>, at: u16) -> u3
     lab.machine().word(address(at)).get()
 }
 
-/// A debugger of a new machine with one word at 0000.
+/// A new machine with one word at 0000.
+fn machine_with<A: Allocator + Copy>(alloc: A, bits: u32) -> Option<Machine<A>>
+    ensures { IfSome result (λ machine. machine ≡ at_boundary machine.state) }
+{
+    let mut machine = Machine::new(alloc).ok()?;
+    match machine.put(address(0), Word::of_bits(bits)) {
+        Ok(()) => Some(machine),
+        Err(_) => None,
+    }
+}
+
+/// A debugger of such a machine with a history.
 pub fn with_order<H: History<A>, A: Allocator + Copy>(
     alloc: A,
-    history: H,
+    history: Result<H, AllocError>,
     bits: u32,
-) -> Result<Debugger<H, A>, AllocError> {
-    let mut drum = Drum::new(alloc)?;
-    drum.put(address(0), Word::of_bits(bits));
-    let machine = Machine::with_drum(alloc, drum)?;
-    Ok(Debugger::new(machine, history))
-}
-
-/// What a look answers.
-fn seen<H: History<A>, A: Allocator>(lab: &Debugger<H, A>, sight: Sight) -> Answer {
-    match sight {
-        Sight::All => Answer::All(shown_of(look(lab))),
-        Sight::Clock => Answer::Clock(clock(lab)),
-        Sight::Kept => Answer::Kept(kept(lab)),
-        Sight::Printed => Answer::Printed(printed(lab)),
-        Sight::TapeLeft => Answer::TapeLeft(tape_left(lab)),
-        Sight::WordAt(at) => Answer::WordAt(word_at(lab, at)),
+) -> Option<Debugger<H, A>> {
+    let machine = machine_with(alloc, bits)?;
+    match history {
+        Ok(history) => Some(Debugger::new(machine, history)),
+        Err(_) => None,
     }
 }
 
-/// Calls, and what the call answers.
-pub fn answer_to<H: History<A>, A: Allocator + Copy>(
+/// Whether a look answers so.
+fn is_seen<H: History<A>, A: Allocator>(lab: &Debugger<H, A>, row: &Row) -> bool {
+    match row {
+        Row::All(wanted) => is_shown(&look(lab), wanted),
+        Row::Clock(wanted) => clock(lab) == *wanted,
+        Row::Kept(wanted) => kept(lab) == *wanted,
+        Row::Printed(wanted) => printed(lab) == *wanted,
+        Row::TapeLeft(wanted) => tape_left(lab) == *wanted,
+        Row::WordAt(at, wanted) => word_at(lab, *at) == *wanted,
+        _ => false,
+    }
+}
+
+/// Whether orders, ways back or a look answer so.
+fn is_performed<H: History<A>, A: Allocator>(lab: &mut Debugger<H, A>, row: &Row) -> bool {
+    match row {
+        Row::Step(wanted) => step(lab) == *wanted,
+        Row::Steps(count, wanted) => steps(lab, *count) == *wanted,
+        Row::Back(orders, wanted) => back(lab, *orders) == *wanted,
+        Row::Run(limit, wanted) => run(lab, *limit) == *wanted,
+        Row::RunFreely(limit, wanted) => run_freely(lab, *limit) == *wanted,
+        Row::GoOn(wanted) => go_on(lab) == *wanted,
+        Row::LastHit(wanted) => last_hit(lab) == *wanted,
+        _ => is_seen(lab, row),
+    }
+}
+
+/// Whether steps that are no orders, new rules, or anything of the above answer so.
+fn is_done<H: History<A>, A: Allocator>(lab: &mut Debugger<H, A>, row: &Row) -> bool {
+    match row {
+        Row::Put(at, bits, wanted) => put(lab, *at, *bits) == *wanted,
+        Row::Press(button, wanted) => press_button(lab, *button) == Ok(*wanted),
+        Row::Idle(times, wanted) => idle(lab, *times) == *wanted,
+        Row::AddRule(named, wanted) => add_rule(lab, *named) == *wanted,
+        Row::AddRules(named, count, wanted) => add_rules(lab, *named, *count) == *wanted,
+        _ => is_performed(lab, row),
+    }
+}
+
+/// Calls, and answers whether the call answers so.
+fn is_answered<H: History<A>, A: Allocator + Copy>(
     lab: &mut Debugger<H, A>,
     alloc: A,
-    call: Call,
-) -> Answer {
-    match call {
-        Call::Put(at, bits) => Answer::Put(put(lab, at, bits)),
-        Call::Press(button) => Answer::Press(press_button(lab, button)),
-        Call::Step => Answer::Step(step(lab)),
-        Call::Steps(count) => Answer::Done(steps(lab, count)),
-        Call::Idle(times) => Answer::Idle(idle(lab, times)),
-        Call::Mount(text) => Answer::Mount(mount_text(lab, alloc, text)),
-        Call::Back(orders) => Answer::Back(back(lab, orders)),
-        Call::AddRule(named) => Answer::AddRule(add_rule(lab, named)),
-        Call::AddRules(named, count) => Answer::Done(add_rules(lab, named, count)),
-        Call::RemoveRule(number) => Answer::RemoveRule(remove_rule(lab, number)),
-        Call::Run(limit) => Answer::Run(run(lab, limit)),
-        Call::RunFreely(limit) => Answer::Run(run_freely(lab, limit)),
-        Call::GoOn => Answer::GoOn(go_on(lab)),
-        Call::LastHit => Answer::LastHit(last_hit(lab)),
-        Call::Load(source) => Answer::Load(load_source(lab, alloc, source)),
-        Call::See(sight) => seen(lab, sight),
+    row: &Row,
+) -> bool {
+    match row {
+        Row::Mount(text, wanted) => is_mounted(lab, alloc, text, *wanted),
+        Row::RemoveRule(number, wanted) => is_removed(lab, *number, *wanted),
+        Row::Load(source, wanted) => is_loaded(lab, alloc, source, *wanted),
+        _ => is_done(lab, row),
     }
+}
+
+/// Calls one after another. The place of the first call that answers something else, or how many there are.
+pub fn first_wrong<H: History<A>, A: Allocator + Copy>(
+    lab: &mut Debugger<H, A>,
+    alloc: A,
+    rows: &[Row],
+) -> usize {
+    let mut place = 0usize;
+    for row in rows {
+        if !is_answered(lab, alloc, row) {
+            return place;
+        }
+        place = place.saturating_add(1);
+    }
+    place
 }

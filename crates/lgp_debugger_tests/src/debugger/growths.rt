@@ -1,20 +1,22 @@
 //! Growths refused one after the other: whichever growth of a call is refused, the call says so and all is as before.
 
 use super::calls::{
-    Button, Named, add_rule, back, clock, idle, kept, last_hit, load, look, press_button, put,
-    remove_rule, run, run_freely, step, with_order, word_at,
+    Button, Named, add_rule, back, clock, idle, is_removed, kept, last_hit, load, look,
+    press_button, put, run, run_freely, step, with_order, word_at,
 };
-use lgp_assembler::{Image, assemble};
+use crate::expect_eq;
+use crate::history::{checkpoints, records};
+use crate::loader::image;
+use lgp_assembler::Image;
 use lgp_debugger::{
     Debugger, HitFault, IdleFault, MountFault, PutFault, Ran, RunFault, RunRefusal, StepFault,
 };
 use lgp_flexo::{Code, read_tape_text};
-use lgp_history::{BackFault, Checkpoints, History, Records};
+use lgp_history::{BackFault, History};
 use lgp_limited::Limited;
 use lgp_loader::LoadFault;
 use lgp_machine::Look;
 use std::alloc::{AllocError, Allocator, Global};
-use std::test::Fail;
 
 /// More growths than any call has.
 const MOST: u64 = 200;
@@ -79,6 +81,8 @@ enum Call {
     Back,
     /// The latest hit is the order that is the seventh last, by rule 1.
     LastHit,
+    /// A tape by its text.
+    Mount(&'static [u8]),
 }
 
 /// How a call ends.
@@ -126,6 +130,7 @@ fn called<H: History<A>, A: Allocator>(lab: &mut Debugger<H, A>, call: Call) -> 
             let answer = last_hit(lab);
             end_of_call(answer == Ok((7, 1)), answer == Err(HitFault::Memory))
         }
+        Call::Mount(_) => Ended::Otherwise,
     }
 }
 
@@ -148,11 +153,6 @@ fn in_turn<H: History<A>, A: Allocator>(
         }
     }
     None
-}
-
-/// The codes of a text; `None` where it is no tape's, or without memory.
-fn codes_of<A: Allocator + Copy>(alloc: A, text: &[u8]) -> Option<Vec<Code, A>> {
-    read_tape_text(alloc, text).ok()
 }
 
 /// Mounts a tape, or hands it back.
@@ -185,36 +185,74 @@ fn mount_in_turn<H: History<A>, A: Allocator>(
     None
 }
 
-/// The steps before the first order, of which one mounts a tape. Which of them take memory.
-fn open<H: History<A>, A: Allocator>(
+/// Mounts the tape of a text likewise.
+fn mount_text_in_turn<H: History<A>, A: Allocator + Copy>(
     limited: &Limited<Global>,
+    alloc: A,
     lab: &mut Debugger<H, A>,
-    tape: Vec<Code, A>,
-) -> Option<[bool; 6]> {
-    Some([
-        in_turn(limited, lab, Call::Put(1, HOLD))?,
-        in_turn(limited, lab, Call::Put(2, TRANSFER))?,
-        in_turn(limited, lab, Call::Idle(5))?,
-        in_turn(limited, lab, Call::Put(100, 6))?,
-        mount_in_turn(limited, lab, tape)?,
-        in_turn(limited, lab, Call::Press(Button::Start))?,
-    ])
+    text: &[u8],
+) -> Option<bool> {
+    limited.refuse(0);
+    match read_tape_text(alloc, text) {
+        Ok(codes) => mount_in_turn(limited, lab, codes),
+        Err(_) => None,
+    }
 }
 
+/// A kind of history.
+#[derive(Clone, Copy)]
+enum Kind {
+    Records,
+    Checkpoints,
+}
+
+/// A call, and whether it takes memory over records and over checkpoints.
+type Row = (Call, bool, bool);
+
+/// The steps before the first order. Over records all of them take memory, over checkpoints the tape and the step of which the
+/// machine is copied.
+const OPENING: [Row; 6] = [
+    (Call::Put(1, HOLD), true, true),
+    (Call::Put(2, TRANSFER), true, false),
+    (Call::Idle(5), true, false),
+    (Call::Put(100, 6), true, false),
+    (Call::Mount(b"12'"), true, true),
+    (Call::Press(Button::Start), true, false),
+];
+
 /// The steps within the orders, likewise.
-fn pause<H: History<A>, A: Allocator>(
+const PAUSE: [Row; 6] = [
+    (Call::Press(Button::Manual), true, false),
+    (Call::Mount(b"34'5"), true, true),
+    (Call::Put(100, 8), true, false),
+    (Call::Idle(7), true, false),
+    (Call::Press(Button::Normal), true, false),
+    (Call::Press(Button::Start), true, false),
+];
+
+/// Makes calls so, one after another. The place of the first one that is not as its row says, or how many there are.
+fn first_wrong<H: History<A>, A: Allocator + Copy>(
     limited: &Limited<Global>,
+    alloc: A,
     lab: &mut Debugger<H, A>,
-    tape: Vec<Code, A>,
-) -> Option<[bool; 6]> {
-    Some([
-        in_turn(limited, lab, Call::Press(Button::Manual))?,
-        mount_in_turn(limited, lab, tape)?,
-        in_turn(limited, lab, Call::Put(100, 8))?,
-        in_turn(limited, lab, Call::Idle(7))?,
-        in_turn(limited, lab, Call::Press(Button::Normal))?,
-        in_turn(limited, lab, Call::Press(Button::Start))?,
-    ])
+    (rows, kind): (&[Row], Kind),
+) -> usize {
+    let mut place = 0usize;
+    for (call, over_records, over_checkpoints) in rows {
+        let grows = match call {
+            Call::Mount(text) => mount_text_in_turn(limited, alloc, lab, text),
+            _ => in_turn(limited, lab, *call),
+        };
+        let wanted = match kind {
+            Kind::Records => *over_records,
+            Kind::Checkpoints => *over_checkpoints,
+        };
+        if grows != Some(wanted) {
+            return place;
+        }
+        place = place.saturating_add(1);
+    }
+    place
 }
 
 /// Performs a given number of orders so, and appends the state before each to `log`. Whether one of them takes memory.
@@ -232,21 +270,17 @@ fn perform<H: History<A>, A: Allocator>(
     Some(grown)
 }
 
-/// Six steps and 190 orders, six steps and ten orders. Which of the steps take memory, and whether an order does.
+/// Six steps and 190 orders, six steps and ten orders. How many of the steps are as their rows say, and whether an order takes memory.
 fn fill<H: History<A>, A: Allocator + Copy>(
-    limited: &Limited<Global>,
-    alloc: A,
+    (limited, alloc, kind): (&Limited<Global>, A, Kind),
     lab: &mut Debugger<H, A>,
     log: &mut Vec<State>,
-) -> Option<([bool; 6], bool, [bool; 6])> {
-    limited.refuse(0);
-    let first = codes_of(alloc, b"12'")?;
-    let second = codes_of(alloc, b"34'5")?;
-    let opened = open(limited, lab, first)?;
-    let grown = perform(limited, lab, 190, log)?;
-    let paused = pause(limited, lab, second)?;
-    perform(limited, lab, 10, log)?;
-    Some((opened, grown, paused))
+) -> (usize, Option<bool>, usize, bool) {
+    let opened = first_wrong(limited, alloc, lab, (&OPENING, kind));
+    let grown = perform(limited, lab, 190, log);
+    let paused = first_wrong(limited, alloc, lab, (&PAUSE, kind));
+    let done = perform(limited, lab, 10, log).is_some();
+    (opened, grown, paused, done)
 }
 
 /// Goes back order by order until a given number are kept, each time with each growth refused in turn; at each the state is that of `log`.
@@ -272,111 +306,120 @@ fn go_back<H: History<A>, A: Allocator>(
     None
 }
 
-/// How often going back order by order takes memory, first and at last; and whether going back to a hit does.
-type Gone = (Option<u64>, Option<bool>, Option<u64>);
+/// Goes to the latest order that one of two rules hits. Whether that takes memory, and what is kept there; `None` also where the
+/// state is not that of `log`.
+fn go_to_hit<H: History<A>, A: Allocator>(
+    limited: &Limited<Global>,
+    lab: &mut Debugger<H, A>,
+    log: &mut Vec<State>,
+) -> Option<(bool, (u64, u64))> {
+    add_rule(lab, Named::At(5)).ok()?;
+    add_rule(lab, Named::Changed(100)).ok()?;
+    let grown = in_turn(limited, lab, Call::LastHit)?;
+    log.truncate(191);
+    (log.pop() == Some(state(lab))).then_some((grown, kept(lab)))
+}
 
-/// Goes back three orders, then to the latest order that a rule hits, and then order by order to the first one that is kept. What is
-/// kept at the hit, which of it takes memory, and the rules at the end.
+/// Whether the rules are those two. They are taken out.
+fn has_rules<H: History<A>, A: Allocator>(lab: &mut Debugger<H, A>) -> bool {
+    is_removed(lab, 0, Some(Named::At(5)))
+        && is_removed(lab, 0, Some(Named::Changed(100)))
+        && is_removed(lab, 0, None)
+}
+
+/// How often the way back takes memory: order by order before the hit, to the hit, and order by order after it. What is kept at the
+/// hit, and whether the rules are there at the end.
+type Gone = (Option<u64>, Option<(bool, (u64, u64))>, Option<u64>, bool);
+
+/// Goes back three orders, then to the latest order that a rule hits, and then order by order to the first one that is kept.
 fn go_back_by_rules<H: History<A>, A: Allocator>(
     limited: &Limited<Global>,
     lab: &mut Debugger<H, A>,
     log: &mut Vec<State>,
-) -> Option<((u64, u64), Gone, [Option<Named>; 3])> {
+) -> Gone {
     let first = go_back(limited, lab, 121, log);
-    add_rule(lab, Named::At(5)).ok()?;
-    add_rule(lab, Named::Changed(100)).ok()?;
-    let hit = in_turn(limited, lab, Call::LastHit);
-    let kept_there = kept(lab);
-    log.truncate(191);
-    if log.pop() != Some(state(lab)) {
-        return None;
-    }
+    let hit = go_to_hit(limited, lab, log);
     let last = go_back(limited, lab, 0, log);
-    let rules = [0, 0, 0].map(|number| remove_rule(lab, number));
-    Some((kept_there, (first, hit, last), rules))
+    (first, hit, last, has_rules(lab))
 }
 
-/// Which calls took memory; what is kept then and what one order back too many answers; the way back; how many orders were
-/// performed before the first kept one, and there what is kept, the counter, how many codes are printed, and the tape.
-type ThereAndBack = (
-    Option<([bool; 6], bool, [bool; 6])>,
-    ((u64, u64), Result<(), BackFault>),
-    Option<((u64, u64), Gone, [Option<Named>; 3])>,
-    (usize, (u64, u64), u16, usize, Codes),
-);
+/// What is kept, the counter, how many codes are printed, and the tape.
+type Place = ((u64, u64), u16, usize, Codes);
 
-fn there_and_back<H: History<A>, A: Allocator + Copy>(
-    (limited, global): (&Limited<Global>, Global),
-    alloc: A,
-    lab: &mut Debugger<H, A>,
-) -> ThereAndBack {
-    let mut log = Vec::new(global);
-    let filled = fill(limited, alloc, lab, &mut log);
-    let full = (kept(lab), back(lab, 125));
-    let gone = go_back_by_rules(limited, lab, &mut log);
-    let (look, _, [printed, _, left]) = state(lab);
-    let there = (log.len(), kept(lab), look.counter.number(), printed.0, left);
-    (filled, full, gone, there)
+fn place<H: History<A>, A: Allocator>(lab: &Debugger<H, A>) -> Place {
+    let machine = lab.machine();
+    let left = codes(machine.tape_left().unwrap_or_default());
+    (
+        kept(lab),
+        look(lab).counter.number(),
+        machine.printed().len(),
+        left,
+    )
 }
 
 /// The 212 steps fill a history of 130; 124 of those are orders. Of the last seven orders after the first three back the first one
 /// changes the word that was put in the pause. The first kept order is the 77th, the second of a turn of the loop, before which 26
-/// codes were printed and the first tape was there. The rules stay.
-fn expected(opened: [bool; 6], paused: [bool; 6], gone: Gone) -> ThereAndBack {
-    (
-        Some((opened, true, paused)),
-        ((130, 124), Err(BackFault::TooFar(124))),
-        Some((
-            (120, 114),
-            gone,
-            [Some(Named::At(5)), Some(Named::Changed(100)), None],
-        )),
-        (76, (0, 0), 1, 26, (3, (6 * 67 + 10) * 67 + 32)),
-    )
+/// codes were printed and the first tape was there. The rules stay. Over records no way back takes memory, over checkpoints each.
+fn expected_gone(kind: Kind) -> Gone {
+    match kind {
+        Kind::Records => (Some(0), Some((false, (120, 114))), Some(0), true),
+        Kind::Checkpoints => (Some(3), Some((true, (120, 114))), Some(114), true),
+    }
 }
 
-/// That over a history.
+/// Fills a history and goes back to its first order. Whether the calls take memory as their rows say; whether as much is kept then
+/// as there is room for; whether one order back too many is refused; whether the way back takes memory as it should; how many
+/// orders were performed before the first kept one, and whether all is there as it was.
+type ThereAndBack = (bool, bool, bool, bool, usize, bool);
+
+fn there_and_back<H: History<A>, A: Allocator + Copy>(
+    (limited, alloc, kind): (&Limited<Global>, A, Kind),
+    lab: &mut Debugger<H, A>,
+    log: &mut Vec<State>,
+) -> ThereAndBack {
+    let filled = fill((limited, alloc, kind), lab, log) == (6, Some(true), 6, true);
+    let full = kept(lab) == (130, 124);
+    let too_far = back(lab, 125) == Err(BackFault::TooFar(124));
+    let gone = go_back_by_rules(limited, lab, log) == expected_gone(kind);
+    let there = place(lab) == ((0, 0), 1, 26, (3, (6 * 67 + 10) * 67 + 32));
+    (filled, full, too_far, gone, log.len(), there)
+}
+
+/// That over a history, with a log of states.
 fn gone_over<H: History<A>, A: Allocator + Copy>(
-    limited: (&Limited<Global>, Global),
-    alloc: A,
-    history: H,
-) -> Result<ThereAndBack, AllocError> {
-    let mut lab = with_order(alloc, history, PRINT)?;
-    Ok(there_and_back(limited, alloc, &mut lab))
+    so: (&Limited<Global>, A, Kind),
+    history: Result<H, AllocError>,
+    log: &mut Vec<State>,
+) -> Option<ThereAndBack> {
+    let mut lab = with_order(so.1, history, PRINT)?;
+    Some(there_and_back(so, &mut lab, log))
 }
 
-/// That over records of at most 130 steps.
-fn over_records(limited: &Limited<Global>, global: Global) -> Result<ThereAndBack, AllocError> {
-    gone_over((limited, global), limited, Records::new(limited, 130)?)
+/// That over a history of at most 130 steps, and how many blocks are out at last.
+fn gone_over_kind(global: Global, kind: Kind) -> (Option<ThereAndBack>, u64) {
+    let limited = Limited::new(global);
+    let mut log = Vec::new(global);
+    let so = (&limited, &limited, kind);
+    let seen = match kind {
+        Kind::Records => gone_over(so, records(&limited, 130), &mut log),
+        Kind::Checkpoints => gone_over(so, checkpoints(&limited, 130), &mut log),
+    };
+    (seen, limited.blocks_out())
 }
 
-/// That over checkpoints.
-fn over_checkpoints(limited: &Limited<Global>, global: Global) -> Result<ThereAndBack, AllocError> {
-    gone_over((limited, global), limited, Checkpoints::new(limited, 130)?)
-}
+/// What there is over each kind of history.
+const THERE_AND_BACK: (Option<ThereAndBack>, u64) = (Some((true, true, true, true, 76, true)), 0);
 
-/// All steps but most orders take memory, and no way back does.
 #[test]
-fn records_with_each_growth_refused(rt: HostRuntime) -> Result<(), Fail> {
-    let limited = Limited::new(rt.alloc());
-    let seen = over_records(&limited, rt.alloc())?;
-    let gone = (Some(0), Some(false), Some(0));
-    let wanted = expected([true; 6], [true; 6], gone);
-    assert_eq!(rt; (seen, limited.blocks_out()), (wanted, 0));
-    Ok(())
+fn records_with_each_growth_refused(rt: HostRuntime) {
+    let seen = gone_over_kind(rt.alloc(), Kind::Records);
+    expect_eq(&rt, seen, THERE_AND_BACK);
 }
 
-/// The tapes take memory, the steps of which the machine is copied, and each way back.
 #[test]
-fn checkpoints_with_each_growth_refused(rt: HostRuntime) -> Result<(), Fail> {
-    let limited = Limited::new(rt.alloc());
-    let seen = over_checkpoints(&limited, rt.alloc())?;
-    let opened = [true, false, false, false, true, false];
-    let paused = [false, true, false, false, false, false];
-    let gone = (Some(3), Some(true), Some(114));
-    let wanted = expected(opened, paused, gone);
-    assert_eq!(rt; (seen, limited.blocks_out()), (wanted, 0));
-    Ok(())
+fn checkpoints_with_each_growth_refused(rt: HostRuntime) {
+    let seen = gone_over_kind(rt.alloc(), Kind::Checkpoints);
+    expect_eq(&rt, seen, THERE_AND_BACK);
 }
 
 /// Starts the loop. True where it is started; three steps are kept then.
@@ -386,37 +429,25 @@ fn start<H: History<A>, A: Allocator>(lab: &mut Debugger<H, A>) -> bool {
         && press_button(lab, Button::Start) == Ok(true)
 }
 
-/// The states before each of 80 orders of the loop, and the one after them.
-fn log_of<H: History<A>, A: Allocator>(
-    global: Global,
-    lab: &mut Debugger<H, A>,
-) -> Result<Vec<State>, AllocError> {
-    let mut log = Vec::new(global);
-    log.push(state(lab))?;
+/// Appends the states before each of 80 orders of the loop and the one after them to `log`; whether all are done.
+fn log_orders<H: History<A>, A: Allocator>(lab: &mut Debugger<H, A>, log: &mut Vec<State>) -> bool {
     for _ in 0..80 {
-        if step(lab).is_err() {
-            return Ok(log);
+        if log.push(state(lab)).is_err() || step(lab).is_err() {
+            return false;
         }
-        log.push(state(lab))?;
     }
-    Ok(log)
+    log.push(state(lab)).is_ok()
 }
 
-/// That log over a history, or none where the loop is not started.
-fn log_over<H: History<A>, A: Allocator + Copy>(
-    global: Global,
-    alloc: A,
-    history: H,
-) -> Result<Vec<State>, AllocError> {
-    let mut lab = with_order(alloc, history, PRINT)?;
-    if !start(&mut lab) {
-        return Ok(Vec::new(global));
+/// The same over records with ample memory.
+fn is_logged(global: Global, log: &mut Vec<State>) -> bool {
+    match with_order(global, records(global, 130), PRINT) {
+        Some(mut lab) => start(&mut lab) && log_orders(&mut lab, log),
+        None => false,
     }
-    log_of(global, &mut lab)
 }
 
 /// How a run of 80 orders ends whose nth growth is refused: after a given number of orders, with all of them done, or otherwise.
-#[derive(Clone, Copy, Debug, PartialEq, Eq)]
 enum RunEnd {
     After(u64),
     Done,
@@ -458,10 +489,9 @@ fn run_so<H: History<A>, A: Allocator>(
 
 /// Runs so, and goes back to the start.
 fn run_refused<H: History<A>, A: Allocator>(
-    limited: &Limited<Global>,
+    (limited, way, nth): (&Limited<Global>, Way, u64),
     lab: &mut Debugger<H, A>,
     log: &[State],
-    (way, nth): (Way, u64),
 ) -> RunEnd {
     if !start(lab) {
         return RunEnd::Otherwise;
@@ -482,53 +512,17 @@ fn run_refused<H: History<A>, A: Allocator>(
     }
 }
 
-/// How runs end whose first, second .. growth is refused: after how many orders the first does, whether one does after 61 orders,
-/// whether the numbers of orders never fall, and whether at last all orders are done.
-#[derive(Clone, Copy, Debug, PartialEq, Eq)]
-struct Runs {
-    first: Option<u64>,
-    at_copy: bool,
-    in_order: bool,
-    done: bool,
-}
-
-impl Runs {
-    fn none() -> Runs {
-        Runs {
-            first: None,
-            at_copy: false,
-            in_order: true,
-            done: false,
-        }
-    }
-
-    /// One run more, which was broken off after a given number of orders; `latest` is the number of the one before.
-    fn after(self, latest: u64, orders: u64) -> Runs {
-        Runs {
-            first: self.first.or(Some(orders)),
-            at_copy: self.at_copy || orders == 61,
-            in_order: self.in_order && latest <= orders,
-            done: false,
-        }
-    }
-}
-
 /// Runs so over a history.
 fn run_over<H: History<A>, A: Allocator + Copy>(
-    (limited, way, nth): (&Limited<Global>, Way, u64),
+    so: (&Limited<Global>, Way, u64),
     alloc: A,
-    history: H,
+    history: Result<H, AllocError>,
     log: &[State],
-) -> Result<RunEnd, AllocError> {
-    let mut lab = with_order(alloc, history, PRINT)?;
-    Ok(run_refused(limited, &mut lab, log, (way, nth)))
-}
-
-/// A kind of history.
-#[derive(Clone, Copy)]
-enum Kind {
-    Records,
-    Checkpoints,
+) -> RunEnd {
+    match with_order(alloc, history, PRINT) {
+        Some(mut lab) => run_refused(so, &mut lab, log),
+        None => RunEnd::Otherwise,
+    }
 }
 
 fn run_of_kind(
@@ -536,86 +530,77 @@ fn run_of_kind(
     (kind, way): (Kind, Way),
     log: &[State],
     nth: u64,
-) -> Result<RunEnd, AllocError> {
+) -> RunEnd {
     limited.refuse(0);
     let so = (limited, way, nth);
     match kind {
-        Kind::Records => run_over(so, limited, Records::new(limited, 130)?, log),
-        Kind::Checkpoints => run_over(so, limited, Checkpoints::new(limited, 130)?, log),
+        Kind::Records => run_over(so, limited, records(limited, 130), log),
+        Kind::Checkpoints => run_over(so, limited, checkpoints(limited, 130), log),
     }
 }
 
+/// How runs end whose first, second .. growth is refused: after how many orders the first does, whether one does after 61 orders,
+/// whether the numbers of orders never fall, and whether at last all orders are done.
+type Runs = (Option<u64>, bool, bool, bool);
+
 /// Runs over a history with each growth refused in turn.
-fn all_runs(
-    limited: &Limited<Global>,
-    global: Global,
-    so: (Kind, Way),
-) -> Result<Runs, AllocError> {
-    let log = log_over(global, global, Records::new(global, 130)?)?;
-    let mut runs = Runs::none();
-    let mut latest = 0;
+fn all_runs(limited: &Limited<Global>, so: (Kind, Way), log: &[State]) -> Runs {
+    let (mut first, mut latest) = (None, 0);
+    let (mut at_copy, mut in_order) = (false, true);
     for nth in 1..MOST {
-        match run_of_kind(limited, so, &log, nth)? {
+        match run_of_kind(limited, so, log, nth) {
             RunEnd::After(orders) => {
-                runs = runs.after(latest, orders);
+                first = first.or(Some(orders));
+                at_copy |= orders == 61;
+                in_order &= latest <= orders;
                 latest = orders;
             }
-            RunEnd::Done => return Ok(Runs { done: true, ..runs }),
-            RunEnd::Otherwise => return Ok(runs),
+            RunEnd::Done => return (first, at_copy, in_order, true),
+            RunEnd::Otherwise => return (first, at_copy, in_order, false),
         }
     }
-    Ok(runs)
+    (first, at_copy, in_order, false)
+}
+
+/// Those runs after a log of their states, and how many blocks are out at last.
+fn runs_of(global: Global, so: (Kind, Way)) -> (Runs, u64) {
+    let limited = Limited::new(global);
+    let mut log = Vec::new(global);
+    if !is_logged(global, &mut log) {
+        return ((None, false, false, false), 0);
+    }
+    let runs = all_runs(&limited, so, log.as_slice());
+    (runs, limited.blocks_out())
 }
 
 /// The first order prints, and takes memory for the first code. The order after 61 others is the step at place 64, before which
 /// checkpoints copy the machine; it prints nothing, so over records it takes no memory.
-fn runs_expected(at_copy: bool) -> Runs {
-    Runs {
-        first: Some(0),
-        at_copy,
-        in_order: true,
-        done: true,
-    }
+fn runs_expected(at_copy: bool) -> (Runs, u64) {
+    ((Some(0), at_copy, true, true), 0)
 }
 
 #[test]
-fn a_run_over_records_says_after_how_many_orders_it_is_refused(
-    rt: HostRuntime,
-) -> Result<(), Fail> {
-    let limited = Limited::new(rt.alloc());
-    let runs = all_runs(&limited, rt.alloc(), (Kind::Records, Way::ByRules))?;
-    assert_eq!(rt; (runs, limited.blocks_out()), (runs_expected(false), 0));
-    Ok(())
+fn a_run_over_records_says_after_how_many_orders_it_is_refused(rt: HostRuntime) {
+    let runs = runs_of(rt.alloc(), (Kind::Records, Way::ByRules));
+    expect_eq(&rt, runs, runs_expected(false));
 }
 
 #[test]
-fn a_free_run_over_records_says_after_how_many_orders_it_is_refused(
-    rt: HostRuntime,
-) -> Result<(), Fail> {
-    let limited = Limited::new(rt.alloc());
-    let runs = all_runs(&limited, rt.alloc(), (Kind::Records, Way::Freely))?;
-    assert_eq!(rt; (runs, limited.blocks_out()), (runs_expected(false), 0));
-    Ok(())
+fn a_free_run_over_records_says_after_how_many_orders_it_is_refused(rt: HostRuntime) {
+    let runs = runs_of(rt.alloc(), (Kind::Records, Way::Freely));
+    expect_eq(&rt, runs, runs_expected(false));
 }
 
 #[test]
-fn a_run_over_checkpoints_says_after_how_many_orders_it_is_refused(
-    rt: HostRuntime,
-) -> Result<(), Fail> {
-    let limited = Limited::new(rt.alloc());
-    let runs = all_runs(&limited, rt.alloc(), (Kind::Checkpoints, Way::ByRules))?;
-    assert_eq!(rt; (runs, limited.blocks_out()), (runs_expected(true), 0));
-    Ok(())
+fn a_run_over_checkpoints_says_after_how_many_orders_it_is_refused(rt: HostRuntime) {
+    let runs = runs_of(rt.alloc(), (Kind::Checkpoints, Way::ByRules));
+    expect_eq(&rt, runs, runs_expected(true));
 }
 
 #[test]
-fn a_free_run_over_checkpoints_says_after_how_many_orders_it_is_refused(
-    rt: HostRuntime,
-) -> Result<(), Fail> {
-    let limited = Limited::new(rt.alloc());
-    let runs = all_runs(&limited, rt.alloc(), (Kind::Checkpoints, Way::Freely))?;
-    assert_eq!(rt; (runs, limited.blocks_out()), (runs_expected(true), 0));
-    Ok(())
+fn a_free_run_over_checkpoints_says_after_how_many_orders_it_is_refused(rt: HostRuntime) {
+    let runs = runs_of(rt.alloc(), (Kind::Checkpoints, Way::Freely));
+    expect_eq(&rt, runs, runs_expected(true));
 }
 
 /// Whether a load takes memory, and the clock and what is kept then.
@@ -649,48 +634,36 @@ fn load_in_turn<H: History<A>, A: Allocator + Copy>(
 fn load_over<H: History<A>, A: Allocator + Copy>(
     limited: &Limited<Global>,
     alloc: A,
-    history: H,
+    history: Result<H, AllocError>,
     image: &Image,
-) -> Result<Loaded, AllocError> {
-    let mut lab = with_order(alloc, history, PRINT)?;
-    Ok(load_in_turn(limited, alloc, &mut lab, image))
-}
-
-fn load_of_kind(
-    limited: &Limited<Global>,
-    kind: Kind,
-    image: &Image,
-) -> Result<Loaded, AllocError> {
-    limited.refuse(0);
-    match kind {
-        Kind::Records => load_over(limited, limited, Records::new(limited, 4)?, image),
-        Kind::Checkpoints => load_over(limited, limited, Checkpoints::new(limited, 4)?, image),
+) -> Loaded {
+    match with_order(alloc, history, PRINT) {
+        Some(mut lab) => load_in_turn(limited, alloc, &mut lab, image),
+        None => None,
     }
 }
 
-/// A program of one word.
-fn image(alloc: Global) -> Result<Image, Fail> {
-    let image = assemble(alloc, b" org 0100\n word 00000004\n end").ok();
-    Ok(image.ok_or("an image")?)
+fn load_of_kind(limited: &Limited<Global>, kind: Kind, image: &Image) -> Loaded {
+    limited.refuse(0);
+    match kind {
+        Kind::Records => load_over(limited, limited, records(limited, 4), image),
+        Kind::Checkpoints => load_over(limited, limited, checkpoints(limited, 4), image),
+    }
 }
 
-/// A load over records and one over checkpoints.
-fn loads(limited: &Limited<Global>, image: &Image) -> Result<[Loaded; 2], AllocError> {
-    let over_records = load_of_kind(limited, Kind::Records, image)?;
-    Ok([
-        over_records,
-        load_of_kind(limited, Kind::Checkpoints, image)?,
-    ])
+/// A load of one word over records and one over checkpoints, and how many blocks are out at last.
+fn loads(global: Global) -> ([Loaded; 2], u64) {
+    let limited = Limited::new(global);
+    let Some(image) = image(global, b" org 0100\n word 00000004\n end") else {
+        return ([None; 2], 0);
+    };
+    let over_records = load_of_kind(&limited, Kind::Records, &image);
+    let over_checkpoints = load_of_kind(&limited, Kind::Checkpoints, &image);
+    ([over_records, over_checkpoints], limited.blocks_out())
 }
 
 #[test]
-fn a_load_with_each_growth_refused_keeps_what_there_is(rt: HostRuntime) -> Result<(), Fail> {
-    let limited = Limited::new(rt.alloc());
-    let image = image(rt.alloc())?;
-    let loads = loads(&limited, &image)?;
-    assert_eq!(rt;
-        (loads, limited.blocks_out()),
-        ([Some((true, 15342, (0, 0))); 2], 0)
-    );
-    Ok(())
+fn a_load_with_each_growth_refused_keeps_what_there_is(rt: HostRuntime) {
+    let wanted = ([Some((true, 15342, (0, 0))); 2], 0);
+    expect_eq(&rt, loads(rt.alloc()), wanted);
 }

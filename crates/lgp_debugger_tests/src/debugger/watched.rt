@@ -3,10 +3,11 @@
 ghost use Rattle.std.specs.Prelude.{◌≡◌, false};
 
 use super::calls::{Button, Named, add_rule, clock, kept, press_button, with_order};
+use crate::expect_eq;
+use crate::history::records;
 use lgp_debugger::{Debugger, Ran, Reason, RunFault, RunRefusal, WatchFault, Watcher};
-use lgp_history::{History, Records};
-use std::alloc::Allocator;
-use std::test::Fail;
+use lgp_history::History;
+use std::alloc::{Allocator, Global};
 
 /// Keeps the clock at which the latest order began, of as many orders as there is room for.
 #[derive(Drop)]
@@ -80,11 +81,15 @@ fn five_runs<H: History<A>, A: Allocator>(lab: &mut Debugger<H, A>) -> [Answered
     [at_rest, three, none, unseen, watched(lab, (5, 2))]
 }
 
+/// The same over a new machine.
+fn five_runs_over(alloc: Global) -> Option<[Answered; 5]> {
+    let mut lab = with_order(alloc, records(alloc, 4096), TRANSFER)?;
+    Some(five_runs(&mut lab))
+}
+
 /// The first transfer ends at 67, and each later one 64 word times after the one before. The order for which there was no room remains.
 #[test]
-fn what_is_seen_is_kept(rt: HostRuntime) -> Result<(), Fail> {
-    let history = Records::new(rt.alloc(), 4096)?;
-    let mut lab = with_order(rt.alloc(), history, TRANSFER)?;
+fn what_is_seen_is_kept(rt: HostRuntime) {
     let wanted = [
         (ran(0, Reason::Rest), 0, 0, 0),
         (ran(3, Reason::Limit), 131, 195, 3),
@@ -92,8 +97,7 @@ fn what_is_seen_is_kept(rt: HostRuntime) -> Result<(), Fail> {
         (refused(3), 259, 387, 6),
         (ran(1, Reason::Rule(0)), 387, 451, 7),
     ];
-    assert_eq!(rt; five_runs(&mut lab), wanted);
-    Ok(())
+    expect_eq(&rt, five_runs_over(rt.alloc()), Some(wanted));
 }
 
 /// What the run answers, then the clock and how many orders are kept.
@@ -118,16 +122,19 @@ fn three_quiet_runs<H: History<A>, A: Allocator>(lab: &mut Debugger<H, A>) -> [E
     [free, stopped, looked_at_by_nothing(lab, 5)]
 }
 
+/// The same over a new machine.
+fn three_quiet_runs_over(alloc: Global) -> Option<[Ended; 3]> {
+    let mut lab = with_order(alloc, records(alloc, 4096), TRANSFER)?;
+    Some(three_quiet_runs(&mut lab))
+}
+
 /// What looks at nothing is stopped by the rules that there are when it is made.
 #[test]
-fn nothing_looks_by_the_rules(rt: HostRuntime) -> Result<(), Fail> {
-    let history = Records::new(rt.alloc(), 4096)?;
-    let mut lab = with_order(rt.alloc(), history, TRANSFER)?;
+fn nothing_looks_by_the_rules(rt: HostRuntime) {
     let wanted = [
         (ran(3, Reason::Limit), 195, 3),
         (ran(1, Reason::Rule(0)), 259, 4),
         (ran(0, Reason::Rest), 259, 4),
     ];
-    assert_eq!(rt; three_quiet_runs(&mut lab), wanted);
-    Ok(())
+    expect_eq(&rt, three_quiet_runs_over(rt.alloc()), Some(wanted));
 }

@@ -2,33 +2,35 @@
 
 ghost use Rattle.std.specs.Prelude.{◌≤◌};
 
-use super::{Seen, Session, TRANSFER, address, back, checkpointing, recording, seen, take};
-use lgp_flexo::{Code, read_tape_text};
-use lgp_history::{BackFault, Checkpoints, History, Records, Rule, Step, Tape};
+use super::{
+    Deed, Seen, Session, TRANSFER, address, back, checkpoints, records, seen, session_of, step_of,
+    take,
+};
+use crate::expect_eq;
+use lgp_flexo::Code;
+use lgp_history::{BackFault, History, Rule, Step};
 use lgp_limited::Limited;
 use lgp_table::{Action, Mode, Status};
-use lgp_word::Word;
 use std::alloc::{AllocError, Allocator, Global};
-use std::test::Fail;
 
 /// More growths than any call has.
 const MOST: u64 = 100;
 
-/// A step that mounts the tape of a text; `None` where that is no tape, or without memory.
-fn mounting<A: Allocator + Copy>(alloc: A, text: &[u8]) -> Option<Step<A>> {
-    let Ok(codes) = read_tape_text(alloc, text) else {
-        return None;
-    };
-    Some(Step::Mount(Tape::new(codes)))
+/// The number of a code, or 0 where there is none.
+fn number(code: Option<&Code>) -> u8 {
+    match code {
+        Some(code) => code.number(),
+        None => 0,
+    }
 }
 
 /// How many codes there are, and the numbers of the first three.
 fn numbers(codes: &[Code]) -> (usize, [u8; 3]) {
-    let mut numbers = [0; 3];
-    for (number, code) in numbers.iter_mut().zip(codes) {
-        *number = code.number();
-    }
-    (codes.len(), numbers)
+    let first = [codes.get(0), codes.get(1), codes.get(2)];
+    (
+        codes.len(),
+        [number(first[0]), number(first[1]), number(first[2])],
+    )
 }
 
 /// Copies a step with each growth refused in turn. The codes that the copy mounts, as it shows and as it hands out; `None` where
@@ -52,50 +54,63 @@ fn copied<A: Allocator + Clone>(
     None
 }
 
-#[test]
-fn each_growth_of_a_copied_step_is_refused(rt: HostRuntime) -> Result<(), Fail> {
-    let limited = Limited::new(rt.alloc());
-    let step = mounting(&limited, b"12'").ok_or("no tape")?;
-    let seen = (copied(&limited, &step), step.is_order());
-    let expected = (Some([(3, [6, 10, 32]); 2]), false);
-    assert_eq!(rt; (seen, limited.blocks_out()), (expected, 1));
-    Ok(())
-}
+/// The same of a step that mounts a tape; whether that is an order; and how many blocks are out then.
+type Copied = (Option<[(usize, [u8; 3]); 2]>, bool, u64);
 
-/// How many steps are kept by a history that is made with each growth refused in turn: records, and then checkpoints. `None` as
-/// above.
-fn made(limited: &Limited<Global>) -> [Option<u64>; 2] {
-    let (mut records, mut checkpoints) = (None, None);
-    for nth in 1..MOST {
-        limited.refuse(nth);
-        let made = Records::new(limited, 130);
-        if made.is_ok() == limited.was_refused() {
-            return [None; 2];
-        }
-        if let Ok(history) = made {
-            records = (nth > 1).then_some(history.kept());
-            break;
-        }
-    }
-    for nth in 1..MOST {
-        limited.refuse(nth);
-        let made = Checkpoints::new(limited, 130);
-        if made.is_ok() == limited.was_refused() {
-            return [None; 2];
-        }
-        if let Ok(history) = made {
-            checkpoints = (nth > 1).then_some(history.kept());
-            break;
-        }
-    }
-    [records, checkpoints]
+fn copied_step(global: Global) -> Option<Copied> {
+    let limited = Limited::new(global);
+    let step = step_of(&limited, Deed::MountFirst)?;
+    let seen = copied(&limited, &step);
+    Some((seen, step.is_order(), limited.blocks_out()))
 }
 
 #[test]
-fn each_growth_of_a_new_history_is_refused(rt: HostRuntime) -> Result<(), Fail> {
+fn each_growth_of_a_copied_step_is_refused(rt: HostRuntime) {
+    let wanted = (Some([(3, [6, 10, 32]); 2]), false, 1);
+    expect_eq(&rt, copied_step(rt.alloc()), Some(wanted));
+}
+
+/// A kind of history.
+#[derive(Clone, Copy)]
+enum Kind {
+    Records,
+    Checkpoints,
+}
+
+/// How many steps a new history keeps; `None` without memory.
+fn kept_by<A: Allocator, H: History<A>>(history: Result<H, AllocError>) -> Option<u64> {
+    match history {
+        Ok(history) => Some(history.kept()),
+        Err(_) => None,
+    }
+}
+
+/// How many steps are kept by a history that is made with each growth refused in turn. `None` as above.
+fn made(limited: &Limited<Global>, kind: Kind) -> Option<u64> {
+    for nth in 1..MOST {
+        limited.refuse(nth);
+        let kept = match kind {
+            Kind::Records => kept_by(records(limited, 130)),
+            Kind::Checkpoints => kept_by(checkpoints(limited, 130)),
+        };
+        if kept.is_some() == limited.was_refused() {
+            return None;
+        }
+        if kept.is_some() {
+            return if nth > 1 { kept } else { None };
+        }
+    }
+    None
+}
+
+#[test]
+fn each_growth_of_a_new_history_is_refused(rt: HostRuntime) {
     let limited = Limited::new(rt.alloc());
-    assert_eq!(rt; (made(&limited), limited.blocks_out()), ([Some(0); 2], 0));
-    Ok(())
+    let seen = [
+        made(&limited, Kind::Records),
+        made(&limited, Kind::Checkpoints),
+    ];
+    expect_eq(&rt, (seen, limited.blocks_out()), ([Some(0); 2], 0));
 }
 
 /// Holds the accumulator at 0136, whose number is 100.
@@ -108,16 +123,6 @@ fn whole<A: Allocator, H: History<A>>(session: &Session<A, H>) -> Option<Whole> 
     let left = numbers(session.machine.tape_left()?);
     let word = session.machine.word(address(100)).get();
     Some((seen(session)?, word, left))
-}
-
-/// A step that puts a word at 0136.
-fn putting<A: Allocator>(bits: u32) -> Step<A> {
-    Step::Put(address(100), Word::of_bits(bits))
-}
-
-/// A step that turns to a mode.
-fn pressing<A: Allocator>(mode: Mode) -> Step<A> {
-    Step::Press(Action::Mode(mode))
 }
 
 /// Takes a step with each growth refused in turn. Whether there was one; `None` where a growth is refused and the step is taken or
@@ -156,54 +161,84 @@ fn perform_all<A: Allocator + Clone, H: History<A>>(
     Some(grown)
 }
 
-/// The steps before the first order, of which one mounts the tape. Which of them take memory.
-fn open<A: Allocator + Clone, H: History<A>>(
-    limited: &Limited<Global>,
-    session: &mut Session<A, H>,
-    tape: &Step<A>,
-) -> Option<[bool; 4]> {
-    Some([
-        take_in_turn(limited, session, &Step::Idle(5))?,
-        take_in_turn(limited, session, &putting(6))?,
-        take_in_turn(limited, session, tape)?,
-        take_in_turn(limited, session, &Step::Press(Action::Start))?,
-    ])
-}
+/// A step, and whether it takes memory over records and over checkpoints.
+type Row = (Deed, bool, bool);
+
+/// The steps before the first order. Over records all of them take memory, over checkpoints the tape and the step of which the
+/// machine is copied.
+const OPENING: [Row; 4] = [
+    (Deed::Idle(5), true, true),
+    (Deed::Put(6), true, false),
+    (Deed::MountFirst, true, true),
+    (Deed::Press(Action::Start), true, false),
+];
 
 /// The steps within the orders, likewise.
-fn pause<A: Allocator + Clone, H: History<A>>(
-    limited: &Limited<Global>,
-    session: &mut Session<A, H>,
-    tape: &Step<A>,
-) -> Option<[bool; 6]> {
-    Some([
-        take_in_turn(limited, session, &pressing(Mode::Manual))?,
-        take_in_turn(limited, session, tape)?,
-        take_in_turn(limited, session, &putting(8))?,
-        take_in_turn(limited, session, &Step::Idle(7))?,
-        take_in_turn(limited, session, &pressing(Mode::Normal))?,
-        take_in_turn(limited, session, &Step::Press(Action::Start))?,
-    ])
-}
+const PAUSE: [Row; 6] = [
+    (Deed::Press(Action::Mode(Mode::Manual)), true, false),
+    (Deed::MountSecond, true, true),
+    (Deed::Put(8), true, false),
+    (Deed::Idle(7), true, false),
+    (Deed::Press(Action::Mode(Mode::Normal)), true, false),
+    (Deed::Press(Action::Start), true, false),
+];
 
-/// Which steps take memory, and how many orders after each of the two groups of steps.
-type Grown = ([bool; 4], u64, [bool; 6], u64);
-
-/// Four steps and 190 orders, six steps and ten orders.
-fn fill<A: Allocator + Copy, H: History<A>>(
+/// Takes the step of a deed so.
+fn deed_in_turn<A: Allocator + Copy, H: History<A>>(
     limited: &Limited<Global>,
     alloc: A,
     session: &mut Session<A, H>,
-) -> Option<Grown> {
+    deed: Deed,
+) -> Option<bool> {
     limited.refuse(0);
-    let first = mounting(alloc, b"12'")?;
-    let second = mounting(alloc, b"34'")?;
-    Some((
-        open(limited, session, &first)?,
-        perform_all(limited, session, 190)?,
-        pause(limited, session, &second)?,
-        perform_all(limited, session, 10)?,
-    ))
+    match step_of(alloc, deed) {
+        Some(step) => take_in_turn(limited, session, &step),
+        None => None,
+    }
+}
+
+/// Takes steps so, one after another. The place of the first one that is not as its row says, or how many there are.
+fn first_wrong<A: Allocator + Copy, H: History<A>>(
+    (limited, alloc, kind): (&Limited<Global>, A, Kind),
+    session: &mut Session<A, H>,
+    rows: &[Row],
+) -> usize {
+    let mut place = 0usize;
+    for (deed, over_records, over_checkpoints) in rows {
+        let wanted = match kind {
+            Kind::Records => *over_records,
+            Kind::Checkpoints => *over_checkpoints,
+        };
+        if deed_in_turn(limited, alloc, session, *deed) != Some(wanted) {
+            return place;
+        }
+        place = place.saturating_add(1);
+    }
+    place
+}
+
+/// How many steps before the first order are as their rows say and how many orders after them take memory, and likewise of the steps
+/// within the orders and the orders after those.
+type Filled = (usize, Option<u64>, usize, Option<u64>);
+
+/// Four steps and 190 orders, six steps and ten orders.
+fn fill<A: Allocator + Copy, H: History<A>>(
+    (limited, alloc, kind): (&Limited<Global>, A, Kind),
+    session: &mut Session<A, H>,
+) -> Filled {
+    let opened = first_wrong((limited, alloc, kind), session, &OPENING);
+    let first = perform_all(limited, session, 190);
+    let paused = first_wrong((limited, alloc, kind), session, &PAUSE);
+    let second = perform_all(limited, session, 10);
+    (opened, first, paused, second)
+}
+
+/// Over checkpoints the orders at 64, 128 and 192 take memory, because the machine is copied there.
+fn expected_filled(kind: Kind) -> Filled {
+    match kind {
+        Kind::Records => (4, Some(0), 6, Some(0)),
+        Kind::Checkpoints => (4, Some(3), 6, Some(0)),
+    }
 }
 
 /// The latest order that begins at 0005 or changes the word at 0136, looked for with each growth refused in turn, and whether there
@@ -254,133 +289,87 @@ fn back_in_turn<A: Allocator, H: History<A>>(
     None
 }
 
-/// What is found and where the way back leads, from the last order on: three orders, seven more, and three more.
+/// The tapes that are mounted before the first order and within the orders.
+const FIRST_TAPE: (usize, [u8; 3]) = (3, [6, 10, 32]);
+
+const SECOND_TAPE: (usize, [u8; 3]) = (3, [14, 18, 32]);
+
+/// Goes back from the last order on: three orders, seven more, and three more. Whether each way leads where it should, and whether
+/// it takes memory where `grows`.
+///
+/// A turn of the drum has two orders: the first ends 5 word times after sector 00 has been read, the second 12. So 197 orders end at
+/// 99 * 64 + 5, 190 at 95 * 64 + 12, seven word times before the pause ends, and 187 at 94 * 64 + 5. Of the 210 steps the last 130
+/// were kept, and 124 of those are orders. The first order of the last ten is the one that changes the word.
 fn go_back<A: Allocator, H: History<A>>(
     limited: &Limited<Global>,
     session: &mut Session<A, H>,
-) -> ([Found; 2], [Back; 3]) {
-    let found = find_in_turn(limited, session);
-    let within_the_last = back_in_turn(limited, session, 3);
-    let found_again = find_in_turn(limited, session);
-    let after_the_pause = back_in_turn(limited, session, 7);
-    let before_the_pause = back_in_turn(limited, session, 3);
-    (
-        [found, found_again],
-        [within_the_last, after_the_pause, before_the_pause],
-    )
-}
-
-/// One order more than are kept, and all that are.
-fn go_back_to_the_first<A: Allocator, H: History<A>>(
-    limited: &Limited<Global>,
-    session: &mut Session<A, H>,
-) -> (Result<(), BackFault>, Back) {
-    let too_far = back(session, 112);
-    (too_far, back_in_turn(limited, session, 111))
-}
-
-/// What is seen while a session is filled, on the way back from the last order and at the first kept one.
-type ThereAndBack = (
-    Option<Grown>,
-    ([Found; 2], [Back; 3]),
-    (Result<(), BackFault>, Back),
-);
-
-/// Fills a session and goes back to its first step.
-fn there_and_back<A: Allocator + Copy, H: History<A>>(
-    limited: &Limited<Global>,
-    alloc: A,
-    session: &mut Session<A, H>,
-) -> ThereAndBack {
-    let filled = fill(limited, alloc, session);
-    let gone = go_back(limited, session);
-    (filled, gone, go_back_to_the_first(limited, session))
-}
-
-/// That with records of at most 130 steps.
-fn with_records<A: Allocator + Copy>(
-    limited: &Limited<Global>,
-    alloc: A,
-) -> Result<ThereAndBack, Fail> {
-    let mut session = recording(alloc, 130, [HOLD, TRANSFER])?;
-    Ok(there_and_back(limited, alloc, &mut session))
-}
-
-/// That with checkpoints.
-fn with_checkpoints<A: Allocator + Copy>(
-    limited: &Limited<Global>,
-    alloc: A,
-) -> Result<ThereAndBack, Fail> {
-    let mut session = checkpointing(alloc, 130, [HOLD, TRANSFER])?;
-    Ok(there_and_back(limited, alloc, &mut session))
-}
-
-/// What was found from the 200th order and from the 197th: the first order of the last ten is the one that changes the word.
-fn found(grows: bool) -> [Found; 2] {
-    [Some((Some((10, 1)), grows)), Some((Some((7, 1)), grows))]
-}
-
-/// A turn of the drum has two orders: the first ends 5 word times after sector 00 has been read, the second 12. So 197 orders end at
-/// 99 * 64 + 5, 190 at 95 * 64 + 12, seven word times before the pause ends, and 187 at 94 * 64 + 5. Of the 210 steps the last 130
-/// were kept, and 124 of those are orders.
-fn after_a_pause(grows: bool) -> [Back; 3] {
+    grows: bool,
+) -> [bool; 5] {
     let going = Status::Going;
-    let first_tape = (3, [6, 10, 32]);
-    let second_tape = (3, [14, 18, 32]);
+    let last = ((6341, going, 127, 121), 0, SECOND_TAPE);
+    let after = ((6099, going, 120, 114), 8, SECOND_TAPE);
+    let before = ((6021, going, 111, 111), 0, FIRST_TAPE);
     [
-        Some((Some(((6341, going, 127, 121), 0, second_tape)), grows)),
-        Some((Some(((6099, going, 120, 114), 8, second_tape)), grows)),
-        Some((Some(((6021, going, 111, 111), 0, first_tape)), grows)),
+        find_in_turn(limited, session) == Some((Some((10, 1)), grows)),
+        back_in_turn(limited, session, 3) == Some((Some(last), grows)),
+        find_in_turn(limited, session) == Some((Some((7, 1)), grows)),
+        back_in_turn(limited, session, 7) == Some((Some(after), grows)),
+        back_in_turn(limited, session, 3) == Some((Some(before), grows)),
     ]
 }
 
+/// Tries to go back one order more than are kept, and goes back all that are. Whether each answers as it should.
+///
 /// The first kept step is the 77th order, before which 76 have ended at 38 * 64 + 12.
-fn at_the_first(grows: bool) -> (Result<(), BackFault>, Back) {
-    let there = ((2444, Status::Going, 0, 0), 0, (3, [6, 10, 32]));
-    (Err(BackFault::TooFar(111)), Some((Some(there), grows)))
+fn go_back_to_the_first<A: Allocator, H: History<A>>(
+    limited: &Limited<Global>,
+    session: &mut Session<A, H>,
+    grows: bool,
+) -> [bool; 2] {
+    let first = ((2444, Status::Going, 0, 0), 0, FIRST_TAPE);
+    [
+        back(session, 112) == Err(BackFault::TooFar(111)),
+        back_in_turn(limited, session, 111) == Some((Some(first), grows)),
+    ]
 }
 
-/// All steps but the orders take memory.
-const RECORDED: Grown = ([true; 4], 0, [true; 6], 0);
+/// Whether a session is filled as it should be, and whether the ways back are right.
+type ThereAndBack = (bool, [bool; 5], [bool; 2]);
 
-#[test]
-fn records_with_each_growth_refused(rt: HostRuntime) -> Result<(), Fail> {
-    let limited = Limited::new(rt.alloc());
-    assert_eq!(rt;
-        (with_records(&limited, &limited)?, limited.blocks_out()),
-        (
-            (
-                Some(RECORDED),
-                (found(false), after_a_pause(false)),
-                at_the_first(false)
-            ),
-            0
-        )
-    );
-    Ok(())
+/// Fills a session and goes back to its first step.
+fn there_and_back<A: Allocator + Copy, H: History<A>>(
+    (limited, alloc, kind): (&Limited<Global>, A, Kind),
+    history: Result<H, AllocError>,
+) -> Option<ThereAndBack> {
+    let mut session = session_of(alloc, history, [HOLD, TRANSFER])?;
+    let grows = matches!(kind, Kind::Checkpoints);
+    let filled = fill((limited, alloc, kind), &mut session);
+    let ways = go_back(limited, &mut session, grows);
+    let last = go_back_to_the_first(limited, &mut session, grows);
+    Some((filled == expected_filled(kind), ways, last))
 }
 
-/// The tapes take memory, and the steps of which the machine is copied: the first, and the orders at 64, 128 and 192.
-const COPIED: Grown = (
-    [true, false, true, false],
-    3,
-    [false, true, false, false, false, false],
-    0,
-);
+/// That over a history of at most 130 steps, and how many blocks are out at last.
+fn over_kind(global: Global, kind: Kind) -> (Option<ThereAndBack>, u64) {
+    let limited = Limited::new(global);
+    let so = (&limited, &limited, kind);
+    let seen = match kind {
+        Kind::Records => there_and_back(so, records(&limited, 130)),
+        Kind::Checkpoints => there_and_back(so, checkpoints(&limited, 130)),
+    };
+    (seen, limited.blocks_out())
+}
+
+const THERE_AND_BACK: (Option<ThereAndBack>, u64) = (Some((true, [true; 5], [true; 2])), 0);
 
 #[test]
-fn checkpoints_with_each_growth_refused(rt: HostRuntime) -> Result<(), Fail> {
-    let limited = Limited::new(rt.alloc());
-    assert_eq!(rt;
-        (with_checkpoints(&limited, &limited)?, limited.blocks_out()),
-        (
-            (
-                Some(COPIED),
-                (found(true), after_a_pause(true)),
-                at_the_first(true)
-            ),
-            0
-        )
-    );
-    Ok(())
+fn records_with_each_growth_refused(rt: HostRuntime) {
+    let seen = over_kind(rt.alloc(), Kind::Records);
+    expect_eq(&rt, seen, THERE_AND_BACK);
+}
+
+#[test]
+fn checkpoints_with_each_growth_refused(rt: HostRuntime) {
+    let seen = over_kind(rt.alloc(), Kind::Checkpoints);
+    expect_eq(&rt, seen, THERE_AND_BACK);
 }

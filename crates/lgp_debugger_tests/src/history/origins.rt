@@ -1,11 +1,10 @@
 //! Where words came from, over records.
 
-use super::{Session, TRANSFER, address, back, orders, recording, take};
-use lgp_history::{Changer, History, Origin, Origins, PastOrder, Step};
+use super::{Deed, Session, TRANSFER, address, all_taken, back, records, session_of};
+use crate::expect_eq;
+use lgp_history::{Changer, Origin, Origins, PastOrder};
 use lgp_table::{Action, Mode};
-use lgp_word::Word;
-use std::alloc::Allocator;
-use std::test::Fail;
+use std::alloc::{Allocator, Global};
 
 /// Holds the accumulator at 0136.
 const HOLD: u32 = 0x000c_0190;
@@ -25,7 +24,10 @@ fn said(origin: Origin) -> Said {
                 orders_back,
             },
         ) => {
-            let stood = place.map(|place| place.number());
+            let stood = match place {
+                Some(place) => Some(place.number()),
+                None => None,
+            };
             (Some((stood, word.get(), orders_back)), clock, lost)
         }
         Changer::Hand(clock) => (None, clock, lost),
@@ -38,25 +40,6 @@ fn origin<A: Allocator, H: Origins<A>>(session: &Session<A, H>) -> Option<Said> 
     Some(said(origin))
 }
 
-/// Puts a word at 0136; `None` where that is refused.
-fn put<A: Allocator + Clone, H: History<A>>(session: &mut Session<A, H>, bits: u32) -> Option<()> {
-    match take(session, &Step::Put(address(100), Word::of_bits(bits))) {
-        Ok(true) => Some(()),
-        _ => None,
-    }
-}
-
-/// Presses a button; `None` where it is not live.
-fn press<A: Allocator + Clone, H: History<A>>(
-    session: &mut Session<A, H>,
-    action: Action,
-) -> Option<()> {
-    match take(session, &Step::Press(action)) {
-        Ok(true) => Some(()),
-        _ => None,
-    }
-}
-
 /// What a put of 8 over 0 says at clock 0, and the hold of 0 over 8 at 0000 that began at clock 5.
 const BY_HAND: Option<Said> = Some((None, 0, 0));
 
@@ -64,75 +47,94 @@ fn held(orders_back: u64) -> Option<Said> {
     Some((Some((Some(0), HOLD, orders_back)), 5, 8))
 }
 
+const PUTS: [Deed; 3] = [Deed::Put(8), Deed::Idle(5), Deed::Put(8)];
+
+const BEGUN: [Deed; 2] = [Deed::Press(Action::Start), Deed::Perform];
+
+const TWO: [Deed; 2] = [Deed::Perform, Deed::Perform];
+
 /// Puts 8, and at clock 5 puts 8 again, starts, and performs three orders, of which the first and the third hold 0. What is said at
 /// the beginning, after both puts, after the first order and after the third.
-fn put_and_hold<A: Allocator + Clone, H: Origins<A>>(
+fn put_and_hold<A: Allocator + Copy, H: Origins<A>>(
+    alloc: A,
     session: &mut Session<A, H>,
 ) -> Option<[Option<Said>; 4]> {
     let none = origin(session);
-    put(session, 8)?;
-    let idle = take(session, &Step::Idle(5));
-    put(session, 8)?;
+    let puts = all_taken(alloc, session, &PUTS);
     let by_hand = origin(session);
-    press(session, Action::Start)?;
-    orders(session, 1)?;
+    let begun = all_taken(alloc, session, &BEGUN);
     let first = origin(session);
-    orders(session, 2)?;
-    (idle == Ok(true)).then_some([none, by_hand, first, origin(session)])
+    let ended = all_taken(alloc, session, &TWO);
+    (puts && begun && ended).then_some([none, by_hand, first, origin(session)])
+}
+
+/// The same on a new machine, with records of at most nine steps or of two.
+fn put_and_held(alloc: Global, are_few: bool) -> Option<[Option<Said>; 4]> {
+    let capacity = if are_few { 2 } else { 9 };
+    let mut session = session_of(alloc, records(alloc, capacity), [HOLD, TRANSFER])?;
+    put_and_hold(alloc, &mut session)
 }
 
 #[test]
-fn a_word_that_is_stored_again_has_not_changed(rt: HostRuntime) -> Result<(), Fail> {
-    let mut session = recording(rt.alloc(), 9, [HOLD, TRANSFER])?;
-    let seen = put_and_hold(&mut session);
-    assert_eq!(rt; seen, Some([None, BY_HAND, held(1), held(3)]));
-    Ok(())
+fn a_word_that_is_stored_again_has_not_changed(rt: HostRuntime) {
+    let wanted = [None, BY_HAND, held(1), held(3)];
+    expect_eq(&rt, put_and_held(rt.alloc(), false), Some(wanted));
 }
 
 #[test]
-fn a_step_that_is_forgotten_is_no_origin(rt: HostRuntime) -> Result<(), Fail> {
-    let mut session = recording(rt.alloc(), 2, [HOLD, TRANSFER])?;
-    let seen = put_and_hold(&mut session);
-    assert_eq!(rt; seen, Some([None, None, held(1), None]));
-    Ok(())
+fn a_step_that_is_forgotten_is_no_origin(rt: HostRuntime) {
+    let wanted = [None, None, held(1), None];
+    expect_eq(&rt, put_and_held(rt.alloc(), true), Some(wanted));
 }
 
 /// Three orders likewise, then two back and one more. What is said then.
-fn held_and_back<A: Allocator + Clone, H: Origins<A>>(
+fn held_and_back<A: Allocator + Copy, H: Origins<A>>(
+    alloc: A,
     session: &mut Session<A, H>,
 ) -> Option<[Option<Said>; 2]> {
-    put_and_hold(session)?;
+    put_and_hold(alloc, session)?;
     let two = back(session, 2);
     let later = origin(session);
     let one = back(session, 1);
     (two.is_ok() && one.is_ok()).then_some([later, origin(session)])
 }
 
+/// What is said after the way back.
+fn held_and_gone_back(alloc: Global) -> Option<[Option<Said>; 2]> {
+    let mut session = session_of(alloc, records(alloc, 9), [HOLD, TRANSFER])?;
+    held_and_back(alloc, &mut session)
+}
+
 #[test]
-fn going_back_leads_to_the_origin_of_then(rt: HostRuntime) -> Result<(), Fail> {
-    let mut session = recording(rt.alloc(), 9, [HOLD, TRANSFER])?;
-    let seen = held_and_back(&mut session);
-    assert_eq!(rt; seen, Some([held(1), BY_HAND]));
-    Ok(())
+fn going_back_leads_to_the_origin_of_then(rt: HostRuntime) {
+    let wanted = [held(1), BY_HAND];
+    expect_eq(&rt, held_and_gone_back(rt.alloc()), Some(wanted));
 }
 
 /// Puts 8, performs the order at 0000, puts 8 and performs that order again from the instruction register, in One Operation.
-fn executed<A: Allocator + Clone, H: Origins<A>>(session: &mut Session<A, H>) -> Option<Said> {
-    put(session, 8)?;
-    press(session, Action::Mode(Mode::OneOperation))?;
-    press(session, Action::Start)?;
-    orders(session, 1)?;
-    put(session, 8)?;
-    press(session, Action::Execute)?;
-    orders(session, 1)?;
-    origin(session)
+const EXECUTED: [Deed; 7] = [
+    Deed::Put(8),
+    Deed::Press(Action::Mode(Mode::OneOperation)),
+    Deed::Press(Action::Start),
+    Deed::Perform,
+    Deed::Put(8),
+    Deed::Press(Action::Execute),
+    Deed::Perform,
+];
+
+/// What is said then.
+fn executed(alloc: Global) -> Option<Said> {
+    let mut session = session_of(alloc, records(alloc, 9), [HOLD, TRANSFER])?;
+    if all_taken(alloc, &mut session, &EXECUTED) {
+        origin(&session)
+    } else {
+        None
+    }
 }
 
 // The order at 0000 is read at clock 64, and the word at 0136, whose position is 4, at 68.
 #[test]
-fn an_order_in_the_register_has_no_place(rt: HostRuntime) -> Result<(), Fail> {
-    let mut session = recording(rt.alloc(), 9, [HOLD, TRANSFER])?;
-    let seen = executed(&mut session);
-    assert_eq!(rt; seen, Some((Some((None, HOLD, 1)), 69, 8)));
-    Ok(())
+fn an_order_in_the_register_has_no_place(rt: HostRuntime) {
+    let wanted = Some((Some((None, HOLD, 1)), 69, 8));
+    expect_eq(&rt, executed(rt.alloc()), wanted);
 }

@@ -2,11 +2,13 @@
 
 ghost use Rattle.std.specs.Prelude.{◌≤◌};
 
-use super::{Seen, Session, TRANSFER, back, checkpointing, orders, recording, seen, take};
-use lgp_history::{BackFault, History, Step};
+use super::{
+    Deed, Seen, Session, TRANSFER, all_taken, back, checkpoints, records, seen, session_of,
+};
+use crate::expect_eq;
+use lgp_history::{BackFault, History};
 use lgp_table::{Action, Status};
-use std::alloc::Allocator;
-use std::test::Fail;
+use std::alloc::{AllocError, Allocator, Global};
 
 /// Goes back a given number of orders, at least 1: the answer, and what is seen then.
 fn back_and_seen<A: Allocator, H: History<A>>(
@@ -26,17 +28,28 @@ type TenOrders = (
     (Result<(), BackFault>, Option<Seen>),
 );
 
-/// Starts, performs ten orders, tries to go back five, and goes back four; `None` where a step is refused.
-fn ten_orders<A: Allocator + Clone, H: History<A>>(
-    session: &mut Session<A, H>,
-) -> Option<TenOrders> {
-    if take(session, &Step::Press(Action::Start)) != Ok(true) {
-        return None;
-    }
-    orders(session, 10)?;
+const STARTED: [Deed; 1] = [Deed::Press(Action::Start)];
+
+const TEN: [Deed; 10] = [Deed::Perform; 10];
+
+/// Shows what there is after ten orders, tries to go back five, and goes back four.
+fn ten_orders<A: Allocator, H: History<A>>(session: &mut Session<A, H>) -> TenOrders {
     let there = seen(session);
     let refused = back_and_seen(session, 5);
-    Some((there, refused, back_and_seen(session, 4)))
+    (there, refused, back_and_seen(session, 4))
+}
+
+/// The same of transfers over a history; `None` where a step is refused.
+fn ten_transfers<H: History<Global>>(
+    alloc: Global,
+    history: Result<H, AllocError>,
+) -> Option<TenOrders> {
+    let mut session = session_of(alloc, history, [TRANSFER, 0])?;
+    if all_taken(alloc, &mut session, &STARTED) && all_taken(alloc, &mut session, &TEN) {
+        Some(ten_orders(&mut session))
+    } else {
+        None
+    }
 }
 
 /// What ten transfers show where four steps are kept.
@@ -47,15 +60,13 @@ const TEN_TRANSFERS: TenOrders = (
 );
 
 #[test]
-fn the_fourth_last_of_ten(rt: HostRuntime) -> Result<(), Fail> {
-    let mut session = recording(rt.alloc(), 4, [TRANSFER, 0])?;
-    assert_eq!(rt; ten_orders(&mut session), Some(TEN_TRANSFERS));
-    Ok(())
+fn the_fourth_last_of_ten(rt: HostRuntime) {
+    let found = ten_transfers(rt.alloc(), records(rt.alloc(), 4));
+    expect_eq(&rt, found, Some(TEN_TRANSFERS));
 }
 
 #[test]
-fn the_fourth_last_of_ten_again(rt: HostRuntime) -> Result<(), Fail> {
-    let mut session = checkpointing(rt.alloc(), 4, [TRANSFER, 0])?;
-    assert_eq!(rt; ten_orders(&mut session), Some(TEN_TRANSFERS));
-    Ok(())
+fn the_fourth_last_of_ten_again(rt: HostRuntime) {
+    let found = ten_transfers(rt.alloc(), checkpoints(rt.alloc(), 4));
+    expect_eq(&rt, found, Some(TEN_TRANSFERS));
 }

@@ -46,43 +46,61 @@ fn tapes_of<B: Allocator>(
     global: Global,
     source: &[u8],
     way: Way,
-) -> Result<Option<u64>, Fail> {
+) -> Option<u64> {
     let image = image(global, source)?;
-    let ample = tape_by(global, &image, way)?;
-    Ok(refused_tapes(limited, &image, way, ample.as_slice()))
-}
-
-#[test]
-fn each_growth_of_a_tape_is_refused(rt: HostRuntime) -> Result<(), Fail> {
-    let heap = LocalHeap::new(rt.alloc(), 4096)?;
-    let limited = Limited::new(&heap);
-    for (source, way, _) in PROGRAMS {
-        let often = tapes_of(&limited, rt.alloc(), source, way)?;
-        assert_eq!(rt; (often >= Some(1), heap.used()), (true, 0));
+    match tape_by(global, &image, way) {
+        Ok(ample) => refused_tapes(limited, &image, way, ample.as_slice()),
+        Err(_) => None,
     }
-    Ok(())
 }
 
-/// What a tape of two words in blocks of such lengths answers with the first growth refused; `None` where one is.
-fn cut_without_memory<B: Allocator>(
-    limited: &Limited<B>,
-    image: &Image,
-    counts: &[usize],
-) -> Option<CutFault> {
-    limited.refuse(1);
-    let fault = tape_by(limited, image, Way::Cut(counts)).err();
-    if limited.was_refused() { None } else { fault }
+/// For how many of the programs the tape is refused at least once.
+fn taped_programs<B: Allocator>(limited: &Limited<B>, global: Global) -> usize {
+    let mut taped = 0usize;
+    for (source, way, _) in &PROGRAMS {
+        if tapes_of(limited, global, source, *way) >= Some(1) {
+            taped = taped.saturating_add(1);
+        }
+    }
+    taped
+}
+
+/// The same over a heap of its own, and how many bytes are used there at last.
+fn taped_over_heap(global: Global) -> Option<(usize, usize)> {
+    let heap = LocalHeap::new(global, 4096).ok()?;
+    let taped = taped_programs(&Limited::new(&heap), global);
+    Some((taped, heap.used()))
 }
 
 #[test]
-fn lengths_that_are_no_cutting_are_reported_without_memory(rt: HostRuntime) -> Result<(), Fail> {
-    let image = image(rt.alloc(), TWO_WORDS)?;
-    let limited = Limited::new(rt.alloc());
+fn each_growth_of_a_tape_is_refused(rt: HostRuntime) {
+    let found = taped_over_heap(rt.alloc());
+    expect_eq(&rt, found, Some((PROGRAMS.len(), 0)));
+}
+
+/// How many of the numbers that do not cut two words are reported as such with the first growth refused, and without one.
+fn cut_without_memory<B: Allocator>(limited: &Limited<B>, image: &Image) -> usize {
+    let mut reported = 0usize;
     for counts in NO_CUTS {
-        let found = cut_without_memory(&limited, &image, counts);
-        assert_eq!(rt; found, Some(CutFault::BadCut));
+        limited.refuse(1);
+        let length = tape_length(limited, image, Way::Cut(counts));
+        if length == Err(CutFault::BadCut) && !limited.was_refused() {
+            reported = reported.saturating_add(1);
+        }
     }
-    Ok(())
+    reported
+}
+
+/// The same of an image of its own.
+fn cut_one_without_memory(global: Global) -> Option<usize> {
+    let image = image(global, TWO_WORDS)?;
+    Some(cut_without_memory(&Limited::new(global), &image))
+}
+
+#[test]
+fn lengths_that_are_no_cutting_are_reported_without_memory(rt: HostRuntime) {
+    let found = cut_one_without_memory(rt.alloc());
+    expect_eq(&rt, found, Some(NO_CUTS.len()));
 }
 
 /// Whether two machines have the same words.
@@ -115,41 +133,54 @@ fn are_same<A: Allocator, B: Allocator>(machine: &Machine<A>, other: &Machine<B>
 /// A print, an order that switches the reader on, and an input.
 const READING: [(u16, u32); 3] = [(0, 0x0008_3900), (1, 0x0008_0000), (2, 0x0004_0000)];
 
-/// Puts these orders on the drum.
-fn put_reading<A: Allocator>(machine: &mut Machine<A>) -> Result<(), Fail> {
+/// Puts these orders on the drum, and mounts a tape of five codes; false where anything is refused.
+fn is_ready<A: Allocator + Copy>(alloc: A, machine: &mut Machine<A>) -> bool {
     for (number, bits) in READING {
-        machine.put(
-            Address::new(number).unwrap_or_default(),
-            Word::of_bits(bits),
-        )?;
+        let place = Address::new(number).unwrap_or_default();
+        if machine.put(place, Word::of_bits(bits)).is_err() {
+            return false;
+        }
     }
-    Ok(())
-}
-
-/// Mounts a tape of five codes.
-fn mount_five<A: Allocator + Copy>(alloc: A, machine: &mut Machine<A>) -> Result<(), Fail> {
-    match machine.mount(read_tape_text(alloc, b"12'3'")?) {
-        Ok(()) => Ok(()),
-        Err(_) => Err("no tape is mounted")?,
+    match read_tape_text(alloc, b"12'3'") {
+        Ok(tape) => machine.mount(tape).is_ok(),
+        Err(_) => false,
     }
 }
 
-/// Performs a given number of orders.
-fn perform<A: Allocator>(machine: &mut Machine<A>, orders: u8) -> Result<(), Fail> {
-    for _ in 0..orders {
-        machine.next_order()?;
+/// Performs the three orders; false where one is refused.
+fn perform<A: Allocator>(machine: &mut Machine<A>) -> bool {
+    press(machine, &[Action::Start]);
+    for _ in READING {
+        if machine.next_order().is_err() {
+            return false;
+        }
     }
-    Ok(())
+    true
 }
 
 /// A machine that has printed a code, and has read three of five codes.
-fn within_a_tape<A: Allocator + Copy>(alloc: A) -> Result<Machine<A>, Fail> {
-    let mut machine = machine_at(alloc, 7)?;
-    put_reading(&mut machine)?;
-    mount_five(alloc, &mut machine)?;
-    press(&mut machine, &[Action::Start]);
-    perform(&mut machine, 3)?;
-    Ok(machine)
+fn within_a_tape<A: Allocator + Copy>(alloc: A) -> Option<Machine<A>> {
+    let mut machine = machine_at(alloc, (7, false))?;
+    if is_ready(alloc, &mut machine) && perform(&mut machine) {
+        Some(machine)
+    } else {
+        None
+    }
+}
+
+/// How a load ends: after so many orders, refused for memory, or otherwise.
+enum End {
+    Loaded(u64),
+    Refused,
+    Otherwise,
+}
+
+fn end_of<A: Allocator + Copy>(alloc: A, machine: &mut Machine<A>, image: &Image, way: Way) -> End {
+    match load_by(alloc, machine, image, way) {
+        Ok(orders) => End::Loaded(orders),
+        Err(LoadFault::Memory) => End::Refused,
+        Err(_) => End::Otherwise,
+    }
 }
 
 /// How often a load is refused before it is done, and how many orders it then takes; `None` where a growth is refused and the answer
@@ -162,10 +193,13 @@ fn refused_loads<B: Allocator, A: Allocator + Copy>(
 ) -> Option<(u64, u64)> {
     for nth in 0..MOST {
         limited.refuse(nth + 1);
-        match load_by(alloc, machine, image, way) {
-            Ok(orders) if !limited.was_refused() => return Some((nth, orders)),
-            Err(LoadFault::Memory) if limited.was_refused() && are_same(machine, before) => {}
-            _ => return None,
+        match end_of(alloc, machine, image, way) {
+            End::Loaded(orders) => return (!limited.was_refused()).then_some((nth, orders)),
+            End::Refused => {}
+            End::Otherwise => return None,
+        }
+        if !limited.was_refused() || !are_same(machine, before) {
+            return None;
         }
     }
     None
@@ -183,54 +217,69 @@ fn refused_and_loaded<B: Allocator, A: Allocator + Copy>(
     (answer == Ok(found.1) && are_same(machine, other)).then_some(found)
 }
 
-/// The same on machines that have read a tape. Whether it is refused at least once, and how many orders it takes.
+/// The same beside a machine that has read a tape.
+fn loads_beside<B: Allocator, A: Allocator + Copy>(
+    (limited, alloc, global): (&Limited<B>, A, Global),
+    machine: &mut Machine<A>,
+    so: (&Image, Way),
+) -> Option<(u64, u64)> {
+    match within_a_tape(global) {
+        Some(mut other) => refused_and_loaded((limited, alloc, global), machine, &mut other, so),
+        None => None,
+    }
+}
+
+/// The same on a machine that has read a tape, too.
 fn loads_of<B: Allocator>(
     limited: &Limited<B>,
     global: Global,
-    source: &[u8],
-    way: Way,
-) -> Result<Option<(bool, u64)>, Fail> {
-    let image = image(global, source)?;
+    so: (&Image, Way),
+) -> Option<(u64, u64)> {
     limited.refuse(0);
-    let mut machine = within_a_tape(limited)?;
-    let mut other = within_a_tape(global)?;
-    let allocs = (limited, limited, global);
-    let found = refused_and_loaded(allocs, &mut machine, &mut other, (&image, way));
-    Ok(found.map(|(often, orders)| (often > 0, orders)))
+    match within_a_tape(limited) {
+        Some(mut machine) => loads_beside((limited, limited, global), &mut machine, so),
+        None => None,
+    }
+}
+
+/// Whether a load is refused at least once, and then takes this many orders.
+fn takes<B: Allocator>(
+    limited: &Limited<B>,
+    global: Global,
+    so: (&Image, Way),
+    wanted: u64,
+) -> bool {
+    match loads_of(limited, global, so) {
+        Some((often, orders)) => often > 0 && orders == wanted,
+        None => false,
+    }
+}
+
+/// How many of the programs are refused at least once, and take as many orders as they have to.
+fn loaded_programs<B: Allocator>(limited: &Limited<B>, global: Global) -> usize {
+    let mut loaded = 0usize;
+    for (source, way, orders) in &PROGRAMS {
+        match image(global, source) {
+            Some(image) if takes(limited, global, (&image, *way), *orders) => {
+                loaded = loaded.saturating_add(1);
+            }
+            _ => {}
+        }
+    }
+    loaded
+}
+
+/// The same over a heap of its own, and how many bytes are used there at last.
+fn loaded_over_heap(global: Global) -> Option<(usize, usize)> {
+    let heap = LocalHeap::new(global, 262144).ok()?;
+    let loaded = loaded_programs(&Limited::new(&heap), global);
+    Some((loaded, heap.used()))
 }
 
 #[test]
-fn each_growth_of_a_load_is_refused(rt: HostRuntime) -> Result<(), Fail> {
-    let heap = LocalHeap::new(rt.alloc(), 262144)?;
-    let limited = Limited::new(&heap);
-    for (source, way, orders) in PROGRAMS {
-        let found = loads_of(&limited, rt.alloc(), source, way)?;
-        assert_eq!(rt; (found, heap.used()), (Some((true, orders)), 0));
-    }
-    Ok(())
-}
-
-/// Where a machine is: within an order, at rest, or one word time before the clock's end.
-#[derive(Clone, Copy, Debug, PartialEq, Eq)]
-enum Stand {
-    Within,
-    AtRest,
-    AtEnd,
-}
-
-/// A machine in this state.
-fn machine_as<A: Allocator + Copy>(alloc: A, stand: Stand) -> Result<Machine<A>, Fail> {
-    let clock = if stand == Stand::AtEnd {
-        CLOCK_END - 1
-    } else {
-        7
-    };
-    let mut machine = machine_at(alloc, clock)?;
-    if stand == Stand::Within {
-        press(&mut machine, &[Action::Start]);
-        turn(&mut machine)?;
-    }
-    Ok(machine)
+fn each_growth_of_a_load_is_refused(rt: HostRuntime) {
+    let found = loaded_over_heap(rt.alloc());
+    expect_eq(&rt, found, Some((PROGRAMS.len(), 0)));
 }
 
 /// What a load answers with its first growth refused, whether that was asked for, and whether the machine is the same as another one
@@ -248,39 +297,59 @@ fn first_refused<B: Allocator, A: Allocator + Copy>(
     (answer, limited.was_refused(), are_same(machine, before))
 }
 
-/// That of a program that is loaded so on a machine in this state.
+/// That of a program that is loaded so on a machine that is there.
 fn answer_of<B: Allocator>(
     limited: &Limited<B>,
     global: Global,
     image: &Image,
     (stand, way): (Stand, Way),
-) -> Result<Answer, Fail> {
+) -> Option<Answer> {
     limited.refuse(0);
-    let mut machine = machine_as(limited, stand)?;
-    let before = machine_as(global, stand)?;
-    Ok(first_refused((limited, limited), &mut machine, &before, (image, way)))
+    let mut machine = machine_at(limited, stand)?;
+    let before = machine_at(global, stand)?;
+    Some(first_refused((limited, limited), &mut machine, &before, (image, way)))
 }
+
+/// Machines: within an order, at rest, and one word time before the clock's end.
+const WITHIN: Stand = (7, true);
+
+const AT_REST: Stand = (7, false);
+
+const AT_END: Stand = (CLOCK_END - 1, false);
 
 /// What loads of two words answer with the first growth refused, and whether that growth is asked for.
 const ANSWERS: [(Stand, Way<'static>, LoadFault, bool); 7] = [
-    (Stand::Within, Way::Longest, LoadFault::Moving, false),
-    (Stand::Within, Way::Cut(&[1]), LoadFault::Moving, false),
-    (Stand::Within, Way::Single, LoadFault::Moving, false),
-    (Stand::AtRest, Way::Cut(&[1]), LoadFault::BadCut, false),
-    (Stand::AtEnd, Way::Longest, LoadFault::Memory, true),
-    (Stand::AtEnd, Way::Cut(&[2]), LoadFault::Memory, true),
-    (Stand::AtEnd, Way::Single, LoadFault::Memory, true),
+    (WITHIN, Way::Longest, LoadFault::Moving, false),
+    (WITHIN, Way::Cut(&[1]), LoadFault::Moving, false),
+    (WITHIN, Way::Single, LoadFault::Moving, false),
+    (AT_REST, Way::Cut(&[1]), LoadFault::BadCut, false),
+    (AT_END, Way::Longest, LoadFault::Memory, true),
+    (AT_END, Way::Cut(&[2]), LoadFault::Memory, true),
+    (AT_END, Way::Single, LoadFault::Memory, true),
 ];
+
+/// The place of the first load that answers otherwise or leaves a block out, or how many there are.
+fn first_otherwise<B: Allocator>(limited: &Limited<B>, global: Global, image: &Image) -> usize {
+    let mut place = 0usize;
+    for (stand, way, fault, refused) in &ANSWERS {
+        let found = answer_of(limited, global, image, (*stand, *way));
+        if found != Some((Err(*fault), *refused, true)) || limited.blocks_out() != 0 {
+            return place;
+        }
+        place = place.saturating_add(1);
+    }
+    place
+}
+
+/// The same for two words.
+fn first_otherwise_of_two(global: Global) -> Option<usize> {
+    let image = image(global, TWO_WORDS)?;
+    Some(first_otherwise(&Limited::new(global), global, &image))
+}
 
 /// Only the refusal for the clock's end comes after that for memory.
 #[test]
-fn a_load_asks_for_memory_before_it_presses(rt: HostRuntime) -> Result<(), Fail> {
-    let image = image(rt.alloc(), TWO_WORDS)?;
-    let limited = Limited::new(rt.alloc());
-    for (stand, way, fault, refused) in ANSWERS {
-        let found = answer_of(&limited, rt.alloc(), &image, (stand, way))?;
-        let answer = (Err(fault), refused, true);
-        assert_eq!(rt; (found, limited.blocks_out()), (answer, 0), "{stand:?}");
-    }
-    Ok(())
+fn a_load_asks_for_memory_before_it_presses(rt: HostRuntime) {
+    let found = first_otherwise_of_two(rt.alloc());
+    expect_eq(&rt, found, Some(ANSWERS.len()));
 }

@@ -4,7 +4,6 @@ use super::*;
 
 /// A load on a new machine, and what it leaves: how many orders it takes, the counter after the loader's end cell, the clock, and
 /// words of the drum.
-#[derive(Clone, Copy)]
 struct Load<'a> {
     source: &'a [u8],
     way: Way<'a>,
@@ -14,27 +13,14 @@ struct Load<'a> {
     words: &'a [(&'a [u8], &'a [u8])],
 }
 
-/// Whether a load has answered so, the machine shows so, and the words are these.
-fn has_ended(machine: &Machine, load: &Load, answer: Result<u64, LoadFault>) -> [bool; 3] {
+/// Whether a load ends so.
+fn has_ended(alloc: Global, load: &Load) -> bool {
+    let Some((answer, look, has_words)) = loaded(alloc, (load.source, load.way, NEW), load.words)
+    else {
+        return false;
+    };
     let wanted = stopped(load.counter, b"80000000", Switches::default(), load.clock);
-    [
-        answer == Ok(load.orders),
-        look(machine) == wanted,
-        has_words(machine, load.words),
-    ]
-}
-
-/// Loads a program, and says whether it has ended so.
-fn load_on(alloc: Global, machine: &mut Machine, image: &Image, load: &Load) -> [bool; 3] {
-    let answer = load_by(alloc, machine, image, load.way);
-    has_ended(machine, load, answer)
-}
-
-/// The same on a new machine.
-fn loaded(alloc: Global, load: &Load) -> Result<[bool; 3], Fail> {
-    let image = image(alloc, load.source)?;
-    let mut machine = machine_at(alloc, 0)?;
-    Ok(load_on(alloc, &mut machine, &image, load))
+    answer == Ok(load.orders) && look.is_some() && look == wanted && has_words
 }
 
 const LOADS: &[Load<'static>] = &[
@@ -81,13 +67,21 @@ const LOADS: &[Load<'static>] = &[
     },
 ];
 
-#[test]
-fn programs_are_loaded(rt: HostRuntime) -> Result<(), Fail> {
-    for (index, load) in LOADS.iter().enumerate() {
-        let found = loaded(rt.alloc(), load)?;
-        assert_eq!(rt; found, [true; 3], "load {index}");
+/// The place of the first load that ends otherwise, or how many there are.
+fn first_ended_otherwise(alloc: Global, loads: &[Load]) -> usize {
+    let mut place = 0usize;
+    for load in loads {
+        if !has_ended(alloc, load) {
+            return place;
+        }
+        place = place.saturating_add(1);
     }
-    Ok(())
+    place
+}
+
+#[test]
+fn programs_are_loaded(rt: HostRuntime) {
+    expect_eq(&rt, first_ended_otherwise(rt.alloc(), LOADS), LOADS.len());
 }
 
 const WORDS_OF_TWO_BLOCKS: &[(&[u8], &[u8])] = &[
@@ -98,96 +92,72 @@ const WORDS_OF_TWO_BLOCKS: &[(&[u8], &[u8])] = &[
     (b"6321", b"00000000"),
 ];
 
-/// How many orders two words in blocks take on a new machine, where the drum then has the wanted words.
-fn orders_for_two(alloc: Global, way: Way) -> Result<Option<u64>, Fail> {
-    let image = image(alloc, TWO_WORDS)?;
-    let mut machine = machine_at(alloc, 0)?;
-    Ok(orders_on(alloc, &mut machine, &image, way))
-}
-
-/// The same on a machine.
-fn orders_on(alloc: Global, machine: &mut Machine, image: &Image, way: Way) -> Option<u64> {
-    let orders = load_by(alloc, machine, image, way).ok()?;
-    has_words(machine, WORDS_OF_TWO_BLOCKS).then_some(orders)
+/// What two words in blocks answer on a new machine, and whether the drum then has the wanted words.
+fn two_words(alloc: Global, way: Way) -> Option<(Result<u64, LoadFault>, bool)> {
+    let (answer, _, has_words) = loaded(alloc, (TWO_WORDS, way, NEW), WORDS_OF_TWO_BLOCKS)?;
+    Some((answer, has_words))
 }
 
 #[test]
-fn two_words_are_loaded_in_two_blocks(rt: HostRuntime) -> Result<(), Fail> {
-    let longest = orders_for_two(rt.alloc(), Way::Longest)?;
-    let cut = orders_for_two(rt.alloc(), Way::Cut(&[1, 1]))?;
-    assert_eq!(rt; (longest, cut), (Some(33), Some(41)));
-    Ok(())
+fn two_words_are_loaded_in_two_blocks(rt: HostRuntime) {
+    let found = [
+        two_words(rt.alloc(), Way::Longest),
+        two_words(rt.alloc(), Way::Cut(&[1, 1])),
+    ];
+    expect_eq(&rt, found, [Some((Ok(33), true)), Some((Ok(41), true))]);
 }
 
-/// How many orders five lines take, where they are then started at 0000, and whether the word of the last lies on the drum.
-fn five_lines_on(alloc: Global, machine: &mut Machine, image: &Image) -> (Option<u64>, bool) {
-    let answer = load_by(alloc, machine, image, Way::Longest).ok();
-    let has_word = has_word(machine, b"0003", b"0jjjjjjj");
-    let Some(look) = look(machine) else {
-        return (None, has_word);
-    };
-    if look.status != Status::Going || look.counter.number() != 0 {
-        return (None, has_word);
-    }
-    (answer, has_word)
+/// What the load of five lines answers, the status and the counter then, and whether the word of the last line lies on the drum.
+fn five_lines(alloc: Global) -> Option<(Result<u64, LoadFault>, Status, u16, bool)> {
+    let task = (FIVE_LINES, Way::Longest, NEW);
+    let (answer, look, has_word) = loaded(alloc, task, &[(b"0003", b"0jjjjjjj")])?;
+    let look = look?;
+    Some((answer, look.status, look.counter.number(), has_word))
 }
 
 #[test]
-fn five_lines_are_loaded_and_started(rt: HostRuntime) -> Result<(), Fail> {
-    let image = image(rt.alloc(), FIVE_LINES)?;
-    let mut machine = machine_at(rt.alloc(), 0)?;
-    let found = five_lines_on(rt.alloc(), &mut machine, &image);
-    assert_eq!(rt; found, (Some(53), true));
-    Ok(())
+fn five_lines_are_loaded_and_started(rt: HostRuntime) {
+    let wanted = Some((Ok(53), Status::Going, 0, true));
+    expect_eq(&rt, five_lines(rt.alloc()), wanted);
 }
 
-/// Keys the loader in.
-fn key(machine: &mut Machine, base: Address) -> Result<(), Fail> {
-    Ok(key_in(machine, base, &LOADER)?)
-}
-
-/// Mounts a tape.
-fn mount(machine: &mut Machine, tape: Vec<Code>) -> Result<(), Fail> {
-    match machine.mount(tape) {
-        Ok(()) => Ok(()),
-        Err(_) => Err("no tape is mounted")?,
+/// Sets the loader going by hand, with a tape mounted; false where a step is refused.
+fn start_loader(machine: &mut Machine, base: Address, tape: Vec<Code>) -> bool {
+    if key_in(machine, base, &LOADER).is_err() || machine.mount(tape).is_err() {
+        return false;
     }
-}
-
-fn next_order<A: Allocator>(machine: &mut Machine<A>) -> Result<(), Fail> {
-    machine.next_order()?;
-    Ok(())
-}
-
-/// Sets the loader going by hand, with a tape mounted.
-fn start_loader(machine: &mut Machine, base: Address, tape: Vec<Code>) -> Result<(), Fail> {
-    key(machine, base)?;
-    mount(machine, tape)?;
     press(machine, &actions_to_jump(base));
-    next_order(machine)?;
+    if machine.next_order().is_err() {
+        return false;
+    }
     press(machine, &[Action::Mode(Mode::Normal), Action::Start]);
-    Ok(())
+    true
 }
 
-/// Lets a given number of orders end, word time by word time.
-fn let_orders_end(machine: &mut Machine, wanted: u32) -> Result<(), Fail> {
+/// Lets a given number of orders end, word time by word time; false where a word time is refused.
+fn let_orders_end(machine: &mut Machine, wanted: u32) -> bool {
     let mut orders = 0;
     for _ in 0..20000 {
-        if orders < wanted && turn(machine)? {
-            orders += 1;
+        if orders < wanted {
+            match machine.turn() {
+                Ok(true) => orders += 1,
+                Ok(false) => {}
+                Err(_) => return false,
+            }
         }
     }
-    Ok(())
+    true
 }
 
-/// What shows after a loading of 23 orders within whose first one TRANSFER CONTROL was set.
-fn disturbed(machine: &mut Machine, tape: Vec<Code>) -> Result<Option<Look>, Fail> {
-    let base = Address::parse(b"6300").ok_or("no address")?;
-    start_loader(machine, base, tape)?;
-    let _ = turn(machine)?;
+/// Lets a loading of 23 orders end, within whose first one TRANSFER CONTROL is set. What shows then; `None` where anything is refused.
+fn disturbed(machine: &mut Machine) -> Option<Look> {
+    machine.turn().ok()?;
     press(machine, &[Action::Transfer(true)]);
-    let_orders_end(machine, 23)?;
-    Ok(look(machine))
+    if let_orders_end(machine, 23) {
+        look(machine)
+    } else {
+        None
+    }
 }
 
 /// TRANSFER CONTROL set, and no other switch.
@@ -200,18 +170,27 @@ const TRANSFER: Switches = Switches {
     six_bit: false,
 };
 
-/// Whether an image that is loaded so leaves what it leaves with no switch touched.
-fn is_undisturbed(alloc: Global, image: &Image) -> Result<bool, Fail> {
-    let mut machine = machine_at(alloc, 0)?;
-    let tape = tape_by(alloc, image, Way::Longest)?;
-    let found = disturbed(&mut machine, tape)?;
-    Ok(found == stopped(b"6320", b"80000000", TRANSFER, 15342))
+/// The same from the beginning, with the tape of a program of one word.
+fn disturbed_load(alloc: Global, machine: &mut Machine, image: &Image) -> Option<Look> {
+    let base = Address::parse(b"6300")?;
+    let is_started = match tape_by(alloc, image, Way::Longest) {
+        Ok(tape) => start_loader(machine, base, tape),
+        Err(_) => false,
+    };
+    if is_started { disturbed(machine) } else { None }
 }
 
+/// The same on a new machine.
+fn disturbed_on_one(alloc: Global) -> Option<Look> {
+    let image = image(alloc, ONE_WORD)?;
+    let mut machine = machine_at(alloc, NEW)?;
+    disturbed_load(alloc, &mut machine, &image)
+}
+
+/// What is left is what the load leaves with no switch touched.
 #[test]
-fn transfer_control_does_not_disturb_loading(rt: HostRuntime) -> Result<(), Fail> {
-    let image = image(rt.alloc(), ONE_WORD)?;
-    let found = is_undisturbed(rt.alloc(), &image)?;
-    assert!(rt; found);
-    Ok(())
+fn transfer_control_does_not_disturb_loading(rt: HostRuntime) {
+    let found = disturbed_on_one(rt.alloc());
+    let wanted = stopped(b"6320", b"80000000", TRANSFER, 15342);
+    expect_eq(&rt, (found.is_some(), found), (true, wanted));
 }
