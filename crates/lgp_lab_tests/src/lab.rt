@@ -12,7 +12,6 @@ mod words;
 use lgp_lab::{Feed, FeedOf, LabFault, READS, Sink, SinkOf, run_script};
 use std::alloc::{AllocError, Allocator, Global};
 use std::io::{Read, Write};
-use std::process::Abort;
 
 const FIRST_RUN: &[u8] =
     b"put 0000 000100j8\nput 0001 000q00jj\nput 0002 000j00k0\nput 0050 00000006\nput 0051 0000000f\npress start\norders 10\npanel\nwords 0052 1\n";
@@ -36,39 +35,60 @@ fn run_between<A: Allocator + Copy, R: Read + Drop, W: Write + Drop>(
 }
 
 /// Runs a script; its replies are written after `written`.
-fn run<A: Allocator + Copy>(
-    alloc: A,
-    script: &[u8],
-    written: &mut Vec<u8>,
-) -> Result<u64, LabFault> {
+fn run(alloc: Global, script: &[u8], written: &mut Vec<u8>) -> Result<u64, LabFault> {
     run_between(alloc, script, written).0
 }
 
-/// Expects the replies to a script, and how many of them begin with a question mark.
-fn expect(rt: &impl Abort, alloc: Global, script: &[u8], replies: &[u8], faults: u64) {
+/// A script, its replies, and how many of those begin with a question mark.
+type Row<'a> = (&'a [u8], &'a [u8], u64);
+
+/// Whether a script is answered as its row says.
+fn is_answered(alloc: Global, (script, replies, faults): Row<'_>) -> bool {
     let mut written = Vec::new(alloc);
     let answer = run(alloc, script, &mut written);
-    let front = script.get(..80).unwrap_or(script);
-    assert_eq!(rt;
-        (answer, written.as_slice()),
-        (Ok(faults), replies),
-        "{front:?}"
-    );
+    is_done(answer, faults) && written.as_slice() == replies
 }
 
-/// A text of pieces, each as many times as its number says.
-fn built(alloc: Global, pieces: &[(&[u8], usize)]) -> Result<Vec<u8>, AllocError> {
+/// Whether this is the number that a call answers.
+fn is_done(answer: Result<u64, LabFault>, number: u64) -> bool {
+    match answer {
+        Ok(answer) => answer == number,
+        Err(_) => false,
+    }
+}
+
+/// Whether a call answers that a write has failed after so many bytes.
+fn is_cut_off(answer: Result<u64, LabFault>, taken: u64) -> bool {
+    match answer {
+        Err(LabFault::Write(bytes)) => bytes == taken,
+        _ => false,
+    }
+}
+
+/// Parts of a text, each with how many times it stands there.
+type Parts<'a> = &'a [(&'a [u8], usize)];
+
+/// Whether a script of these parts has these replies, and so many of them begin with a question mark.
+fn is_long_answered(alloc: Global, script: Parts<'_>, replies: &[u8], faults: u64) -> bool {
+    match built(alloc, script) {
+        Ok(script) => is_answered(alloc, (&script, replies, faults)),
+        Err(_) => false,
+    }
+}
+
+/// A text of parts, each as many times as its number says.
+fn built(alloc: Global, parts: Parts<'_>) -> Result<Vec<u8>, AllocError> {
     let mut text = Vec::new(alloc);
-    for (piece, times) in pieces {
-        push_times(&mut text, piece, *times)?;
+    for (part, times) in parts {
+        push_times(&mut text, part, *times)?;
     }
     Ok(text)
 }
 
-/// Appends a piece a given number of times.
-fn push_times(text: &mut Vec<u8>, piece: &[u8], times: usize) -> Result<(), AllocError> {
+/// Appends a part a given number of times.
+fn push_times(text: &mut Vec<u8>, part: &[u8], times: usize) -> Result<(), AllocError> {
     for _ in 0..times {
-        text.extend_from_slice(piece)?;
+        text.extend_from_slice(part)?;
     }
     Ok(())
 }

@@ -1,9 +1,9 @@
 //! Tests of the command line.
 
+use crate::expect_eq;
 use lgp_task::{SessionTask, Task, TaskFault, ask_for_session, task_of};
 use linked_list_allocator::LocalHeap;
 use std::alloc::{AllocError, Allocator, Global};
-use std::test::Fail;
 
 /// The words after the program's name, with a path for the latter.
 fn words(global: Global, words: &[&str]) -> Result<Vec<String>, AllocError> {
@@ -95,21 +95,6 @@ fn is_reported<A: Allocator + Copy>(
     }
 }
 
-/// Whether the words are mistaken, and what is reported of them has this part.
-fn is_mistaken(global: Global, typed: &[&str], part: &str) -> bool {
-    is_reported(global, global, typed, Reported::Usage, part)
-}
-
-/// Whether the words ask for help, and the help has this part.
-fn is_helped(global: Global, typed: &[&str], part: &str) -> bool {
-    is_reported(global, global, typed, Reported::Help, part)
-}
-
-/// Whether the words ask for a text that is this one, whole.
-fn is_answered(global: Global, typed: &[&str], answer: &str) -> bool {
-    is_reported(global, global, typed, Reported::Answer, answer)
-}
-
 /// Whether memory was refused.
 fn is_refused<A: Allocator + Copy>(global: Global, alloc: A, typed: &[&str]) -> bool {
     is_reported(global, alloc, typed, Reported::Memory, "")
@@ -117,98 +102,116 @@ fn is_refused<A: Allocator + Copy>(global: Global, alloc: A, typed: &[&str]) -> 
 
 #[test]
 fn no_word_runs_standard_input(rt: HostRuntime) {
-    assert!(rt; is_read_as(rt.alloc(), rt.alloc(), &[], ("", "", 0)));
+    let is_read = is_read_as(rt.alloc(), rt.alloc(), &[], ("", "", 0));
+    expect_eq(&rt, is_read, true);
+}
+
+/// Whether the words are the task of a command with this file and this limit.
+fn reads(global: Global, typed: &[&str], wanted: (&str, &str, u64)) -> bool {
+    is_read_as(global, global, typed, wanted)
 }
 
 #[test]
 fn a_command_takes_its_file(rt: HostRuntime) {
-    for (typed, file) in [
-        (["asm", "sum.src"], "sum.src"),
-        (["tape", "sum.src"], "sum.src"),
-        (["script", "a b"], "a b"),
-    ] {
-        let wanted = (typed[0], file, 0);
-        assert!(rt;
-            is_read_as(rt.alloc(), rt.alloc(), &typed, wanted),
-            "{file}"
-        );
-    }
+    let are_read = [
+        reads(rt.alloc(), &["asm", "sum.src"], ("asm", "sum.src", 0)),
+        reads(rt.alloc(), &["tape", "sum.src"], ("tape", "sum.src", 0)),
+        reads(rt.alloc(), &["script", "a b"], ("script", "a b", 0)),
+    ];
+    expect_eq(&rt, are_read, [true; 3]);
 }
 
 #[test]
 fn a_run_takes_its_limit(rt: HostRuntime) {
-    for (digits, limit) in [("0", 0), ("4294967295", 4_294_967_295)] {
-        let typed = ["run", "sum.src", digits];
-        let wanted = ("run", "sum.src", limit);
-        assert!(rt;
-            is_read_as(rt.alloc(), rt.alloc(), &typed, wanted),
-            "{digits}"
-        );
-    }
+    let last = ("run", "sum.src", 4_294_967_295);
+    let are_read = [
+        reads(rt.alloc(), &["run", "sum.src", "0"], ("run", "sum.src", 0)),
+        reads(rt.alloc(), &["run", "sum.src", "4294967295"], last),
+    ];
+    expect_eq(&rt, are_read, [true; 2]);
 }
 
 #[test]
 fn a_batch_takes_its_files_in_order(rt: HostRuntime) {
-    assert!(rt; is_batch_of(rt.alloc(), &["batch", "b.txt", "a.txt"], "b.txt", "a.txt"));
+    let is_batch = is_batch_of(rt.alloc(), &["batch", "b.txt", "a.txt"], "b.txt", "a.txt");
+    expect_eq(&rt, is_batch, true);
 }
+
+/// Words, and a part of the text that is reported of them, or the whole text.
+type Row = (&'static [&'static str], &'static str);
+
+/// How many rows come before the first of which anything else is reported.
+fn rows_reported(global: Global, reported: Reported, rows: &[Row]) -> usize {
+    let mut as_said: usize = 0;
+    for (typed, part) in rows {
+        if !is_reported(global, global, typed, reported, part) {
+            return as_said;
+        }
+        as_said = as_said.saturating_add(1);
+    }
+    as_said
+}
+
+const MISTAKEN: [Row; 6] = [
+    (&["assemble"], "Usage: lgp_lab"),
+    (&["--fast"], "Usage: lgp_lab"),
+    (&["asm"], "Usage: lgp_lab asm <FILE>"),
+    (&["asm", "a", "b"], "Usage: lgp_lab"),
+    (&["batch"], "Usage: lgp_lab"),
+    (&["run", "a"], "Usage: lgp_lab"),
+];
 
 #[test]
 fn mistaken_words_are_reported(rt: HostRuntime) {
-    let usage = "Usage: lgp_lab";
-    for (typed, part) in [
-        (["assemble"].as_slice(), usage),
-        (&["--fast"], usage),
-        (&["asm"], "Usage: lgp_lab asm <FILE>"),
-        (&["asm", "a", "b"], usage),
-        (&["batch"], usage),
-        (&["run", "a"], usage),
-    ] {
-        assert!(rt; is_mistaken(rt.alloc(), typed, part), "{part}");
-    }
+    let reported = rows_reported(rt.alloc(), Reported::Usage, &MISTAKEN);
+    expect_eq(&rt, reported, 6);
 }
+
+const OUT_OF_RANGE: [Row; 4] = [
+    (&["run", "a", "4294967296"], "is not in 0..=4294967295"),
+    (
+        &["run", "a", "99999999999999999"],
+        "is not in 0..=4294967295",
+    ),
+    (&["run", "a", "ten"], "invalid"),
+    (&["run", "a", ""], "invalid"),
+];
 
 #[test]
 fn a_limit_out_of_range_is_reported(rt: HostRuntime) {
-    let range = "is not in 0..=4294967295";
-    for (digits, part) in [
-        ("4294967296", range),
-        ("99999999999999999", range),
-        ("ten", "invalid"),
-        ("", "invalid"),
-    ] {
-        assert!(rt;
-            is_mistaken(rt.alloc(), &["run", "a", digits], part),
-            "{digits}"
-        );
-    }
+    let reported = rows_reported(rt.alloc(), Reported::Usage, &OUT_OF_RANGE);
+    expect_eq(&rt, reported, 4);
 }
+
+const HELPED: [Row; 6] = [
+    (&["--help"], "Usage: lgp_lab [COMMAND]"),
+    (&["-h"], "Usage: lgp_lab [COMMAND]"),
+    (&["run", "--help"], "Usage: lgp_lab run <FILE> <LIMIT>"),
+    (&["batch", "-h"], "Usage: lgp_lab batch <FILE>..."),
+    (&["asm", "--help"], "Example"),
+    (&["help", "tape"], "Usage: lgp_lab tape <FILE>"),
+];
 
 #[test]
 fn help_is_given(rt: HostRuntime) {
-    for (typed, help) in [
-        (["--help"].as_slice(), "Usage: lgp_lab [COMMAND]"),
-        (&["-h"], "Usage: lgp_lab [COMMAND]"),
-        (&["run", "--help"], "Usage: lgp_lab run <FILE> <LIMIT>"),
-        (&["batch", "-h"], "Usage: lgp_lab batch <FILE>..."),
-        (&["asm", "--help"], "Example"),
-        (&["help", "tape"], "Usage: lgp_lab tape <FILE>"),
-    ] {
-        assert!(rt; is_helped(rt.alloc(), typed, help), "{help}");
-    }
+    let reported = rows_reported(rt.alloc(), Reported::Help, &HELPED);
+    expect_eq(&rt, reported, 6);
 }
+
+const ANSWERED: [Row; 2] = [
+    (&["--version"], "lgp_lab 0.1.0\n"),
+    (&["-V"], "lgp_lab 0.1.0\n"),
+];
+
+const NO_VERSION: [Row; 1] = [(&["asm", "--version"], "Usage: lgp_lab asm <FILE>")];
 
 #[test]
 fn name_and_version_are_reported(rt: HostRuntime) {
     let reported = [
-        is_answered(rt.alloc(), &["--version"], "lgp_lab 0.1.0\n"),
-        is_answered(rt.alloc(), &["-V"], "lgp_lab 0.1.0\n"),
-        is_mistaken(
-            rt.alloc(),
-            &["asm", "--version"],
-            "Usage: lgp_lab asm <FILE>",
-        ),
+        rows_reported(rt.alloc(), Reported::Answer, &ANSWERED),
+        rows_reported(rt.alloc(), Reported::Usage, &NO_VERSION),
     ];
-    assert_eq!(rt; reported, [true; 3]);
+    expect_eq(&rt, reported, [2, 1]);
 }
 
 /// What is refused while a heap has no room: a command with a file, a batch and the help; standard input takes none.
@@ -231,13 +234,12 @@ fn refused_and_read(global: Global, heap: &LocalHeap) -> (Option<[bool; 4]>, boo
 }
 
 #[test]
-fn a_refused_growth_is_helped(rt: HostRuntime) -> Result<(), Fail> {
-    let heap = LocalHeap::new(rt.alloc(), 4096)?;
-    assert_eq!(rt;
-        (refused_and_read(rt.alloc(), &heap), heap.used()),
-        ((Some([true; 4]), true), 0)
-    );
-    Ok(())
+fn a_refused_growth_is_helped(rt: HostRuntime) {
+    let seen = match LocalHeap::new(rt.alloc(), 4096) {
+        Ok(heap) => (refused_and_read(rt.alloc(), &heap), heap.used()),
+        Err(_) => ((None, false), 0),
+    };
+    expect_eq(&rt, seen, ((Some([true; 4]), true), 0));
 }
 
 /// Whether the task of a batch is refused for want of memory where there is so much room.
@@ -263,10 +265,12 @@ fn room_of_batch(global: Global, heap: &LocalHeap) -> Option<usize> {
 }
 
 #[test]
-fn each_growth_may_be_refused(rt: HostRuntime) -> Result<(), Fail> {
-    let heap = LocalHeap::new(rt.alloc(), 4096)?;
-    assert!(rt; room_of_batch(rt.alloc(), &heap).is_some_and(|room| room > 0));
-    Ok(())
+fn each_growth_may_be_refused(rt: HostRuntime) {
+    let room = match LocalHeap::new(rt.alloc(), 4096) {
+        Ok(heap) => room_of_batch(rt.alloc(), &heap).unwrap_or(0),
+        Err(_) => 0,
+    };
+    expect_eq(&rt, room > 0, true);
 }
 
 /// The session that words ask for.
@@ -313,38 +317,27 @@ fn a_session_takes_files_and_two_flags(rt: HostRuntime) {
         Some((0, true, false, true)),
         Some((1, true, true, true)),
     ];
-    assert_eq!(rt; parts, wanted);
+    expect_eq(&rt, parts, wanted);
 }
 
-/// What is reported of words that ask for no session.
-fn session_reported<A: Allocator + Copy>(
-    global: Global,
-    alloc: A,
-    typed: &[&str],
-) -> Option<Reported> {
-    match session(global, alloc, typed) {
-        Err(TaskFault::Usage(_)) => Some(Reported::Usage),
-        Err(TaskFault::Help(_)) => Some(Reported::Help),
-        Err(TaskFault::Memory) => Some(Reported::Memory),
-        Ok(_) => None,
+/// Whether this is reported of words that ask for no session.
+fn is_no_session(global: Global, typed: &[&str], wanted: Reported) -> bool {
+    match session(global, global, typed) {
+        Err(TaskFault::Usage(_)) => wanted == Reported::Usage,
+        Err(TaskFault::Help(_)) => wanted == Reported::Help,
+        Err(TaskFault::Memory) => wanted == Reported::Memory,
+        Ok(_) => false,
     }
 }
 
 #[test]
 fn words_that_ask_for_no_session_are_refused(rt: HostRuntime) {
-    let reported = [
-        session_reported(rt.alloc(), rt.alloc(), &["--loud"]),
-        session_reported(rt.alloc(), rt.alloc(), &["--echo=no"]),
-        session_reported(rt.alloc(), rt.alloc(), &["--json=2"]),
-        session_reported(rt.alloc(), rt.alloc(), &["--help"]),
-        session_reported(rt.alloc(), rt.alloc(), &["--version"]),
+    let refused = [
+        is_no_session(rt.alloc(), &["--loud"], Reported::Usage),
+        is_no_session(rt.alloc(), &["--echo=no"], Reported::Usage),
+        is_no_session(rt.alloc(), &["--json=2"], Reported::Usage),
+        is_no_session(rt.alloc(), &["--help"], Reported::Help),
+        is_no_session(rt.alloc(), &["--version"], Reported::Help),
     ];
-    let wanted = [
-        Reported::Usage,
-        Reported::Usage,
-        Reported::Usage,
-        Reported::Help,
-        Reported::Help,
-    ];
-    assert!(rt; reported == wanted.map(Some));
+    expect_eq(&rt, refused, [true; 5]);
 }

@@ -16,6 +16,7 @@ mod runs;
 mod single;
 mod steps;
 
+use crate::expect_eq;
 use lgp_machine::{Machine, OrderFault};
 use lgp_table::Action;
 use lgp_trace::laws::{
@@ -24,10 +25,9 @@ use lgp_trace::laws::{
 use lgp_trace::{Account, Phases, Profile, take_account};
 use lgp_word::{Address, Word};
 use std::alloc::Allocator;
-use std::test::Fail;
 
 /// The address of that number, or 0000 above all.
-fn address(number: u16) -> Address {
+pub(super) fn address(number: u16) -> Address {
     Address::new(number).unwrap_or_default()
 }
 
@@ -41,11 +41,15 @@ fn put_all<A: Allocator>(machine: &mut Machine<A>, words: &[(u16, u32)]) -> bool
     true
 }
 
-/// A machine with these words.
-fn with_words<A: Allocator + Copy>(alloc: A, words: &[(u16, u32)]) -> Result<Machine<A>, Fail> {
-    let mut machine = Machine::new(alloc)?;
-    put_all(&mut machine, words);
-    Ok(machine)
+/// A machine with these words; none where memory is refused.
+fn with_words<A: Allocator + Copy>(alloc: A, words: &[(u16, u32)]) -> Option<Machine<A>> {
+    match Machine::new(alloc) {
+        Ok(mut machine) => {
+            put_all(&mut machine, words);
+            Some(machine)
+        }
+        Err(_) => None,
+    }
 }
 
 fn press<A: Allocator>(machine: &mut Machine<A>, action: Action) -> bool {
@@ -78,22 +82,24 @@ fn row_of(account: &Account) -> Row {
     (place, phases.find, phases.seek, phases.act, left)
 }
 
-/// The next account's row; none where the activity is refused.
-fn next_row<A: Allocator>(machine: &mut Machine<A>) -> Option<Row> {
-    match take(machine) {
-        Ok(account) => Some(row_of(&account)),
-        Err(_) => None,
+/// How many orders come before the first that is not as its row says.
+fn orders_as<A: Allocator>(machine: &mut Machine<A>, rows: &[Row]) -> usize {
+    let mut orders: usize = 0;
+    for row in rows {
+        if !is_next(machine, *row) {
+            return orders;
+        }
+        orders = orders.saturating_add(1);
     }
+    orders
 }
 
-/// The number of the first order that is not as its row says, or how many rows there are.
-fn orders_as<A: Allocator>(machine: &mut Machine<A>, rows: &[Row]) -> usize {
-    for (order, row) in rows.iter().enumerate() {
-        if next_row(machine) != Some(*row) {
-            return order;
-        }
+/// Whether the next order is as its row says.
+fn is_next<A: Allocator>(machine: &mut Machine<A>, row: Row) -> bool {
+    match take(machine) {
+        Ok(account) => row_of(&account) == row,
+        Err(_) => false,
     }
-    rows.len()
 }
 
 /// The sum of a table by a program that changes three of its own orders.
@@ -205,11 +211,13 @@ fn total(rows: &[Row]) -> u64 {
 
 /// 42 orders, of 2,910 word times, and then the machine is at rest.
 #[test]
-fn a_program_that_changes_itself(rt: HostRuntime) -> Result<(), Fail> {
-    let mut machine = with_words(rt.alloc(), SUM_OF_A_TABLE)?;
-    let seen = (accounted(&mut machine, ORDERS), total(ORDERS));
-    assert_eq!(rt; seen, ((42, Some(OrderFault::AtRest), 2910), 2910));
-    Ok(())
+fn a_program_that_changes_itself(rt: HostRuntime) {
+    let seen = match with_words(rt.alloc(), SUM_OF_A_TABLE) {
+        Some(mut machine) => accounted(&mut machine, ORDERS),
+        None => (0, None, 0),
+    };
+    let wanted = (42, Some(OrderFault::AtRest), 2910);
+    expect_eq(&rt, (seen, total(ORDERS)), (wanted, 2910));
 }
 
 /// What a profile of the whole program shows: the word times by phase, those of the order at 0009 and at 0020, and elsewhere.
@@ -242,24 +250,35 @@ fn is_few(phases: Phases) -> bool
 }
 
 /// Starts the machine, and adds up its activities up to the one that is refused.
-fn profiled<A: Allocator>(machine: &mut Machine<A>, profile: &mut Profile<A>) -> Shown {
+fn note_all<A: Allocator>(machine: &mut Machine<A>, profile: &mut Profile<A>) {
     press(machine, Action::Start);
     for _ in 0..100 {
         if let Ok(account) = take(machine) {
             note(profile, &account);
         }
     }
-    shown(profile)
+}
+
+/// The profile of the program that sums a table; none where memory is refused.
+fn profile_of_a_sum<A: Allocator + Copy>(alloc: A) -> Option<Profile<A>> {
+    let mut machine = with_words(alloc, SUM_OF_A_TABLE)?;
+    match Profile::new(alloc) {
+        Ok(mut profile) => {
+            note_all(&mut machine, &mut profile);
+            Some(profile)
+        }
+        Err(_) => None,
+    }
 }
 
 /// The order at 0009 is performed four times, and no order is at 0020.
 #[test]
-fn the_profile_of_a_program(rt: HostRuntime) -> Result<(), Fail> {
-    let mut machine = with_words(rt.alloc(), SUM_OF_A_TABLE)?;
-    let mut profile = Profile::new(rt.alloc())?;
-    let seen = profiled(&mut machine, &mut profile);
-    assert_eq!(rt; seen, ((1562, 42, 1264, 42), 406, 0, 0));
-    Ok(())
+fn the_profile_of_a_program(rt: HostRuntime) {
+    let seen = match profile_of_a_sum(rt.alloc()) {
+        Some(profile) => shown(&profile),
+        None => ((0, 0, 0, 0), 0, 0, 0),
+    };
+    expect_eq(&rt, seen, ((1562, 42, 1264, 42), 406, 0, 0));
 }
 
 #[test]

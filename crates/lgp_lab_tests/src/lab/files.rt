@@ -1,15 +1,14 @@
 //! What is written for files.
 
-use super::streams::Failing;
-use super::{FIRST_RUN, FIRST_RUN_REPLIES, built};
+use super::streams::{Failing, Pieces};
+use super::{FIRST_RUN, FIRST_RUN_REPLIES, built, is_cut_off, is_done};
+use crate::expect_eq;
 use lgp_lab::{FeedOf, LabFault, READS, SinkOf, asm_file, batch_part, run_file, tape_file};
 use std::alloc::{Allocator, Global};
 use std::io::{Read, Write};
-use std::process::Abort;
-use std::test::Fail;
 
 /// A call on a source file.
-#[derive(Clone, Copy, Debug)]
+#[derive(Clone, Copy)]
 pub enum FileCall {
     Listing,
     Tape,
@@ -33,28 +32,21 @@ pub fn write_between<A: Allocator + Copy, R: Read + Drop, W: Write + Drop>(
     }
 }
 
-/// Expects what a call writes for a source, and the status.
-fn expect_written(
-    rt: &impl Abort,
-    alloc: Global,
-    call: FileCall,
-    source: &[u8],
-    (text, status): (&[u8], u64),
-) {
+/// A call and a source, what is written for it, and the status.
+pub type FileRow<'a> = (FileCall, &'a [u8], &'a [u8], u64);
+
+/// Whether a call writes for a source what its row says.
+fn is_written(alloc: Global, (call, source, text, status): FileRow<'_>) -> bool {
     let mut written = Vec::new(alloc);
     let answer = write_between(call, alloc, source, &mut written);
-    assert_eq!(rt;
-        (answer, written.as_slice()),
-        (Ok(status), text),
-        "{call:?}"
-    );
+    is_done(answer, status) && written.as_slice() == text
 }
 
 /// A source of four words.
 const SOURCE: &[u8] = b"start b one ; take\n h 0050\n z\none frac .1\n end start\n";
 
-/// Calls and sources, what is written for them, and the status.
-pub const FILES: [(FileCall, &[u8], &[u8], u64); 8] = [
+/// Calls and sources.
+pub const FILES: [FileRow<'static>; 8] = [
     (
         FileCall::Listing,
         SOURCE,
@@ -95,60 +87,86 @@ pub const FILES: [(FileCall, &[u8], &[u8], u64); 8] = [
     ),
 ];
 
+/// How many rows come before the first for which anything else is written.
+fn files_written(alloc: Global) -> usize {
+    let mut written: usize = 0;
+    for row in FILES {
+        if !is_written(alloc, row) {
+            return written;
+        }
+        written = written.saturating_add(1);
+    }
+    written
+}
+
 #[test]
 fn a_source_file_is_listed_taped_and_run_or_its_faults_are_reported(rt: HostRuntime) {
-    for (call, source, text, status) in FILES {
-        expect_written(&rt, rt.alloc(), call, source, (text, status));
-    }
+    expect_eq(&rt, files_written(rt.alloc()), 8);
 }
 
 #[test]
-fn a_source_file_has_at_most_1048576_bytes(rt: HostRuntime) -> Result<(), Fail> {
-    let long = built(rt.alloc(), &[(b";", 1_048_577)])?;
-    expect_written(
-        &rt,
-        rt.alloc(),
-        FileCall::Listing,
-        &long,
-        (b"? 11 TooLong\n", 1),
-    );
-    Ok(())
+fn a_source_file_has_at_most_1048576_bytes(rt: HostRuntime) {
+    let is_refused = match built(rt.alloc(), &[(b";", 1_048_577)]) {
+        Ok(long) => is_written(rt.alloc(), (FileCall::Listing, &long, b"? 11 TooLong\n", 1)),
+        Err(_) => false,
+    };
+    expect_eq(&rt, is_refused, true);
 }
 
-/// Runs a script of several; what it writes goes to `writer`.
-fn run_part<W: Write + Drop>(
-    alloc: Global,
-    name: &str,
-    script: &[u8],
+/// Runs a script of several.
+pub fn run_part<A: Allocator + Copy, R: Read + Drop, W: Write + Drop>(
+    alloc: A,
+    name: &'static str,
+    reader: R,
     writer: W,
 ) -> Result<u64, LabFault> {
-    let mut feed = FeedOf::new(script, READS);
+    let mut feed = FeedOf::new(reader, READS);
     let mut sink = SinkOf::new(writer);
     batch_part(alloc, name, &mut feed, &mut sink)
 }
 
-/// What comes after the first script's name and replies.
-fn after_first_byte(text: &[u8]) -> Option<&[u8]> {
-    text.strip_prefix(b"file first run\n")?
-        .strip_prefix(FIRST_RUN_REPLIES)
+/// Whether a text is the first script's name and replies, and then this.
+pub fn is_first_and(text: &[u8], more: &[u8]) -> bool {
+    match text.strip_prefix(b"file first run\n") {
+        Some(replies) => match replies.strip_prefix(FIRST_RUN_REPLIES) {
+            Some(left) => left == more,
+            None => false,
+        },
+        None => false,
+    }
+}
+
+/// Whether the first of two scripts has no fault and the other one has one, and whether both are answered so.
+fn two_parts(alloc: Global) -> (bool, bool, bool) {
+    let mut written = Vec::new(alloc);
+    let first = Pieces::whole(FIRST_RUN, 5000);
+    let first = run_part(alloc, "first run", first, &mut written);
+    let other = run_part(alloc, "other", Pieces::whole(b"foo", 3), &mut written);
+    (
+        is_done(first, 0),
+        is_done(other, 1),
+        is_first_and(&written, b"file other\n? 1 Form\n"),
+    )
 }
 
 #[test]
 fn a_script_of_several_has_a_line_with_its_name(rt: HostRuntime) {
-    let mut written = Vec::new(rt.alloc());
-    let first = run_part(rt.alloc(), "first run", FIRST_RUN, &mut written);
-    let other = run_part(rt.alloc(), "other", b"foo", &mut written);
-    assert_eq!(rt;
-        (first, other, after_first_byte(&written)),
-        (Ok(0), Ok(1), Some(b"file other\n? 1 Form\n".as_slice()))
-    );
+    expect_eq(&rt, two_parts(rt.alloc()), (true, true, true));
+}
+
+/// Whether a write that fails after a given number of bytes is reported so.
+fn is_part_cut_off(alloc: Global, bytes: usize) -> bool {
+    let script = Pieces::whole(b"turn 5\n", 7);
+    let answer = run_part(alloc, "name", script, Failing::after(alloc, bytes, 1));
+    is_cut_off(answer, bytes as u64)
 }
 
 #[test]
 fn the_line_of_a_name_is_counted_where_a_write_fails(rt: HostRuntime) {
-    for calls in [0, 3, 12usize] {
-        let mut failing = Failing::after(rt.alloc(), calls, 1);
-        let answer = run_part(rt.alloc(), "name", b"turn 5\n", &mut failing);
-        assert_eq!(rt; answer, Err(LabFault::Write(calls as u64)));
-    }
+    let are_reported = [
+        is_part_cut_off(rt.alloc(), 0),
+        is_part_cut_off(rt.alloc(), 3),
+        is_part_cut_off(rt.alloc(), 12),
+    ];
+    expect_eq(&rt, are_reported, [true; 3]);
 }

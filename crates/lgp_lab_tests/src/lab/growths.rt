@@ -1,13 +1,12 @@
 //! Scripts and files with each growth refused in turn: what was replied before remains whole, and nothing of the reply that is refused.
 
-use super::files::{FILES, FileCall, write_between};
+use super::files::{FILES, FileRow, is_first_and, run_part, write_between};
 use super::streams::{Failing, Pieces};
-use super::{FIRST_RUN, FIRST_RUN_REPLIES, built, run_between};
-use lgp_lab::{FeedOf, LabFault, READS, SinkOf, batch_part};
+use super::{FIRST_RUN, FIRST_RUN_REPLIES, run_between};
+use crate::expect_eq;
+use lgp_lab::LabFault;
 use lgp_limited::Limited;
 use std::alloc::{AllocError, Global};
-use std::process::Abort;
-use std::test::Fail;
 
 /// More growths than any call has.
 const MOST: u64 = 5000;
@@ -65,122 +64,118 @@ fn script(alloc: Global) -> Result<Vec<u8>, AllocError> {
 /// How many whole replies a text is; `None` where there is anything else.
 fn replies_in(text: &[u8]) -> Option<usize> {
     let mut left = text;
-    for (number, (_, reply)) in COMMANDS.iter().enumerate() {
-        if left.is_empty() {
-            return Some(number);
+    let mut replies: usize = 0;
+    for (_, reply) in COMMANDS {
+        match left.strip_prefix(reply) {
+            Some(rest) => left = rest,
+            None => break,
         }
-        left = left.strip_prefix(*reply)?;
+        replies = replies.saturating_add(1);
     }
-    left.is_empty().then_some(COMMANDS.len())
+    left.is_empty().then_some(replies)
 }
 
-/// How a script ends whose nth growth is refused: refused after a given number of whole replies, with all of them, or otherwise.
-#[derive(Clone, Copy, Debug, PartialEq, Eq)]
+/// How a call ends whose nth growth is refused: it answers so and has written a front of its text, or it is done, or otherwise.
+#[derive(Clone, Copy)]
 enum End {
-    Refused(usize),
+    Refused,
     Done,
     Otherwise,
 }
 
-fn end_of(limited: &Limited<Global>, global: Global, script: &[u8], nth: u64) -> End {
-    let mut written = Vec::new(global);
-    limited.refuse(nth);
-    let ended = run_between(limited, script, &mut written);
-    match (ended, limited.was_refused(), replies_in(&written)) {
-        ((Err(LabFault::Memory), false, false), true, Some(replies)) => End::Refused(replies),
-        ((Ok(0), false, false), false, Some(27)) => End::Done,
+/// How a call ended, where this was to be its answer at last, and where a front of its text is written, or the whole text.
+fn ended(
+    is_refused: bool,
+    answer: Result<u64, LabFault>,
+    wanted: u64,
+    (is_front, is_whole): (bool, bool),
+) -> End {
+    match answer {
+        Err(LabFault::Memory) if is_refused && is_front => End::Refused,
+        Ok(number) if !is_refused && number == wanted && is_whole => End::Done,
         _ => End::Otherwise,
     }
 }
 
-/// How often a script is refused after each number of replies, until it is done; `None` where it ends otherwise.
-fn refusals(limited: &Limited<Global>, global: Global, script: &[u8]) -> Option<[u64; 27]> {
-    let mut counts = [0u64; 27];
+/// How a script ends, and after how many whole replies.
+fn end_of(limited: &Limited<Global>, global: Global, script: &[u8], nth: u64) -> (End, usize) {
+    let mut written = Vec::new(global);
+    limited.refuse(nth);
+    let (answer, has_read_failed, has_write_failed) = run_between(limited, script, &mut written);
+    let (is_front, replies) = match replies_in(&written) {
+        Some(replies) => (!has_read_failed && !has_write_failed, replies),
+        None => (false, 0),
+    };
+    let whole = is_front && replies == COMMANDS.len();
+    (
+        ended(limited.was_refused(), answer, 0, (is_front, whole)),
+        replies,
+    )
+}
+
+/// Which commands are refused at least once before the script is done; `None` where it ends otherwise.
+fn refusals(limited: &Limited<Global>, global: Global, script: &[u8]) -> Option<[bool; 27]> {
+    let mut refused = [false; 27];
     for nth in 1..MOST {
         match end_of(limited, global, script, nth) {
-            End::Refused(replies) => {
-                let count = counts.get_mut(replies)?;
-                *count = count.saturating_add(1);
-            }
-            End::Done => return Some(counts),
-            End::Otherwise => return None,
+            (End::Refused, replies) => *refused.get_mut(replies)? = true,
+            (End::Done, _) => return Some(refused),
+            (End::Otherwise, _) => return None,
         }
     }
     None
 }
 
-/// Which commands are refused at least once; `None` as above.
-fn refused(limited: &Limited<Global>, global: Global) -> Result<Option<[bool; 27]>, AllocError> {
-    let script = script(global)?;
-    Ok(refusals(limited, global, &script).map(|counts| counts.map(|count| count > 0)))
-}
-
 #[test]
-fn each_growth_of_each_command_is_refused(rt: HostRuntime) -> Result<(), Fail> {
+fn each_growth_of_each_command_is_refused(rt: HostRuntime) {
     let limited = Limited::new(rt.alloc());
-    let refused = refused(&limited, rt.alloc())?;
-    assert_eq!(rt; (refused, limited.blocks_out()), (Some([true; 27]), 0));
-    Ok(())
+    let refused = match script(rt.alloc()) {
+        Ok(script) => refusals(&limited, rt.alloc(), &script),
+        Err(_) => None,
+    };
+    expect_eq(&rt, (refused, limited.blocks_out()), (Some([true; 27]), 0));
 }
 
-/// Calls for a source with each growth refused in turn, over a reader of small pieces and a writer that takes few bytes at once.
-/// What it answers when it is not refused, and after how many refusals; `None` where a refused one answers anything else than that,
-/// or has written anything.
-fn called(
-    limited: &Limited<Global>,
-    global: Global,
-    (call, source): (FileCall, &'static [u8]),
-    text: &[u8],
-) -> Option<(u64, Result<u64, LabFault>)> {
-    for nth in 1..MOST {
-        let mut writer = Failing::after(global, usize::MAX, 5);
-        limited.refuse(nth);
-        let answer = write_between(call, limited, Pieces::whole(source, 7), &mut writer);
-        if !limited.was_refused() {
-            return (writer.taken() == text).then_some((nth, answer));
-        }
-        if answer != Err(LabFault::Memory) || !writer.taken().is_empty() {
-            return None;
-        }
-    }
-    None
-}
-
-/// Expects that of a call for a source, with this text and status at last, and that it is refused at least once.
-fn expect_called(
-    rt: &impl Abort,
-    limited: &Limited<Global>,
-    global: Global,
-    row: (FileCall, &'static [u8], &'static [u8], u64),
-) {
-    let (call, source, text, status) = row;
-    let called = called(limited, global, (call, source), text);
-    let answer = called.map(|(nth, answer)| (nth > 1, answer));
-    assert_eq!(rt; answer, Some((true, Ok(status))), "{call:?} {source:?}");
-}
-
-#[test]
-fn nothing_is_written_for_a_file_whose_growth_is_refused(rt: HostRuntime) -> Result<(), Fail> {
-    let limited = Limited::new(rt.alloc());
-    for row in FILES {
-        expect_called(&rt, &limited, rt.alloc(), row);
-    }
-    assert_eq!(rt; limited.blocks_out(), 0);
-    Ok(())
-}
-
-/// How a script of several goes whose nth growth is refused: what it answers, and what is written after the line of its name, if
-/// that is there.
-fn part_of(
-    limited: &Limited<Global>,
-    nth: u64,
-    writer: &mut Failing,
-) -> (Result<u64, LabFault>, bool) {
-    let mut feed = FeedOf::new(Pieces::whole(FIRST_RUN, 7), READS);
-    let mut sink = SinkOf::new(writer);
+/// How a call for a source ends, over a reader of small pieces and a writer that takes few bytes at once. Where it is refused,
+/// nothing is written.
+fn file_end(limited: &Limited<Global>, global: Global, row: &FileRow<'static>, nth: u64) -> End {
+    let (call, source, text, status) = *row;
+    let mut writer = Failing::after(global, usize::MAX, 5);
     limited.refuse(nth);
-    let answer = batch_part(limited, "first run", &mut feed, &mut sink);
-    (answer, limited.was_refused())
+    let answer = write_between(call, limited, Pieces::whole(source, 7), &mut writer);
+    let texts = (writer.taken().is_empty(), writer.taken() == text);
+    ended(limited.was_refused(), answer, status, texts)
+}
+
+/// Whether a call for a source is done at last, and is refused at least once before that.
+fn is_refused_in_turn(limited: &Limited<Global>, global: Global, row: &FileRow<'static>) -> bool {
+    for nth in 1..MOST {
+        match file_end(limited, global, row, nth) {
+            End::Refused => {}
+            End::Done => return nth > 1,
+            End::Otherwise => return false,
+        }
+    }
+    false
+}
+
+/// How many rows come before the first for which that is not so.
+fn files_refused(limited: &Limited<Global>, global: Global) -> usize {
+    let mut refused: usize = 0;
+    for row in &FILES {
+        if !is_refused_in_turn(limited, global, row) {
+            return refused;
+        }
+        refused = refused.saturating_add(1);
+    }
+    refused
+}
+
+#[test]
+fn nothing_is_written_for_a_file_whose_growth_is_refused(rt: HostRuntime) {
+    let limited = Limited::new(rt.alloc());
+    let refused = files_refused(&limited, rt.alloc());
+    expect_eq(&rt, (refused, limited.blocks_out()), (8, 0));
 }
 
 /// Whether a text is empty, or the line of a name and then as many of the replies as end with a line.
@@ -188,33 +183,37 @@ fn is_part(text: &[u8]) -> bool {
     let Some(replies) = text.strip_prefix(b"file first run\n") else {
         return text.is_empty();
     };
-    FIRST_RUN_REPLIES.starts_with(replies) && replies.last().is_none_or(|last| *last == b'\n')
+    FIRST_RUN_REPLIES.starts_with(replies) && (replies.is_empty() || replies.ends_with(b"\n"))
 }
 
-/// How often a script of several is refused, until it is done; `None` where it ends otherwise.
-fn parts(limited: &Limited<Global>, global: Global, whole: &[u8]) -> Option<u64> {
+/// How a script of several ends, over such a reader and writer. Where it is refused, a part of its text is written.
+fn part_end(limited: &Limited<Global>, global: Global, nth: u64) -> End {
+    let mut writer = Failing::after(global, usize::MAX, 5);
+    limited.refuse(nth);
+    let script = Pieces::whole(FIRST_RUN, 7);
+    let answer = run_part(limited, "first run", script, &mut writer);
+    let texts = (is_part(writer.taken()), is_first_and(writer.taken(), b""));
+    ended(limited.was_refused(), answer, 0, texts)
+}
+
+/// At which growth a script of several is done; `None` where it ends otherwise.
+fn part_done(limited: &Limited<Global>, global: Global) -> Option<u64> {
     for nth in 1..MOST {
-        let mut writer = Failing::after(global, usize::MAX, 5);
-        let ended = part_of(limited, nth, &mut writer);
-        if ended == (Ok(0), false) {
-            return (writer.taken() == whole).then_some(nth);
-        }
-        if ended != (Err(LabFault::Memory), true) || !is_part(writer.taken()) {
-            return None;
+        match part_end(limited, global, nth) {
+            End::Refused => {}
+            End::Done => return Some(nth),
+            End::Otherwise => return None,
         }
     }
     None
 }
 
 #[test]
-fn a_script_of_several_is_refused_after_a_whole_reply(rt: HostRuntime) -> Result<(), Fail> {
-    let whole = built(
-        rt.alloc(),
-        &[(b"file first run\n", 1), (FIRST_RUN_REPLIES, 1)],
-    )?;
+fn a_script_of_several_is_refused_after_a_whole_reply(rt: HostRuntime) {
     let limited = Limited::new(rt.alloc());
-    let often = parts(&limited, rt.alloc(), &whole);
-    let are_back = limited.blocks_out() == 0;
-    assert!(rt; are_back && often.is_some_and(|nth| nth > 10), "{often:?}");
-    Ok(())
+    let is_refused = match part_done(&limited, rt.alloc()) {
+        Some(nth) => nth > 10,
+        None => false,
+    };
+    expect_eq(&rt, (is_refused, limited.blocks_out()), (true, 0));
 }

@@ -1,83 +1,90 @@
 //! Lines and sources that are just short enough, and just too long.
 
-use super::{built, expect, push_times};
-use std::alloc::{AllocError, Global};
-use std::test::Fail;
+use super::{Parts, built, is_long_answered};
+use crate::expect_eq;
+use std::alloc::Global;
 
-/// A line of a given number of bytes that is `turn 5` with spaces after it, and a line after that.
-fn padded(alloc: Global, length: usize, end: &[u8]) -> Result<Vec<u8>, AllocError> {
-    let spaces = length.saturating_sub(6);
-    built(
-        alloc,
-        &[(b"turn 5", 1), (b" ", spaces), (end, 1), (b"turn 1\n", 1)],
-    )
+/// The parts of a script, its replies, and how many of those begin with a question mark.
+type LongRow = (Parts<'static>, &'static [u8], u64);
+
+/// How many rows come before the first whose script is answered otherwise.
+fn rows_answered(alloc: Global, rows: &[LongRow]) -> usize {
+    let mut answered: usize = 0;
+    for (script, replies, faults) in rows {
+        if !is_long_answered(alloc, script, replies, *faults) {
+            return answered;
+        }
+        answered = answered.saturating_add(1);
+    }
+    answered
 }
 
-/// How long a line is, how it ends, the replies to it and a line after it, and how many of those begin with a question mark.
-const LINES: [(usize, &[u8], &[u8], u64); 5] = [
-    (4096, b"\n", b"clock 5\nclock 6\n", 0),
-    (4096, b"\r\n", b"clock 5\nclock 6\n", 0),
-    (4097, b"\n", b"? 11 TooLong\nclock 1\n", 1),
-    (4096, b"\r\r\n", b"? 11 TooLong\nclock 1\n", 1),
-    (9000, b"\n", b"? 11 TooLong\nclock 1\n", 1),
+/// A line that is `turn 5` with spaces after it, up to a given number of bytes, how it ends, and a line after it.
+const LINES: [LongRow; 5] = [
+    (
+        &[(b"turn 5", 1), (b" ", 4090), (b"\n", 1), (b"turn 1\n", 1)],
+        b"clock 5\nclock 6\n",
+        0,
+    ),
+    (
+        &[(b"turn 5", 1), (b" ", 4090), (b"\r\n", 1), (b"turn 1\n", 1)],
+        b"clock 5\nclock 6\n",
+        0,
+    ),
+    (
+        &[(b"turn 5", 1), (b" ", 4091), (b"\n", 1), (b"turn 1\n", 1)],
+        b"? 11 TooLong\nclock 1\n",
+        1,
+    ),
+    (
+        &[
+            (b"turn 5", 1),
+            (b" ", 4090),
+            (b"\r\r\n", 1),
+            (b"turn 1\n", 1),
+        ],
+        b"? 11 TooLong\nclock 1\n",
+        1,
+    ),
+    (
+        &[(b"turn 5", 1), (b" ", 8994), (b"\n", 1), (b"turn 1\n", 1)],
+        b"? 11 TooLong\nclock 1\n",
+        1,
+    ),
 ];
 
 #[test]
-fn a_line_has_at_most_4096_bytes(rt: HostRuntime) -> Result<(), Fail> {
-    for (length, end, replies, faults) in LINES {
-        let script = padded(rt.alloc(), length, end)?;
-        expect(&rt, rt.alloc(), &script, replies, faults);
-    }
-    Ok(())
+fn a_line_has_at_most_4096_bytes(rt: HostRuntime) {
+    expect_eq(&rt, rows_answered(rt.alloc(), &LINES), 5);
 }
+
+const UNREAD: [LongRow; 2] = [
+    (&[(b" ", 9000), (b"\nturn 1", 1)], b"clock 1\n", 0),
+    (&[(b";", 9000), (b"\nturn 1", 1)], b"clock 1\n", 0),
+];
 
 #[test]
-fn a_blank_line_and_a_comment_have_any_length(rt: HostRuntime) -> Result<(), Fail> {
-    for text in [b" ", b";"] {
-        let script = built(rt.alloc(), &[(text, 9000), (b"\nturn 1", 1)])?;
-        expect(&rt, rt.alloc(), &script, b"clock 1\n", 0);
-    }
-    Ok(())
+fn a_blank_line_and_a_comment_have_any_length(rt: HostRuntime) {
+    expect_eq(&rt, rows_answered(rt.alloc(), &UNREAD), 2);
 }
 
-/// A script with a source of one line of a given number of bytes, which is a comment, and of an end line.
-fn long_source(alloc: Global, length: usize) -> Result<Vec<u8>, AllocError> {
-    let signs = length.saturating_sub(1);
-    built(
-        alloc,
-        &[
-            (b"source\n;", 1),
-            (b"a", signs),
-            (b"\n end\n.\nturn 1\n", 1),
-        ],
-    )
-}
+/// A script with a source of a comment of 4,096 bytes and of an end line, and one whose comment has a byte more.
+const COMMENTS: [LongRow; 2] = [
+    (
+        &[(b"source\n;", 1), (b"a", 4095), (b"\n end\n.\nturn 1\n", 1)],
+        b"cells 0 start none\nclock 1\n",
+        0,
+    ),
+    (
+        &[(b"source\n;", 1), (b"a", 4096), (b"\n end\n.\nturn 1\n", 1)],
+        b"? 11 TooLong\nclock 1\n",
+        1,
+    ),
+];
 
 #[test]
-fn a_line_of_a_source_has_at_most_4096_bytes(rt: HostRuntime) -> Result<(), Fail> {
-    for (length, replies, faults) in [
-        (4096, b"cells 0 start none\nclock 1\n".as_slice(), 0),
-        (4097, b"? 11 TooLong\nclock 1\n".as_slice(), 1),
-    ] {
-        let script = long_source(rt.alloc(), length)?;
-        expect(&rt, rt.alloc(), &script, replies, faults);
-    }
-    Ok(())
-}
-
-/// A script with a source of this line a given number of times; then a given number of bytes of a comment, and this text.
-fn many_lines(
-    alloc: Global,
-    line: &[u8],
-    lines: usize,
-    more: usize,
-    last: &[u8],
-) -> Result<Vec<u8>, AllocError> {
-    let mut script = built(alloc, &[(b"source\n", 1), (line, lines)])?;
-    push_times(&mut script, b";", more)?;
-    push_times(&mut script, last, 1)?;
-    push_times(&mut script, b".\nturn 1\n", 1)?;
-    Ok(script)
+fn a_line_of_a_source_has_at_most_4096_bytes(rt: HostRuntime) {
+    expect_eq(&rt, rows_answered(rt.alloc(), &COMMENTS), 2);
 }
 
 /// How many lines of 1,024 bytes a source has, how many bytes more of a comment and which text after them, the replies to it and
@@ -89,12 +96,30 @@ const SOURCES: [(usize, usize, &[u8], &[u8], u64); 4] = [
     (1023, 1018, b"\n end\n", b"cells 0 start none\nclock 1\n", 0),
 ];
 
-#[test]
-fn a_source_has_at_most_1048576_bytes(rt: HostRuntime) -> Result<(), Fail> {
-    let line = built(rt.alloc(), &[(b";", 1023), (b"\n", 1)])?;
+/// How many sources of such lines come before the first that is answered otherwise.
+fn sources_answered(alloc: Global, line: &[u8]) -> usize {
+    let mut answered: usize = 0;
     for (lines, more, last, replies, faults) in SOURCES {
-        let script = many_lines(rt.alloc(), &line, lines, more, last)?;
-        expect(&rt, rt.alloc(), &script, replies, faults);
+        let script = &[
+            (b"source\n".as_slice(), 1),
+            (line, lines),
+            (b";", more),
+            (last, 1),
+            (b".\nturn 1\n", 1),
+        ];
+        if !is_long_answered(alloc, script, replies, faults) {
+            return answered;
+        }
+        answered = answered.saturating_add(1);
     }
-    Ok(())
+    answered
+}
+
+#[test]
+fn a_source_has_at_most_1048576_bytes(rt: HostRuntime) {
+    let answered = match built(rt.alloc(), &[(b";", 1023), (b"\n", 1)]) {
+        Ok(line) => sources_answered(rt.alloc(), &line),
+        Err(_) => 0,
+    };
+    expect_eq(&rt, answered, 4);
 }

@@ -1,19 +1,14 @@
 //! Scripts and their replies.
 
 use super::streams::Pieces;
-use super::{FIRST_RUN, FIRST_RUN_REPLIES, built, expect, run, run_between};
-use lgp_lab::LabFault;
+use super::{FIRST_RUN, FIRST_RUN_REPLIES, Row, built, is_answered, is_done, run, run_between};
+use crate::expect_eq;
+use crate::trace::address;
 use lgp_listing::read_dump;
-use lgp_word::Address;
-use std::alloc::{AllocError, Global};
-use std::process::Abort;
-use std::test::Fail;
-
-/// A script, its replies, and how many of those begin with a question mark.
-type Row = (&'static [u8], &'static [u8], u64);
+use std::alloc::Global;
 
 /// The first five are those of `examples/`, without their comments.
-const ROWS: [Row; 14] = [
+const ROWS: [Row<'static>; 14] = [
     (FIRST_RUN, FIRST_RUN_REPLIES, 0),
     // A program that changes its own orders: the sum of a table.
     (
@@ -82,24 +77,34 @@ const ROWS: [Row; 14] = [
     ),
 ];
 
-/// Expects the replies to a script, and how many of them begin with a question mark, in whatever pieces the script comes.
-fn expect_replies(rt: &impl Abort, alloc: Global, (text, replies, faults): Row) {
-    for most in [1, 7, 5000] {
-        let mut written = Vec::new(alloc);
-        let ended = run_between(alloc, Pieces::whole(text, most), &mut written);
-        assert_eq!(rt;
-            (ended, written.as_slice()),
-            ((Ok(faults), false, false), replies),
-            "{text:?} in pieces of {most}"
-        );
+/// Whether a script is answered as its row says, where it comes in pieces of at most a given number of bytes.
+fn is_answered_in_pieces(alloc: Global, row: &Row<'static>, most: usize) -> bool {
+    let (script, replies, faults) = *row;
+    let mut written = Vec::new(alloc);
+    let ended = run_between(alloc, Pieces::whole(script, most), &mut written);
+    let (answer, has_read_failed, has_write_failed) = ended;
+    let is_whole = !has_read_failed && !has_write_failed;
+    is_done(answer, faults) && is_whole && written.as_slice() == replies
+}
+
+/// How many rows come before the first whose script is answered otherwise, in whatever pieces it comes.
+fn rows_answered(alloc: Global, rows: &[Row<'static>]) -> usize {
+    let mut answered: usize = 0;
+    for row in rows {
+        if !(is_answered_in_pieces(alloc, row, 1)
+            && is_answered_in_pieces(alloc, row, 7)
+            && is_answered_in_pieces(alloc, row, 5000))
+        {
+            return answered;
+        }
+        answered = answered.saturating_add(1);
     }
+    answered
 }
 
 #[test]
 fn scripts_are_answered_in_pieces_of_any_length(rt: HostRuntime) {
-    for row in ROWS {
-        expect_replies(&rt, rt.alloc(), row);
-    }
+    expect_eq(&rt, rows_answered(rt.alloc(), &ROWS), 14);
 }
 
 /// Lines in no command's form.
@@ -143,141 +148,190 @@ const NOT_IN_FORM: [&[u8]; 37] = [
     b"load 1",
 ];
 
-#[test]
-fn lines_not_in_form_are_refused(rt: HostRuntime) {
+/// How many lines come before the first that is not refused so.
+fn lines_refused(alloc: Global) -> usize {
+    let mut refused: usize = 0;
     for line in NOT_IN_FORM {
-        expect(&rt, rt.alloc(), line, b"? 1 Form\n", 1);
+        if !is_answered(alloc, (line, b"? 1 Form\n", 1)) {
+            return refused;
+        }
+        refused = refused.saturating_add(1);
     }
+    refused
 }
 
-/// Scripts of a few lines, and their replies.
-const LINES: [(&[u8], &[u8]); 20] = [
-    (b"", b""),
-    (b"\n\r\n   \n; turn 5\n;\n", b""),
-    (b"turn 5\r\nturn 1\n", b"clock 5\nclock 6\n"),
-    (b"turn 5\r\r\nturn 5\rturn 5\n", b"? 1 Form\n? 1 Form\n"),
-    (b"turn 5", b"clock 5\n"),
-    (b"turn 5\r", b"? 1 Form\n"),
-    (b"   turn    0000000005   \n", b"clock 5\n"),
+#[test]
+fn lines_not_in_form_are_refused(rt: HostRuntime) {
+    expect_eq(&rt, lines_refused(rt.alloc()), 37);
+}
+
+/// Scripts of a few lines.
+const LINES: [Row<'static>; 20] = [
+    (b"", b"", 0),
+    (b"\n\r\n   \n; turn 5\n;\n", b"", 0),
+    (b"turn 5\r\nturn 1\n", b"clock 5\nclock 6\n", 0),
+    (b"turn 5\r\r\nturn 5\rturn 5\n", b"? 1 Form\n? 1 Form\n", 2),
+    (b"turn 5", b"clock 5\n", 0),
+    (b"turn 5\r", b"? 1 Form\n", 1),
+    (b"   turn    0000000005   \n", b"clock 5\n", 0),
     (
         b"mount [6\nmount [64]\n",
         b"? 12 BadSign 0\n? 12 BadSign 0\n",
+        2,
     ),
     (
         b"mount\nmount \nmount  a\nmount a \nmount l[00]\n",
         b"ok 0\nok 0\nok 2\nok 2\nok 2\n",
+        0,
     ),
     (
         b"type\ntype 12\ntype *\n",
         b"live 0 dead 0\nlive 0 dead 2\n? 12 BadSign 0\n",
+        1,
     ),
-    (b"orders 5\n", b"orders 0 halted operator\n"),
+    (b"orders 5\n", b"orders 0 halted operator\n", 0),
     (
         b"press manual\ntype 00000004'[16]\npress fill\npress execute\n",
         b"live\nlive 8 dead 2\nlive\ndead\n",
+        0,
     ),
     (
         b"press oneop\npress execute\norders 2\n",
         b"live\nlive\norders 1 halted stop\n",
+        0,
     ),
     (
         b"press manual\npress read\norders 1\n",
         b"live\nlive\norders 1 halted operator\n",
+        0,
     ),
     (
         b"press read\npress compute\npress clear\npress normal\npress transfer down\npress sixbit up\n",
         b"dead\ndead\nlive\nlive\nlive\nlive\n",
+        0,
     ),
     (
         b"press bp32 down\npress bp8 down\npress transfer down\npanel\npress bp8 up\npress bp16 down\npress bp4 down\npress sixbit down\npanel\n",
         b"live\nlive\nlive\ncounter 0000 accumulator 00000000 register 00000000 status halted operator mode normal switches dududu reader off tape 0 clock 0\nlive\nlive\nlive\nlive\ncounter 0000 accumulator 00000000 register 00000000 status halted operator mode normal switches dduddd reader off tape 0 clock 0\n",
+        0,
     ),
     (
         b"put 6363 wwwwwwwq\nwords 6362 2\n",
         b"ok\n6362 00000000\n6363 wwwwwwwq\n",
+        0,
     ),
     (
         b"put 0063 80000000\nput 0100 00000004\nwords 0062 3\n",
         b"ok\nok\n0062 00000000\n0063 80000000\n0100 00000004\n",
+        0,
     ),
     (
         b"turn 9999999999\nturn 1\n",
         b"clock 9999999999\nclock 10000000000\n",
+        0,
     ),
     (
         b"press manual\npress start\nturn 0\n",
         b"live\ndead\nclock 0\n",
+        0,
     ),
 ];
 
-/// How many question marks a text has.
-fn question_marks(text: &[u8]) -> u64 {
-    text.iter().filter(|byte| **byte == b'?').count() as u64
+/// How many rows come before the first whose script is answered otherwise.
+fn lines_answered(alloc: Global) -> usize {
+    let mut answered: usize = 0;
+    for row in LINES {
+        if !is_answered(alloc, row) {
+            return answered;
+        }
+        answered = answered.saturating_add(1);
+    }
+    answered
 }
 
 #[test]
 fn lines_are_answered_one_by_one(rt: HostRuntime) {
-    for (script, replies) in LINES {
-        expect(&rt, rt.alloc(), script, replies, question_marks(replies));
+    expect_eq(&rt, lines_answered(rt.alloc()), 20);
+}
+
+/// How the replies to the line `turn 5` begin, in which a byte is in the first place, before the number, in place of the number, or
+/// after it; and how many of them begin with a question mark.
+fn wanted_at(place: usize, byte: u8) -> (&'static [u8], u64) {
+    match (place, byte) {
+        (5, b'0'..=b'9') => (b"clock ", 0),
+        (6, b'0'..=b'9') => (b"clock 5", 0),
+        (0, b't') | (4, b' ') | (6, b' ' | b'\r' | b'\n') => (b"clock 5\n", 0),
+        (0, b';') => (b"", 0),
+        (4, b'\n') => (b"? 1 Form\n? 1 Form\n", 2),
+        _ => (b"? 1 Form\n", 1),
     }
 }
 
-/// The replies to the line `turn 5`, in which a byte is in the first place, before the number, in place of the number, or
-/// after it.
-fn wanted_at(alloc: Global, place: usize, byte: u8) -> Result<Vec<u8>, AllocError> {
-    let front: &[u8] = match (place, byte) {
-        (5, b'0'..=b'9') => b"clock ",
-        (6, b'0'..=b'9') => b"clock 5",
-        (0, b't') | (4, b' ') | (6, b' ' | b'\r' | b'\n') => b"clock 5\n",
-        (0, b';') => b"",
-        (4, b'\n') => b"? 1 Form\n? 1 Form\n",
-        _ => b"? 1 Form\n",
-    };
-    let digits = usize::from(place >= 5 && byte.is_ascii_digit());
-    built(alloc, &[(front, 1), (&[byte, b'\n'], digits)])
+/// Whether a text is a front, and after it a byte in a line where that is a digit of the number.
+fn is_text(text: &[u8], front: &[u8], place: usize, byte: u8) -> bool {
+    match text.strip_prefix(front) {
+        Some(last) if place >= 5 && byte.is_ascii_digit() => last == [byte, b'\n'].as_slice(),
+        Some(last) => last.is_empty(),
+        None => false,
+    }
 }
 
-/// Expects the replies to the line `turn 5` with a byte in one of its places.
-fn expect_at(rt: &impl Abort, alloc: Global, place: usize, byte: u8) -> Result<(), AllocError> {
+/// Whether the line `turn 5` with a byte in one of its places is answered so.
+fn is_answered_at(alloc: Global, place: usize, byte: u8) -> bool {
     let mut script = *b"turn 5 \n";
     if let Some(at) = script.get_mut(place) {
         *at = byte;
     }
-    let wanted = wanted_at(alloc, place, byte)?;
-    expect(rt, alloc, &script, &wanted, question_marks(&wanted));
-    Ok(())
+    let mut written = Vec::new(alloc);
+    let answer = run(alloc, &script, &mut written);
+    let (front, faults) = wanted_at(place, byte);
+    is_done(answer, faults) && is_text(&written, front, place, byte)
+}
+
+/// The first byte that is answered otherwise in one of four places.
+fn answered_otherwise(alloc: Global) -> Option<u8> {
+    for byte in 0..=255u8 {
+        for place in [0, 4, 5, 6usize] {
+            if !is_answered_at(alloc, place, byte) {
+                return Some(byte);
+            }
+        }
+    }
+    None
 }
 
 #[test]
-fn each_byte_anywhere_in_a_line(rt: HostRuntime) -> Result<(), Fail> {
-    for byte in 0..=255u8 {
-        for place in [0, 4, 5, 6usize] {
-            expect_at(&rt, rt.alloc(), place, byte)?;
-        }
-    }
-    Ok(())
+fn each_byte_anywhere_in_a_line(rt: HostRuntime) {
+    expect_eq(&rt, answered_otherwise(rt.alloc()), None);
 }
 
 /// The words at 0100, 6363 and 0000 of a dump that comes after two replies and its own first line.
 fn dumped(alloc: Global, written: &[u8]) -> Option<[u32; 3]> {
     let text = written.strip_prefix(b"ok\nok\ndump 2\n")?;
     let drum = read_dump(alloc, text).ok()?;
-    Some([64, 4095, 0].map(|number| drum.word(Address::new(number).unwrap_or_default()).get()))
+    Some([
+        drum.word(address(64)).get(),
+        drum.word(address(4095)).get(),
+        drum.word(address(0)).get(),
+    ])
+}
+
+/// Whether a script is without faults, and the words of its dump.
+fn run_and_dumped(alloc: Global) -> (bool, Option<[u32; 3]>) {
+    let mut written = Vec::new(alloc);
+    let script = b"put 0100 00000004\nput 6363 80000000\ndump\n";
+    let answer = run(alloc, script, &mut written);
+    (is_done(answer, 0), dumped(alloc, &written))
 }
 
 #[test]
 fn a_dump_reads_back_without_its_first_line(rt: HostRuntime) {
-    let mut written = Vec::new(rt.alloc());
-    let script = b"put 0100 00000004\nput 6363 80000000\ndump\n";
-    let answer = run(rt.alloc(), script, &mut written);
-    assert_eq!(rt;
-        (answer, dumped(rt.alloc(), &written)),
-        (Ok(0), Some([4, 1 << 31, 0]))
-    );
+    let seen = run_and_dumped(rt.alloc());
+    expect_eq(&rt, seen, (true, Some([4, 1 << 31, 0])));
 }
 
 /// Scripts with sources.
-const SOURCES: [Row; 12] = [
+const SOURCES: [Row<'static>; 12] = [
     (
         b"source\n org 0100\n word 00000004\n end\n.\nload\npanel\nwords 0100 1\nwords 6309 1\nwords 6319 1\nwords 6321 1\n",
         b"cells 1 start none\nloaded 23\ncounter 6320 accumulator 80000000 register 80000000 status halted stop mode normal switches uuuuuu reader off tape 0 clock 15342\n0100 00000004\n6309 000k0104\n6319 80000000\n6321 00000000\n",
@@ -338,13 +392,11 @@ const SOURCES: [Row; 12] = [
 
 #[test]
 fn sources_are_assembled_and_listed(rt: HostRuntime) {
-    for row in SOURCES {
-        expect_replies(&rt, rt.alloc(), row);
-    }
+    expect_eq(&rt, rows_answered(rt.alloc(), &SOURCES), 12);
 }
 
 /// Scripts with rules and steps back.
-const HISTORIES: [Row; 6] = [
+const HISTORIES: [Row<'static>; 6] = [
     (
         b"put 0000 00083900\npress start\norders 1\nprinted\nturn 1\nback 0\nback 1\nprinted\nback 1\n",
         b"ok\nlive\norders 1 going\nprinted 1 a\n? 3 AtWork\nclock 451\nclock 0\nprinted 0\n? 7 TooFar 0\n",
@@ -382,22 +434,22 @@ const HISTORIES: [Row; 6] = [
 
 #[test]
 fn rules_stop_a_run_and_orders_are_taken_back(rt: HostRuntime) {
-    for row in HISTORIES {
-        expect_replies(&rt, rt.alloc(), row);
-    }
+    expect_eq(&rt, rows_answered(rt.alloc(), &HISTORIES), 6);
 }
 
-/// The answer to a script, and whether its replies end in this text.
-fn last_replies(alloc: Global, script: &[u8], end: &[u8]) -> (Result<u64, LabFault>, bool) {
+/// Whether a line is without faults 64 times and refused the 65th time, and whether its replies end so.
+fn is_full_after_64(alloc: Global, line: &[u8], end: &[u8]) -> (bool, bool) {
+    let Ok(script) = built(alloc, &[(line, 65)]) else {
+        return (false, false);
+    };
     let mut written = Vec::new(alloc);
-    let answer = run(alloc, script, &mut written);
-    (answer, written.ends_with(end))
+    let answer = run(alloc, &script, &mut written);
+    (is_done(answer, 1), written.ends_with(end))
 }
 
 #[test]
-fn there_are_at_most_64_rules(rt: HostRuntime) -> Result<(), Fail> {
-    let script = built(rt.alloc(), &[(b"watch 0000\n", 65)])?;
+fn there_are_at_most_64_rules(rt: HostRuntime) {
     let end = b"rule 62\nrule 63\n? 5 Full\n";
-    assert_eq!(rt; last_replies(rt.alloc(), &script, end), (Ok(1), true));
-    Ok(())
+    let seen = is_full_after_64(rt.alloc(), b"watch 0000\n", end);
+    expect_eq(&rt, seen, (true, true));
 }

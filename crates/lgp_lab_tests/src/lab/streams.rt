@@ -1,12 +1,11 @@
 //! Readers and writers that fail, and how often they are read.
 
-use super::{Ended, FIRST_RUN, FIRST_RUN_REPLIES, built, run_between};
-use lgp_lab::{Failed, Feed, FeedOf, LabFault, READS, Sink, SinkOf, run_script};
-use std::alloc::{Allocator, Global};
+use super::{FIRST_RUN, FIRST_RUN_REPLIES, built, is_cut_off, is_done, run_between};
+use crate::expect_eq;
+use lgp_lab::{Feed, FeedOf, LabFault, READS, Sink, SinkOf, run_script};
+use std::alloc::Global;
 use std::io;
 use std::io::{Read, Write};
-use std::process::Abort;
-use std::test::Fail;
 
 /// Gives a text in pieces of at most a given number of bytes. Then it ends, or fails once and ends after that.
 #[derive(Drop)]
@@ -140,215 +139,252 @@ impl Write for Busy {
     }
 }
 
-/// A text, whether a read fails after it, the replies, and the answer.
-const OPEN_LINES: [(&[u8], bool, &[u8], Result<u64, LabFault>); 4] = [
-    (
-        b"put 0000 000100j8\npan",
-        true,
-        b"ok\n",
-        Err(LabFault::Read),
-    ),
-    (b"put 0000 000100j8\npan", false, b"ok\n? 1 Form\n", Ok(1)),
-    (b"source\n z", true, b"", Err(LabFault::Read)),
-    (b"source\n z", false, b"? 9 Faults\nline 2 NoEnd\n", Ok(1)),
+/// A text, whether a read fails after it, the replies, and the answer; none where it is that a read has failed.
+const OPEN_LINES: [(&[u8], bool, &[u8], Option<u64>); 4] = [
+    (b"put 0000 000100j8\npan", true, b"ok\n", None),
+    (b"put 0000 000100j8\npan", false, b"ok\n? 1 Form\n", Some(1)),
+    (b"source\n z", true, b"", None),
+    (b"source\n z", false, b"? 9 Faults\nline 2 NoEnd\n", Some(1)),
 ];
 
-#[test]
-fn a_read_that_fails_drops_the_open_line(rt: HostRuntime) {
-    for (text, fails, replies, wanted) in OPEN_LINES {
-        let mut written = Vec::new(rt.alloc());
-        let reader = Pieces {
-            text,
-            most: 7,
-            fails,
-        };
-        let ended = run_between(rt.alloc(), reader, &mut written);
-        assert_eq!(rt;
-            (ended, written.as_slice()),
-            ((wanted, fails, false), replies)
-        );
+/// Whether this is what a call answers; none is that a read has failed.
+fn is_read(answer: Result<u64, LabFault>, wanted: Option<u64>) -> bool {
+    match wanted {
+        Some(number) => is_done(answer, number),
+        None => matches!(answer, Err(LabFault::Read)),
     }
 }
 
-/// What two reads answer, each with whether a read has failed by then and how many are left.
-fn two_reads<R: Read + Drop>(reader: R, reads: u64) -> [(Result<usize, Failed>, bool, u64); 2] {
+/// Whether a text is answered so, and only the reader has failed, if it was to.
+fn is_open_line_answered(
+    alloc: Global,
+    reader: Pieces,
+    replies: &[u8],
+    wanted: Option<u64>,
+) -> bool {
+    let mut written = Vec::new(alloc);
+    let fails = reader.fails;
+    let (answer, has_read_failed, has_write_failed) = run_between(alloc, reader, &mut written);
+    let are_so = has_read_failed == fails && !has_write_failed;
+    is_read(answer, wanted) && are_so && written.as_slice() == replies
+}
+
+/// How many of the texts come before the first that is answered otherwise.
+fn open_lines_answered(alloc: Global) -> usize {
+    let mut answered: usize = 0;
+    for (text, fails, replies, wanted) in OPEN_LINES {
+        let reader = Pieces::new(text, 7, fails);
+        if !is_open_line_answered(alloc, reader, replies, wanted) {
+            return answered;
+        }
+        answered = answered.saturating_add(1);
+    }
+    answered
+}
+
+#[test]
+fn a_read_that_fails_drops_the_open_line(rt: HostRuntime) {
+    expect_eq(&rt, open_lines_answered(rt.alloc()), 4);
+}
+
+/// How many bytes two reads give, each with whether a read has failed by then and how many are left; none where it fails.
+fn two_reads<R: Read + Drop>(reader: R, reads: u64) -> [(Option<usize>, bool, u64); 2] {
     let mut buffer = [0; 4];
     let mut feed = FeedOf::new(reader, reads);
-    let first = feed.read(&mut buffer);
+    let first = feed.read(&mut buffer).ok();
     let first = (first, feed.has_failed(), feed.reads_left());
-    let second = feed.read(&mut buffer);
+    let second = feed.read(&mut buffer).ok();
     [first, (second, feed.has_failed(), feed.reads_left())]
 }
 
 #[test]
 fn a_feed_reads_again_after_a_failed_read(rt: HostRuntime) {
-    let failing = Pieces {
-        text: b"",
-        most: 1,
-        fails: true,
-    };
-    assert_eq!(rt;
-        two_reads(failing, 3),
-        [(Err(Failed), true, 2), (Ok(0), true, 1)]
-    );
+    let reads = two_reads(Pieces::new(b"", 1, true), 3);
+    expect_eq(&rt, reads, [(None, true, 2), (Some(0), true, 1)]);
 }
 
 #[test]
 fn a_feed_with_no_read_left_fails(rt: HostRuntime) {
-    let reads = two_reads(b"12".as_slice(), 1);
-    assert_eq!(rt; reads, [(Ok(2), false, 0), (Err(Failed), true, 0)]);
+    let reads = two_reads(Pieces::whole(b"12", 2), 1);
+    expect_eq(&rt, reads, [(Some(2), false, 0), (None, true, 0)]);
 }
 
-/// How many bytes a read into a buffer gives, which go to the end of `taken`; `None` where it fails.
+/// How many bytes a read into a buffer of such a length, 5,000 at most, gives, which go to the end of `taken`; `None` where it fails.
 fn read_into<R: Read + Drop>(
     feed: &mut FeedOf<R>,
-    buffer: &mut [u8],
+    length: usize,
     taken: &mut Vec<u8>,
 ) -> Option<usize> {
-    let count = feed.read(buffer).ok()?;
+    let mut buffer = [0; 5000];
+    let count = feed.read(&mut buffer[..length.min(5000)]).ok()?;
     taken.extend_from_slice(buffer.get(..count)?).ok()?;
     Some(count)
 }
 
-/// That of four reads one after another, into buffers of such lengths, 5,000 at most.
+/// That of four reads one after another.
 fn four_reads<R: Read + Drop>(
     reader: R,
     lengths: [usize; 4],
     taken: &mut Vec<u8>,
 ) -> [Option<usize>; 4] {
     let mut feed = FeedOf::new(reader, READS);
-    let mut buffer = [0; 5000];
-    let mut counts = [None; 4];
-    for (count, length) in counts.iter_mut().zip(lengths) {
-        *count = read_into(&mut feed, &mut buffer[..length.min(5000)], taken);
-    }
-    counts
+    [
+        read_into(&mut feed, lengths[0], taken),
+        read_into(&mut feed, lengths[1], taken),
+        read_into(&mut feed, lengths[2], taken),
+        read_into(&mut feed, lengths[3], taken),
+    ]
+}
+
+/// That of four reads, and whether they give this text in all.
+fn four_reads_of<R: Read + Drop>(
+    alloc: Global,
+    reader: R,
+    lengths: [usize; 4],
+    text: &[u8],
+) -> ([Option<usize>; 4], bool) {
+    let mut taken = Vec::new(alloc);
+    let counts = four_reads(reader, lengths, &mut taken);
+    (counts, taken.as_slice() == text)
 }
 
 /// It fails on a body that answers an empty buffer with an error, that reads a byte at a time, and that reads no more than 4,096
 /// bytes at once.
 #[test]
-fn a_feed_fills_a_buffer_of_any_length(rt: HostRuntime) -> Result<(), Fail> {
-    let text = built(rt.alloc(), &[(b"0123456789a", 500)])?;
-    let mut taken = Vec::new(rt.alloc());
-    let counts = four_reads(text.as_slice(), [0, 1, 5000, 5000], &mut taken);
-    let are_all = taken.as_slice() == text.as_slice();
-    assert_eq!(rt;
-        (counts, are_all),
-        ([Some(0), Some(1), Some(5000), Some(499)], true)
-    );
-    Ok(())
+fn a_feed_fills_a_buffer_of_any_length(rt: HostRuntime) {
+    let seen = match built(rt.alloc(), &[(b"0123456789a", 500)]) {
+        Ok(text) => four_reads_of(rt.alloc(), text.as_slice(), [0, 1, 5000, 5000], &text),
+        Err(_) => ([None; 4], false),
+    };
+    expect_eq(&rt, seen, ([Some(0), Some(1), Some(5000), Some(499)], true));
 }
 
 /// It fails on a body that reads again itself after an error, that takes an error for the end, and that has failed for good.
 #[test]
 fn a_feed_goes_on_after_an_error_in_its_midst(rt: HostRuntime) {
-    let mut taken = Vec::new(rt.alloc());
     let torn = Torn {
         pieces: Pieces::whole(b"abcdef", 3),
         calls: 1,
     };
-    let counts = four_reads(torn, [4; 4], &mut taken);
-    assert_eq!(rt;
-        (counts, taken.as_slice()),
-        ([Some(3), None, Some(3), Some(0)], b"abcdef".as_slice())
-    );
+    let seen = four_reads_of(rt.alloc(), torn, [4; 4], b"abcdef");
+    expect_eq(&rt, seen, ([Some(3), None, Some(3), Some(0)], true));
 }
 
-/// What three writes answer, each with whether a write has failed by then.
-fn three_writes<W: Write + Drop>(writer: W) -> [(Result<usize, Failed>, bool); 3] {
+/// How many bytes three writes take, each with whether a write has failed by then; none where it fails.
+fn three_writes<W: Write + Drop>(writer: W, texts: [&[u8]; 3]) -> [(Option<usize>, bool); 3] {
     let mut sink = SinkOf::new(writer);
-    let first = (sink.write(b""), sink.has_failed());
-    let second = (sink.write(b"1"), sink.has_failed());
-    [first, second, (sink.write(b"12"), sink.has_failed())]
+    let first = (sink.write(texts[0]).ok(), sink.has_failed());
+    let second = (sink.write(texts[1]).ok(), sink.has_failed());
+    [
+        first,
+        second,
+        (sink.write(texts[2]).ok(), sink.has_failed()),
+    ]
+}
+
+/// What three writes give, where the second one fails, and whether `1` was taken in all.
+fn written_after_failure(alloc: Global) -> ([(Option<usize>, bool); 3], bool) {
+    let mut failing = Failing::after(alloc, 1, 1);
+    let writes = three_writes(&mut failing, [b"", b"1", b"12"]);
+    (writes, failing.taken() == b"1".as_slice())
 }
 
 #[test]
 fn a_sink_takes_an_empty_write(rt: HostRuntime) {
-    let mut failing = Failing::after(rt.alloc(), 1, 1);
-    let writes = three_writes(&mut failing);
-    assert_eq!(rt;
-        (writes, failing.taken.as_slice()),
-        (
-            [(Ok(0), false), (Err(Failed), true), (Ok(1), true)],
-            b"1".as_slice()
-        )
-    );
+    let wanted = [(Some(0), false), (None, true), (Some(1), true)];
+    expect_eq(&rt, written_after_failure(rt.alloc()), (wanted, true));
 }
 
-/// What a write and a second one of the same bytes answer, each with whether a write has failed by then.
-fn two_writes<W: Write + Drop>(writer: W, bytes: &[u8]) -> [(Result<usize, Failed>, bool); 2] {
-    let mut sink = SinkOf::new(writer);
-    let first = (sink.write(bytes), sink.has_failed());
-    [first, (sink.write(bytes), sink.has_failed())]
+/// What is given by two writes of the same bytes and an empty one, where nothing is taken at first, and whether the bytes were
+/// taken once in all.
+fn written_when_busy(alloc: Global) -> ([(Option<usize>, bool); 3], bool) {
+    let mut busy = Busy {
+        taken: Vec::new(alloc),
+        is_busy: true,
+    };
+    let writes = three_writes(&mut busy, [b"12", b"12", b""]);
+    (writes, busy.taken.as_slice() == b"12".as_slice())
 }
 
 /// It fails on a body that tries again itself where nothing was taken, and that has failed for good.
 #[test]
 fn a_write_that_took_nothing_is_tried_again_by_its_caller(rt: HostRuntime) {
-    let mut busy = Busy {
-        taken: Vec::new(rt.alloc()),
-        is_busy: true,
+    let wanted = [(None, true), (Some(2), true), (Some(0), true)];
+    expect_eq(&rt, written_when_busy(rt.alloc()), (wanted, true));
+}
+
+/// What is given by two writes of a text and an empty one, and whether the text was taken twice in all.
+fn written_twice(alloc: Global, text: &[u8]) -> ([(Option<usize>, bool); 3], bool) {
+    let mut written = Vec::new(alloc);
+    let writes = three_writes(&mut written, [text, text, b""]);
+    let is_twice = match written.as_slice().strip_prefix(text) {
+        Some(second) => second == text,
+        None => false,
     };
-    let writes = two_writes(&mut busy, b"12");
-    assert_eq!(rt;
-        (writes, busy.taken.as_slice()),
-        ([(Err(Failed), true), (Ok(2), true)], b"12".as_slice())
-    );
+    (writes, is_twice)
 }
 
 /// It fails on a body that hands on no more than 65,536 bytes at once, and that refuses more.
 #[test]
-fn a_sink_takes_more_than_65536_bytes_at_once(rt: HostRuntime) -> Result<(), Fail> {
-    let text = built(rt.alloc(), &[(b"0123456789a", 10_000)])?;
-    let mut written = Vec::new(rt.alloc());
-    let writes = two_writes(&mut written, text.as_slice());
-    let are_both = written.as_slice().strip_prefix(text.as_slice()) == Some(text.as_slice());
-    assert_eq!(rt; (writes, are_both), ([(Ok(110_000), false); 2], true));
-    Ok(())
+fn a_sink_takes_more_than_65536_bytes_at_once(rt: HostRuntime) {
+    let seen = match built(rt.alloc(), &[(b"0123456789a", 10_000)]) {
+        Ok(text) => written_twice(rt.alloc(), &text),
+        Err(_) => ([(None, false); 3], false),
+    };
+    let long = (Some(110_000), false);
+    expect_eq(&rt, seen, ([long, long, (Some(0), false)], true));
 }
 
-/// How a script of semicolons without an end goes that is read a given number of times: how many reads are left before and after, the
-/// answer, and whether the reader has failed.
-fn run_semicolons(
-    global: Global,
-    reads: u64,
-    written: &mut Vec<u8>,
-) -> (u64, u64, Result<u64, LabFault>, bool) {
-    let mut feed = FeedOf::new(Semicolons, reads);
+/// How a script of semicolons without an end goes that is read 10 times: how many reads are left before and after, whether the
+/// answer is that a read has failed, whether the reader has failed, and how many bytes are written.
+fn run_semicolons(alloc: Global) -> (u64, u64, bool, bool, usize) {
+    let mut written = Vec::new(alloc);
+    let mut feed = FeedOf::new(Semicolons, 10);
     let before = feed.reads_left();
-    let answer = run_script(global, &mut feed, &mut SinkOf::new(written));
-    (before, feed.reads_left(), answer, feed.has_failed())
+    let answer = run_into(alloc, &mut feed, &mut written);
+    let is_read = is_read(answer, None);
+    let (after, has_failed) = (feed.reads_left(), feed.has_failed());
+    (before, after, is_read, has_failed, written.len())
+}
+
+/// Runs a script from a feed.
+fn run_into<R: Feed, W: Write + Drop>(
+    alloc: Global,
+    feed: &mut R,
+    writer: W,
+) -> Result<u64, LabFault> {
+    run_script(alloc, feed, &mut SinkOf::new(writer))
 }
 
 #[test]
 fn reads_are_counted_down(rt: HostRuntime) {
-    let mut written = Vec::new(rt.alloc());
-    let ended = run_semicolons(rt.alloc(), 10, &mut written);
-    assert_eq!(rt;
-        (ended, written.len()),
-        ((10, 0, Err(LabFault::Read), true), 0)
-    );
+    expect_eq(&rt, run_semicolons(rt.alloc()), (10, 0, true, true, 0));
 }
 
-/// Expects of a write that fails that as many bytes as reported were taken of the replies.
-fn expect_taken(rt: &impl Abort, global: Global, most: usize, calls: usize) {
-    let mut failing = Failing::after(global, calls, most);
-    let ended = run_between(global, FIRST_RUN, &mut failing);
+/// Whether as many bytes as are reported to be taken are those of the replies, where a write fails.
+fn is_taken(alloc: Global, most: usize, calls: usize) -> bool {
+    let mut failing = Failing::after(alloc, calls, most);
+    let (answer, has_read_failed, has_write_failed) = run_between(alloc, FIRST_RUN, &mut failing);
     let taken = most.saturating_mul(calls);
-    let front = FIRST_RUN_REPLIES.get(..taken).unwrap_or_default();
-    assert_eq!(rt;
-        (ended, failing.taken.as_slice()),
-        ((Err(LabFault::Write(taken as u64)), false, true), front),
-        "{most} {calls}"
-    );
+    let are_so = is_cut_off(answer, taken as u64) && !has_read_failed && has_write_failed;
+    are_so && failing.taken() == FIRST_RUN_REPLIES.get(..taken).unwrap_or_default()
+}
+
+/// After how many calls of a writer that takes at most so many bytes a failure is reported otherwise.
+fn reported_otherwise(alloc: Global, most: usize) -> Option<usize> {
+    for calls in 0..FIRST_RUN_REPLIES.len() {
+        if !is_taken(alloc, most, calls) {
+            return Some(calls);
+        }
+    }
+    None
 }
 
 #[test]
 fn a_write_that_fails_tells_how_many_bytes_were_taken(rt: HostRuntime) {
-    for most in [0, 1] {
-        for calls in 0..FIRST_RUN_REPLIES.len() {
-            expect_taken(&rt, rt.alloc(), most, calls);
-        }
-    }
+    let seen = [
+        reported_otherwise(rt.alloc(), 0),
+        reported_otherwise(rt.alloc(), 1),
+    ];
+    expect_eq(&rt, seen, [None; 2]);
 }

@@ -3,32 +3,31 @@
 ghost use Rattle.std.specs.Prelude.{None};
 
 use super::streams::{Failing, Pieces};
+use crate::expect_eq;
 use lgp_lab::{
     FeedOf, FileFault, FileName, FileNames, Folder, LabFault, NotOpened, READS, SinkOf, Task,
     TaskFault, perform, refuse, status_of,
 };
 use std::alloc::{AllocError, Global};
 use std::io::Write;
-use std::process::Abort;
 
 #[test]
 fn what_became_of_a_file_gives_the_status(rt: HostRuntime) {
-    let broken = |fault| status_of(Err(FileFault::Broken(fault)));
     let statuses = [
         status_of(Ok(0)),
         status_of(Ok(1)),
         status_of(Ok(u64::MAX)),
         status_of(Err(FileFault::NotOpened)),
-        broken(LabFault::Read),
-        broken(LabFault::Write(3)),
-        broken(LabFault::Memory),
+        status_of(Err(FileFault::Broken(LabFault::Read))),
+        status_of(Err(FileFault::Broken(LabFault::Write(3)))),
+        status_of(Err(FileFault::Broken(LabFault::Memory))),
     ];
-    assert_eq!(rt; statuses, [0, 1, 1, 2, 2, 2, 3]);
+    expect_eq(&rt, statuses, [0, 1, 1, 2, 2, 2, 3]);
 }
 
 #[test]
 fn a_file_is_read_at_most_a_given_number_of_times(rt: HostRuntime) {
-    assert_eq!(rt; READS, 4_294_967_296);
+    expect_eq(&rt, READS, 4_294_967_296);
 }
 
 /// Four files, and none else. Of `fails` two lines are read, and then a read fails.
@@ -75,7 +74,7 @@ impl Folder for Made {
 }
 
 /// A command of the program.
-#[derive(Clone, Copy, Debug)]
+#[derive(Clone, Copy)]
 enum Command {
     Stdin,
     Asm,
@@ -96,11 +95,16 @@ fn task_on(alloc: Global, command: Command, name: &str) -> Result<Task, AllocErr
     })
 }
 
+/// Appends a name.
+fn push_name(alloc: Global, names: &mut FileNames, name: &str) -> Result<(), AllocError> {
+    names.push(FileName::new(alloc, name)?)
+}
+
 /// The task of a batch on the files of these names.
 fn batch_on(alloc: Global, names: &[&str]) -> Result<Task, AllocError> {
     let mut all = FileNames::new(alloc);
     for name in names {
-        all.push(FileName::new(alloc, name)?)?;
+        push_name(alloc, &mut all, name)?;
     }
     Ok(Task::Batch(all))
 }
@@ -119,15 +123,11 @@ fn status_into<W: Write + Drop>(
     }
 }
 
-/// Expects the status of a command on the file of a name, and what is written.
-fn expect(rt: &impl Abort, alloc: Global, (command, name): (Command, &str), wanted: (&[u8], u8)) {
+/// Whether a task has this status, and this is written.
+fn is_performed(alloc: Global, task: Result<Task, AllocError>, text: &[u8], status: u8) -> bool {
     let mut written = Vec::new(alloc);
-    let status = status_into(alloc, task_on(alloc, command, name), &mut written);
-    assert_eq!(rt;
-        (written.as_slice(), status),
-        (wanted.0, Some(wanted.1)),
-        "{command:?} {name}"
-    );
+    let ended = status_into(alloc, task, &mut written);
+    ended == Some(status) && written.as_slice() == text
 }
 
 /// Commands, each with the name of its file, what is written, and the status.
@@ -161,52 +161,60 @@ const COMMANDS: [(Command, &str, &[u8], u8); 12] = [
     (Command::Run(10), "fails", b"", 2),
 ];
 
-#[test]
-fn a_command_reads_its_file_and_writes_what_is_defined(rt: HostRuntime) {
+/// How many of the commands come before the first that does otherwise.
+fn commands_performed(alloc: Global) -> usize {
+    let mut performed: usize = 0;
     for (command, name, text, status) in COMMANDS {
-        expect(&rt, rt.alloc(), (command, name), (text, status));
+        if !is_performed(alloc, task_on(alloc, command, name), text, status) {
+            return performed;
+        }
+        performed = performed.saturating_add(1);
     }
+    performed
 }
 
-/// Whether the source of 196 orders, run for this number of orders, leaves a panel that begins so.
+#[test]
+fn a_command_reads_its_file_and_writes_what_is_defined(rt: HostRuntime) {
+    expect_eq(&rt, commands_performed(rt.alloc()), 12);
+}
+
+/// How many orders the source of 196 orders is run for, and how what is written begins.
+const RUNS: [(u64, &[u8]); 6] = [
+    (0, b"printed 0\ncounter 0000 "),
+    (1, b"printed 0\ncounter 0001 accumulator 00000080 "),
+    (2, b"printed 0\ncounter 0002 accumulator 0000007q "),
+    (195, b"printed 0\ncounter 0004 accumulator wwwwwwwq "),
+    (196, AT_REST),
+    (4_294_967_295, AT_REST),
+];
+
+/// How what is written begins where that source has come to rest.
+const AT_REST: &[u8] =
+    b"printed 0\ncounter 0005 accumulator wwwwwwwq register 00000000 status halted stop ";
+
+/// Whether that source, run for this number of orders, leaves a panel that begins so.
 fn is_left_with(alloc: Global, limit: u64, panel: &[u8]) -> bool {
+    let task = task_on(alloc, Command::Run(limit), "long");
     let mut written = Vec::new(alloc);
-    let status = status_into(
-        alloc,
-        task_on(alloc, Command::Run(limit), "long"),
-        &mut written,
-    );
+    let status = status_into(alloc, task, &mut written);
     status == Some(0) && written.starts_with(panel)
+}
+
+/// How many of the runs come before the first that is left otherwise.
+fn runs_left(alloc: Global) -> usize {
+    let mut left: usize = 0;
+    for (limit, panel) in RUNS {
+        if !is_left_with(alloc, limit, panel) {
+            return left;
+        }
+        left = left.saturating_add(1);
+    }
+    left
 }
 
 #[test]
 fn a_run_ends_at_its_limit_or_at_rest(rt: HostRuntime) {
-    let none: &[u8] = b"printed 0\ncounter 0000 ";
-    let first: &[u8] = b"printed 0\ncounter 0001 accumulator 00000080 ";
-    let second: &[u8] = b"printed 0\ncounter 0002 accumulator 0000007q ";
-    let last: &[u8] = b"printed 0\ncounter 0004 accumulator wwwwwwwq ";
-    let rest: &[u8] =
-        b"printed 0\ncounter 0005 accumulator wwwwwwwq register 00000000 status halted stop ";
-    let left = [
-        is_left_with(rt.alloc(), 0, none),
-        is_left_with(rt.alloc(), 1, first),
-        is_left_with(rt.alloc(), 2, second),
-        is_left_with(rt.alloc(), 195, last),
-        is_left_with(rt.alloc(), 196, rest),
-        is_left_with(rt.alloc(), 4_294_967_295, rest),
-    ];
-    assert_eq!(rt; left, [true; 6]);
-}
-
-/// Expects the status of a batch, and what is written.
-fn expect_batch(rt: &impl Abort, alloc: Global, names: &[&str], (text, status): (&[u8], u8)) {
-    let mut written = Vec::new(alloc);
-    let ended = status_into(alloc, batch_on(alloc, names), &mut written);
-    assert_eq!(rt;
-        (written.as_slice(), ended),
-        (text, Some(status)),
-        "{names:?}"
-    );
+    expect_eq(&rt, runs_left(rt.alloc()), 6);
 }
 
 /// The names of a batch, what is written, and the status.
@@ -237,37 +245,40 @@ const BATCHES: [(&[&str], &[u8], u8); 8] = [
     ),
 ];
 
-#[test]
-fn a_batch_ends_at_a_bad_file_and_gives_the_greatest_status(rt: HostRuntime) {
+/// How many of the batches come before the first that does otherwise.
+fn batches_performed(alloc: Global) -> usize {
+    let mut performed: usize = 0;
     for (names, text, status) in BATCHES {
-        expect_batch(&rt, rt.alloc(), names, (text, status));
+        if !is_performed(alloc, batch_on(alloc, names), text, status) {
+            return performed;
+        }
+        performed = performed.saturating_add(1);
     }
+    performed
 }
 
-/// The status of a command on a file where the first write fails.
-fn unwritten(alloc: Global, command: Command, name: &str) -> Option<u8> {
-    status_into(
-        alloc,
-        task_on(alloc, command, name),
-        Failing::after(alloc, 0, 1),
-    )
+#[test]
+fn a_batch_ends_at_a_bad_file_and_gives_the_greatest_status(rt: HostRuntime) {
+    expect_eq(&rt, batches_performed(rt.alloc()), 8);
+}
+
+/// The status of a task where the first write fails.
+fn unwritten(alloc: Global, task: Result<Task, AllocError>) -> Option<u8> {
+    status_into(alloc, task, Failing::after(alloc, 0, 1))
 }
 
 #[test]
 fn a_write_that_fails_gives_status_2(rt: HostRuntime) {
+    let alloc = rt.alloc();
     let statuses = [
-        unwritten(rt.alloc(), Command::Stdin, ""),
-        unwritten(rt.alloc(), Command::Script, "one"),
-        unwritten(rt.alloc(), Command::Asm, "tenth"),
-        unwritten(rt.alloc(), Command::Tape, "tenth"),
-        unwritten(rt.alloc(), Command::Run(1), "tenth"),
-        status_into(
-            rt.alloc(),
-            batch_on(rt.alloc(), &["one", "two"]),
-            Failing::after(rt.alloc(), 0, 1),
-        ),
+        unwritten(alloc, task_on(alloc, Command::Stdin, "")),
+        unwritten(alloc, task_on(alloc, Command::Script, "one")),
+        unwritten(alloc, task_on(alloc, Command::Asm, "tenth")),
+        unwritten(alloc, task_on(alloc, Command::Tape, "tenth")),
+        unwritten(alloc, task_on(alloc, Command::Run(1), "tenth")),
+        unwritten(alloc, batch_on(alloc, &["one", "two"])),
     ];
-    assert_eq!(rt; statuses, [Some(2); 6]);
+    expect_eq(&rt, statuses, [Some(2); 6]);
 }
 
 /// A fault of the words on the command line, with this text.
@@ -294,54 +305,53 @@ fn refusal_into<W: Write + Drop, M: Write + Drop>(
     }
 }
 
-/// Expects the status where the words hold no task, and what is written to each of the two.
-fn expect_refused(
-    rt: &impl Abort,
+/// Whether the status is this where the words hold no task, and this is written to each of the two.
+fn is_refused(
     alloc: Global,
     fault: Result<TaskFault, AllocError>,
-    wanted: (&[u8], &[u8], u8),
-) {
+    (help, message): (&[u8], &[u8]),
+    status: u8,
+) -> bool {
     let mut output = Vec::new(alloc);
     let mut messages = Vec::new(alloc);
-    let status = refusal_into(fault, &mut output, &mut messages);
-    assert_eq!(rt;
-        (output.as_slice(), messages.as_slice(), status),
-        (wanted.0, wanted.1, Some(wanted.2))
-    );
+    let ended = refusal_into(fault, &mut output, &mut messages);
+    ended == Some(status) && output.as_slice() == help && messages.as_slice() == message
 }
 
 #[test]
 fn help_goes_to_the_output_and_a_mistake_to_the_messages(rt: HostRuntime) {
     let alloc = rt.alloc();
-    expect_refused(
-        &rt,
-        alloc,
-        fault_of(alloc, false, "help\n"),
-        (b"help\n", b"", 0),
-    );
-    expect_refused(
-        &rt,
-        alloc,
-        fault_of(alloc, true, "wrong\n"),
-        (b"", b"wrong\n", 64),
-    );
-    expect_refused(&rt, alloc, Ok(TaskFault::Memory), (b"", b"", 3));
+    let help = fault_of(alloc, false, "help\n");
+    let mistake = fault_of(alloc, true, "wrong\n");
+    let refused = [
+        is_refused(alloc, help, (b"help\n", b""), 0),
+        is_refused(alloc, mistake, (b"", b"wrong\n"), 64),
+        is_refused(alloc, Ok(TaskFault::Memory), (b"", b""), 3),
+    ];
+    expect_eq(&rt, refused, [true; 3]);
+}
+
+/// The status of help or a mistake where the output and the messages take as many bytes as that, one a call, and then fail.
+fn unwritten_refusal(
+    fault: Result<TaskFault, AllocError>,
+    alloc: Global,
+    (output, messages): (usize, usize),
+) -> Option<u8> {
+    refusal_into(
+        fault,
+        Failing::after(alloc, output, 1),
+        Failing::after(alloc, messages, 1),
+    )
 }
 
 #[test]
 fn help_or_a_mistake_that_cannot_be_written_gives_status_2(rt: HostRuntime) {
     let alloc = rt.alloc();
+    let help = fault_of(alloc, false, "help\n");
+    let mistake = fault_of(alloc, true, "wrong\n");
     let statuses = [
-        refusal_into(
-            fault_of(alloc, false, "help\n"),
-            Failing::after(alloc, 2, 1),
-            Vec::new(alloc),
-        ),
-        refusal_into(
-            fault_of(alloc, true, "wrong\n"),
-            Vec::new(alloc),
-            Failing::after(alloc, 2, 1),
-        ),
+        unwritten_refusal(help, alloc, (2, usize::MAX)),
+        unwritten_refusal(mistake, alloc, (usize::MAX, 2)),
     ];
-    assert_eq!(rt; statuses, [Some(2); 2]);
+    expect_eq(&rt, statuses, [Some(2); 2]);
 }

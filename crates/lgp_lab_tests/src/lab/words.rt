@@ -2,10 +2,10 @@
 
 use super::streams::Failing;
 use super::tasks::Made;
+use crate::expect_eq;
 use lgp_lab::{FeedOf, READS, SinkOf, WordFault, obey, refuse_unread};
 use std::alloc::{AllocError, Global};
 use std::io::Write;
-use std::process::Abort;
 
 /// The program's name and at most two words more.
 type CommandWords = &'static [&'static str];
@@ -14,9 +14,15 @@ type CommandWords = &'static [&'static str];
 fn words_of(alloc: Global, typed: &[&str]) -> Result<Vec<String>, AllocError> {
     let mut words = Vec::new(alloc);
     for word in typed {
-        words.push(String::from_str(alloc, word)?)?;
+        push_word(alloc, &mut words, word)?;
     }
     Ok(words)
+}
+
+/// Appends a word.
+fn push_word(alloc: Global, words: &mut Vec<String>, word: &str) -> Result<(), AllocError> {
+    words.push(String::from_str(alloc, word)?)?;
+    Ok(())
 }
 
 /// The status for words, where standard input is a line that is no command.
@@ -53,16 +59,12 @@ fn status_typed<W: Write + Drop, M: Write + Drop>(
     }
 }
 
-/// Expects what is written for words, without a message, and the status.
-fn expect_done(rt: &impl Abort, alloc: Global, typed: CommandWords, wanted: (&[u8], u8)) {
+/// Whether this is written for words, without a message, and this is the status.
+fn is_obeyed(alloc: Global, typed: CommandWords, text: &[u8], status: u8) -> bool {
     let mut output = Vec::new(alloc);
     let mut messages = Vec::new(alloc);
-    let status = status_typed(alloc, typed, &mut output, &mut messages);
-    let silent = messages.is_empty();
-    assert_eq!(rt;
-        (output.as_slice(), silent, status),
-        (wanted.0, true, Some(wanted.1))
-    );
+    let ended = status_typed(alloc, typed, &mut output, &mut messages);
+    ended == Some(status) && messages.is_empty() && output.as_slice() == text
 }
 
 /// Words, each with what is written and the status. A script of a batch has a line that names it, and one alone has none.
@@ -79,11 +81,21 @@ const DONE: [(CommandWords, &[u8], u8); 6] = [
     (&["lgp_lab", "--version"], b"lgp_lab 0.1.0\n", 0),
 ];
 
+/// How many of the words come before the first that are obeyed otherwise.
+fn words_obeyed(alloc: Global) -> usize {
+    let mut obeyed: usize = 0;
+    for (typed, text, status) in DONE {
+        if !is_obeyed(alloc, typed, text, status) {
+            return obeyed;
+        }
+        obeyed = obeyed.saturating_add(1);
+    }
+    obeyed
+}
+
 #[test]
 fn words_are_obeyed_without_a_message(rt: HostRuntime) {
-    for (typed, text, status) in DONE {
-        expect_done(&rt, rt.alloc(), typed, (text, status));
-    }
+    expect_eq(&rt, words_obeyed(rt.alloc()), 6);
 }
 
 /// Whether anything was written to the output and to the messages, and the status.
@@ -106,28 +118,27 @@ fn help_is_no_message_and_a_mistake_is_one(rt: HostRuntime) {
     ];
     let help = (true, false, Some(0));
     let mistake = (false, true, Some(64));
-    assert_eq!(rt; reported, [help, help, mistake, mistake, mistake]);
+    expect_eq(&rt, reported, [help, help, mistake, mistake, mistake]);
 }
 
 /// What is reported of words that cannot be read.
 const UNREAD: &[u8] = b"error: the words of the command line are not UTF-8 text\n";
 
-/// Expects what is reported for words that are not there, without any output, and the status.
-fn expect_unread(rt: &impl Abort, alloc: Global, fault: WordFault, wanted: (&[u8], u8)) {
+/// Whether this is reported for words that are not there, without any output, and this is the status.
+fn is_unread(alloc: Global, fault: WordFault, text: &[u8], status: u8) -> bool {
     let mut output = Vec::new(alloc);
     let mut messages = Vec::new(alloc);
-    let status = status_for(alloc, Err(fault), &mut output, &mut messages);
-    let silent = output.is_empty();
-    assert_eq!(rt;
-        (messages.as_slice(), silent, status),
-        (wanted.0, true, wanted.1)
-    );
+    let ended = status_for(alloc, Err(fault), &mut output, &mut messages);
+    ended == status && output.is_empty() && messages.as_slice() == text
 }
 
 #[test]
 fn words_that_are_not_there_are_reported(rt: HostRuntime) {
-    expect_unread(&rt, rt.alloc(), WordFault::NotText, (UNREAD, 64));
-    expect_unread(&rt, rt.alloc(), WordFault::Memory, (b"", 3));
+    let reported = [
+        is_unread(rt.alloc(), WordFault::NotText, UNREAD, 64),
+        is_unread(rt.alloc(), WordFault::Memory, b"", 3),
+    ];
+    expect_eq(&rt, reported, [true; 2]);
 }
 
 /// The status of telling that words cannot be read, and what is written.
@@ -136,10 +147,16 @@ fn unread_into<M: Write + Drop>(messages: M) -> u8 {
     refuse_unread(&mut messages)
 }
 
+/// The status, and whether this is what is told.
+fn unread(alloc: Global, text: &[u8]) -> (u8, bool) {
+    let mut written = Vec::new(alloc);
+    let status = unread_into(&mut written);
+    (status, written.as_slice() == text)
+}
+
 #[test]
 fn words_that_cannot_be_read_are_a_mistake(rt: HostRuntime) {
-    let mut written = Vec::new(rt.alloc());
-    let status = unread_into(&mut written);
+    let told = unread(rt.alloc(), UNREAD);
     let failed = unread_into(Failing::after(rt.alloc(), 2, 1));
-    assert_eq!(rt; (written.as_slice(), status, failed), (UNREAD, 64, 2));
+    expect_eq(&rt, (told, failed), ((64, true), 2));
 }

@@ -1,15 +1,14 @@
 //! Accounts and profiles as lines of a key and a value.
 
 use super::origins::PROGRAM;
+use super::profile_of_a_sum;
 use super::steps::{debugger, put_all};
-use super::{SUM_OF_A_TABLE, profiled, with_words};
+use crate::expect_eq;
 use lgp_debugger::Debugger;
 use lgp_history::Origins;
-use lgp_machine::Machine;
 use lgp_table::Action;
 use lgp_trace::{Form, NoLabels, Profile, push_heading_in, push_profile_in, trace_run};
 use std::alloc::Allocator;
-use std::test::Fail;
 
 /// The two orders of the program that changes its own order, and what put each of them there.
 pub const ORDERS_DATA: &[u8] = b"clock 0
@@ -47,24 +46,26 @@ put-ago 1
 put-over u 0005
 ";
 
-/// The program put on the drum and started: two orders reported. Whether all was.
+/// The program put on the drum and started: two orders reported. Whether all was, and as above.
 fn reported<H: Origins<A>, A: Allocator, B: Allocator>(
+    alloc: B,
     lab: &mut Debugger<H, A>,
-    text: &mut Vec<u8, B>,
-) -> bool {
+) -> (bool, bool) {
     put_all(lab, PROGRAM);
     let _live = lab.press(Action::Start);
-    push_heading_in(text, Form::Data).is_ok()
-        && trace_run(lab, 2, Form::Data, text, &NoLabels).is_ok()
+    let mut text = Vec::new(alloc);
+    let whole = push_heading_in(&mut text, Form::Data).is_ok()
+        && trace_run(lab, 2, Form::Data, &mut text, &NoLabels).is_ok();
+    (whole, text.as_slice() == ORDERS_DATA)
 }
 
 #[test]
-fn orders_as_data(rt: HostRuntime) -> Result<(), Fail> {
-    let mut lab = debugger(rt.alloc())?;
-    let mut text = Vec::new(rt.alloc());
-    let whole = reported(&mut lab, &mut text);
-    assert_eq!(rt; (whole, text.as_slice() == ORDERS_DATA), (true, true));
-    Ok(())
+fn orders_as_data(rt: HostRuntime) {
+    let seen = match debugger(rt.alloc()) {
+        Some(mut lab) => reported(rt.alloc(), &mut lab),
+        None => (false, false),
+    };
+    expect_eq(&rt, seen, (true, true));
 }
 
 /// The word times of the program's rows added up by phase and by place.
@@ -98,22 +99,18 @@ place 0007
 times 73
 ";
 
-/// The profile of the whole program, appended; false where that is refused.
-fn tell_profile<A: Allocator, B: Allocator>(
-    machine: &mut Machine<A>,
-    profile: &mut Profile<A>,
-    text: &mut Vec<u8, B>,
-) -> bool {
-    profiled(machine, profile);
-    push_profile_in(text, Form::Data, 42, profile, &NoLabels).is_ok()
+/// Whether a profile is told, and as above.
+fn told_profile<A: Allocator, B: Allocator>(alloc: B, profile: &Profile<A>) -> (bool, bool) {
+    let mut text = Vec::new(alloc);
+    let told = push_profile_in(&mut text, Form::Data, 42, profile, &NoLabels).is_ok();
+    (told, text.as_slice() == PROFILE_DATA)
 }
 
 #[test]
-fn a_profile_as_data(rt: HostRuntime) -> Result<(), Fail> {
-    let mut machine = with_words(rt.alloc(), SUM_OF_A_TABLE)?;
-    let mut profile = Profile::new(rt.alloc())?;
-    let mut text = Vec::new(rt.alloc());
-    let reported = tell_profile(&mut machine, &mut profile, &mut text);
-    assert_eq!(rt; (reported, text.as_slice() == PROFILE_DATA), (true, true));
-    Ok(())
+fn a_profile_as_data(rt: HostRuntime) {
+    let seen = match profile_of_a_sum(rt.alloc()) {
+        Some(profile) => told_profile(rt.alloc(), &profile),
+        None => (false, false),
+    };
+    expect_eq(&rt, seen, (true, true));
 }

@@ -1,12 +1,12 @@
 //! Runs that are reported, drawn and profiled up to the clock's end.
 
-use super::steps::{debugger, put_all};
+use super::steps::{debugger, goes_back, put_all};
+use crate::expect_eq;
 use lgp_debugger::{Debugger, Ran, RunFault, RunRefusal};
 use lgp_history::{History, Origins};
 use lgp_table::Action;
-use lgp_trace::{Form, NoLabels, Phases, Profile, draw_run, profile_run, trace_run};
+use lgp_trace::{Form, NoLabels, Profile, draw_run, profile_run, trace_run};
 use std::alloc::Allocator;
-use std::test::Fail;
 
 /// At 0000 y 0001, and after it u 0005, whose address becomes 0000.
 const PROGRAM: &[(u16, u32)] = &[(0, 0x0002_0004), (1, 0x000a_0014)];
@@ -21,37 +21,22 @@ fn start_near_end<H: History<A>, A: Allocator>(lab: &mut Debugger<H, A>) -> bool
     put_all(lab, PROGRAM) && lab.idle(START).is_ok() && lab.press(Action::Start) == Ok(true)
 }
 
-/// How a run ends, and how far before the clock's end.
-type Stopped = (Result<Ran, RunFault>, u64);
+/// How many orders a run has, if it is refused for the clock's end, and how far before that.
+type Stopped = (Option<u64>, u64);
 
 fn stopped_at<H: History<A>, A: Allocator>(
     lab: &Debugger<H, A>,
     outcome: Result<Ran, RunFault>,
 ) -> Stopped {
-    (outcome, (1u64 << 62).saturating_sub(lab.look().clock))
+    let orders = match outcome {
+        Err(fault) if matches!(fault.fault, RunRefusal::ClockEnd) => Some(fault.orders),
+        _ => None,
+    };
+    (orders, (1u64 << 62).saturating_sub(lab.look().clock))
 }
 
 /// One order is done, and the next one is refused for the clock's end.
-const AT_END: Stopped = (
-    Err(RunFault {
-        orders: 1,
-        fault: RunRefusal::ClockEnd,
-    }),
-    54,
-);
-
-/// The run reported, gone back and drawn; how both end.
-fn reported_and_drawn<H: Origins<A>, A: Allocator, B: Allocator>(
-    lab: &mut Debugger<H, A>,
-    lines: &mut Vec<u8, B>,
-    signs: &mut Vec<u8, B>,
-) -> Option<[Stopped; 2]> {
-    let traced = trace_run(lab, 9, Form::Columns, lines, &NoLabels);
-    let reported = stopped_at(lab, traced);
-    lab.back(1).ok()?;
-    let drawn = draw_run(lab, 9, signs);
-    Some([reported, stopped_at(lab, drawn)])
-}
+const AT_END: Stopped = (Some(1), 54);
 
 /// Of the one order its lines, with where it came from.
 const LINES: &[u8] =
@@ -64,44 +49,76 @@ const LINES: &[u8] =
 const SIGNS: &[u8] = b"...................................F
 4611686018427387840  i.......Wx";
 
-#[test]
-fn reported_up_to_the_clocks_end(rt: HostRuntime) -> Result<(), Fail> {
-    let mut lab = debugger(rt.alloc())?;
-    let mut lines = Vec::new(rt.alloc());
-    let mut signs = Vec::new(rt.alloc());
-    let started = start_near_end(&mut lab);
-    let seen = reported_and_drawn(&mut lab, &mut lines, &mut signs);
-    let texts = (lines.as_slice() == LINES, signs.as_slice() == SIGNS);
-    assert_eq!(rt;
-        (started, seen, texts),
-        (true, Some([AT_END, AT_END]), (true, true))
-    );
-    Ok(())
+/// How the run ends where it is reported, and whether as above.
+fn reported<H: Origins<A>, A: Allocator, B: Allocator>(
+    alloc: B,
+    lab: &mut Debugger<H, A>,
+) -> (Stopped, bool) {
+    let mut lines = Vec::new(alloc);
+    let traced = trace_run(lab, 9, Form::Columns, &mut lines, &NoLabels);
+    (stopped_at(lab, traced), lines.as_slice() == LINES)
 }
 
-/// The run profiled; how it ends, and the word times by phase.
+/// The same where it is drawn.
+fn drawn<H: Origins<A>, A: Allocator, B: Allocator>(
+    alloc: B,
+    lab: &mut Debugger<H, A>,
+) -> (Stopped, bool) {
+    let mut signs = Vec::new(alloc);
+    let drawn = draw_run(lab, 9, &mut signs);
+    (stopped_at(lab, drawn), signs.as_slice() == SIGNS)
+}
+
+/// The run started, reported, gone back and drawn: whether it was started, how both end, and whether it went back.
+fn reported_and_drawn<H: Origins<A>, A: Allocator, B: Allocator + Copy>(
+    alloc: B,
+    lab: &mut Debugger<H, A>,
+) -> (bool, (Stopped, bool), bool, (Stopped, bool)) {
+    let started = start_near_end(lab);
+    let reported = reported(alloc, lab);
+    let is_back = goes_back(lab, 1);
+    (started, reported, is_back, drawn(alloc, lab))
+}
+
+#[test]
+fn reported_up_to_the_clocks_end(rt: HostRuntime) {
+    let seen = match debugger(rt.alloc()) {
+        Some(mut lab) => Some(reported_and_drawn(rt.alloc(), &mut lab)),
+        None => None,
+    };
+    let at_end = (AT_END, true);
+    expect_eq(&rt, seen, Some((true, at_end, true, at_end)));
+}
+
+/// The run started and profiled: whether it was started, how it ends, and the word times by phase.
 fn profiled<H: History<A>, A: Allocator, B: Allocator>(
     lab: &mut Debugger<H, A>,
     profile: &mut Profile<B>,
-) -> (Stopped, Phases) {
+) -> (bool, Stopped, (u64, u64, u64, u64)) {
+    let started = start_near_end(lab);
     let outcome = profile_run(lab, 9, profile);
-    (stopped_at(lab, outcome), profile.phases())
+    let stopped = stopped_at(lab, outcome);
+    let phases = profile.phases();
+    let times = (phases.find, phases.take, phases.seek, phases.act);
+    (started, stopped, times)
 }
 
-/// The phases of the one order.
-const PHASES: Phases = Phases {
-    find: 36,
-    take: 1,
-    seek: 8,
-    act: 1,
-};
+/// That of a new profile; none where memory is refused.
+fn profiled_anew<H: History<A>, A: Allocator, B: Allocator>(
+    alloc: B,
+    lab: &mut Debugger<H, A>,
+) -> Option<(bool, Stopped, (u64, u64, u64, u64))> {
+    match Profile::new(alloc) {
+        Ok(mut profile) => Some(profiled(lab, &mut profile)),
+        Err(_) => None,
+    }
+}
 
 #[test]
-fn profiled_up_to_the_clocks_end(rt: HostRuntime) -> Result<(), Fail> {
-    let mut lab = debugger(rt.alloc())?;
-    let mut profile = Profile::new(rt.alloc())?;
-    let started = start_near_end(&mut lab);
-    let seen = profiled(&mut lab, &mut profile);
-    assert_eq!(rt; (started, seen), (true, (AT_END, PHASES)));
-    Ok(())
+fn profiled_up_to_the_clocks_end(rt: HostRuntime) {
+    let seen = match debugger(rt.alloc()) {
+        Some(mut lab) => profiled_anew(rt.alloc(), &mut lab),
+        None => None,
+    };
+    expect_eq(&rt, seen, Some((true, AT_END, (36, 1, 8, 1))));
 }

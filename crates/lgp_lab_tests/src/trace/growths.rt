@@ -3,15 +3,15 @@
 use super::data::{ORDERS_DATA, PROFILE_DATA};
 use super::lines::PROFILE;
 use super::origins::{ORDERS, PROGRAM, WORDS, push_words};
-use super::steps::{debugger, put_all};
-use super::{SUM_OF_A_TABLE, profiled, with_words};
+use super::profile_of_a_sum;
+use super::steps::{debugger, goes_back, put_all};
+use crate::expect_eq;
 use lgp_debugger::{Debugger, Ran, RunFault, RunRefusal};
 use lgp_history::{History, Origins};
 use lgp_limited::Limited;
 use lgp_table::Action;
 use lgp_trace::{Form, NoLabels, Profile, draw_run, push_profile_in, trace_run};
 use std::alloc::Allocator;
-use std::test::Fail;
 
 /// More growths than any text here has.
 pub(super) const MOST: u64 = 40;
@@ -22,7 +22,7 @@ fn start<H: History<A>, A: Allocator>(lab: &mut Debugger<H, A>) -> bool {
 }
 
 /// How an attempt ends.
-#[derive(Clone, Copy, Debug, PartialEq, Eq)]
+#[derive(Clone, Copy)]
 pub(super) enum Attempt {
     Reported,
     Refused,
@@ -37,6 +37,14 @@ pub(super) fn ended(refused: bool, answers_so: bool, reported: bool) -> Attempt 
         Attempt::Reported
     } else {
         Attempt::Otherwise
+    }
+}
+
+/// How many orders a run counts, and whether it was refused for want of memory.
+pub(super) fn counted(ran: Result<Ran, RunFault>) -> (u64, bool) {
+    match ran {
+        Ok(ran) => (ran.orders, false),
+        Err(fault) => (fault.orders, matches!(fault.fault, RunRefusal::Memory)),
     }
 }
 
@@ -78,71 +86,64 @@ fn is_reported(way: Way, text: &[u8]) -> bool {
 
 /// Two orders reported with a growth refused, and gone back. The order whose lines or signs found no room remains, and the answer counts
 /// it: the clock is 74 after the first order, and 140 after the second.
-fn run_refused<H: Origins<A>, A: Allocator, B: Allocator, C: Allocator>(
+fn run_refused<H: Origins<A>, A: Allocator, B: Allocator>(
     (limited, nth): (&Limited<B>, u64),
     way: Way,
     lab: &mut Debugger<H, A>,
-    text: &mut Vec<u8, C>,
 ) -> Attempt {
+    let mut text = Vec::new(limited);
     limited.refuse(nth);
-    let (orders, answers_so) = match run_so(way, lab, text) {
-        Ok(ran) => (ran.orders, false),
-        Err(fault) => (fault.orders, fault.fault == RunRefusal::Memory),
-    };
-    let stands = (orders, lab.look().clock);
-    if !matches!(stands, (1, 74) | (2, 140)) || lab.back(orders).is_err() {
-        return Attempt::Otherwise;
-    }
+    let (orders, answers_so) = counted(run_so(way, lab, &mut text));
+    let stands = matches!((orders, lab.look().clock), (1, 74) | (2, 140));
+    let is_back = stands && goes_back(lab, orders);
     ended(
         limited.was_refused(),
-        answers_so,
-        is_reported(way, text.as_slice()),
+        is_back && answers_so,
+        is_back && is_reported(way, text.as_slice()),
     )
 }
 
 /// What is said of three words, with a growth refused.
-fn words_refused<H: Origins<A>, A: Allocator, B: Allocator, C: Allocator>(
+fn words_refused<H: Origins<A>, A: Allocator, B: Allocator>(
     limited: &Limited<B>,
     nth: u64,
     lab: &Debugger<H, A>,
-    text: &mut Vec<u8, C>,
 ) -> Attempt {
+    let mut text = Vec::new(limited);
     limited.refuse(nth);
-    let refused = push_words(lab, text).is_err();
+    let refused = push_words(lab, &mut text).is_err();
     ended(limited.was_refused(), refused, text.as_slice() == WORDS)
 }
 
-/// How many growths were refused before the orders were reported, if each of them was answered so.
+/// Whether growths were refused before the orders were reported, and each of them was answered so.
 fn orders_in_turn<H: Origins<A>, A: Allocator, B: Allocator>(
     limited: &Limited<B>,
     way: Way,
     lab: &mut Debugger<H, A>,
-) -> Option<u64> {
+) -> bool {
     for nth in 1..MOST {
-        let mut text = Vec::new(limited);
-        match run_refused((limited, nth), way, lab, &mut text) {
-            Attempt::Reported => return Some(nth - 1),
+        match run_refused((limited, nth), way, lab) {
+            Attempt::Reported => return nth > 1,
             Attempt::Refused => {}
-            Attempt::Otherwise => return None,
+            Attempt::Otherwise => return false,
         }
     }
-    None
+    false
 }
 
 /// The same of the lines on three words.
 fn words_in_turn<H: Origins<A>, A: Allocator, B: Allocator>(
     limited: &Limited<B>,
     lab: &Debugger<H, A>,
-) -> Option<u64> {
+) -> bool {
     for nth in 1..MOST {
-        let mut text = Vec::new(limited);
-        match words_refused(limited, nth, lab, &mut text) {
-            Attempt::Reported => return Some(nth - 1),
+        match words_refused(limited, nth, lab) {
+            Attempt::Reported => return nth > 1,
             Attempt::Refused => {}
-            Attempt::Otherwise => return None,
+            Attempt::Otherwise => return false,
         }
     }
-    None
+    false
 }
 
 /// The lines of the profile in a form.
@@ -153,59 +154,70 @@ fn profile_lines(form: Form) -> &'static [u8] {
     }
 }
 
-/// How many growths of a profile's text were refused before it was reported, if each of them was answered so.
+/// A profile's text with a growth refused.
+fn profile_refused<A: Allocator, B: Allocator>(
+    limited: &Limited<B>,
+    nth: u64,
+    form: Form,
+    profile: &Profile<A>,
+) -> Attempt {
+    let mut text = Vec::new(limited);
+    limited.refuse(nth);
+    let refused = push_profile_in(&mut text, form, 42, profile, &NoLabels).is_err();
+    let reported = text.as_slice() == profile_lines(form);
+    ended(limited.was_refused(), refused, reported)
+}
+
+/// The same of a profile's text.
 fn profile_in_turn<A: Allocator, B: Allocator>(
     limited: &Limited<B>,
     form: Form,
     profile: &Profile<A>,
-) -> Option<u64> {
+) -> bool {
     for nth in 1..MOST {
-        let mut text = Vec::new(limited);
-        limited.refuse(nth);
-        let refused = push_profile_in(&mut text, form, 42, profile, &NoLabels).is_err();
-        let reported = text.as_slice() == profile_lines(form);
-        match ended(limited.was_refused(), refused, reported) {
-            Attempt::Reported => return Some(nth - 1),
+        match profile_refused(limited, nth, form, profile) {
+            Attempt::Reported => return nth > 1,
             Attempt::Refused => {}
-            Attempt::Otherwise => return None,
+            Attempt::Otherwise => return false,
         }
     }
-    None
+    false
 }
 
 /// Lines, data, signs and words in turn: whether each had a growth, and whether at last all was reported.
 fn in_turn<H: Origins<A>, A: Allocator, B: Allocator>(
     limited: &Limited<B>,
     lab: &mut Debugger<H, A>,
-) -> Option<[bool; 4]> {
-    let lines = orders_in_turn(limited, Way::Lines, lab)?;
-    let data = orders_in_turn(limited, Way::Data, lab)?;
-    let signs = orders_in_turn(limited, Way::Signs, lab)?;
-    let ran = lab.run(2).ok()?;
-    let words = words_in_turn(limited, lab)?;
-    (ran.orders == 2).then_some([lines > 0, data > 0, signs > 0, words > 0])
+) -> ([bool; 3], bool, bool) {
+    let runs = [
+        orders_in_turn(limited, Way::Lines, lab),
+        orders_in_turn(limited, Way::Data, lab),
+        orders_in_turn(limited, Way::Signs, lab),
+    ];
+    let has_run = matches!(lab.run(2), Ok(ran) if ran.orders == 2);
+    (runs, has_run, words_in_turn(limited, lab))
 }
 
 #[test]
-fn each_growth_refused(rt: HostRuntime) -> Result<(), Fail> {
+fn each_growth_refused(rt: HostRuntime) {
     let limited = Limited::new(rt.alloc());
-    let mut lab = debugger(rt.alloc())?;
-    let started = start(&mut lab);
-    let seen = in_turn(&limited, &mut lab);
-    let out = limited.blocks_out();
-    assert_eq!(rt; (started, seen, out), (true, Some([true; 4]), 0));
-    Ok(())
+    let seen = match debugger(rt.alloc()) {
+        Some(mut lab) => (start(&mut lab), in_turn(&limited, &mut lab)),
+        None => (false, ([false; 3], false, false)),
+    };
+    let wanted = (true, ([true; 3], true, true));
+    expect_eq(&rt, (seen, limited.blocks_out()), (wanted, 0));
 }
 
 #[test]
-fn each_growth_of_a_profile_refused(rt: HostRuntime) -> Result<(), Fail> {
+fn each_growth_of_a_profile_refused(rt: HostRuntime) {
     let limited = Limited::new(rt.alloc());
-    let mut machine = with_words(rt.alloc(), SUM_OF_A_TABLE)?;
-    let mut profile = Profile::new(rt.alloc())?;
-    profiled(&mut machine, &mut profile);
-    let columns = profile_in_turn(&limited, Form::Columns, &profile);
-    let data = profile_in_turn(&limited, Form::Data, &profile);
-    let found = (columns > Some(0), data > Some(0));
-    assert_eq!(rt; (found, limited.blocks_out()), ((true, true), 0));
-    Ok(())
+    let found = match profile_of_a_sum(rt.alloc()) {
+        Some(profile) => (
+            profile_in_turn(&limited, Form::Columns, &profile),
+            profile_in_turn(&limited, Form::Data, &profile),
+        ),
+        None => (false, false),
+    };
+    expect_eq(&rt, (found, limited.blocks_out()), ((true, true), 0));
 }

@@ -1,6 +1,7 @@
 //! The lines of accounts, profiles and pictures of the drum.
 
-use super::{SUM_OF_A_TABLE, clock, is_few, press, profiled, take, with_words};
+use super::{SUM_OF_A_TABLE, clock, is_few, press, profile_of_a_sum, take, with_words};
+use crate::expect_eq;
 use lgp_machine::Machine;
 use lgp_table::Action;
 use lgp_trace::{
@@ -9,7 +10,6 @@ use lgp_trace::{
 };
 use lgp_word::Address;
 use std::alloc::{AllocError, Allocator};
-use std::test::Fail;
 
 /// One label, at 0009.
 struct AddTable;
@@ -78,13 +78,20 @@ const FOUR_ORDERS: &[u8] =
         0009 add: 000q0000 a 0000 = 458752 -> 000q0100 a 0100 = 458880
 ";
 
+/// How many of four accounts are told, and whether as above.
+fn four_orders<A: Allocator, B: Allocator>(alloc: B, machine: &mut Machine<A>) -> (usize, bool) {
+    let mut text = Vec::new(alloc);
+    let orders = tell(machine, &mut text, &AddTable, 4);
+    (orders, text.as_slice() == FOUR_ORDERS)
+}
+
 #[test]
-fn lines_of_orders(rt: HostRuntime) -> Result<(), Fail> {
-    let mut machine = with_words(rt.alloc(), SUM_OF_A_TABLE)?;
-    let mut text = Vec::new(rt.alloc());
-    let orders = tell(&mut machine, &mut text, &AddTable, 4);
-    assert_eq!(rt; (orders, text.as_slice() == FOUR_ORDERS), (4, true));
-    Ok(())
+fn lines_of_orders(rt: HostRuntime) {
+    let seen = match with_words(rt.alloc(), SUM_OF_A_TABLE) {
+        Some(mut machine) => four_orders(rt.alloc(), &mut machine),
+        None => (0, false),
+    };
+    expect_eq(&rt, seen, (4, true));
 }
 
 /// Appends the signs of the next account; false where it is refused.
@@ -115,13 +122,20 @@ const TWO_ORDERS: &[u8] =
     128  ........Fi-x
 ";
 
+/// Whether two orders are drawn, and as above.
+fn two_orders<A: Allocator, B: Allocator>(alloc: B, machine: &mut Machine<A>) -> (bool, bool) {
+    let mut text = Vec::new(alloc);
+    let drawn = draw(machine, &mut text);
+    (drawn, text.as_slice() == TWO_ORDERS)
+}
+
 #[test]
-fn two_orders_along_the_drum(rt: HostRuntime) -> Result<(), Fail> {
-    let mut machine = with_words(rt.alloc(), SUM_OF_A_TABLE)?;
-    let mut text = Vec::new(rt.alloc());
-    let drawn = draw(&mut machine, &mut text);
-    assert_eq!(rt; (drawn, text.as_slice() == TWO_ORDERS), (true, true));
-    Ok(())
+fn two_orders_along_the_drum(rt: HostRuntime) {
+    let seen = match with_words(rt.alloc(), SUM_OF_A_TABLE) {
+        Some(mut machine) => two_orders(rt.alloc(), &mut machine),
+        None => (false, false),
+    };
+    expect_eq(&rt, seen, (true, true));
 }
 
 /// The word times of the program's rows added up by phase and by place.
@@ -144,22 +158,18 @@ the ten places with most word times
   0007                      73    2 %
 ";
 
-/// The profile of the whole program, appended; false where that is refused.
-fn tell_profile<A: Allocator, B: Allocator>(
-    machine: &mut Machine<A>,
-    profile: &mut Profile<A>,
-    text: &mut Vec<u8, B>,
-) -> bool {
-    profiled(machine, profile);
-    push_profile(text, 42, profile, &NoLabels).is_ok()
+/// Whether a profile is told, and as above.
+fn told_profile<A: Allocator, B: Allocator>(alloc: B, profile: &Profile<A>) -> (bool, bool) {
+    let mut text = Vec::new(alloc);
+    let told = push_profile(&mut text, 42, profile, &NoLabels).is_ok();
+    (told, text.as_slice() == PROFILE)
 }
 
 #[test]
-fn lines_of_a_profile(rt: HostRuntime) -> Result<(), Fail> {
-    let mut machine = with_words(rt.alloc(), SUM_OF_A_TABLE)?;
-    let mut profile = Profile::new(rt.alloc())?;
-    let mut text = Vec::new(rt.alloc());
-    let reported = tell_profile(&mut machine, &mut profile, &mut text);
-    assert_eq!(rt; (reported, text.as_slice() == PROFILE), (true, true));
-    Ok(())
+fn lines_of_a_profile(rt: HostRuntime) {
+    let seen = match profile_of_a_sum(rt.alloc()) {
+        Some(profile) => told_profile(rt.alloc(), &profile),
+        None => (false, false),
+    };
+    expect_eq(&rt, seen, (true, true));
 }

@@ -1,14 +1,15 @@
 //! Words that really are elsewhere: programs whose sources place them at other sectors, assembled and run, take as long as was reported.
 
 use super::address;
+use super::optimum::noted;
 use super::steps::debugger;
+use crate::expect_eq;
 use lgp_assembler::{Image, assemble};
 use lgp_debugger::Debugger;
-use lgp_history::{History, Records};
+use lgp_history::History;
 use lgp_table::Action;
-use lgp_trace::{Freedom, Optimum, optimum_run};
+use lgp_trace::{Freedom, Optimum};
 use std::alloc::{AllocError, Allocator};
-use std::test::Fail;
 
 /// How many words a program has beside its orders, and how many orders in its loop that name one of them.
 const WORDS: usize = 6;
@@ -114,19 +115,28 @@ fn start<H: History<A>, A: Allocator>(lab: &mut Debugger<H, A>, image: &Image<A>
 
 /// How many word times the orders of a program take.
 fn taken<H: History<A>, A: Allocator>(lab: &mut Debugger<H, A>, image: &Image<A>) -> Option<u64> {
-    if !start(lab, image) {
-        return None;
+    if start(lab, image) && lab.run(LIMIT).is_ok() {
+        Some(lab.look().clock)
+    } else {
+        None
     }
-    lab.run(LIMIT).ok()?;
-    Some(lab.look().clock)
+}
+
+/// A program assembled; none where that is refused.
+fn image_of<A: Allocator + Copy>(alloc: A, program: &Program) -> Option<Image<A>> {
+    match source(alloc, program) {
+        Ok(text) => assemble(alloc, text.as_slice()).ok(),
+        Err(_) => None,
+    }
 }
 
 /// A program assembled and run.
 fn run<A: Allocator + Copy>(alloc: A, program: &Program) -> Option<u64> {
-    let text = source(alloc, program).ok()?;
-    let image = assemble(alloc, text.as_slice()).ok()?;
-    let mut lab = debugger(alloc).ok()?;
-    taken(&mut lab, &image)
+    let image = image_of(alloc, program)?;
+    match debugger(alloc) {
+        Some(mut lab) => taken(&mut lab, &image),
+        None => None,
+    }
 }
 
 /// The address of a word of a program.
@@ -149,17 +159,26 @@ fn moved(program: &Program, there: &Move) -> Program {
     moved
 }
 
-/// Notes the orders of a program.
-fn noted<A: Allocator + Copy>(alloc: A, program: &Program) -> Option<Optimum<A>> {
-    let text = source(alloc, program).ok()?;
-    let image = assemble(alloc, text.as_slice()).ok()?;
-    let mut lab = debugger(alloc).ok()?;
-    let mut optimum = Optimum::new(alloc).ok()?;
-    if !start(&mut lab, &image) {
-        return None;
+/// What is noted of a program that is started.
+fn noted_of<H: History<A>, A: Allocator + Copy>(
+    alloc: A,
+    lab: &mut Debugger<H, A>,
+    image: &Image<A>,
+) -> Option<Optimum<A>> {
+    if start(lab, image) {
+        noted(alloc, lab, LIMIT)
+    } else {
+        None
     }
-    optimum_run(&mut lab, LIMIT, &mut optimum).ok()?;
-    Some(optimum)
+}
+
+/// What is noted of a program that is assembled.
+fn noted_whole<A: Allocator + Copy>(alloc: A, program: &Program) -> Option<Optimum<A>> {
+    let image = image_of(alloc, program)?;
+    match debugger(alloc) {
+        Some(mut lab) => noted_of(alloc, &mut lab, &image),
+        None => None,
+    }
 }
 
 /// What was reported of a program with a word at another sector; none where it may not be there.
@@ -176,28 +195,40 @@ fn reported<A: Allocator>(optimum: &Optimum<A>, program: &Program, there: &Move)
 
 /// Whether a program takes as long as was reported.
 fn takes<A: Allocator + Copy>(alloc: A, program: &Program, times: Option<u128>) -> bool {
-    let taken = run(alloc, program).map(u128::from);
-    taken.is_some() && taken == times
+    match (run(alloc, program), times) {
+        (Some(taken), Some(times)) => u128::from(taken) == times,
+        _ => false,
+    }
 }
 
-/// Whether it does as it is, with one word elsewhere, with another one, and with both, where what they save adds up.
+/// How long a program takes as it is, with one word elsewhere, with another one, and with both, where what they save adds up.
+fn all_reported<A: Allocator>(
+    optimum: &Optimum<A>,
+    program: &Program,
+    (one, other): (&Move, &Move),
+) -> [Option<u128>; 4] {
+    let took = u128::from(optimum.took());
+    let with_one = reported(optimum, program, one);
+    let with_other = reported(optimum, program, other);
+    let with_both = together(took, with_one, with_other);
+    [Some(took), with_one, with_other, with_both]
+}
+
+/// Whether it does so.
 fn is_as_reported<A: Allocator + Copy>(
     alloc: A,
     program: &Program,
     one: &Move,
     other: &Move,
 ) -> bool {
-    let Some(optimum) = noted(alloc, program) else {
-        return false;
+    let times = match noted_whole(alloc, program) {
+        Some(optimum) => all_reported(&optimum, program, (one, other)),
+        None => [None; 4],
     };
-    let took = u128::from(optimum.took());
-    let with_one = reported(&optimum, program, one);
-    let with_other = reported(&optimum, program, other);
-    let with_both = together(took, with_one, with_other);
-    takes(alloc, program, Some(took))
-        && takes(alloc, &moved(program, one), with_one)
-        && takes(alloc, &moved(program, other), with_other)
-        && takes(alloc, &moved(&moved(program, one), other), with_both)
+    takes(alloc, program, times[0])
+        && takes(alloc, &moved(program, one), times[1])
+        && takes(alloc, &moved(program, other), times[2])
+        && takes(alloc, &moved(&moved(program, one), other), times[3])
 }
 
 /// What two words save together.
@@ -227,7 +258,6 @@ fn programs_as_reported<A: Allocator + Copy>(alloc: A, programs: u32) -> u32 {
 }
 
 #[test]
-fn programs_take_as_long_as_was_reported(rt: HostRuntime) -> Result<(), Fail> {
-    assert_eq!(rt; programs_as_reported(rt.alloc(), 200), 200);
-    Ok(())
+fn programs_take_as_long_as_was_reported(rt: HostRuntime) {
+    expect_eq(&rt, programs_as_reported(rt.alloc(), 200), 200);
 }

@@ -3,9 +3,11 @@
 ghost use Rattle.std.specs.Prelude.{◌^◌, ◌<◌, IsTrue};
 ghost use Rattle.lgp_trace.specs.Phases.{all_phases};
 
-use super::steps::{debugger, debugger_of, put_all};
+use super::growths::{Attempt, counted, ended};
+use super::steps::{debugger, debugger_of, goes_back, put_all};
 use super::{SUM_OF_A_TABLE, address, is_few, press, take, with_words};
-use lgp_debugger::{Debugger, RunFault, RunRefusal};
+use crate::expect_eq;
+use lgp_debugger::Debugger;
 use lgp_history::History;
 use lgp_limited::Limited;
 use lgp_machine::Machine;
@@ -13,19 +15,30 @@ use lgp_table::Action;
 use lgp_trace::optimum_laws::{all_save_the_sum, own_sector, savings_add_up};
 use lgp_trace::{Account, Freedom, Optimum, optimum_run};
 use std::alloc::Allocator;
-use std::test::Fail;
 
-/// Starts a program, and notes at most a given number of its orders. How many word times they took.
-pub(super) fn noted<H: History<A>, A: Allocator, B: Allocator>(
+/// What is noted of at most a given number of the orders that come; none where that is refused.
+pub(super) fn noted<H: History<A>, A: Allocator, B: Allocator + Copy>(
+    alloc: B,
     lab: &mut Debugger<H, A>,
+    limit: u64,
+) -> Option<Optimum<B>> {
+    let mut optimum = Optimum::new(alloc).ok()?;
+    match optimum_run(lab, limit, &mut optimum) {
+        Ok(_) => Some(optimum),
+        Err(_) => None,
+    }
+}
+
+/// The same of a program that is started.
+pub(super) fn optimum_of<A: Allocator + Copy>(
+    alloc: A,
     words: &[(u16, u32)],
     limit: u64,
-    optimum: &mut Optimum<B>,
-) -> Option<u64> {
-    put_all(lab, words);
+) -> Option<Optimum<A>> {
+    let mut lab = debugger(alloc)?;
+    put_all(&mut lab, words);
     let _live = lab.press(Action::Start);
-    optimum_run(lab, limit, optimum).ok()?;
-    Some(optimum.took())
+    noted(alloc, &mut lab, limit)
 }
 
 /// What an optimum tells of a word: whether it may be elsewhere, its best sector, and what it saves there.
@@ -36,14 +49,9 @@ fn reported<A: Allocator>(optimum: &Optimum<A>, number: u16) -> Reported {
     (optimum.freedom(address(number)), best.sector, best.saved)
 }
 
-/// The first sector with another number than is wanted, or 64.
-fn sectors_as<A: Allocator>(optimum: &Optimum<A>, number: u16, wanted: &[u128; 64]) -> usize {
-    for (sector, times) in optimum.at(address(number)).iter().enumerate() {
-        if wanted.get(sector) != Some(times) {
-            return sector;
-        }
-    }
-    64
+/// Whether these are the numbers of the 64 sectors.
+fn are_sectors<A: Allocator>(optimum: &Optimum<A>, number: u16, wanted: &[u128; 64]) -> bool {
+    optimum.at(address(number)) == *wanted
 }
 
 /// b 0100, z 0000.
@@ -61,26 +69,17 @@ fn of_two_orders() -> [u128; 64] {
 }
 
 #[test]
-fn two_orders(rt: HostRuntime) -> Result<(), Fail> {
-    let mut lab = debugger(rt.alloc())?;
-    let mut optimum = Optimum::new(rt.alloc())?;
-    let took = noted(&mut lab, TWO_ORDERS, 9, &mut optimum);
-    let as_wanted = sectors_as(&optimum, 64, &of_two_orders());
-    assert_eq!(rt;
-        (
-            took,
-            as_wanted,
-            reported(&optimum, 64),
-            reported(&optimum, 1)
-        ),
-        (
-            Some(140),
-            64,
-            (Freedom::Free, 15, 64),
-            (Freedom::Unnamed, 1, 0)
-        )
-    );
-    Ok(())
+fn two_orders(rt: HostRuntime) {
+    let seen = match optimum_of(rt.alloc(), TWO_ORDERS, 9) {
+        Some(optimum) => Some((
+            optimum.took(),
+            are_sectors(&optimum, 64, &of_two_orders()),
+            [reported(&optimum, 64), reported(&optimum, 1)],
+        )),
+        None => None,
+    };
+    let wanted = [(Freedom::Free, 15, 64), (Freedom::Unnamed, 1, 0)];
+    expect_eq(&rt, seen, Some((140, true, wanted)));
 }
 
 /// The b alone ends a word time after its word is read: at position 2 that is clock 66, and at position 1, the last, clock 129.
@@ -93,16 +92,16 @@ fn of_one_order() -> [u128; 64] {
 }
 
 #[test]
-fn one_order(rt: HostRuntime) -> Result<(), Fail> {
-    let mut lab = debugger(rt.alloc())?;
-    let mut optimum = Optimum::new(rt.alloc())?;
-    let took = noted(&mut lab, TWO_ORDERS, 1, &mut optimum);
-    let as_wanted = sectors_as(&optimum, 64, &of_one_order());
-    assert_eq!(rt;
-        (took, as_wanted, reported(&optimum, 64)),
-        (Some(129), 64, (Freedom::Free, 50, 62))
-    );
-    Ok(())
+fn one_order(rt: HostRuntime) {
+    let seen = match optimum_of(rt.alloc(), TWO_ORDERS, 1) {
+        Some(optimum) => Some((
+            optimum.took(),
+            are_sectors(&optimum, 64, &of_one_order()),
+            reported(&optimum, 64),
+        )),
+        None => None,
+    };
+    expect_eq(&rt, seen, Some((129, true, (Freedom::Free, 50, 62))));
 }
 
 /// A word of the program that sums a table: what is reported of it, and the sum of its 64 numbers.
@@ -126,28 +125,35 @@ const NAMED: &[Row] = &[
     (4095, (Freedom::Unnamed, 63, 0), 186240),
 ];
 
-/// The first row that is not reported so, or how many there are.
-fn rows_as<A: Allocator>(optimum: &Optimum<A>, rows: &[Row]) -> usize {
-    for (row, (number, wanted, sum)) in rows.iter().enumerate() {
-        let mut together: u128 = 0;
-        for times in optimum.at(address(*number)) {
-            together = together.saturating_add(times);
-        }
-        if (reported(optimum, *number), together) != (*wanted, *sum) {
-            return row;
-        }
+/// The sum of the 64 numbers of a word.
+fn sum_at<A: Allocator>(optimum: &Optimum<A>, number: u16) -> u128 {
+    let mut together: u128 = 0;
+    for times in optimum.at(address(number)) {
+        together = together.saturating_add(times);
     }
-    rows.len()
+    together
+}
+
+/// How many rows come before the first that is reported otherwise.
+fn rows_as<A: Allocator>(optimum: &Optimum<A>, rows: &[Row]) -> usize {
+    let mut as_said: usize = 0;
+    for (number, wanted, sum) in rows {
+        if reported(optimum, *number) != *wanted || sum_at(optimum, *number) != *sum {
+            return as_said;
+        }
+        as_said = as_said.saturating_add(1);
+    }
+    as_said
 }
 
 /// 42 orders, of which the one at 0009 is changed.
 #[test]
-fn the_words_of_a_program(rt: HostRuntime) -> Result<(), Fail> {
-    let mut lab = debugger(rt.alloc())?;
-    let mut optimum = Optimum::new(rt.alloc())?;
-    let took = noted(&mut lab, SUM_OF_A_TABLE, 100, &mut optimum);
-    assert_eq!(rt; (took, rows_as(&optimum, NAMED)), (Some(2910), NAMED.len()));
-    Ok(())
+fn the_words_of_a_program(rt: HostRuntime) {
+    let seen = match optimum_of(rt.alloc(), SUM_OF_A_TABLE, 100) {
+        Some(optimum) => (optimum.took(), rows_as(&optimum, NAMED)),
+        None => (0, 0),
+    };
+    expect_eq(&rt, seen, (2910, 14));
 }
 
 /// Notes an account of few word times; false where it has many, or memory is refused.
@@ -165,7 +171,7 @@ fn is_short(account: &Account) -> bool
 }
 
 /// Starts the machine, and notes its activities up to the one that is refused.
-fn noted_singly<A: Allocator, B: Allocator>(machine: &mut Machine<A>, optimum: &mut Optimum<B>) {
+fn note_all<A: Allocator, B: Allocator>(machine: &mut Machine<A>, optimum: &mut Optimum<B>) {
     press(machine, Action::Start);
     for _ in 0..100 {
         if let Ok(account) = take(machine) {
@@ -174,17 +180,25 @@ fn noted_singly<A: Allocator, B: Allocator>(machine: &mut Machine<A>, optimum: &
     }
 }
 
-/// The same program, account by account.
+/// What is noted of the same program account by account; none where memory is refused.
+fn noted_singly<A: Allocator + Copy>(alloc: A) -> Option<Optimum<A>> {
+    let mut machine = with_words(alloc, SUM_OF_A_TABLE)?;
+    match Optimum::new(alloc) {
+        Ok(mut optimum) => {
+            note_all(&mut machine, &mut optimum);
+            Some(optimum)
+        }
+        Err(_) => None,
+    }
+}
+
 #[test]
-fn accounts_one_after_another(rt: HostRuntime) -> Result<(), Fail> {
-    let mut machine = with_words(rt.alloc(), SUM_OF_A_TABLE)?;
-    let mut optimum = Optimum::new(rt.alloc())?;
-    noted_singly(&mut machine, &mut optimum);
-    assert_eq!(rt;
-        (optimum.took(), rows_as(&optimum, NAMED)),
-        (2910, NAMED.len())
-    );
-    Ok(())
+fn accounts_one_after_another(rt: HostRuntime) {
+    let seen = match noted_singly(rt.alloc()) {
+        Some(optimum) => (optimum.took(), rows_as(&optimum, NAMED)),
+        None => (0, 0),
+    };
+    expect_eq(&rt, seen, (2910, 14));
 }
 
 /// b 0100, u 0000.
@@ -192,77 +206,74 @@ const LOOP: &[(u16, u32)] = &[(0, 0x0001_0100), (1, 0x000a_0000)];
 
 /// Each turn of the loop takes 64 word times, or twice as many where the word of the b is read too late for the u.
 #[test]
-fn many_orders(rt: HostRuntime) -> Result<(), Fail> {
-    let mut lab = debugger(rt.alloc())?;
-    let mut optimum = Optimum::new(rt.alloc())?;
-    let took = noted(&mut lab, LOOP, 100_000, &mut optimum);
-    assert_eq!(rt;
-        (took, reported(&optimum, 64)),
-        (Some(6_400_012), (Freedom::Free, 15, 3_200_000))
-    );
-    Ok(())
+fn many_orders(rt: HostRuntime) {
+    let seen = match optimum_of(rt.alloc(), LOOP, 100_000) {
+        Some(optimum) => Some((optimum.took(), reported(&optimum, 64))),
+        None => None,
+    };
+    let wanted = (Freedom::Free, 15, 3_200_000);
+    expect_eq(&rt, seen, Some((6_400_012, wanted)));
 }
 
-/// An attempt at which no growth was refused, one of which a run says so and has stopped before the order, and any other.
-#[derive(Clone, Copy, Debug, PartialEq, Eq)]
-enum Attempt {
-    Done,
-    Refused,
-    Otherwise,
+/// The program noted from its start, and gone back where a growth is refused. Where no growth was refused, all its orders are noted;
+/// otherwise the run says so, and has stopped before the order.
+fn run_noted<H: History<A>, A: Allocator, B: Allocator, C: Allocator>(
+    limited: &Limited<B>,
+    lab: &mut Debugger<H, A>,
+    optimum: &mut Optimum<C>,
+) -> Attempt {
+    let (orders, is_refused) = counted(optimum_run(lab, 100, optimum));
+    let stands = optimum.took() == lab.look().clock;
+    if is_refused {
+        goes_back(lab, orders);
+    }
+    let is_done = !is_refused && orders == 42;
+    ended(
+        limited.was_refused(),
+        is_refused && stands,
+        is_done && stands,
+    )
 }
 
-/// The program from its start with the nth growth refused.
+/// That of a new optimum with the nth growth refused.
 fn run_refused<H: History<A>, A: Allocator, B: Allocator>(
     limited: &Limited<B>,
     nth: u64,
     lab: &mut Debugger<H, A>,
 ) -> Attempt {
     limited.refuse(nth);
-    let Ok(mut optimum) = Optimum::new(limited) else {
-        return Attempt::Refused;
-    };
-    let ran = optimum_run(lab, 100, &mut optimum);
-    let stands = optimum.took() == lab.look().clock;
-    match ran {
-        Ok(ran) if ran.orders == 42 && !limited.was_refused() && stands => Attempt::Done,
-        Err(
-            RunFault {
-                orders,
-                fault: RunRefusal::Memory,
-            },
-        ) if stands => {
-            let _back = lab.back(orders);
-            Attempt::Refused
-        }
-        _ => Attempt::Otherwise,
+    match Optimum::new(limited) {
+        Ok(mut optimum) => run_noted(limited, lab, &mut optimum),
+        Err(_) => Attempt::Refused,
     }
 }
 
-/// How many growths were refused one after another before all went well; none where an attempt ended otherwise.
+/// How many growths were refused one after another before all went well; 0 where an attempt ended otherwise.
 fn in_turn<H: History<A>, A: Allocator, B: Allocator>(
     limited: &Limited<B>,
     lab: &mut Debugger<H, A>,
-) -> Option<u64> {
+) -> u64 {
     put_all(lab, SUM_OF_A_TABLE);
     let _live = lab.press(Action::Start);
     for nth in 1..40 {
         match run_refused(limited, nth, lab) {
-            Attempt::Done => return Some(nth - 1),
+            Attempt::Reported => return nth - 1,
             Attempt::Refused => {}
-            Attempt::Otherwise => return None,
+            Attempt::Otherwise => return 0,
         }
     }
-    None
+    0
 }
 
 /// Three growths make room for no word, and some more for the words that are named.
 #[test]
-fn each_growth_refused(rt: HostRuntime) -> Result<(), Fail> {
+fn each_growth_refused(rt: HostRuntime) {
     let limited = Limited::new(rt.alloc());
-    let mut lab = debugger_of(rt.alloc(), 100)?;
-    let growths = in_turn(&limited, &mut lab);
-    assert_eq!(rt; (growths > Some(3), limited.blocks_out()), (true, 0));
-    Ok(())
+    let growths = match debugger_of(rt.alloc(), 100) {
+        Some(mut lab) => in_turn(&limited, &mut lab),
+        None => 0,
+    };
+    expect_eq(&rt, (growths > 3, limited.blocks_out()), (true, 0));
 }
 
 #[test]

@@ -1,32 +1,31 @@
 //! The words with most to gain, against numbers made by hand.
 
 use super::growths::{Attempt, MOST, ended};
-use super::optimum::noted;
-use super::steps::debugger;
+use super::optimum::optimum_of;
 use super::{SUM_OF_A_TABLE, address};
+use crate::expect_eq;
 use lgp_limited::Limited;
-use lgp_trace::{Best, Freedom, Gain, NoLabels, Optimum, push_optimum, push_word_optimum};
-use std::alloc::{AllocError, Allocator};
-use std::test::Fail;
+use lgp_trace::{Freedom, Gain, NoLabels, Optimum, push_optimum, push_word_optimum};
+use std::alloc::Allocator;
 
 /// A word, its best sector, and what it saves there.
 type Row = (u16, u16, u64);
 
-/// What an optimum has noted of the program that sums a table, 42 orders; of none where a growth is refused.
-fn of_a_sum<A: Allocator + Copy>(alloc: A) -> Result<Optimum<A>, AllocError> {
-    let mut optimum = Optimum::new(alloc)?;
-    if let Ok(mut lab) = debugger(alloc) {
-        noted(&mut lab, SUM_OF_A_TABLE, 100, &mut optimum);
-    }
-    Ok(optimum)
+/// Whether a word, its best sector and what it saves there are as in a row.
+fn is_gain(gain: &Gain, row: Row) -> bool {
+    (gain.word.number(), gain.best.sector, gain.best.saved) == row
 }
 
-fn gain_of(row: &Row) -> Gain {
-    let (word, sector, saved) = *row;
-    Gain {
-        word: address(word),
-        best: Best { sector, saved },
+/// Whether these are the words of the rows.
+fn are_gains(gains: &[Gain], rows: &[Row]) -> bool {
+    let mut left = rows;
+    for gain in gains {
+        match left {
+            [row, rest @ ..] if is_gain(gain, *row) => left = rest,
+            _ => return false,
+        }
     }
+    left.is_empty()
 }
 
 /// Whether these are the words of a freedom with most to gain, at most a given number.
@@ -36,15 +35,10 @@ fn are_ranked<A: Allocator + Copy, B: Allocator>(
     (wanted, most): (Freedom, u64),
     rows: &[Row],
 ) -> bool {
-    let Ok(words) = optimum.ranking(alloc, wanted, most) else {
-        return false;
-    };
-    for (at, row) in rows.iter().enumerate() {
-        if words.get(at) != Some(&gain_of(row)) {
-            return false;
-        }
+    match optimum.ranking(alloc, wanted, most) {
+        Ok(words) => are_gains(words.as_slice(), rows),
+        Err(_) => false,
     }
-    words.len() == rows.len()
 }
 
 /// Those that save most first, and of those that save as much the one at the lower address.
@@ -79,14 +73,15 @@ fn rankings<A: Allocator + Copy, B: Allocator>(alloc: A, optimum: &Optimum<B>) -
 }
 
 #[test]
-fn the_words_of_a_sum(rt: HostRuntime) -> Result<(), Fail> {
-    let optimum = of_a_sum(rt.alloc())?;
-    let seen = (
-        rankings(rt.alloc(), &optimum),
-        optimum.together(Freedom::Free),
-    );
-    assert_eq!(rt; seen, ([true; 5], 960));
-    Ok(())
+fn the_words_of_a_sum(rt: HostRuntime) {
+    let seen = match optimum_of(rt.alloc(), SUM_OF_A_TABLE, 100) {
+        Some(optimum) => (
+            rankings(rt.alloc(), &optimum),
+            optimum.together(Freedom::Free),
+        ),
+        None => ([false; 5], 0),
+    };
+    expect_eq(&rt, seen, ([true; 5], 960));
 }
 
 /// What is reported of its 42 orders. A part in per cent is cut off: 256 of 2,910 are 8.79.
@@ -146,7 +141,18 @@ fn push_part<A: Allocator + Copy, B: Allocator>(
     reported.is_ok()
 }
 
-/// How many lines are reported, and how they begin and end.
+/// How many lines a text has.
+fn lines_in(text: &[u8]) -> usize {
+    let mut lines: usize = 0;
+    for byte in text {
+        if *byte == b'\n' {
+            lines = lines.saturating_add(1);
+        }
+    }
+    lines
+}
+
+/// How many lines are reported, and whether they begin and end so.
 fn lines_reported<A: Allocator + Copy, B: Allocator>(
     alloc: A,
     optimum: &Optimum<B>,
@@ -154,16 +160,11 @@ fn lines_reported<A: Allocator + Copy, B: Allocator>(
 ) -> (usize, bool, bool) {
     let mut text = Vec::new(alloc);
     push_part(alloc, &mut text, (Part::Word(word), 42), optimum);
-    let mut lines: usize = 0;
-    for byte in text.as_slice() {
-        if *byte == b'\n' {
-            lines = lines.saturating_add(1);
-        }
-    }
+    let text = text.as_slice();
     (
-        lines,
-        text.as_slice().starts_with(BEGINS),
-        text.as_slice().ends_with(ENDS),
+        lines_in(text),
+        text.starts_with(BEGINS),
+        text.ends_with(ENDS),
     )
 }
 
@@ -178,19 +179,26 @@ fn is_reported<A: Allocator + Copy, B: Allocator>(
     push_part(alloc, &mut text, part, optimum) && text.as_slice() == wanted
 }
 
+/// Which texts are as above.
+fn texts<A: Allocator + Copy, B: Allocator>(alloc: A, optimum: &Optimum<B>) -> [bool; 4] {
+    [
+        is_reported(alloc, optimum, (Part::Words, 42), REPORTED),
+        is_reported(alloc, optimum, (Part::Words, 0), NO_ORDER),
+        is_reported(alloc, optimum, (Part::Word(20), 0), NO_ORDER),
+        is_reported(alloc, optimum, (Part::Word(8), 42), NAMED_BY_NONE),
+    ]
+}
+
 #[test]
-fn lines_of_a_sum(rt: HostRuntime) -> Result<(), Fail> {
-    let alloc = rt.alloc();
-    let optimum = of_a_sum(alloc)?;
-    let seen = (
-        is_reported(alloc, &optimum, (Part::Words, 42), REPORTED),
-        is_reported(alloc, &optimum, (Part::Words, 0), NO_ORDER),
-        is_reported(alloc, &optimum, (Part::Word(20), 0), NO_ORDER),
-        is_reported(alloc, &optimum, (Part::Word(8), 42), NAMED_BY_NONE),
-        lines_reported(alloc, &optimum, 20),
-    );
-    assert_eq!(rt; seen, (true, true, true, true, (67, true, true)));
-    Ok(())
+fn lines_of_a_sum(rt: HostRuntime) {
+    let seen = match optimum_of(rt.alloc(), SUM_OF_A_TABLE, 100) {
+        Some(optimum) => (
+            texts(rt.alloc(), &optimum),
+            lines_reported(rt.alloc(), &optimum, 20),
+        ),
+        None => ([false; 4], (0, false, false)),
+    };
+    expect_eq(&rt, seen, ([true; 4], (67, true, true)));
 }
 
 /// The words of a run reported with the nth growth refused.
@@ -209,24 +217,25 @@ fn reported_refused<A: Allocator, B: Allocator>(
     )
 }
 
-/// How many growths were refused before the words were reported, if each of them was answered so.
-fn in_turn<A: Allocator, B: Allocator>(limited: &Limited<A>, optimum: &Optimum<B>) -> Option<u64> {
+/// How many growths were refused before the words were reported; 0 where one of them was answered otherwise.
+fn in_turn<A: Allocator, B: Allocator>(limited: &Limited<A>, optimum: &Optimum<B>) -> u64 {
     for nth in 1..MOST {
         match reported_refused(limited, nth, optimum) {
-            Attempt::Reported => return Some(nth - 1),
+            Attempt::Reported => return nth - 1,
             Attempt::Refused => {}
-            Attempt::Otherwise => return None,
+            Attempt::Otherwise => return 0,
         }
     }
-    None
+    0
 }
 
 /// Of each of the three freedoms the gains and the ranking take memory, and the text some more.
 #[test]
-fn each_growth_refused(rt: HostRuntime) -> Result<(), Fail> {
+fn each_growth_refused(rt: HostRuntime) {
     let limited = Limited::new(rt.alloc());
-    let optimum = of_a_sum(rt.alloc())?;
-    let growths = in_turn(&limited, &optimum);
-    assert_eq!(rt; (growths > Some(6), limited.blocks_out()), (true, 0));
-    Ok(())
+    let growths = match optimum_of(rt.alloc(), SUM_OF_A_TABLE, 100) {
+        Some(optimum) => in_turn(&limited, &optimum),
+        None => 0,
+    };
+    expect_eq(&rt, (growths > 6, limited.blocks_out()), (true, 0));
 }

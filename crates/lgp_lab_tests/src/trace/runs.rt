@@ -2,62 +2,71 @@
 
 use super::steps::{debugger, put_all};
 use super::{SUM_OF_A_TABLE, Shown, shown};
-use lgp_debugger::{Debugger, Ran, Reason, RunFault, RunRefusal};
+use crate::expect_eq;
+use lgp_debugger::{Debugger, Reason, RunRefusal};
 use lgp_history::{History, Origins};
 use lgp_limited::Limited;
 use lgp_table::Action;
 use lgp_trace::{Form, NoLabels, Profile, profile_run, trace_run};
 use std::alloc::Allocator;
-use std::test::Fail;
 
-/// The program put on the drum and started; what its run comes to, and what its profile shows.
+/// The program put on the drum and started: how many orders its run has, if it ends at rest, and what its profile shows.
 fn profiled<H: History<A>, A: Allocator>(
     lab: &mut Debugger<H, A>,
     profile: &mut Profile<A>,
-) -> (Result<Ran, RunFault>, Shown) {
+) -> Option<(u64, Shown)> {
     put_all(lab, SUM_OF_A_TABLE);
     let _live = lab.press(Action::Start);
-    let ran = profile_run(lab, 100, profile);
-    (ran, shown(profile))
+    match profile_run(lab, 100, profile) {
+        Ok(ran) if matches!(ran.reason, Reason::Rest) => Some((ran.orders, shown(profile))),
+        _ => None,
+    }
+}
+
+/// That of a new profile.
+fn profiled_anew<H: History<A>, A: Allocator>(
+    alloc: A,
+    lab: &mut Debugger<H, A>,
+) -> Option<(u64, Shown)> {
+    match Profile::new(alloc) {
+        Ok(mut profile) => profiled(lab, &mut profile),
+        Err(_) => None,
+    }
 }
 
 #[test]
-fn a_run_is_profiled(rt: HostRuntime) -> Result<(), Fail> {
-    let mut lab = debugger(rt.alloc())?;
-    let mut profile = Profile::new(rt.alloc())?;
-    let ran = Ran {
-        orders: 42,
-        reason: Reason::Rest,
+fn a_run_is_profiled(rt: HostRuntime) {
+    let seen = match debugger(rt.alloc()) {
+        Some(mut lab) => profiled_anew(rt.alloc(), &mut lab),
+        None => None,
     };
-    let seen = profiled(&mut lab, &mut profile);
-    assert_eq!(rt; seen, (Ok(ran), ((1562, 42, 1264, 42), 406, 0, 0)));
-    Ok(())
+    expect_eq(&rt, seen, Some((42, ((1562, 42, 1264, 42), 406, 0, 0))));
 }
 
-/// The program started; what its trace comes to where the first growth of the text is refused, and the clock then.
-fn reported_without_memory<H: Origins<A>, A: Allocator, B: Allocator, C: Allocator>(
+/// The program started, and traced with the first growth of the text refused. How many orders the trace counts, if it is refused
+/// for want of memory; the clock then, and how many blocks are out.
+fn reported_without_memory<H: Origins<A>, A: Allocator, B: Allocator>(
     limited: &Limited<B>,
     lab: &mut Debugger<H, A>,
-    text: &mut Vec<u8, C>,
-) -> (Result<Ran, RunFault>, u64) {
+) -> (Option<u64>, u64, u64) {
     put_all(lab, SUM_OF_A_TABLE);
     let _live = lab.press(Action::Start);
+    let mut text = Vec::new(limited);
     limited.refuse(1);
-    let ran = trace_run(lab, 100, Form::Columns, text, &NoLabels);
-    (ran, lab.look().clock)
+    let orders = match trace_run(lab, 100, Form::Columns, &mut text, &NoLabels) {
+        Err(fault) if matches!(fault.fault, RunRefusal::Memory) => Some(fault.orders),
+        _ => None,
+    };
+    (orders, lab.look().clock, limited.blocks_out())
 }
 
 /// The order whose lines found no room remains: the clock is that after it.
 #[test]
-fn a_trace_without_memory(rt: HostRuntime) -> Result<(), Fail> {
+fn a_trace_without_memory(rt: HostRuntime) {
     let limited = Limited::new(rt.alloc());
-    let mut lab = debugger(rt.alloc())?;
-    let mut text = Vec::new(&limited);
-    let refused = RunFault {
-        orders: 1,
-        fault: RunRefusal::Memory,
+    let seen = match debugger(rt.alloc()) {
+        Some(mut lab) => reported_without_memory(&limited, &mut lab),
+        None => (None, 0, 0),
     };
-    let seen = reported_without_memory(&limited, &mut lab, &mut text);
-    assert_eq!(rt; (seen, limited.blocks_out()), ((Err(refused), 90), 0));
-    Ok(())
+    expect_eq(&rt, seen, (Some(1), 90, 0));
 }

@@ -1,13 +1,13 @@
 //! Single activities: orders from the register, the reader, a print, refusals.
 
 use super::{clock, press, take, with_words};
-use lgp_flexo::{Code, read_tape_text};
+use crate::expect_eq;
+use lgp_flexo::read_tape_text;
 use lgp_machine::{Machine, OrderFault};
 use lgp_table::{Action, Mode};
 use lgp_trace::{Account, Begun, seeks, stores};
 use lgp_word::Op;
 use std::alloc::Allocator;
-use std::test::Fail;
 
 /// What an account says beside the operand: its four phases, its order's bits, the printed code, the codes passed, and whether it has
 /// a place.
@@ -32,16 +32,26 @@ fn said(account: &Account) -> Said {
     )
 }
 
-fn next_said<A: Allocator>(machine: &mut Machine<A>) -> Result<Said, OrderFault> {
+/// What the next account says; none where the activity is refused.
+fn next_said<A: Allocator>(machine: &mut Machine<A>) -> Option<Said> {
     match take(machine) {
-        Ok(account) => Ok(said(&account)),
-        Err(fault) => Err(fault),
+        Ok(account) => Some(said(&account)),
+        Err(_) => None,
     }
 }
 
-/// A tape in the reader; false where it is refused.
-fn mount<A: Allocator>(machine: &mut Machine<A>, codes: Vec<Code, A>) -> bool {
-    machine.mount(codes).is_ok()
+/// A machine with these words, and with the codes of a text in its reader; none where that is refused.
+fn with_tape<A: Allocator + Copy>(
+    alloc: A,
+    words: &[(u16, u32)],
+    text: &[u8],
+) -> Option<Machine<A>> {
+    let mut machine = with_words(alloc, words)?;
+    match read_tape_text(alloc, text) {
+        Ok(codes) => machine.mount(codes).ok()?,
+        Err(_) => return None,
+    }
+    Some(machine)
 }
 
 /// p 0000 switches the reader on, i 0000 passes three digits and a conditional stop, p 5700 prints code 57.
@@ -50,9 +60,9 @@ const READ_AND_PRINT: &[(u16, u32)] = &[(0, 0x0008_0000), (1, 0x0004_0000), (2, 
 /// The three orders, and the clock after them.
 fn read_and_printed<A: Allocator>(machine: &mut Machine<A>) -> ([Option<Said>; 3], u64) {
     press(machine, Action::Start);
-    let first = next_said(machine).ok();
-    let second = next_said(machine).ok();
-    let third = next_said(machine).ok();
+    let first = next_said(machine);
+    let second = next_said(machine);
+    let third = next_said(machine);
     ([first, second, third], clock(machine))
 }
 
@@ -60,56 +70,44 @@ fn read_and_printed<A: Allocator>(machine: &mut Machine<A>) -> ([Option<Said>; 3
 /// after 6, at clock 73. The input passes four codes, in 1 + 4 * 384 word times, and ends at clock 1612. From there on the sector 02
 /// at position 18 is read after 6, and the print takes 385.
 #[test]
-fn an_input_and_a_print(rt: HostRuntime) -> Result<(), Fail> {
-    let mut machine = with_words(rt.alloc(), READ_AND_PRINT)?;
-    let codes = read_tape_text(rt.alloc(), b"123'")?;
-    mount(&mut machine, codes);
-    let seen = read_and_printed(&mut machine);
-    assert_eq!(rt;
-        seen,
-        (
-            [
-                Some(((64, 1, 1, 1), Some(0x0008_0000), None, 0, true)),
-                Some(((6, 1, 1, 1537), Some(0x0004_0000), None, 4, true)),
-                Some(((6, 1, 1, 385), Some(0x0008_3900), Some(57), 0, true)),
-            ],
-            2005
-        )
-    );
-    Ok(())
+fn an_input_and_a_print(rt: HostRuntime) {
+    let seen = match with_tape(rt.alloc(), READ_AND_PRINT, b"123'") {
+        Some(mut machine) => read_and_printed(&mut machine),
+        None => ([None; 3], 0),
+    };
+    let wanted = [
+        Some(((64, 1, 1, 1), Some(0x0008_0000), None, 0, true)),
+        Some(((6, 1, 1, 1537), Some(0x0004_0000), None, 4, true)),
+        Some(((6, 1, 1, 385), Some(0x0008_3900), Some(57), 0, true)),
+    ];
+    expect_eq(&rt, seen, (wanted, 2005));
 }
 
-/// The order in the register, performed by Execute.
-fn executed<A: Allocator>(machine: &mut Machine<A>) -> Option<Said> {
-    press(machine, Action::Mode(Mode::OneOperation));
-    press(machine, Action::Execute);
-    next_said(machine).ok()
+/// The activity after a mode and a button were pressed.
+fn pressed<A: Allocator>(machine: &mut Machine<A>, mode: Mode, button: Action) -> Option<Said> {
+    press(machine, Action::Mode(mode));
+    press(machine, button);
+    next_said(machine)
 }
 
 /// The order in the register of a machine that has just been switched on is z 0000, which takes two word times and has no place.
 #[test]
-fn an_order_in_the_register(rt: HostRuntime) -> Result<(), Fail> {
-    let mut machine = with_words(rt.alloc(), &[])?;
-    let seen = executed(&mut machine);
-    assert_eq!(rt; seen, Some(((0, 0, 1, 1), Some(0), None, 0, false)));
-    Ok(())
+fn an_order_in_the_register(rt: HostRuntime) {
+    let seen = match with_words(rt.alloc(), &[]) {
+        Some(mut machine) => pressed(&mut machine, Mode::OneOperation, Action::Execute),
+        None => None,
+    };
+    expect_eq(&rt, seen, Some(((0, 0, 1, 1), Some(0), None, 0, false)));
 }
 
 /// The tape passes for the operator: no order, and 1 + 2 * 384 word times.
-fn read_by_hand<A: Allocator>(machine: &mut Machine<A>) -> Option<Said> {
-    press(machine, Action::Mode(Mode::Manual));
-    press(machine, Action::StartRead);
-    next_said(machine).ok()
-}
-
 #[test]
-fn a_tape_for_the_operator(rt: HostRuntime) -> Result<(), Fail> {
-    let mut machine = with_words(rt.alloc(), &[])?;
-    let codes = read_tape_text(rt.alloc(), b"7'")?;
-    mount(&mut machine, codes);
-    let seen = read_by_hand(&mut machine);
-    assert_eq!(rt; seen, Some(((0, 0, 0, 769), None, None, 2, false)));
-    Ok(())
+fn a_tape_for_the_operator(rt: HostRuntime) {
+    let seen = match with_tape(rt.alloc(), &[], b"7'") {
+        Some(mut machine) => pressed(&mut machine, Mode::Manual, Action::StartRead),
+        None => None,
+    };
+    expect_eq(&rt, seen, Some(((0, 0, 0, 769), None, None, 2, false)));
 }
 
 /// A machine at rest has no account, nor has one within an order; nothing changes.
@@ -126,18 +124,13 @@ fn refused<A: Allocator>(machine: &mut Machine<A>) -> ([Option<OrderFault>; 2], 
 }
 
 #[test]
-fn refusals(rt: HostRuntime) -> Result<(), Fail> {
-    let mut machine = with_words(rt.alloc(), &[])?;
-    let seen = refused(&mut machine);
-    assert_eq!(rt;
-        seen,
-        (
-            [Some(OrderFault::AtRest), Some(OrderFault::Moving)],
-            true,
-            0
-        )
-    );
-    Ok(())
+fn refusals(rt: HostRuntime) {
+    let seen = match with_words(rt.alloc(), &[]) {
+        Some(mut machine) => refused(&mut machine),
+        None => ([None; 2], false, 0),
+    };
+    let wanted = [Some(OrderFault::AtRest), Some(OrderFault::Moving)];
+    expect_eq(&rt, seen, (wanted, true, 0));
 }
 
 /// How many of the sixteen orders wait for a word, and how many store one.
@@ -155,5 +148,5 @@ fn users() -> (usize, usize) {
 
 #[test]
 fn orders_that_use_a_word(rt: HostRuntime) {
-    assert_eq!(rt; users(), (11, 4));
+    expect_eq(&rt, users(), (11, 4));
 }

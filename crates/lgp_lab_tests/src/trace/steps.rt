@@ -3,30 +3,30 @@
 ghost use Rattle.std.specs.Prelude.{◌≤◌};
 
 use super::{ORDERS, Row, SUM_OF_A_TABLE, address, row_of};
+use crate::expect_eq;
 use lgp_debugger::{Debugger, StepFault};
 use lgp_history::{CAPACITY_LIMIT, History, Records};
 use lgp_machine::Machine;
 use lgp_table::Action;
 use lgp_trace::Begun;
 use lgp_word::Word;
-use std::alloc::{AllocError, Allocator};
-use std::test::Fail;
+use std::alloc::Allocator;
 
-/// A debugger over a new machine, which keeps 30 steps.
-pub fn debugger<A: Allocator + Copy>(alloc: A) -> Result<Debugger<Records<A>, A>, AllocError> {
+/// A debugger over a new machine, which keeps 30 steps; none where memory is refused.
+pub fn debugger<A: Allocator + Copy>(alloc: A) -> Option<Debugger<Records<A>, A>> {
     debugger_of(alloc, 30)
 }
 
-/// A debugger over a new machine, which keeps a given number of steps.
-pub fn debugger_of<A: Allocator + Copy>(
-    alloc: A,
-    steps: usize,
-) -> Result<Debugger<Records<A>, A>, AllocError>
+/// A debugger over a new machine, which keeps a given number of steps; none where memory is refused.
+pub fn debugger_of<A: Allocator + Copy>(alloc: A, steps: usize) -> Option<Debugger<Records<A>, A>>
     requires some { 1 ≤ steps }
     requires few { steps ≤ CAPACITY_LIMIT }
 {
-    let machine = Machine::new(alloc)?;
-    Ok(Debugger::new(machine, Records::new(alloc, steps)?))
+    let machine = Machine::new(alloc).ok()?;
+    match Records::new(alloc, steps) {
+        Ok(records) => Some(Debugger::new(machine, records)),
+        Err(_) => None,
+    }
 }
 
 /// Puts words on the drum; false where one is refused.
@@ -53,44 +53,57 @@ fn next_row<H: History<A>, A: Allocator>(lab: &mut Debugger<H, A>) -> Result<Row
     }
 }
 
-/// How many of the rows are those of the next orders.
-fn orders_as<H: History<A>, A: Allocator>(lab: &mut Debugger<H, A>, rows: &[Row]) -> usize {
-    for (order, row) in rows.iter().enumerate() {
-        if next_row(lab) != Ok(*row) {
-            return order;
-        }
+/// Whether the next order is as its row says.
+fn is_next<H: History<A>, A: Allocator>(lab: &mut Debugger<H, A>, row: Row) -> bool {
+    match next_row(lab) {
+        Ok(next) => next == row,
+        Err(_) => false,
     }
-    rows.len()
+}
+
+/// How many orders come before the first that is not as its row says.
+fn orders_as<H: History<A>, A: Allocator>(lab: &mut Debugger<H, A>, rows: &[Row]) -> usize {
+    let mut orders: usize = 0;
+    for row in rows {
+        if !is_next(lab, *row) {
+            return orders;
+        }
+        orders = orders.saturating_add(1);
+    }
+    orders
 }
 
 /// Goes back; false where that is refused.
-fn goes_back<H: History<A>, A: Allocator>(lab: &mut Debugger<H, A>, orders: u64) -> bool {
+pub fn goes_back<H: History<A>, A: Allocator>(lab: &mut Debugger<H, A>, orders: u64) -> bool {
     lab.back(orders).is_ok()
 }
 
-/// Presses START, performs as many orders as there are rows, goes back as many, and performs those again. How many were as their
-/// rows say, the first time and again; how many steps were kept after each; and how one more is refused.
+/// Presses START, performs as many orders as there are rows, goes back as many as the last rows, and performs those again. How many
+/// were as their rows say, the first time and again; how many steps were kept after each; and whether one more is refused at rest.
 fn there_and_back<H: History<A>, A: Allocator>(
     lab: &mut Debugger<H, A>,
     rows: &[Row],
-    back: usize,
-) -> (usize, usize, [u64; 2], Result<Row, StepFault>) {
+    last: &[Row],
+) -> (usize, usize, [u64; 2], bool) {
     let _live = lab.press(Action::Start);
     let first = orders_as(lab, rows);
     let kept = lab.kept();
-    let again = match rows.split_at_checked(rows.len().saturating_sub(back)) {
-        Some((_, last)) if goes_back(lab, back as u64) => orders_as(lab, last),
-        _ => 0,
-    };
-    (first, again, [kept, lab.kept()], next_row(lab))
+    goes_back(lab, last.len() as u64);
+    let again = orders_as(lab, last);
+    let is_refused = matches!(next_row(lab), Err(StepFault::AtRest));
+    (first, again, [kept, lab.kept()], is_refused)
 }
 
 /// All 42 orders are as by the machine itself; with room for 30 steps, 20 orders go back and come again alike.
 #[test]
-fn a_debuggers_orders_have_the_same_accounts(rt: HostRuntime) -> Result<(), Fail> {
-    let mut lab = debugger(rt.alloc())?;
-    put_all(&mut lab, SUM_OF_A_TABLE);
-    let seen = there_and_back(&mut lab, ORDERS, 20);
-    assert_eq!(rt; seen, (42, 20, [30, 30], Err(StepFault::AtRest)));
-    Ok(())
+fn a_debuggers_orders_have_the_same_accounts(rt: HostRuntime) {
+    let last = ORDERS.get(22..).unwrap_or_default();
+    let seen = match debugger(rt.alloc()) {
+        Some(mut lab) => {
+            put_all(&mut lab, SUM_OF_A_TABLE);
+            there_and_back(&mut lab, ORDERS, last)
+        }
+        None => (0, 0, [0; 2], false),
+    };
+    expect_eq(&rt, seen, (42, 20, [30, 30], true));
 }
