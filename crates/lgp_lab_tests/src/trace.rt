@@ -221,16 +221,19 @@ fn a_program_that_changes_itself(rt: HostRuntime) {
 }
 
 /// What a profile of the whole program shows: the word times by phase, those of the order at 0009 and at 0020, and elsewhere.
-type Shown = ((u64, u64, u64, u64), u64, u64, u64);
+type Shown = [u64; 7];
 
 fn shown<A: Allocator>(profile: &Profile<A>) -> Shown {
     let phases = profile.phases();
-    (
-        (phases.find, phases.take, phases.seek, phases.act),
+    [
+        phases.find,
+        phases.take,
+        phases.seek,
+        phases.act,
         profile.at(address(9)),
         profile.at(address(20)),
         profile.elsewhere(),
-    )
+    ]
 }
 
 /// Adds an account to a profile that has no great number yet; false where it has.
@@ -261,14 +264,17 @@ fn note_all<A: Allocator>(machine: &mut Machine<A>, profile: &mut Profile<A>) {
 
 /// The profile of the program that sums a table; none where memory is refused.
 fn profile_of_a_sum<A: Allocator + Copy>(alloc: A) -> Option<Profile<A>> {
-    let mut machine = with_words(alloc, SUM_OF_A_TABLE)?;
-    match Profile::new(alloc) {
-        Ok(mut profile) => {
-            note_all(&mut machine, &mut profile);
-            Some(profile)
-        }
-        Err(_) => None,
+    match with_words(alloc, SUM_OF_A_TABLE) {
+        Some(mut machine) => profile_of(alloc, &mut machine),
+        None => None,
     }
+}
+
+/// The profile of a machine's program; none where memory is refused.
+fn profile_of<A: Allocator>(alloc: A, machine: &mut Machine<A>) -> Option<Profile<A>> {
+    let mut profile = Profile::new(alloc).ok()?;
+    note_all(machine, &mut profile);
+    Some(profile)
 }
 
 /// The order at 0009 is performed four times, and no order is at 0020.
@@ -276,9 +282,9 @@ fn profile_of_a_sum<A: Allocator + Copy>(alloc: A) -> Option<Profile<A>> {
 fn the_profile_of_a_program(rt: HostRuntime) {
     let seen = match profile_of_a_sum(rt.alloc()) {
         Some(profile) => shown(&profile),
-        None => ((0, 0, 0, 0), 0, 0, 0),
+        None => [0; 7],
     };
-    expect_eq(&rt, seen, ((1562, 42, 1264, 42), 406, 0, 0));
+    expect_eq(&rt, seen, [1562, 42, 1264, 42, 406, 0, 0]);
 }
 
 #[test]

@@ -90,8 +90,8 @@ pub const FILES: [FileRow<'static>; 8] = [
 /// How many rows come before the first for which anything else is written.
 fn files_written(alloc: Global) -> usize {
     let mut written: usize = 0;
-    for row in FILES {
-        if !is_written(alloc, row) {
+    for row in &FILES {
+        if !is_written(alloc, *row) {
             return written;
         }
         written = written.saturating_add(1);

@@ -55,7 +55,7 @@ const COMMANDS: [(&[u8], &[u8]); 27] = [
 /// The script of all of these commands.
 fn script(alloc: Global) -> Result<Vec<u8>, AllocError> {
     let mut text = Vec::new(alloc);
-    for (command, _) in COMMANDS {
+    for (command, _) in &COMMANDS {
         text.extend_from_slice(command)?;
     }
     Ok(text)
@@ -65,8 +65,8 @@ fn script(alloc: Global) -> Result<Vec<u8>, AllocError> {
 fn replies_in(text: &[u8]) -> Option<usize> {
     let mut left = text;
     let mut replies: usize = 0;
-    for (_, reply) in COMMANDS {
-        match left.strip_prefix(reply) {
+    for (_, reply) in &COMMANDS {
+        match left.strip_prefix(*reply) {
             Some(rest) => left = rest,
             None => break,
         }

@@ -99,15 +99,15 @@ const SOURCES: [(usize, usize, &[u8], &[u8], u64); 4] = [
 /// How many sources of such lines come before the first that is answered otherwise.
 fn sources_answered(alloc: Global, line: &[u8]) -> usize {
     let mut answered: usize = 0;
-    for (lines, more, last, replies, faults) in SOURCES {
+    for (lines, more, last, replies, faults) in &SOURCES {
         let script = &[
             (b"source\n".as_slice(), 1),
-            (line, lines),
-            (b";", more),
+            (line, *lines),
+            (b";", *more),
             (last, 1),
             (b".\nturn 1\n", 1),
         ];
-        if !is_long_answered(alloc, script, replies, faults) {
+        if !is_long_answered(alloc, script, replies, *faults) {
             return answered;
         }
         answered = answered.saturating_add(1);

@@ -151,7 +151,7 @@ const NOT_IN_FORM: [&[u8]; 37] = [
 /// How many lines come before the first that is not refused so.
 fn lines_refused(alloc: Global) -> usize {
     let mut refused: usize = 0;
-    for line in NOT_IN_FORM {
+    for line in &NOT_IN_FORM {
         if !is_answered(alloc, (line, b"? 1 Form\n", 1)) {
             return refused;
         }
@@ -240,8 +240,8 @@ const LINES: [Row<'static>; 20] = [
 /// How many rows come before the first whose script is answered otherwise.
 fn lines_answered(alloc: Global) -> usize {
     let mut answered: usize = 0;
-    for row in LINES {
-        if !is_answered(alloc, row) {
+    for row in &LINES {
+        if !is_answered(alloc, *row) {
             return answered;
         }
         answered = answered.saturating_add(1);

@@ -172,9 +172,9 @@ fn is_open_line_answered(
 /// How many of the texts come before the first that is answered otherwise.
 fn open_lines_answered(alloc: Global) -> usize {
     let mut answered: usize = 0;
-    for (text, fails, replies, wanted) in OPEN_LINES {
-        let reader = Pieces::new(text, 7, fails);
-        if !is_open_line_answered(alloc, reader, replies, wanted) {
+    for (text, fails, replies, wanted) in &OPEN_LINES {
+        let reader = Pieces::new(text, 7, *fails);
+        if !is_open_line_answered(alloc, reader, replies, *wanted) {
             return answered;
         }
         answered = answered.saturating_add(1);

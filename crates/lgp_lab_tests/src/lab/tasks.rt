@@ -164,8 +164,8 @@ const COMMANDS: [(Command, &str, &[u8], u8); 12] = [
 /// How many of the commands come before the first that does otherwise.
 fn commands_performed(alloc: Global) -> usize {
     let mut performed: usize = 0;
-    for (command, name, text, status) in COMMANDS {
-        if !is_performed(alloc, task_on(alloc, command, name), text, status) {
+    for (command, name, text, status) in &COMMANDS {
+        if !is_performed(alloc, task_on(alloc, *command, name), text, *status) {
             return performed;
         }
         performed = performed.saturating_add(1);
@@ -203,8 +203,8 @@ fn is_left_with(alloc: Global, limit: u64, panel: &[u8]) -> bool {
 /// How many of the runs come before the first that is left otherwise.
 fn runs_left(alloc: Global) -> usize {
     let mut left: usize = 0;
-    for (limit, panel) in RUNS {
-        if !is_left_with(alloc, limit, panel) {
+    for (limit, panel) in &RUNS {
+        if !is_left_with(alloc, *limit, panel) {
             return left;
         }
         left = left.saturating_add(1);
@@ -248,8 +248,8 @@ const BATCHES: [(&[&str], &[u8], u8); 8] = [
 /// How many of the batches come before the first that does otherwise.
 fn batches_performed(alloc: Global) -> usize {
     let mut performed: usize = 0;
-    for (names, text, status) in BATCHES {
-        if !is_performed(alloc, batch_on(alloc, names), text, status) {
+    for (names, text, status) in &BATCHES {
+        if !is_performed(alloc, batch_on(alloc, names), text, *status) {
             return performed;
         }
         performed = performed.saturating_add(1);

@@ -84,8 +84,8 @@ const DONE: [(CommandWords, &[u8], u8); 6] = [
 /// How many of the words come before the first that are obeyed otherwise.
 fn words_obeyed(alloc: Global) -> usize {
     let mut obeyed: usize = 0;
-    for (typed, text, status) in DONE {
-        if !is_obeyed(alloc, typed, text, status) {
+    for (typed, text, status) in &DONE {
+        if !is_obeyed(alloc, typed, text, *status) {
             return obeyed;
         }
         obeyed = obeyed.saturating_add(1);

@@ -21,22 +21,22 @@ fn start_near_end<H: History<A>, A: Allocator>(lab: &mut Debugger<H, A>) -> bool
     put_all(lab, PROGRAM) && lab.idle(START).is_ok() && lab.press(Action::Start) == Ok(true)
 }
 
-/// How many orders a run has, if it is refused for the clock's end, and how far before that.
-type Stopped = (Option<u64>, u64);
+/// How many orders a run has that is refused for the clock's end, 0 where it ends otherwise; and how far it is before the end.
+type Stopped = [u64; 2];
 
 fn stopped_at<H: History<A>, A: Allocator>(
     lab: &Debugger<H, A>,
     outcome: Result<Ran, RunFault>,
 ) -> Stopped {
     let orders = match outcome {
-        Err(fault) if matches!(fault.fault, RunRefusal::ClockEnd) => Some(fault.orders),
-        _ => None,
+        Err(fault) if matches!(fault.fault, RunRefusal::ClockEnd) => fault.orders,
+        _ => 0,
     };
-    (orders, (1u64 << 62).saturating_sub(lab.look().clock))
+    [orders, (1u64 << 62).saturating_sub(lab.look().clock)]
 }
 
 /// One order is done, and the next one is refused for the clock's end.
-const AT_END: Stopped = (Some(1), 54);
+const AT_END: Stopped = [1, 54];
 
 /// Of the one order its lines, with where it came from.
 const LINES: &[u8] =
@@ -69,48 +69,49 @@ fn drawn<H: Origins<A>, A: Allocator, B: Allocator>(
     (stopped_at(lab, drawn), signs.as_slice() == SIGNS)
 }
 
-/// The run started, reported, gone back and drawn: whether it was started, how both end, and whether it went back.
+/// The run started, reported, gone back and drawn: whether it was started, reported as above, gone back and drawn as above; and how
+/// both end.
 fn reported_and_drawn<H: Origins<A>, A: Allocator, B: Allocator + Copy>(
     alloc: B,
     lab: &mut Debugger<H, A>,
-) -> (bool, (Stopped, bool), bool, (Stopped, bool)) {
+) -> ([bool; 4], [Stopped; 2]) {
     let started = start_near_end(lab);
-    let reported = reported(alloc, lab);
+    let (reported, are_lines) = reported(alloc, lab);
     let is_back = goes_back(lab, 1);
-    (started, reported, is_back, drawn(alloc, lab))
+    let (drawn, are_signs) = drawn(alloc, lab);
+    ([started, are_lines, is_back, are_signs], [reported, drawn])
 }
 
 #[test]
 fn reported_up_to_the_clocks_end(rt: HostRuntime) {
     let seen = match debugger(rt.alloc()) {
-        Some(mut lab) => Some(reported_and_drawn(rt.alloc(), &mut lab)),
-        None => None,
+        Some(mut lab) => reported_and_drawn(rt.alloc(), &mut lab),
+        None => ([false; 4], [[0; 2]; 2]),
     };
-    let at_end = (AT_END, true);
-    expect_eq(&rt, seen, Some((true, at_end, true, at_end)));
+    expect_eq(&rt, seen, ([true; 4], [AT_END; 2]));
 }
 
 /// The run started and profiled: whether it was started, how it ends, and the word times by phase.
 fn profiled<H: History<A>, A: Allocator, B: Allocator>(
     lab: &mut Debugger<H, A>,
     profile: &mut Profile<B>,
-) -> (bool, Stopped, (u64, u64, u64, u64)) {
+) -> (bool, [u64; 6]) {
     let started = start_near_end(lab);
     let outcome = profile_run(lab, 9, profile);
-    let stopped = stopped_at(lab, outcome);
+    let [orders, left] = stopped_at(lab, outcome);
     let phases = profile.phases();
-    let times = (phases.find, phases.take, phases.seek, phases.act);
-    (started, stopped, times)
+    let (find, take) = (phases.find, phases.take);
+    (started, [orders, left, find, take, phases.seek, phases.act])
 }
 
-/// That of a new profile; none where memory is refused.
+/// That of a new profile.
 fn profiled_anew<H: History<A>, A: Allocator, B: Allocator>(
     alloc: B,
     lab: &mut Debugger<H, A>,
-) -> Option<(bool, Stopped, (u64, u64, u64, u64))> {
+) -> (bool, [u64; 6]) {
     match Profile::new(alloc) {
-        Ok(mut profile) => Some(profiled(lab, &mut profile)),
-        Err(_) => None,
+        Ok(mut profile) => profiled(lab, &mut profile),
+        Err(_) => (false, [0; 6]),
     }
 }
 
@@ -118,7 +119,7 @@ fn profiled_anew<H: History<A>, A: Allocator, B: Allocator>(
 fn profiled_up_to_the_clocks_end(rt: HostRuntime) {
     let seen = match debugger(rt.alloc()) {
         Some(mut lab) => profiled_anew(rt.alloc(), &mut lab),
-        None => None,
+        None => (false, [0; 6]),
     };
-    expect_eq(&rt, seen, Some((true, AT_END, (36, 1, 8, 1))));
+    expect_eq(&rt, seen, (true, [1, 54, 36, 1, 8, 1]));
 }

@@ -184,40 +184,41 @@ fn profile_in_turn<A: Allocator, B: Allocator>(
     false
 }
 
-/// Lines, data, signs and words in turn: whether each had a growth, and whether at last all was reported.
+/// Whether the program is started; whether lines, data and signs had growths in turn and each was reported at last; whether two orders
+/// are run then; and the same of the words.
 fn in_turn<H: Origins<A>, A: Allocator, B: Allocator>(
     limited: &Limited<B>,
     lab: &mut Debugger<H, A>,
-) -> ([bool; 3], bool, bool) {
-    let runs = [
+) -> [bool; 6] {
+    [
+        start(lab),
         orders_in_turn(limited, Way::Lines, lab),
         orders_in_turn(limited, Way::Data, lab),
         orders_in_turn(limited, Way::Signs, lab),
-    ];
-    let has_run = matches!(lab.run(2), Ok(ran) if ran.orders == 2);
-    (runs, has_run, words_in_turn(limited, lab))
+        matches!(lab.run(2), Ok(ran) if ran.orders == 2),
+        words_in_turn(limited, lab),
+    ]
 }
 
 #[test]
 fn each_growth_refused(rt: HostRuntime) {
     let limited = Limited::new(rt.alloc());
     let seen = match debugger(rt.alloc()) {
-        Some(mut lab) => (start(&mut lab), in_turn(&limited, &mut lab)),
-        None => (false, ([false; 3], false, false)),
+        Some(mut lab) => in_turn(&limited, &mut lab),
+        None => [false; 6],
     };
-    let wanted = (true, ([true; 3], true, true));
-    expect_eq(&rt, (seen, limited.blocks_out()), (wanted, 0));
+    expect_eq(&rt, (seen, limited.blocks_out()), ([true; 6], 0));
 }
 
 #[test]
 fn each_growth_of_a_profile_refused(rt: HostRuntime) {
     let limited = Limited::new(rt.alloc());
-    let found = match profile_of_a_sum(rt.alloc()) {
-        Some(profile) => (
-            profile_in_turn(&limited, Form::Columns, &profile),
-            profile_in_turn(&limited, Form::Data, &profile),
-        ),
-        None => (false, false),
+    let are_refused = match profile_of_a_sum(rt.alloc()) {
+        Some(profile) => {
+            profile_in_turn(&limited, Form::Columns, &profile)
+                && profile_in_turn(&limited, Form::Data, &profile)
+        }
+        None => false,
     };
-    expect_eq(&rt, (found, limited.blocks_out()), ((true, true), 0));
+    expect_eq(&rt, (are_refused, limited.blocks_out()), (true, 0));
 }

@@ -40,7 +40,7 @@ fn a_run_is_profiled(rt: HostRuntime) {
         Some(mut lab) => profiled_anew(rt.alloc(), &mut lab),
         None => None,
     };
-    expect_eq(&rt, seen, Some((42, ((1562, 42, 1264, 42), 406, 0, 0))));
+    expect_eq(&rt, seen, Some((42, [1562, 42, 1264, 42, 406, 0, 0])));
 }
 
 /// The program started, and traced with the first growth of the text refused. How many orders the trace counts, if it is refused

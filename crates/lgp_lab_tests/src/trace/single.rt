@@ -40,18 +40,12 @@ fn next_said<A: Allocator>(machine: &mut Machine<A>) -> Option<Said> {
     }
 }
 
-/// A machine with these words, and with the codes of a text in its reader; none where that is refused.
-fn with_tape<A: Allocator + Copy>(
-    alloc: A,
-    words: &[(u16, u32)],
-    text: &[u8],
-) -> Option<Machine<A>> {
-    let mut machine = with_words(alloc, words)?;
+/// The codes of a text in the reader; false where that is refused.
+fn mount<A: Allocator + Copy>(alloc: A, machine: &mut Machine<A>, text: &[u8]) -> bool {
     match read_tape_text(alloc, text) {
-        Ok(codes) => machine.mount(codes).ok()?,
-        Err(_) => return None,
+        Ok(codes) => machine.mount(codes).is_ok(),
+        Err(_) => false,
     }
-    Some(machine)
 }
 
 /// p 0000 switches the reader on, i 0000 passes three digits and a conditional stop, p 5700 prints code 57.
@@ -71,8 +65,11 @@ fn read_and_printed<A: Allocator>(machine: &mut Machine<A>) -> ([Option<Said>; 3
 /// at position 18 is read after 6, and the print takes 385.
 #[test]
 fn an_input_and_a_print(rt: HostRuntime) {
-    let seen = match with_tape(rt.alloc(), READ_AND_PRINT, b"123'") {
-        Some(mut machine) => read_and_printed(&mut machine),
+    let seen = match with_words(rt.alloc(), READ_AND_PRINT) {
+        Some(mut machine) => {
+            mount(rt.alloc(), &mut machine, b"123'");
+            read_and_printed(&mut machine)
+        }
         None => ([None; 3], 0),
     };
     let wanted = [
@@ -103,8 +100,11 @@ fn an_order_in_the_register(rt: HostRuntime) {
 /// The tape passes for the operator: no order, and 1 + 2 * 384 word times.
 #[test]
 fn a_tape_for_the_operator(rt: HostRuntime) {
-    let seen = match with_tape(rt.alloc(), &[], b"7'") {
-        Some(mut machine) => pressed(&mut machine, Mode::Manual, Action::StartRead),
+    let seen = match with_words(rt.alloc(), &[]) {
+        Some(mut machine) => {
+            mount(rt.alloc(), &mut machine, b"7'");
+            pressed(&mut machine, Mode::Manual, Action::StartRead)
+        }
         None => None,
     };
     expect_eq(&rt, seen, Some(((0, 0, 0, 769), None, None, 2, false)));
