@@ -1,11 +1,10 @@
 //! Sessions by what they reply, a table of lines with the reply to each, and with each growth refused in turn. What a reply has to be is
 //! taken from the descriptions of the script language and of the monitor.
 
+use crate::expect_eq;
 use lgp_call::{Outcome, Session};
 use lgp_limited::Limited;
 use std::alloc::{Allocator, Global};
-use std::process::Abort;
-use std::test::Fail;
 
 /// A line, its status and its reply.
 type Row = (&'static [u8], u32, &'static [u8]);
@@ -76,36 +75,49 @@ fn is_reported(reported: Reported, status: u32, reply: &[u8], room: &[u8]) -> bo
     reported == (status, u64::from(status), reply.len() as u64) && room.starts_with(reply)
 }
 
-/// The first line whose reply is another one, in any room that it fits, asked for at once or again.
-fn first_difference<A: Allocator + Copy>(session: &mut Session<A>) -> Option<usize> {
-    for (number, (line, status, reply)) in ROWS.iter().enumerate() {
-        let (mut room, mut other) = ([b'.'; 64], [b'.'; 64]);
-        let reported = ask(session, line, &mut room);
-        let reported_again = again(session, &mut other);
-        if !is_reported(reported, *status, reply, &room)
-            || reported_again != reported
-            || other != room
-        {
-            return Some(number);
+/// Whether a line has its reply, in any room that it fits, asked for at once or again.
+fn is_answered<A: Allocator + Copy>(session: &mut Session<A>, row: &Row) -> bool {
+    let (line, status, reply) = *row;
+    let (mut room, mut other) = ([b'.'; 64], [b'.'; 64]);
+    let reported = ask(session, line, &mut room);
+    let reported_again = again(session, &mut other);
+    is_reported(reported, status, reply, &room) && reported_again == reported && other == room
+}
+
+/// How many lines come before the first whose reply is another one.
+fn rows_answered<A: Allocator + Copy>(session: &mut Session<A>) -> usize {
+    let mut answered: usize = 0;
+    for row in &ROWS {
+        if !is_answered(session, row) {
+            return answered;
         }
+        answered = answered.saturating_add(1);
     }
-    None
+    answered
 }
 
 #[test]
-fn a_session_answers_one_line_after_another(rt: HostRuntime) -> Result<(), Fail> {
-    let mut session = Session::new(rt.alloc())?;
-    assert_eq!(rt; first_difference(&mut session), None);
-    Ok(())
+fn a_session_answers_one_line_after_another(rt: HostRuntime) {
+    let answered = match Session::new(rt.alloc()) {
+        Ok(mut session) => rows_answered(&mut session),
+        Err(_) => 0,
+    };
+    expect_eq(&rt, answered, 12);
+}
+
+/// All bytes, one after another.
+fn all_bytes() -> [u8; 256] {
+    let mut bytes = [0; 256];
+    for value in 0..=255u8 {
+        bytes[usize::from(value)] = value;
+    }
+    bytes
 }
 
 /// What is reported of a line of 5,000 bytes, of one of any bytes but a line feed, and of any bytes.
 fn odd_lines<A: Allocator + Copy>(session: &mut Session<A>) -> [Reported; 3] {
     let mut room = [b'.'; 8];
-    let mut bytes = [0; 256];
-    for (byte, value) in bytes.iter_mut().zip(0..=255) {
-        *byte = value;
-    }
+    let mut bytes = all_bytes();
     let long = ask(session, &[b'x'; 5000], &mut room);
     let all = ask(session, &bytes, &mut room);
     bytes[10] = b' ';
@@ -113,69 +125,93 @@ fn odd_lines<A: Allocator + Copy>(session: &mut Session<A>) -> [Reported; 3] {
 }
 
 #[test]
-fn a_line_may_be_long_and_have_any_bytes(rt: HostRuntime) -> Result<(), Fail> {
-    let mut session = Session::new(rt.alloc())?;
+fn a_line_may_be_long_and_have_any_bytes(rt: HostRuntime) {
+    let reported = match Session::new(rt.alloc()) {
+        Ok(mut session) => odd_lines(&mut session),
+        Err(_) => [(0, 0, 0); 3],
+    };
     let long = b"? 11 TooLong: a line has at most 4096 bytes, a source 1048576\n".len() as u64;
     let form = b"? 1 Form: there is no such command, help lists them\n".len() as u64;
     let lines = b"? 1 Form: these are several lines, give them one by one\n".len() as u64;
-    assert_eq!(rt;
-        odd_lines(&mut session),
-        [(1, 1, long), (1, 1, form), (1, 1, lines)]
-    );
-    Ok(())
+    expect_eq(&rt, reported, [(1, 1, long), (1, 1, form), (1, 1, lines)]);
 }
 
-/// What is reported of the end of a session in which a source is open, and of one in which none is.
-fn ends(alloc: Global) -> Option<[Reported; 2]> {
-    let (Ok(mut first), Ok(second)) = (Session::new(alloc), Session::new(alloc)) else {
-        return None;
-    };
+/// What is reported of the end of a session after these lines; none where memory is refused.
+fn end_after(alloc: Global, lines: &[&[u8]]) -> Option<Reported> {
+    match Session::new(alloc) {
+        Ok(session) => Some(end_of(session, lines)),
+        Err(_) => None,
+    }
+}
+
+/// What is reported of a session's end after these lines.
+fn end_of(mut session: Session<Global>, lines: &[&[u8]]) -> Reported {
     let mut room = [b'.'; 64];
-    ask(&mut first, b"source", &mut room);
-    Some([end(first, &mut room), end(second, &mut room)])
+    for line in lines {
+        ask(&mut session, line, &mut room);
+    }
+    end(session, &mut room)
 }
 
 #[test]
-fn an_open_source_is_answered_at_the_end(rt: HostRuntime) -> Result<(), Fail> {
-    assert_eq!(rt; ends(rt.alloc()), Some([(1, 1, 24), (0, 0, 0)]));
-    Ok(())
+fn an_open_source_is_answered_at_the_end(rt: HostRuntime) {
+    let ends = [
+        end_after(rt.alloc(), &[b"source"]),
+        end_after(rt.alloc(), &[]),
+    ];
+    expect_eq(&rt, ends, [Some((1, 1, 24)), Some((0, 0, 0))]);
+}
+
+/// The status of a line that is refused for want of memory, where nothing is reported, and 9 where anything is; 0 where none is refused.
+fn refused_line<A: Allocator + Copy>(session: &mut Session<A>) -> u32 {
+    let mut room = [b'.'; 64];
+    for (line, _, _) in ROWS {
+        match ask(session, line, &mut room) {
+            (3, 0, 0) => return 3,
+            (3, _, _) => return 9,
+            _ => {}
+        }
+    }
+    0
 }
 
 /// The status of a session's lines and its end: 3 where a growth was refused, and nothing reported.
-fn answered<A: Allocator + Copy>(alloc: A) -> u32 {
-    let mut room = [b'.'; 64];
-    let Ok(mut session) = Session::new(alloc) else {
-        return 3;
-    };
-    for (line, _, _) in ROWS {
-        let (status, questions, length) = ask(&mut session, line, &mut room);
-        if status == 3 {
-            return if (questions, length) == (0, 0) { 3 } else { 9 };
-        }
+fn answered_by<A: Allocator + Copy>(mut session: Session<A>) -> u32 {
+    let status = refused_line(&mut session);
+    if status == 0 {
+        let mut room = [b'.'; 64];
+        ask(&mut session, b"source", &mut room);
+        end(session, &mut room).0
+    } else {
+        status
     }
-    ask(&mut session, b"source", &mut room);
-    end(session, &mut room).0
 }
 
-/// How many growths are refused one after another, each reported by status 3; none where one is not.
-fn refused_in_turn(limited: &Limited<Global>) -> Option<u64> {
+/// That of a new session with the nth growth refused; and whether one was.
+fn answered(limited: &Limited<Global>, nth: u64) -> (u32, bool) {
+    limited.refuse(nth);
+    let status = match Session::new(limited) {
+        Ok(session) => answered_by(session),
+        Err(_) => 3,
+    };
+    (status, limited.was_refused())
+}
+
+/// How many growths are refused one after another, each reported by status 3; 0 where one is not.
+fn refused_in_turn(limited: &Limited<Global>) -> u64 {
     for nth in 1..2000 {
-        limited.refuse(nth);
-        let status = answered(limited);
-        if !limited.was_refused() {
-            return Some(nth - 1);
-        }
-        if status != 3 {
-            return None;
+        match answered(limited, nth) {
+            (_, false) => return nth - 1,
+            (3, true) => {}
+            _ => return 0,
         }
     }
-    None
+    0
 }
 
 #[test]
-fn each_growth_refused_is_reported(rt: HostRuntime) -> Result<(), Fail> {
+fn each_growth_refused_is_reported(rt: HostRuntime) {
     let limited = Limited::new(rt.alloc());
-    let many = refused_in_turn(&limited).is_some_and(|growths| growths > 20);
-    assert_eq!(rt; (many, limited.blocks_out()), (true, 0));
-    Ok(())
+    let growths = refused_in_turn(&limited);
+    expect_eq(&rt, (growths > 20, limited.blocks_out()), (true, 0));
 }

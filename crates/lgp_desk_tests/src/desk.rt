@@ -7,13 +7,13 @@ mod known;
 mod progress;
 mod sessions;
 
+use crate::{expect_eq, is_done};
 use lgp_desk::{FileTrouble, FilesOf, Filing, Manner, attend};
 use lgp_lab::{FeedOf, FileNames, READS, SinkOf};
 use lgp_monitor::{Progress, Silence};
 use lgp_stream::StreamFault;
 use std::alloc::{Allocator, Global};
 use std::cell::Cell;
-use std::process::Abort;
 
 /// A few files, of which `kept` may be written; how many bytes were to be kept at last.
 #[derive(Clone, Copy, Drop)]
@@ -171,11 +171,24 @@ pub(crate) fn run<A: Allocator + Copy>(
 /// Typed lines, how they are written, what is written, and how many replies begin with a question mark.
 pub(crate) type Row = (Manner, &'static [u8], &'static [u8], u64);
 
-/// Expects what is written for typed lines.
-pub(crate) fn expect(rt: &impl Abort, alloc: Global, row: &Row) {
+/// Whether typed lines are answered as their row says.
+fn is_answered(alloc: Global, row: &Row) -> bool {
+    let (manner, typed, text, refused) = *row;
     let mut written = Vec::new(alloc);
-    let answer = run(alloc, row.0, row.1, &mut written);
-    assert_eq!(rt; (answer, written.as_slice()), (Ok(row.3), row.2));
+    let answer = run(alloc, manner, typed, &mut written);
+    is_done(answer, refused) && written.as_slice() == text
+}
+
+/// How many rows come before the first that is answered otherwise.
+pub(crate) fn rows_answered(alloc: Global, rows: &[Row]) -> usize {
+    let mut answered: usize = 0;
+    for row in rows {
+        if !is_answered(alloc, row) {
+            return answered;
+        }
+        answered = answered.saturating_add(1);
+    }
+    answered
 }
 
 const LINES: [Row; 11] = [
@@ -245,9 +258,7 @@ const LINES: [Row; 11] = [
 
 #[test]
 fn lines_at_a_desk_are_answered(rt: HostRuntime) {
-    for row in &LINES {
-        expect(&rt, rt.alloc(), row);
-    }
+    expect_eq(&rt, rows_answered(rt.alloc(), &LINES), 11);
 }
 
 const NAMING: [Row; 19] = [
@@ -376,58 +387,51 @@ const NAMING: [Row; 19] = [
 
 #[test]
 fn files_are_named(rt: HostRuntime) {
-    for row in &NAMING {
-        expect(&rt, rt.alloc(), row);
-    }
+    expect_eq(&rt, rows_answered(rt.alloc(), &NAMING), 19);
+}
+
+/// Whether no line is refused, whether the first reply and the front of the second are these, and how many bytes are written.
+fn fitting(alloc: Global, typed: &[u8], front: &[u8]) -> (bool, bool, usize) {
+    let mut written = Vec::new(alloc);
+    let answer = run(alloc, Manner::Bare, typed, &mut written);
+    (
+        is_done(answer, 0),
+        written.as_slice().starts_with(front),
+        written.len(),
+    )
 }
 
 /// How many codes are mounted by a line, as its reply says.
 #[test]
 fn a_tape_that_fits_is_mounted_by_its_line(rt: HostRuntime) {
-    let mut written = Vec::new(rt.alloc());
-    let answer = run(
-        rt.alloc(),
-        Manner::Bare,
-        b"tape fitting\ntranscript\n",
-        &mut written,
-    );
-    let is_line = written.as_slice().starts_with(b"ok 4090\nmount ffff");
-    assert_eq!(rt;
-        (answer, is_line, written.len()),
-        (Ok(0), true, 8 + 6 + 4090 + 1)
-    );
+    let front = b"ok 4090\nmount ffff";
+    let seen = fitting(rt.alloc(), b"tape fitting\ntranscript\n", front);
+    expect_eq(&rt, seen, (true, true, 8 + 6 + 4090 + 1));
 }
 
-/// What is written where a name is kept, and how many bytes are.
-fn saved(alloc: Global, typed: &'static [u8], written: &mut Vec<u8>) -> usize {
+/// Whether this is written where a name is kept, and how many bytes are kept.
+fn saved(alloc: Global, typed: &[u8], text: &[u8]) -> (usize, bool) {
     let kept = Cell::new(0);
-    let _ = answer(
-        alloc,
-        Manner::Bare,
-        Made { kept: &kept },
-        Silence,
-        typed,
-        written,
-    );
-    kept.get()
+    let mut written = Vec::new(alloc);
+    let made = Made { kept: &kept };
+    let _ = answer(alloc, Manner::Bare, made, Silence, typed, &mut written);
+    (kept.get(), written.as_slice() == text)
 }
 
 #[test]
 fn the_drum_is_kept(rt: HostRuntime) {
-    let mut written = Vec::new(rt.alloc());
-    let kept = saved(
-        rt.alloc(),
-        b"put 0100 00000004\nsave kept\npress start\nsave locked\ntranscript\n",
-        &mut written,
-    );
-    let wanted =
+    let typed = b"put 0100 00000004\nsave kept\npress start\nsave locked\ntranscript\n";
+    let text =
         b"ok\nsaved kept\nlive\n? 13 File locked: it cannot be written, and is as it was\nput 0100 00000004\npress start\n";
-    assert_eq!(rt; (kept, written.as_slice()), (14, wanted.as_slice()));
+    expect_eq(&rt, saved(rt.alloc(), typed, text), (14, true));
 }
 
 /// What a file is refused for has a name of its own.
 #[test]
 fn troubles_are_distinguished(rt: HostRuntime) {
-    let bad = FileTrouble::BadSign(2, 1);
-    assert!(rt; bad != FileTrouble::BadSign(1, 2) && FileTrouble::NotRead != FileTrouble::TooLong);
+    let are_others = [
+        FileTrouble::BadSign(2, 1) != FileTrouble::BadSign(1, 2),
+        FileTrouble::NotRead != FileTrouble::TooLong,
+    ];
+    expect_eq(&rt, are_others, [true; 2]);
 }

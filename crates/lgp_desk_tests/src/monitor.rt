@@ -1,12 +1,12 @@
 //! Typed lines and what is written for them. Each call is made by a helper without clauses, and a test is a table of texts with what
 //! is written for each.
 
+use crate::{End, ended, expect_eq, is_done};
 use lgp_lab::{FeedOf, READS, SinkOf};
 use lgp_limited::Limited;
 use lgp_monitor::run_monitor;
 use lgp_stream::StreamFault;
-use std::alloc::{Allocator, Global};
-use std::process::Abort;
+use std::alloc::{AllocError, Allocator, Global};
 
 /// Typed lines, what is written for them, and how many replies begin with a question mark.
 type Row = (&'static [u8], &'static [u8], u64);
@@ -277,30 +277,37 @@ fn run<A: Allocator + Copy>(
     run_monitor(alloc, &mut feed, &mut sink)
 }
 
-/// Expects what is written for typed lines.
-fn expect(rt: &impl Abort, alloc: Global, typed: &[u8], replies: &[u8], faults: u64) {
+/// Whether this is written for typed lines, and so many replies begin with a question mark.
+fn is_answered(alloc: Global, typed: &[u8], replies: &[u8], faults: u64) -> bool {
     let mut written = Vec::new(alloc);
     let answer = run(alloc, typed, &mut written);
-    assert_eq!(rt;
-        (answer, written.as_slice()),
-        (Ok(faults), replies),
-        "{typed:?}"
-    );
+    is_done(answer, faults) && written.as_slice() == replies
+}
+
+/// How many rows come before the first that is answered otherwise.
+fn rows_answered(alloc: Global) -> usize {
+    let mut answered: usize = 0;
+    for (typed, replies, faults) in &ROWS {
+        if !is_answered(alloc, typed, replies, *faults) {
+            return answered;
+        }
+        answered = answered.saturating_add(1);
+    }
+    answered
 }
 
 #[test]
 fn typed_lines_are_answered(rt: HostRuntime) {
-    for row in &ROWS {
-        expect(&rt, rt.alloc(), row.0, row.1, row.2);
-    }
+    expect_eq(&rt, rows_answered(rt.alloc()), 41);
 }
 
 /// The sum of a table by a program that changes three of its own orders, and the machine started.
 const SUM_OF_A_TABLE: &[u8] =
     b"put 0000 00030044\nput 0001 000f0010\nput 0002 000j0064\nput 0003 00000000\nput 0004 00010050\nput 0005 00020024\nput 0006 0001005j\nput 0007 000j0060\nput 0008 00010060\nput 0009 000q0000\nput 0010 000j0060\nput 0011 00010024\nput 0012 000q0058\nput 0013 00020024\nput 0014 000w0054\nput 0015 000g0020\nput 0016 00010060\nput 0017 000f0000\nput 0020 00000100\nput 0021 000q0110\nput 0022 00000004\nput 0023 00000000\nput 0100 00000002\nput 0101 00000004\nput 0102 00000006\nput 0103 00000008\npress start\n";
 
-/// How many lines it takes to put and start it.
-const LINES: usize = 27;
+/// The replies to those lines.
+const REPLIES: &[u8] =
+    b"ok\nok\nok\nok\nok\nok\nok\nok\nok\nok\nok\nok\nok\nok\nok\nok\nok\nok\nok\nok\nok\nok\nok\nok\nok\nok\nlive\n";
 
 /// What is written after the replies to those lines, one order after another, all 42 added up, and the words that would have cost less
 /// elsewhere.
@@ -319,43 +326,55 @@ const REPORTED: [(&[u8], &[u8]); 3] = [
     ),
 ];
 
-/// What is written for the program and a line after it; only what comes after a given number of lines of it.
-fn written_after<'a>(written: &'a [u8], lines: usize) -> &'a [u8] {
-    let mut left = written;
-    for _ in 0..lines {
-        left = match left.iter().position(|byte| *byte == b'\n') {
-            Some(place) => left.get(place.saturating_add(1)..).unwrap_or(&[]),
-            None => &[],
-        };
+/// A text of these parts, one after another.
+fn joined(alloc: Global, parts: [&[u8]; 3]) -> Result<Vec<u8>, AllocError> {
+    let mut text = Vec::new(alloc);
+    for part in parts {
+        text.extend_from_slice(part)?;
     }
-    left
+    Ok(text)
 }
 
-/// Whether this is written for a line after the program.
-fn is_reported(global: Global, line: &[u8], text: &[u8]) -> bool {
-    let mut typed = Vec::new(global);
-    let mut written = Vec::new(global);
-    typed.extend_from_slice(SUM_OF_A_TABLE).is_ok()
-        && typed.extend_from_slice(line).is_ok()
-        && run(global, &typed, &mut written) == Ok(0)
-        && written_after(&written, LINES) == text
+/// Whether this is written for typed lines of these parts, a front and what comes after it.
+fn are_answered(
+    alloc: Global,
+    parts: [&[u8]; 3],
+    (front, after): (&[u8], &[u8]),
+    faults: u64,
+) -> bool {
+    let Ok(typed) = joined(alloc, parts) else {
+        return false;
+    };
+    let mut written = Vec::new(alloc);
+    let answer = run(alloc, &typed, &mut written);
+    let is_text = match written.strip_prefix(front) {
+        Some(rest) => rest == after,
+        None => false,
+    };
+    is_done(answer, faults) && is_text
+}
+
+/// How many lines come before the first for which anything else is written after the program.
+fn lines_reported(alloc: Global) -> usize {
+    let mut reported: usize = 0;
+    for (line, text) in REPORTED {
+        if !are_answered(alloc, [SUM_OF_A_TABLE, line, b""], (REPLIES, text), 0) {
+            return reported;
+        }
+        reported = reported.saturating_add(1);
+    }
+    reported
 }
 
 #[test]
 fn a_program_that_changes_itself_is_reported(rt: HostRuntime) {
-    let reported = REPORTED.map(|(line, text)| is_reported(rt.alloc(), line, text));
-    assert_eq!(rt; reported, [true; 3]);
+    expect_eq(&rt, lines_reported(rt.alloc()), 3);
 }
 
-/// A source of these lines between a short one and its point.
-fn is_answered(global: Global, lines: &[u8], text: &[u8]) -> bool {
-    let mut typed = Vec::new(global);
-    let mut written = Vec::new(global);
-    typed.extend_from_slice(b"source\n q\n").is_ok()
-        && typed.extend_from_slice(lines).is_ok()
-        && typed.extend_from_slice(b"\n.\n").is_ok()
-        && run(global, &typed, &mut written) == Ok(1)
-        && written.as_slice() == text
+/// Whether this is written for a source of these lines between a short one and its point.
+fn is_marked(alloc: Global, lines: &[u8], text: &[u8]) -> bool {
+    let parts = [b"source\n q\n".as_slice(), lines, b"\n.\n"];
+    are_answered(alloc, parts, (text, b""), 1)
 }
 
 /// A line of a source as long as a line may be, and one that is longer.
@@ -368,10 +387,10 @@ fn a_source_that_is_too_long_has_no_marks(rt: HostRuntime) {
     let marked = b"? 9 Faults\nline 1 UnknownOrder\n         q\n         ^\nline 3 NoEnd\n";
     let refused = b"? 11 TooLong: a line has at most 4096 bytes, a source 1048576\n";
     let answered = [
-        is_answered(rt.alloc(), &LONGEST, marked),
-        is_answered(rt.alloc(), &TOO_LONG, refused),
+        is_marked(rt.alloc(), &LONGEST, marked),
+        is_marked(rt.alloc(), &TOO_LONG, refused),
     ];
-    assert_eq!(rt; answered, [true, true]);
+    expect_eq(&rt, answered, [true, true]);
 }
 
 /// Runs that are reported in each way, with labels.
@@ -384,59 +403,36 @@ const FAULTY: &[u8] = b"source\n q\n b none\n end\n.\nsource\n z\n.\n";
 /// More growths than those lines take.
 const MOST: u64 = 1000;
 
-/// Answers lines with the nth growth refused: whether it was, and whether the end was that of a refused or of a whole run.
-fn ended(
-    limited: &Limited<Global>,
-    global: Global,
-    lines: &[u8],
-    faults: u64,
-    nth: u64,
-) -> (bool, bool) {
+/// Answers lines with the nth growth refused.
+fn end_of(limited: &Limited<Global>, global: Global, lines: &[u8], faults: u64, nth: u64) -> End {
     let mut written = Vec::new(global);
     limited.refuse(nth);
-    let outcome = run(limited, lines, &mut written);
-    let refused = limited.was_refused();
-    (
-        refused,
-        outcome
-            == if refused {
-                Err(StreamFault::Memory)
-            } else {
-                Ok(faults)
-            },
-    )
+    let answer = run(limited, lines, &mut written);
+    ended(limited.was_refused(), answer, faults)
 }
 
-/// Whether each growth that is refused in turn, until none is left, ends the lines for want of memory; how many there are.
-fn refusals(limited: &Limited<Global>, global: Global, lines: &[u8], faults: u64) -> Option<u64> {
+/// How many growths are refused in turn until none is left, where each ends the lines for want of memory; 0 where one does not.
+fn refusals(limited: &Limited<Global>, global: Global, lines: &[u8], faults: u64) -> u64 {
     for nth in 1..MOST {
-        match ended(limited, global, lines, faults, nth) {
-            (true, true) => {}
-            (false, true) => return Some(nth - 1),
-            _ => return None,
+        match end_of(limited, global, lines, faults, nth) {
+            End::Refused => {}
+            End::Done => return nth - 1,
+            End::Otherwise => return 0,
         }
     }
-    None
+    0
 }
 
 #[test]
 fn each_growth_of_a_reported_run_is_refused(rt: HostRuntime) {
     let limited = Limited::new(rt.alloc());
     let refused = refusals(&limited, rt.alloc(), EACH, 0);
-    let are_back = limited.blocks_out() == 0;
-    assert!(rt;
-        are_back && refused.is_some_and(|count| count > 20),
-        "{refused:?}"
-    );
+    expect_eq(&rt, (refused > 20, limited.blocks_out()), (true, 0));
 }
 
 #[test]
 fn each_growth_of_marked_faults_is_refused(rt: HostRuntime) {
     let limited = Limited::new(rt.alloc());
     let refused = refusals(&limited, rt.alloc(), FAULTY, 2);
-    let are_back = limited.blocks_out() == 0;
-    assert!(rt;
-        are_back && refused.is_some_and(|count| count > 20),
-        "{refused:?}"
-    );
+    expect_eq(&rt, (refused > 20, limited.blocks_out()), (true, 0));
 }

@@ -1,18 +1,20 @@
 //! Sources with the words, names and faults that they have.
 
+use crate::expect_eq;
 use lgp_assembler::{
     AssembleError, Fault, FaultKind, Image, LOADER_PLACES, Name, assemble, has_word,
 };
 use lgp_source::Lines;
 use lgp_word::{Address, Word, read_digits};
 use std::alloc::{AllocError, Allocator, Global};
-use std::test::Fail;
 
 mod bytes;
 mod growths;
 mod marks;
 mod patches;
 mod sizes;
+
+pub use sizes::FULL_SOURCE;
 
 const FIRST_PROGRAM: &[u8] = b"start b one ; take\n h 0050\n z\none frac .1\n end start\n";
 
@@ -47,20 +49,26 @@ fn is_cell(cell: &(Address, Word), address: &[u8], digits: &[u8]) -> bool {
 
 /// Whether cells have these addresses and digits.
 fn are_cells(cells: &[(Address, Word)], wanted: &[(&[u8], &[u8])]) -> bool {
-    for (cell, (address, digits)) in cells.iter().zip(wanted) {
-        if !is_cell(cell, address, digits) {
-            return false;
+    let mut place = 0usize;
+    for (address, digits) in wanted {
+        match cells.get(place) {
+            Some(cell) if is_cell(cell, address, digits) => {}
+            _ => return false,
         }
+        place = place.saturating_add(1);
     }
     cells.len() == wanted.len()
 }
 
 /// Whether names and values are these.
 fn are_symbols(symbols: &[(Name, u16)], wanted: &[(&[u8], u16)]) -> bool {
-    for (symbol, (name, value)) in symbols.iter().zip(wanted) {
-        if symbol.0.bytes() != *name || symbol.1 != *value {
-            return false;
+    let mut place = 0usize;
+    for (name, value) in wanted {
+        match symbols.get(place) {
+            Some(symbol) if symbol.0.bytes() == *name && symbol.1 == *value => {}
+            _ => return false,
         }
+        place = place.saturating_add(1);
     }
     symbols.len() == wanted.len()
 }
@@ -79,10 +87,13 @@ fn assembles_to<A: Allocator + Copy>(alloc: A, source: &[u8], wanted: Wanted) ->
 
 /// Whether faults have these lines and kinds.
 fn are_faults(faults: &[Fault], wanted: &[(u64, FaultKind)]) -> bool {
-    for (fault, (line, kind)) in faults.iter().zip(wanted) {
-        if fault.line != *line || fault.kind != *kind {
-            return false;
+    let mut place = 0usize;
+    for (line, kind) in wanted {
+        match faults.get(place) {
+            Some(fault) if fault.line == *line && fault.kind == *kind => {}
+            _ => return false,
         }
+        place = place.saturating_add(1);
     }
     faults.len() == wanted.len()
 }
@@ -164,18 +175,20 @@ const SOURCES: &[(&[u8], Wanted)] = &[
 /// The first of some sources that does not assemble to what is beside it, and which of its
 /// cells, its start and its names are right.
 fn first_wrong(alloc: Global, sources: &[(&[u8], Wanted)]) -> Option<(usize, [bool; 3])> {
-    for (index, (source, wanted)) in sources.iter().enumerate() {
+    let mut place = 0usize;
+    for (source, wanted) in sources {
         let right = assembles_to(alloc, source, *wanted);
         if right != [true; 3] {
-            return Some((index, right));
+            return Some((place, right));
         }
+        place = place.saturating_add(1);
     }
     None
 }
 
 #[test]
 fn sources_without_faults(rt: HostRuntime) {
-    assert_eq!(rt; first_wrong(rt.alloc(), SOURCES), None);
+    expect_eq(&rt, first_wrong(rt.alloc(), SOURCES), None);
 }
 
 const FAULTS_IN_ORDER: &[(u64, FaultKind)] = &[
@@ -194,7 +207,8 @@ const FAULTS_IN_ORDER: &[(u64, FaultKind)] = &[
 
 #[test]
 fn faults_in_order_of_lines(rt: HostRuntime) {
-    assert!(rt; has_faults(rt.alloc(), FAULTY_SOURCE, FAULTS_IN_ORDER));
+    let found = has_faults(rt.alloc(), FAULTY_SOURCE, FAULTS_IN_ORDER);
+    expect_eq(&rt, found, true);
 }
 
 /// Sources with one fault each, its line and its kind.
@@ -220,32 +234,54 @@ const ONE_FAULT: &[(&[u8], u64, FaultKind)] = &[
     (b" org 6321\n z\n end\n", 2, FaultKind::InLoader),
 ];
 
+/// The place of the first row whose source has another fault, or how many rows there are.
+fn first_other_fault(alloc: Global, rows: &[(&[u8], u64, FaultKind)]) -> usize {
+    let mut place = 0usize;
+    for (source, line, kind) in rows {
+        if !has_faults(alloc, source, &[(*line, *kind)]) {
+            return place;
+        }
+        place = place.saturating_add(1);
+    }
+    place
+}
+
 #[test]
 fn sources_of_one_fault(rt: HostRuntime) {
-    for (index, (source, line, kind)) in ONE_FAULT.iter().enumerate() {
-        assert!(rt;
-            has_faults(rt.alloc(), source, &[(*line, *kind)]),
-            "source {index}"
-        );
-    }
+    let found = first_other_fault(rt.alloc(), ONE_FAULT);
+    expect_eq(&rt, found, ONE_FAULT.len());
 }
 
 #[test]
 fn faults_about_the_end(rt: HostRuntime) {
     let late = [(1, FaultKind::UnknownName), (3, FaultKind::AfterEnd)];
-    assert!(rt; has_faults(rt.alloc(), b" b late\n end\nlate z", &late));
     let none = [(1, FaultKind::BadByte), (2, FaultKind::NoEnd)];
-    assert!(rt; has_faults(rt.alloc(), b" end\x80", &none));
+    let found = [
+        has_faults(rt.alloc(), b" b late\n end\nlate z", &late),
+        has_faults(rt.alloc(), b" end\x80", &none),
+    ];
+    expect_eq(&rt, found, [true; 2]);
+}
+
+/// Whether the next line makes a word; `None` where there is none.
+fn next_has_word(lines: &mut Lines) -> Option<bool> {
+    match lines.next() {
+        Some(line) => Some(has_word(&line)),
+        None => None,
+    }
 }
 
 #[test]
 fn lines_that_make_words(rt: HostRuntime) {
     let mut lines = Lines::new(b"a z 1 2 3\n org 0100\nlabel\n end\n");
-    let found = [(); 4].map(|_| match lines.next() {
-        Some(line) => Some(has_word(&line)),
-        None => None,
-    });
-    assert_eq!(rt; found, [Some(true), Some(false), Some(false), Some(false)]);
+    let found = [
+        next_has_word(&mut lines),
+        next_has_word(&mut lines),
+        next_has_word(&mut lines),
+        next_has_word(&mut lines),
+    ];
+    let wanted = [Some(true), Some(false), Some(false), Some(false)];
+    expect_eq(&rt, found, wanted);
 }
 
 /// The number of an address.
@@ -259,13 +295,23 @@ fn number(text: &[u8]) -> Option<u64> {
 #[test]
 fn places_that_the_loader_keeps(rt: HostRuntime) {
     let found = (Some(LOADER_PLACES.start), Some(LOADER_PLACES.end - 1));
-    assert_eq!(rt; found, (number(b"6300"), number(b"6321")));
+    expect_eq(&rt, found, (number(b"6300"), number(b"6321")));
+}
+
+/// Whether a kind is shown so after its line.
+fn is_shown_as(alloc: Global, kind: FaultKind, wanted: &str) -> bool {
+    match format!(in alloc; "line 7 {kind}") {
+        Ok(text) => text.as_str() == wanted,
+        Err(_) => false,
+    }
 }
 
 #[test]
-fn kinds_print_their_names(rt: HostRuntime) -> Result<(), Fail> {
-    let kind = FaultKind::MissingOperand;
-    let text = format!(in rt.alloc(); "line 7 {kind}")?;
-    assert_eq!(rt; text.as_str(), "line 7 MissingOperand");
-    Ok(())
+fn kinds_print_their_names(rt: HostRuntime) {
+    let found = is_shown_as(
+        rt.alloc(),
+        FaultKind::MissingOperand,
+        "line 7 MissingOperand",
+    );
+    expect_eq(&rt, found, true);
 }

@@ -1,6 +1,7 @@
 //! Disassembly, listings and dumps.
 
-use lgp_assembler::{AssembleError, FaultKind, assemble};
+use crate::expect_eq;
+use lgp_assembler::{AssembleError, Fault, FaultKind, assemble};
 use lgp_drum::Drum;
 use lgp_listing::{
     DrumWords, DumpFault, disassemble, dump, listing, listing_from_image, push_cell_line,
@@ -8,7 +9,6 @@ use lgp_listing::{
 };
 use lgp_word::{Address, Word, read_digits};
 use std::alloc::{AllocError, Allocator, Global};
-use std::test::Fail;
 
 mod dumps;
 mod growths;
@@ -19,20 +19,24 @@ const FIRST_PROGRAM: &[u8] = b"start b one ; take\n h 0050\n z\none frac .1\n en
 const FIRST_LISTING: &[u8] =
     b"0000 0001000j start b one ; take\n0001 000j00j8  h 0050\n0002 00000000  z\n0003 0jjjjjjj one frac .1\n               end start\n";
 
-/// The word of these digits.
-fn word(digits: &[u8]) -> Result<Word, Fail> {
-    Ok(read_digits(digits).ok_or("no word")?)
-}
-
-/// The address of this text.
-fn at(text: &[u8]) -> Result<Address, Fail> {
-    Ok(Address::parse(text).ok_or("no address")?)
-}
-
 /// Whether the word of these digits is written so.
-fn is_written(digits: &[u8], text: &[u8]) -> Result<bool, Fail> {
-    let word = word(digits)?;
-    Ok(disassemble(word).as_slice() == text)
+fn is_written(digits: &[u8], text: &[u8]) -> bool {
+    match read_digits(digits) {
+        Some(word) => disassemble(word).as_slice() == text,
+        None => false,
+    }
+}
+
+/// The place of the first row whose word is written otherwise, or how many rows there are.
+fn first_written_otherwise(rows: &[(&[u8], &[u8])]) -> usize {
+    let mut place = 0usize;
+    for (digits, text) in rows {
+        if !is_written(digits, text) {
+            return place;
+        }
+        place = place.saturating_add(1);
+    }
+    place
 }
 
 const WORDS: &[(&[u8], &[u8])] = &[
@@ -44,12 +48,8 @@ const WORDS: &[(&[u8], &[u8])] = &[
 ];
 
 #[test]
-fn words_as_a_source_has_them(rt: HostRuntime) -> Result<(), Fail> {
-    for (index, (digits, text)) in WORDS.iter().enumerate() {
-        let found = is_written(digits, text)?;
-        assert!(rt; found, "word {index}");
-    }
-    Ok(())
+fn words_as_a_source_has_them(rt: HostRuntime) {
+    expect_eq(&rt, first_written_otherwise(WORDS), WORDS.len());
 }
 
 /// Whether a source has this listing.
@@ -62,7 +62,8 @@ fn has_listing<A: Allocator + Copy>(alloc: A, source: &[u8], wanted: &[u8]) -> b
 
 #[test]
 fn a_listing_of_five_lines(rt: HostRuntime) {
-    assert!(rt; has_listing(rt.alloc(), FIRST_PROGRAM, FIRST_LISTING));
+    let found = has_listing(rt.alloc(), FIRST_PROGRAM, FIRST_LISTING);
+    expect_eq(&rt, found, true);
 }
 
 /// Whether a source has this listing by its image.
@@ -78,16 +79,22 @@ fn has_image_listing<A: Allocator + Copy>(alloc: A, source: &[u8], wanted: &[u8]
 
 #[test]
 fn the_same_listing_by_the_image(rt: HostRuntime) {
-    assert!(rt; has_image_listing(rt.alloc(), FIRST_PROGRAM, FIRST_LISTING));
+    let found = has_image_listing(rt.alloc(), FIRST_PROGRAM, FIRST_LISTING);
+    expect_eq(&rt, found, true);
 }
 
-/// The faults of a source that has one, its line and its kind.
+/// The line and the kind of the fault, where there is one.
+fn only_one(faults: &[Fault]) -> Option<(u64, FaultKind)> {
+    match faults {
+        [fault] => Some((fault.line, fault.kind)),
+        _ => None,
+    }
+}
+
+/// The fault of a source that has one, its line and its kind.
 fn only_fault(alloc: Global, source: &[u8]) -> Option<(u64, FaultKind)> {
     match listing(alloc, source) {
-        Err(AssembleError::Faults(list)) => match list.faults() {
-            [fault] => Some((fault.line, fault.kind)),
-            _ => None,
-        },
+        Err(AssembleError::Faults(list)) => only_one(list.faults()),
         _ => None,
     }
 }
@@ -95,5 +102,5 @@ fn only_fault(alloc: Global, source: &[u8]) -> Option<(u64, FaultKind)> {
 #[test]
 fn a_faulty_source_has_no_listing(rt: HostRuntime) {
     let found = only_fault(rt.alloc(), b" b none\n end\n");
-    assert_eq!(rt; found, Some((1, FaultKind::UnknownName)));
+    expect_eq(&rt, found, Some((1, FaultKind::UnknownName)));
 }

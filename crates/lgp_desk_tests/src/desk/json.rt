@@ -1,6 +1,7 @@
 //! Replies as objects of JSON, an object on a line for each line that is typed.
 
-use super::{Row, expect, run};
+use super::{Row, rows_answered, run};
+use crate::{expect_eq, is_done};
 use lgp_desk::Manner;
 use std::alloc::Global;
 
@@ -71,16 +72,14 @@ const LONGER: [u8; 4097] = [b';'; 4097];
 
 #[test]
 fn each_line_has_its_object(rt: HostRuntime) {
-    for row in &ANSWERED {
-        expect(&rt, rt.alloc(), row);
-    }
+    expect_eq(&rt, rows_answered(rt.alloc(), &ANSWERED), 9);
 }
 
 /// Whether the object of a longer line has its front and two points, and ends as that of a line that is passed over.
 fn has_front(alloc: Global) -> bool {
     let mut written = Vec::new(alloc);
     let answer = run(alloc, Manner::Json, &LONGER, &mut written);
-    answer == Ok(0)
+    is_done(answer, 0)
         && written.starts_with(b"{\"line\":\";;;;")
         && written.ends_with(b";;;; ..\",\"reply\":[],\"refused\":false}\n")
         && written.len() == 4138
@@ -88,5 +87,5 @@ fn has_front(alloc: Global) -> bool {
 
 #[test]
 fn a_longer_line_is_cut(rt: HostRuntime) {
-    assert!(rt; has_front(rt.alloc()));
+    expect_eq(&rt, has_front(rt.alloc()), true);
 }

@@ -1,6 +1,7 @@
 //! What is kept in files: each row's bytes are written out by hand.
 
 use super::answer;
+use crate::{expect_eq, is_done};
 use lgp_desk::{Filing, Manner};
 use lgp_lab::{FeedOf, READS};
 use lgp_monitor::Silence;
@@ -63,44 +64,52 @@ const ROWS: [Row; 10] = [
     (b"copy-bytes kept\n", b""),
 ];
 
-/// Whether a row's bytes are kept, and nothing is refused.
-fn is_kept(alloc: Global, row: &Row, written: &mut Vec<u8>) -> bool {
+/// Whether a row's bytes are kept and said to be so, and nothing is refused.
+fn is_kept(alloc: Global, row: &Row) -> bool {
     let is_kept = Cell::new(false);
     let wanting = Wanting {
         wanted: row.1,
         is_kept: &is_kept,
     };
-    let outcome = answer(alloc, Manner::Bare, wanting, Silence, row.0, written);
-    outcome == Ok(0) && is_kept.get()
+    let mut written = Vec::new(alloc);
+    let outcome = answer(alloc, Manner::Bare, wanting, Silence, row.0, &mut written);
+    is_done(outcome, 0) && is_kept.get() && written.as_slice().ends_with(b"saved kept\n")
+}
+
+/// How many rows come before the first whose bytes are not kept.
+fn rows_kept(alloc: Global) -> usize {
+    let mut kept: usize = 0;
+    for row in &ROWS {
+        if !is_kept(alloc, row) {
+            return kept;
+        }
+        kept = kept.saturating_add(1);
+    }
+    kept
 }
 
 #[test]
 fn tapes_and_drums_are_kept(rt: HostRuntime) {
-    for row in &ROWS {
-        let mut written = Vec::new(rt.alloc());
-        assert!(rt; is_kept(rt.alloc(), row, &mut written));
-        assert!(rt; written.as_slice().ends_with(b"saved kept\n"));
-    }
+    expect_eq(&rt, rows_kept(rt.alloc()), 10);
 }
 
-/// Nothing is said to be kept that is not.
-#[test]
-fn what_cannot_be_kept_is_refused(rt: HostRuntime) {
+/// Whether two lines are refused, and this is written.
+fn is_refused(alloc: Global, typed: &[u8], text: &[u8]) -> bool {
     let is_kept = Cell::new(false);
     let wanting = Wanting {
         wanted: b"",
         is_kept: &is_kept,
     };
-    let mut written = Vec::new(rt.alloc());
-    let outcome = answer(
-        rt.alloc(),
-        Manner::Bare,
-        wanting,
-        Silence,
-        b"punch locked\ncopy-archive locked\ntranscript\n",
-        &mut written,
-    );
-    let wanted =
+    let mut written = Vec::new(alloc);
+    let outcome = answer(alloc, Manner::Bare, wanting, Silence, typed, &mut written);
+    is_done(outcome, 2) && written.as_slice() == text
+}
+
+/// Nothing is said to be kept that is not.
+#[test]
+fn what_cannot_be_kept_is_refused(rt: HostRuntime) {
+    let typed = b"punch locked\ncopy-archive locked\ntranscript\n";
+    let text =
         b"? 13 File locked: it cannot be written, and is as it was\n? 13 File locked: it cannot be written, and is as it was\n";
-    assert_eq!(rt; (outcome, written.as_slice()), (Ok(2), wanted.as_slice()));
+    expect_eq(&rt, is_refused(rt.alloc(), typed, text), true);
 }

@@ -9,6 +9,7 @@ ghost use Rattle.lgp_desk_tests.specs.Shelf.{shelf};
 ghost use Rattle.lgp_desk.specs.declared.files.FileTrouble.TheVariants.{NotOpened};
 ghost use Rattle.lgp_desk.specs.declared.writing.Manner.TheVariants.{Echoing};
 
+use crate::{expect_eq, is_done};
 use lgp_desk::{FileTrouble, Files, Manner, attend};
 use lgp_lab::{Feed, FeedOf, FileNames, READS, Sink, SinkOf};
 use lgp_monitor::Silence;
@@ -66,11 +67,17 @@ fn write_for(alloc: Global, typed: &[u8], written: &mut Vec<u8>) -> Result<u64, 
     written_for(alloc, typed, &mut sink)
 }
 
+/// Whether two lines are refused, and this is written.
+fn is_written(alloc: Global, typed: &[u8], text: &[u8]) -> bool {
+    let mut written = Vec::new(alloc);
+    let answer = write_for(alloc, typed, &mut written);
+    is_done(answer, 2) && written.as_slice() == text
+}
+
 #[test]
 fn the_promise_is_not_empty(rt: HostRuntime) {
-    let mut written = Vec::new(rt.alloc());
-    let answer = write_for(rt.alloc(), b"do lesson\ndo none\n", &mut written);
-    let wanted =
+    let text =
         b"> put 0000 = 1\nok\n? foo\n? 1 Form: there is no such command, help lists them\n        line 2 of lesson\n? 13 File none: it cannot be opened\n";
-    assert_eq!(rt; (answer, written.as_slice()), (Ok(2), wanted.as_slice()));
+    let is_written = is_written(rt.alloc(), b"do lesson\ndo none\n", text);
+    expect_eq(&rt, is_written, true);
 }

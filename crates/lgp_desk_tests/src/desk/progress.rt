@@ -1,14 +1,14 @@
 //! What is reported of long runs while they go on.
 
 use super::{Made, answer};
+use crate::expect_eq;
 use lgp_desk::Manner;
 use lgp_monitor::Progress;
-use std::alloc::Global;
+use std::alloc::{AllocError, Global};
 use std::cell::Cell;
-use std::process::Abort;
 
 /// The numbers of orders that were reported, how many they are, and how often a run was reported to have ended.
-#[derive(Clone, Copy, Debug, PartialEq, Eq)]
+#[derive(Clone, Copy)]
 struct Reported {
     orders: [u64; 4],
     count: usize,
@@ -135,6 +135,14 @@ const ROWS: [Row; 10] = [
     ),
 ];
 
+/// The loop and lines after it.
+fn after_loop(alloc: Global, lines: &[u8]) -> Result<Vec<u8>, AllocError> {
+    let mut typed = Vec::new(alloc);
+    typed.extend_from_slice(LOOP)?;
+    typed.extend_from_slice(lines)?;
+    Ok(typed)
+}
+
 /// Whether lines after the loop are answered; what is written comes after `written`.
 fn is_answered(
     alloc: Global,
@@ -143,10 +151,9 @@ fn is_answered(
     reported: &Cell<Reported>,
     written: &mut Vec<u8>,
 ) -> bool {
-    let mut typed = Vec::new(alloc);
-    if typed.extend_from_slice(LOOP).is_err() || typed.extend_from_slice(lines).is_err() {
+    let Ok(typed) = after_loop(alloc, lines) else {
         return false;
-    }
+    };
     let listener = Listener { portion, reported };
     let kept = Cell::new(0);
     answer(
@@ -160,31 +167,44 @@ fn is_answered(
     .is_ok()
 }
 
-/// Expects what is reported and written for lines after the loop.
-fn expect(rt: &impl Abort, alloc: Global, row: &Row) {
+/// Whether these numbers of orders were reported, and a run was so often reported to have ended.
+fn are_reported(reported: Reported, orders: &[u64], ended: u64) -> bool {
+    match reported.orders.get(..reported.count) {
+        Some(numbers) => numbers == orders && reported.ended == ended,
+        None => false,
+    }
+}
+
+/// Whether this is what is reported and written for lines after the loop.
+fn is_row(alloc: Global, row: &Row) -> bool {
+    let (portion, lines, text, orders, ended) = *row;
     let reported = Cell::new(Reported {
         orders: [0; 4],
         count: 0,
         ended: 0,
     });
     let mut written = Vec::new(alloc);
-    let answered = is_answered(alloc, row.0, row.1, &reported, &mut written);
-    let replies = written.strip_prefix(LOOP_REPLIES).unwrap_or(b"");
-    let reported = reported.get();
-    assert_eq!(rt;
-        (
-            answered,
-            replies,
-            reported.orders.get(..reported.count),
-            reported.ended
-        ),
-        (true, row.2, Some(row.3), row.4)
-    );
+    let is_answered = is_answered(alloc, portion, lines, &reported, &mut written);
+    let is_text = match written.strip_prefix(LOOP_REPLIES) {
+        Some(replies) => replies == text,
+        None => false,
+    };
+    is_answered && is_text && are_reported(reported.get(), orders, ended)
+}
+
+/// How many rows come before the first for which anything else is reported or written.
+fn rows_reported(alloc: Global) -> usize {
+    let mut reported: usize = 0;
+    for row in &ROWS {
+        if !is_row(alloc, row) {
+            return reported;
+        }
+        reported = reported.saturating_add(1);
+    }
+    reported
 }
 
 #[test]
 fn long_runs_are_reported(rt: HostRuntime) {
-    for row in &ROWS {
-        expect(&rt, rt.alloc(), row);
-    }
+    expect_eq(&rt, rows_reported(rt.alloc()), 10);
 }

@@ -2,11 +2,11 @@
 
 ghost use Rattle.std.specs.Prelude.{◌≡◌, false};
 
+use crate::expect_eq;
 use lgp_desk::{FilesOf, Filing, Manner, obey_session};
 use lgp_lab::{Feed, FeedOf, READS, Sink, SinkOf, WordFault};
 use lgp_monitor::Silence;
 use std::alloc::{AllocError, Global};
-use std::process::Abort;
 
 /// One file, and none that can be kept.
 #[derive(Clone, Copy, Drop)]
@@ -31,9 +31,15 @@ impl Filing for OneFile {
 fn words_of(alloc: Global, typed: &[&str]) -> Result<Vec<String>, AllocError> {
     let mut words = Vec::new(alloc);
     for word in typed {
-        words.push(String::from_str(alloc, word)?)?;
+        push_word(alloc, &mut words, word)?;
     }
     Ok(words)
+}
+
+/// Appends a word.
+fn push_word(alloc: Global, words: &mut Vec<String>, word: &str) -> Result<(), AllocError> {
+    words.push(String::from_str(alloc, word)?)?;
+    Ok(())
 }
 
 /// The status for words, with these files and this input.
@@ -119,20 +125,31 @@ fn help_is_no_message_and_a_mistake_is_one(rt: HostRuntime) {
     let held = (true, false, Some(1));
     let help = (true, false, Some(0));
     let mistake = (false, true, Some(64));
-    assert_eq!(rt; reported, [held, help, help, mistake, mistake]);
+    expect_eq(&rt, reported, [held, help, help, mistake, mistake]);
 }
 
-/// Expects what is written in this manner for a session and for the version.
-fn expect_in(rt: &impl Abort, alloc: Global, typed: &[&str], manner: Manner, wanted: (&[u8], u8)) {
+/// Words, what is written for them, and the status.
+type Row = (&'static [&'static str], &'static [u8], u8);
+
+/// Whether this is written in this manner for a session or for the version, with this status.
+fn is_held(alloc: Global, manner: Manner, row: &Row) -> bool {
+    let (typed, text, wanted) = *row;
     let mut output = Vec::new(alloc);
     let mut messages = Vec::new(alloc);
     let status = status_typed(alloc, typed, manner, &mut output, &mut messages);
-    assert_eq!(rt; (output.as_slice(), status), (wanted.0, Some(wanted.1)));
+    status == Some(wanted) && output.as_slice() == text
 }
 
-/// Expects what is written for a session and for the version where no prompt is asked for.
-fn expect_output(rt: &impl Abort, alloc: Global, typed: &[&str], wanted: (&[u8], u8)) {
-    expect_in(rt, alloc, typed, Manner::Bare, wanted);
+/// How many rows come before the first for which anything else is written.
+fn rows_held(alloc: Global, manner: Manner, rows: &[Row]) -> usize {
+    let mut held: usize = 0;
+    for row in rows {
+        if !is_held(alloc, manner, row) {
+            return held;
+        }
+        held = held.saturating_add(1);
+    }
+    held
 }
 
 /// What is written for the lines on standard input.
@@ -152,32 +169,40 @@ const LACKING: &[u8] =
 const ECHOED: &[u8] =
     b"> put 0000 = 1\nok\n? bar\n? 1 Form: there is no such command, help lists them\n";
 
+/// What is written where no prompt is asked for.
+const HELD_BARE: [Row; 5] = [
+    (&["lgp_monitor"], HELD, 1),
+    (&["lgp_monitor", "lesson.txt"], TAUGHT, 1),
+    (&["lgp_monitor", "none.txt"], LACKING, 1),
+    (&["lgp_monitor", "--echo"], ECHOED, 1),
+    (&["lgp_monitor", "--version"], b"lgp_monitor 0.1.0\n", 0),
+];
+
 #[test]
 fn a_session_is_held(rt: HostRuntime) {
-    expect_output(&rt, rt.alloc(), &["lgp_monitor"], (HELD, 1));
-    expect_output(&rt, rt.alloc(), &["lgp_monitor", "lesson.txt"], (TAUGHT, 1));
-    expect_output(&rt, rt.alloc(), &["lgp_monitor", "none.txt"], (LACKING, 1));
-    expect_output(&rt, rt.alloc(), &["lgp_monitor", "--echo"], (ECHOED, 1));
-    let version = b"lgp_monitor 0.1.0\n";
-    expect_output(&rt, rt.alloc(), &["lgp_monitor", "--version"], (version, 0));
+    let held = rows_held(rt.alloc(), Manner::Bare, &HELD_BARE);
+    expect_eq(&rt, held, 5);
 }
 
 /// What is written with prompts: for the lines on standard input alone, after those of a file, after a file that is not there, and
 /// after three files.
-const PROMPTED: [(&[&str], &[u8]); 5] = [
+const PROMPTED: [Row; 5] = [
     (
         &["lgp_monitor"],
         b"0000 halted operator> ok\n0000 halted operator> ? 1 Form: there is no such command, help lists them\n0000 halted operator> \n",
+        1,
     ),
     (
         &["lgp_monitor", "lesson.txt"],
         b"ok\n? 1 Form: there is no such command, help lists them\n        line 2 of lesson.txt\n\
         0000 halted operator> ok\n0000 halted operator> ? 1 Form: there is no such command, help lists them\n0000 halted operator> \n",
+        1,
     ),
     (
         &["lgp_monitor", "none.txt"],
         b"? 13 File none.txt: it cannot be opened\n        named on the command line\n\
         0000 halted operator> ok\n0000 halted operator> ? 1 Form: there is no such command, help lists them\n0000 halted operator> \n",
+        1,
     ),
     (
         &["lgp_monitor", "lesson.txt", "none.txt", "lesson.txt"],
@@ -185,8 +210,9 @@ const PROMPTED: [(&[&str], &[u8]); 5] = [
         ? 13 File none.txt: it cannot be opened\n        named on the command line\n\
         ok\n? 1 Form: there is no such command, help lists them\n        line 2 of lesson.txt\n\
         0000 halted operator> ok\n0000 halted operator> ? 1 Form: there is no such command, help lists them\n0000 halted operator> \n",
+        1,
     ),
-    (&["lgp_monitor", "--echo", "lesson.txt"], TAUGHT_ECHOED),
+    (&["lgp_monitor", "--echo", "lesson.txt"], TAUGHT_ECHOED, 1),
 ];
 
 /// What is written where the lines of a file come first and each line is above its reply.
@@ -197,26 +223,24 @@ const TAUGHT_ECHOED: &[u8] =
 
 #[test]
 fn a_prompt_comes_after_the_lines_of_files(rt: HostRuntime) {
-    for (typed, written) in PROMPTED {
-        expect_in(&rt, rt.alloc(), typed, Manner::Prompting, (written, 1));
-    }
+    let held = rows_held(rt.alloc(), Manner::Prompting, &PROMPTED);
+    expect_eq(&rt, held, 5);
 }
 
-/// What is reported of words that are not there, whether there is no output, and the status.
-fn expect_unread(rt: &impl Abort, alloc: Global, fault: WordFault, wanted: (&[u8], u8)) {
+/// Whether this is reported of words that are not there, without output, and this is the status.
+fn is_unread(alloc: Global, fault: WordFault, text: &[u8], wanted: u8) -> bool {
     let mut output = Vec::new(alloc);
     let mut messages = Vec::new(alloc);
     let status = status_for(alloc, Err(fault), Manner::Bare, &mut output, &mut messages);
-    let silent = output.is_empty();
-    assert_eq!(rt;
-        (messages.as_slice(), silent, status),
-        (wanted.0, true, wanted.1)
-    );
+    status == wanted && output.is_empty() && messages.as_slice() == text
 }
 
 #[test]
 fn words_that_are_not_there_are_reported(rt: HostRuntime) {
-    let unread = b"error: the words of the command line are not UTF-8 text\n";
-    expect_unread(&rt, rt.alloc(), WordFault::NotText, (unread, 64));
-    expect_unread(&rt, rt.alloc(), WordFault::Memory, (b"", 3));
+    let text = b"error: the words of the command line are not UTF-8 text\n";
+    let unread = [
+        is_unread(rt.alloc(), WordFault::NotText, text, 64),
+        is_unread(rt.alloc(), WordFault::Memory, b"", 3),
+    ];
+    expect_eq(&rt, unread, [true; 2]);
 }

@@ -8,25 +8,37 @@ use linked_list_allocator::LocalHeap;
 /// More growths than any of these sources has.
 const MOST: u64 = 200;
 
-/// A source of 52 words, each with a name.
-fn named_words(alloc: Global) -> Result<Vec<u8>, AllocError> {
-    let mut source = Vec::new(alloc);
-    for digit in [b'0', b'1'] {
-        for letter in b'a'..=b'z' {
-            source.extend_from_slice(&[letter, digit])?;
-            source.extend_from_slice(b" z *\n")?;
+/// Appends 26 words, each with a name of a letter and this digit; false without memory.
+fn are_appended(source: &mut Vec<u8>, digit: u8) -> bool {
+    for letter in b'a'..=b'z' {
+        let named = [letter, digit, b' ', b'z', b' ', b'*', b'\n'];
+        if source.extend_from_slice(&named).is_err() {
+            return false;
         }
     }
-    source.extend_from_slice(b" end z1\n")?;
-    Ok(source)
+    true
+}
+
+/// A source of 52 words, each with a name.
+fn named_words(alloc: Global) -> Option<Vec<u8>> {
+    let mut source = Vec::new(alloc);
+    let words = are_appended(&mut source, b'0') && are_appended(&mut source, b'1');
+    if words && source.extend_from_slice(b" end z1\n").is_ok() {
+        Some(source)
+    } else {
+        None
+    }
 }
 
 /// Whether names and values are the same.
 fn same_symbols(found: &[(Name, u16)], wanted: &[(Name, u16)]) -> bool {
-    for (symbol, other) in found.iter().zip(wanted) {
-        if symbol.0.bytes() != other.0.bytes() || symbol.1 != other.1 {
-            return false;
+    let mut place = 0usize;
+    for (name, value) in wanted {
+        match found.get(place) {
+            Some(symbol) if symbol.0.bytes() == name.bytes() && symbol.1 == *value => {}
+            _ => return false,
         }
+        place = place.saturating_add(1);
     }
     found.len() == wanted.len()
 }
@@ -49,23 +61,24 @@ enum End {
     Otherwise,
 }
 
-/// How an assembly ends whose answer is what there is with ample memory, or is not.
-fn end_where(same: bool) -> End {
-    if same { End::Same } else { End::Otherwise }
+/// Whether faults are those of a source with ample memory.
+fn same_faults(found: &[Fault], ample: &Ample) -> bool {
+    match ample {
+        Err(AssembleError::Faults(wanted)) => found == wanted.faults(),
+        _ => false,
+    }
 }
 
 fn end_of<A: Allocator + Copy>(alloc: A, source: &[u8], ample: &Ample) -> End {
-    match assemble(alloc, source) {
+    let same = match assemble(alloc, source) {
         Ok(image) => match ample {
-            Ok(wanted) => end_where(same_image(&image, wanted)),
-            Err(_) => End::Otherwise,
+            Ok(wanted) => same_image(&image, wanted),
+            Err(_) => false,
         },
-        Err(AssembleError::Faults(list)) => match ample {
-            Err(AssembleError::Faults(wanted)) => end_where(list.faults() == wanted.faults()),
-            _ => End::Otherwise,
-        },
-        Err(AssembleError::Memory) => End::Refused,
-    }
+        Err(AssembleError::Faults(list)) => same_faults(list.faults(), ample),
+        Err(AssembleError::Memory) => return End::Refused,
+    };
+    if same { End::Same } else { End::Otherwise }
 }
 
 /// Assembles a source with each growth refused in turn. How many growths it has; `None` where one
@@ -103,26 +116,41 @@ const SOURCES: [(&[u8], u64); 6] = [
     (b"", 2),
 ];
 
-/// Whether each source has a given number of growths.
-fn all_sources<B: Allocator>(limited: &Limited<B>, global: Global) -> [bool; 6] {
-    SOURCES.map(|(source, least)| growths_of(limited, global, source) >= Some(least))
+/// The place of the first source that has fewer growths, or how many sources there are.
+fn first_with_fewer<B: Allocator>(limited: &Limited<B>, global: Global) -> usize {
+    let mut place = 0usize;
+    for (source, least) in &SOURCES {
+        if growths_of(limited, global, source) < Some(*least) {
+            return place;
+        }
+        place = place.saturating_add(1);
+    }
+    place
+}
+
+/// The same over a heap of its own, and how many bytes are used there at last.
+fn fewer_over_heap(global: Global) -> Option<(usize, usize)> {
+    let heap = LocalHeap::new(global, 65536).ok()?;
+    let found = first_with_fewer(&Limited::new(&heap), global);
+    Some((found, heap.used()))
 }
 
 #[test]
-fn each_growth_of_an_assembly_is_refused(rt: HostRuntime) -> Result<(), Fail> {
-    let heap = LocalHeap::new(rt.alloc(), 65536)?;
-    let limited = Limited::new(&heap);
-    let found = all_sources(&limited, rt.alloc());
-    assert_eq!(rt; (found, heap.used()), ([true; 6], 0));
-    Ok(())
+fn each_growth_of_an_assembly_is_refused(rt: HostRuntime) {
+    let found = fewer_over_heap(rt.alloc());
+    expect_eq(&rt, found, Some((SOURCES.len(), 0)));
+}
+
+/// Whether 52 words have at least seven growths, and how many blocks are out at last.
+fn growths_of_words(global: Global) -> Option<(bool, u64)> {
+    let source = named_words(global)?;
+    let limited = Limited::new(global);
+    let found = growths_of(&limited, global, &source);
+    Some((found >= Some(7), limited.blocks_out()))
 }
 
 /// The words, their names and the table of names grow more than once each.
 #[test]
-fn each_growth_of_many_words_is_refused(rt: HostRuntime) -> Result<(), Fail> {
-    let source = named_words(rt.alloc())?;
-    let limited = Limited::new(rt.alloc());
-    let found = growths_of(&limited, rt.alloc(), &source);
-    assert!(rt; found >= Some(7) && limited.blocks_out() == 0, "{found:?}");
-    Ok(())
+fn each_growth_of_many_words_is_refused(rt: HostRuntime) {
+    expect_eq(&rt, growths_of_words(rt.alloc()), Some((true, 0)));
 }

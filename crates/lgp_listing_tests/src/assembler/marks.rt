@@ -1,9 +1,9 @@
 //! A test is a table of lines with the kinds of their faults, and what is shown for each.
 
+use crate::{expect_eq, text_of};
 use lgp_assembler::{FaultKind, push_marked};
 use lgp_limited::Limited;
-use std::alloc::{AllocError, Allocator, Global};
-use std::process::Abort;
+use std::alloc::{Allocator, Global};
 
 /// A line, the kind of its fault, and what is shown.
 type Row = (&'static [u8], FaultKind, &'static [u8]);
@@ -89,55 +89,49 @@ fn is_shown<A: Allocator + Copy>(alloc: A, line: &[u8], kind: FaultKind, wanted:
 
 /// The place of the first row for which something else is shown.
 fn first_mismarked(alloc: Global, rows: &[Row]) -> usize {
-    for (place, row) in rows.iter().enumerate() {
-        if !is_shown(alloc, row.0, row.1, row.2) {
+    let mut place = 0usize;
+    for (line, kind, wanted) in rows {
+        if !is_shown(alloc, line, *kind, wanted) {
             return place;
         }
+        place = place.saturating_add(1);
     }
-    rows.len()
+    place
 }
 
 #[test]
 fn faulty_lines_are_marked(rt: HostRuntime) {
-    assert_eq!(rt; first_mismarked(rt.alloc(), &ROWS), ROWS.len());
+    expect_eq(&rt, first_mismarked(rt.alloc(), &ROWS), ROWS.len());
 }
 
-/// A text, and after it a byte a given number of times.
-fn followed(alloc: Global, text: &[u8], byte: u8, count: usize) -> Result<Vec<u8>, AllocError> {
-    let mut all = Vec::new(alloc);
-    all.extend_from_slice(text)?;
-    for _ in 0..count {
-        all.extend_from_slice(&[byte])?;
-    }
-    Ok(all)
+/// Whether of a line with an unknown name this is shown, both as texts with how often each comes.
+fn is_shown_so(alloc: Global, line: &[(&[u8], u32)], wanted: &[(&[u8], u32)]) -> Option<bool> {
+    let line = text_of(alloc, line)?;
+    let wanted = text_of(alloc, wanted)?;
+    Some(is_shown(alloc, &line, FaultKind::UnknownName, &wanted))
 }
 
-/// Whether of a line with a name of 300 letters 200 bytes are shown and 197 letters marked.
-fn is_cut(alloc: Global) -> Result<bool, AllocError> {
-    let line = followed(alloc, b" b ", b'a', 300)?;
-    let mut wanted = followed(alloc, b"         b ", b'a', 197)?;
-    wanted.extend_from_slice(b" ..\n           ")?;
-    for _ in 0..197 {
-        wanted.extend_from_slice(b"^")?;
-    }
-    wanted.extend_from_slice(b"\n")?;
-    Ok(is_shown(alloc, &line, FaultKind::UnknownName, &wanted))
-}
-
-/// Whether nothing is marked of an operand after the 200 bytes that are shown.
-fn is_unmarked(alloc: Global) -> Result<bool, AllocError> {
-    let mut line = followed(alloc, b" b", b' ', 250)?;
-    line.extend_from_slice(b"none")?;
-    let mut wanted = followed(alloc, b"         b", b' ', 198)?;
-    wanted.extend_from_slice(b" ..\n")?;
-    Ok(is_shown(alloc, &line, FaultKind::UnknownName, &wanted))
-}
-
+/// Of a line with a name of 300 letters 200 bytes are shown and 197 letters marked. Nothing is
+/// marked of an operand after the 200 bytes that are shown.
 #[test]
-fn long_lines_are_cut(rt: HostRuntime) -> Result<(), AllocError> {
-    let cut = (is_cut(rt.alloc())?, is_unmarked(rt.alloc())?);
-    assert_eq!(rt; cut, (true, true));
-    Ok(())
+fn long_lines_are_cut(rt: HostRuntime) {
+    let cut = is_shown_so(
+        rt.alloc(),
+        &[(b" b ", 1), (b"a", 300)],
+        &[
+            (b"         b ", 1),
+            (b"a", 197),
+            (b" ..\n           ", 1),
+            (b"^", 197),
+            (b"\n", 1),
+        ],
+    );
+    let unmarked = is_shown_so(
+        rt.alloc(),
+        &[(b" b", 1), (b" ", 250), (b"none", 1)],
+        &[(b"         b", 1), (b" ", 198), (b" ..\n", 1)],
+    );
+    expect_eq(&rt, (cut, unmarked), (Some(true), Some(true)));
 }
 
 /// Shows a line with the nth growth refused: whether it was, and whether the call said so or showed
@@ -166,10 +160,6 @@ fn refusals(limited: &Limited<Global>) -> Option<u64> {
 #[test]
 fn each_growth_may_be_refused(rt: HostRuntime) {
     let limited = Limited::new(rt.alloc());
-    let count = refusals(&limited);
-    let are_back = limited.blocks_out() == 0;
-    assert!(rt;
-        are_back && count.is_some_and(|count| count > 1),
-        "{count:?}"
-    );
+    let has_many = refusals(&limited) > Some(1);
+    expect_eq(&rt, (has_many, limited.blocks_out()), (true, 0));
 }

@@ -94,27 +94,23 @@ fn right_addresses(names: &Symbols, addresses: &[(&[u8], Result<u16, OperandFaul
     right
 }
 
-/// The names of the first program: `start` is 0 and `one` is 3.
-fn symbols(alloc: Global) -> Option<Image<Global>> {
-    match assemble(alloc, FIRST_PROGRAM) {
-        Ok(image) => Some(image),
-        Err(_) => None,
-    }
+/// How many of the operations and of the operands are right, with the names of the first program:
+/// `start` is 0 and `one` is 3.
+fn right_with_names(alloc: Global) -> (usize, usize) {
+    let Ok(image) = assemble(alloc, FIRST_PROGRAM) else {
+        return (0, 0);
+    };
+    let names = Symbols {
+        names: image.symbols(),
+    };
+    (
+        right_patches(&names, PATCHES),
+        right_addresses(&names, ADDRESSES),
+    )
 }
 
 #[test]
 fn operations_stand_alone(rt: HostRuntime) {
-    let right = match symbols(rt.alloc()) {
-        Some(image) => {
-            let names = Symbols {
-                names: image.symbols(),
-            };
-            (
-                right_patches(&names, PATCHES),
-                right_addresses(&names, ADDRESSES),
-            )
-        }
-        None => (0, 0),
-    };
-    assert_eq!(rt; right, (PATCHES.len(), ADDRESSES.len()));
+    let right = right_with_names(rt.alloc());
+    expect_eq(&rt, right, (PATCHES.len(), ADDRESSES.len()));
 }

@@ -1,54 +1,62 @@
 //! The largest program, the largest source, and one of a thousand names.
 
 use super::*;
+use crate::text_of;
 
 /// A source of 4,074 words, each of which is four times its place: all places before the loader's
 /// and all after it.
-fn full_source(alloc: Global) -> Result<Vec<u8>, AllocError> {
-    let mut source = Vec::new(alloc);
-    for _ in 0..4032u16 {
-        source.extend_from_slice(b" z *\n")?;
-    }
-    source.extend_from_slice(b" org 6322\n")?;
-    for _ in 0..42u16 {
-        source.extend_from_slice(b" z *\n")?;
-    }
-    source.extend_from_slice(b" end\n")?;
-    Ok(source)
-}
+pub const FULL_SOURCE: [(&[u8], u32); 4] = [
+    (b" z *\n", 4032),
+    (b" org 6322\n", 1),
+    (b" z *\n", 42),
+    (b" end\n", 1),
+];
 
-/// How many words a source has whose word is not four times its place, and how many it has in all.
-fn odd_words(alloc: Global, source: &[u8]) -> Option<(usize, usize)> {
-    let image = assemble(alloc, source).ok()?;
+/// How many words are not four times their place.
+fn odd_words(cells: &[(Address, Word)]) -> usize {
     let mut odd = 0usize;
-    for (place, word) in image.cells() {
+    for (place, word) in cells {
         if word.get() != 4 * u32::from(place.number()) {
             odd = odd.saturating_add(1);
         }
     }
-    Some((odd, image.cells().len()))
+    odd
 }
 
-/// The first and the last place of a source's words, and those at the loader's two sides.
-fn outer_places(alloc: Global, source: &[u8]) -> Option<[Option<u16>; 4]> {
-    let image = assemble(alloc, source).ok()?;
-    let place = |index: usize| image.cells().get(index).map(|cell| cell.0.number());
-    Some([place(0), place(4031), place(4032), place(4073)])
+/// The number of the place of a word; `None` where there is none.
+fn place_of(cell: Option<&(Address, Word)>) -> Option<u16> {
+    match cell {
+        Some(cell) => Some(cell.0.number()),
+        None => None,
+    }
+}
+
+/// How many words there are and how many of them are odd; and the first and the last place, with
+/// those at the loader's two sides between them.
+type Full = ([usize; 2], [Option<u16>; 4]);
+
+fn full(alloc: Global) -> Option<Full> {
+    let source = text_of(alloc, &FULL_SOURCE)?;
+    match assemble(alloc, source.as_slice()) {
+        Ok(image) => Some(counted(image.cells())),
+        Err(_) => None,
+    }
+}
+
+fn counted(cells: &[(Address, Word)]) -> Full {
+    let places = [
+        place_of(cells.get(0)),
+        place_of(cells.get(4031)),
+        place_of(cells.get(4032)),
+        place_of(cells.get(4073)),
+    ];
+    ([cells.len(), odd_words(cells)], places)
 }
 
 #[test]
-fn a_program_of_all_places_but_the_loaders(rt: HostRuntime) -> Result<(), Fail> {
-    let source = full_source(rt.alloc())?;
-    let words = odd_words(rt.alloc(), &source);
-    let places = outer_places(rt.alloc(), &source);
-    assert_eq!(rt;
-        (words, places),
-        (
-            Some((0, 4074)),
-            Some([Some(0), Some(4031), Some(4054), Some(4095)])
-        )
-    );
-    Ok(())
+fn a_program_of_all_places_but_the_loaders(rt: HostRuntime) {
+    let places = [Some(0), Some(4031), Some(4054), Some(4095)];
+    expect_eq(&rt, full(rt.alloc()), Some(([4074, 0], places)));
 }
 
 /// Lines of 64 bytes: a comment, one with a label that is no name, and the last one.
@@ -58,14 +66,12 @@ const BAD_LABEL: &[u8] = b"9 ; a line of sixty-four bytes with its line feed ---
 
 const END: &[u8] = b" end ; ---------------------------------------------------------";
 
-/// A source of a given number of lines, then the last one.
-fn long_source(alloc: Global, line: &[u8], lines: u32) -> Result<Vec<u8>, AllocError> {
-    let mut source = Vec::new(alloc);
-    for _ in 0..lines {
-        source.extend_from_slice(line)?;
+/// How many faults there are, and the last one's line, or 0.
+fn last_of(faults: &[Fault]) -> (usize, u64) {
+    match faults.last() {
+        Some(fault) => (faults.len(), fault.line),
+        None => (0, 0),
     }
-    source.extend_from_slice(END)?;
-    Ok(source)
 }
 
 /// How many words a source has, or how many faults and the last one's line; none where memory is
@@ -73,79 +79,78 @@ fn long_source(alloc: Global, line: &[u8], lines: u32) -> Result<Vec<u8>, AllocE
 fn outcome(alloc: Global, source: &[u8]) -> Option<Result<usize, (usize, u64)>> {
     match assemble(alloc, source) {
         Ok(image) => Some(Ok(image.cells().len())),
-        Err(AssembleError::Faults(list)) => {
-            let last = list.faults().last().map_or(0, |fault| fault.line);
-            Some(Err((list.faults().len(), last)))
-        }
+        Err(AssembleError::Faults(list)) => Some(Err(last_of(list.faults()))),
         Err(AssembleError::Memory) => None,
     }
 }
 
 /// How long a source of 16,383 such lines and the last one is, and what it assembles to.
-fn long_outcome(
-    alloc: Global,
-    line: &[u8],
-) -> Result<(usize, Option<Result<usize, (usize, u64)>>), AllocError> {
-    let source = long_source(alloc, line, 16_383)?;
-    Ok((source.len(), outcome(alloc, &source)))
+type Long = Option<(usize, Option<Result<usize, (usize, u64)>>)>;
+
+fn long_outcome(alloc: Global, line: &[u8]) -> Long {
+    let source = text_of(alloc, &[(line, 16_383), (END, 1)])?;
+    Some((source.len(), outcome(alloc, &source)))
 }
 
 #[test]
-fn a_source_of_1048576_bytes(rt: HostRuntime) -> Result<(), Fail> {
-    let comments = long_outcome(rt.alloc(), COMMENT)?;
-    let faulty = long_outcome(rt.alloc(), BAD_LABEL)?;
-    assert_eq!(rt;
-        (comments, faulty),
-        (
-            (1_048_576, Some(Ok(0))),
-            (1_048_576, Some(Err((16_383, 16_383))))
-        )
-    );
-    Ok(())
+fn a_source_of_1048576_bytes(rt: HostRuntime) {
+    let found = [
+        long_outcome(rt.alloc(), COMMENT),
+        long_outcome(rt.alloc(), BAD_LABEL),
+    ];
+    let wanted = [
+        Some((1_048_576, Some(Ok(0)))),
+        Some((1_048_576, Some(Err((16_383, 16_383))))),
+    ];
+    expect_eq(&rt, found, wanted);
 }
 
 /// Appends a word with a name of three digits, and the name of another one: that with each digit taken from 9.
-fn push_named(source: &mut Vec<u8>, [one, two, three]: [u8; 3]) -> Result<(), AllocError> {
+fn is_named(source: &mut Vec<u8>, [one, two, three]: [u8; 3]) -> bool {
     let nines = b'0' + b'9';
-    source.extend_from_slice(&[b'n', one, two, three])?;
-    source.extend_from_slice(b" z ")?;
-    source.extend_from_slice(&[
+    let line = [
+        b'n',
+        one,
+        two,
+        three,
+        b' ',
+        b'z',
+        b' ',
         b'n',
         nines.saturating_sub(one),
         nines.saturating_sub(two),
         nines.saturating_sub(three),
         b'\n',
-    ])
+    ];
+    source.extend_from_slice(&line).is_ok()
 }
 
-/// Appends a hundred such words, whose names have the same first digit.
-fn push_hundred(source: &mut Vec<u8>, one: u8) -> Result<(), AllocError> {
-    for two in b'0'..=b'9' {
-        for three in b'0'..=b'9' {
-            push_named(source, [one, two, three])?;
+/// Appends a thousand such words and the end; false without memory.
+fn are_named(source: &mut Vec<u8>) -> bool {
+    for number in 0..1000u16 {
+        let digits = [
+            b'0' + (number / 100 % 10) as u8,
+            b'0' + (number / 10 % 10) as u8,
+            b'0' + (number % 10) as u8,
+        ];
+        if !is_named(source, digits) {
+            return false;
         }
     }
-    Ok(())
-}
-
-/// A source of a thousand words, of which the first names the last.
-fn named_source(alloc: Global) -> Result<Vec<u8>, AllocError> {
-    let mut source = Vec::new(alloc);
-    for one in b'0'..=b'9' {
-        push_hundred(&mut source, one)?;
-    }
-    source.extend_from_slice(b" end\n")?;
-    Ok(source)
+    source.extend_from_slice(b" end\n").is_ok()
 }
 
 /// How many words name the place that is as far from the end as theirs from the start, with a name for their own.
 fn well_named(cells: &[(Address, Word)], symbols: &[(Name, u16)]) -> usize {
     let mut count = 0usize;
-    for (cell, symbol) in cells.iter().zip(symbols) {
-        let place = cell.0.number();
+    for (address, word) in cells {
+        let place = address.number();
         let named = 4 * u32::from(999u16.saturating_sub(place));
-        if cell.1.get() == named && symbol.1 == place {
-            count = count.saturating_add(1);
+        match symbols.get(usize::from(place)) {
+            Some(symbol) if word.get() == named && symbol.1 == place => {
+                count = count.saturating_add(1);
+            }
+            _ => {}
         }
     }
     count
@@ -153,14 +158,26 @@ fn well_named(cells: &[(Address, Word)], symbols: &[(Name, u16)]) -> usize {
 
 /// How many words and names a source has, and how many of them are right.
 fn named(alloc: Global, source: &[u8]) -> Option<[usize; 3]> {
-    let image = assemble(alloc, source).ok()?;
-    let (cells, symbols) = (image.cells(), image.symbols());
-    Some([cells.len(), symbols.len(), well_named(cells, symbols)])
+    match assemble(alloc, source) {
+        Ok(image) => {
+            let (cells, symbols) = (image.cells(), image.symbols());
+            Some([cells.len(), symbols.len(), well_named(cells, symbols)])
+        }
+        Err(_) => None,
+    }
+}
+
+/// The same of a source of a thousand words, of which the first names the last.
+fn thousand_named(alloc: Global) -> Option<[usize; 3]> {
+    let mut source = Vec::new(alloc);
+    if are_named(&mut source) {
+        named(alloc, source.as_slice())
+    } else {
+        None
+    }
 }
 
 #[test]
-fn a_source_of_a_thousand_names(rt: HostRuntime) -> Result<(), Fail> {
-    let source = named_source(rt.alloc())?;
-    assert_eq!(rt; named(rt.alloc(), &source), Some([1000; 3]));
-    Ok(())
+fn a_source_of_a_thousand_names(rt: HostRuntime) {
+    expect_eq(&rt, thousand_named(rt.alloc()), Some([1000; 3]));
 }

@@ -1,6 +1,7 @@
 //! Drums as SIMH's deposits, and as it shows them.
 
 use super::*;
+use crate::text_of;
 use lgp_drum::Drum;
 use lgp_word::{Address, Word};
 
@@ -18,15 +19,24 @@ fn put<A: Allocator>(drum: &mut Drum<A>, cell: Cell) -> bool {
     }
 }
 
-/// A drum with these words and zeros; `None` where memory lacks, or one is no word at an address.
-pub fn drum_of<A: Allocator + Copy>(alloc: A, cells: &[Cell]) -> Option<Drum<A>> {
-    let mut drum = Drum::new(alloc).ok()?;
+/// Puts words likewise; whether all are.
+fn are_put<A: Allocator>(drum: &mut Drum<A>, cells: &[Cell]) -> bool {
     for cell in cells {
-        if !put(&mut drum, *cell) {
-            return None;
+        if !put(drum, *cell) {
+            return false;
         }
     }
-    Some(drum)
+    true
+}
+
+/// A drum with these words and zeros; `None` where memory lacks, or one is no word at an address.
+pub fn drum_of(global: Global, cells: &[Cell]) -> Option<Drum> {
+    let mut drum = Drum::new(global).ok()?;
+    if are_put(&mut drum, cells) {
+        Some(drum)
+    } else {
+        None
+    }
 }
 
 /// The word at the address of a number; zero where there is none.
@@ -62,36 +72,32 @@ pub const DEPOSITS: &[u8] =
 /// Whether a drum of these words has these deposits.
 fn has_deposits(global: Global, cells: &[Cell], text: &[u8]) -> Option<bool> {
     let drum = drum_of(global, cells)?;
-    let written = deposits_of(global, &drum).ok()?;
-    Some(written.as_slice() == text)
-}
-
-#[test]
-fn words_are_deposits(rt: HostRuntime) {
-    assert_eq!(rt; has_deposits(rt.alloc(), &CELLS, DEPOSITS), Some(true));
-    assert_eq!(rt; has_deposits(rt.alloc(), &[], b""), Some(true));
-}
-
-/// What a text has once the deposits of a drum with the word 2 at 0001 are appended.
-fn appended(global: Global, before: &[u8]) -> Option<Vec<u8>> {
-    let drum = drum_of(global, &[(1, 2)])?;
-    let mut text = Vec::new(global);
-    text.extend_from_slice(before).ok()?;
-    push_deposits(&mut text, &drum).ok()?;
-    Some(text)
-}
-
-/// Whether deposits come after what the text had.
-fn is_appended(global: Global) -> bool {
-    match appended(global, b"go\n") {
-        Some(text) => text.as_slice() == b"go\nd -lt 0001 00000002\n".as_slice(),
-        None => false,
+    match deposits_of(global, &drum) {
+        Ok(written) => Some(written.as_slice() == text),
+        Err(_) => None,
     }
 }
 
 #[test]
+fn words_are_deposits(rt: HostRuntime) {
+    let found = [
+        has_deposits(rt.alloc(), &CELLS, DEPOSITS),
+        has_deposits(rt.alloc(), &[], b""),
+    ];
+    expect_eq(&rt, found, [Some(true); 2]);
+}
+
+/// Whether the deposits of a drum with the word 2 at 0001 come after what a text had.
+fn is_appended(global: Global) -> Option<bool> {
+    let drum = drum_of(global, &[(1, 2)])?;
+    let mut text = text_of(global, &[(b"go\n", 1)])?;
+    let is_done = push_deposits(&mut text, &drum).is_ok();
+    Some(is_done && text.as_slice() == b"go\nd -lt 0001 00000002\n".as_slice())
+}
+
+#[test]
 fn deposits_come_after_the_text(rt: HostRuntime) {
-    assert!(rt; is_appended(rt.alloc()));
+    expect_eq(&rt, is_appended(rt.alloc()), Some(true));
 }
 
 /// The fault of a text; `None` where it has none.
@@ -100,35 +106,51 @@ pub fn fault_of<A: Allocator + Copy>(alloc: A, text: &[u8]) -> Option<ExaminedFa
 }
 
 /// Whether a text is read as a drum of these words.
-fn is_read_as(global: Global, text: &[u8], cells: &[Cell]) -> Option<bool> {
-    let wanted = drum_of(global, cells)?;
-    let drum = read_examined(global, text).ok()?;
-    Some(same_words(&drum, &wanted))
+fn is_read_as(global: Global, text: &[u8], cells: &[Cell]) -> bool {
+    let Some(wanted) = drum_of(global, cells) else {
+        return false;
+    };
+    match read_examined(global, text) {
+        Ok(drum) => same_words(&drum, &wanted),
+        Err(_) => false,
+    }
+}
+
+/// Texts, and the words of the drums that are read from them.
+const READ: [(&[u8], &[Cell]); 7] = [
+    (DEPOSITS, &CELLS),
+    (
+        b"0000:\t01234566\n0001:\t00000002\n0150:\t89FGJKQQ\n6363:\tWWWWWWWQ\n",
+        &CELLS,
+    ),
+    (b"", &[]),
+    (b"0000:\t00000000\n0001:\t00000002\n", &[(1, 2)]),
+    (b"0001:\t00000002", &[(1, 2)]),
+    (
+        b"0001:\t00000002\r\nd -lt 0063 0000000F\r\n",
+        &[(1, 2), (63, 10)],
+    ),
+    (
+        b"d -lt 0001 fGjKqW00\n0100:\tfGjKqW00\n",
+        &[(1, 0xabcd_ef00), (64, 0xabcd_ef00)],
+    ),
+];
+
+/// The place of the first text that is read otherwise, or how many there are.
+fn first_read_otherwise(global: Global) -> usize {
+    let mut place = 0usize;
+    for (text, cells) in READ {
+        if !is_read_as(global, text, cells) {
+            return place;
+        }
+        place = place.saturating_add(1);
+    }
+    place
 }
 
 #[test]
 fn deposits_and_shown_words_are_read(rt: HostRuntime) {
-    for (text, cells) in [
-        (DEPOSITS, CELLS.as_slice()),
-        (
-            b"0000:\t01234566\n0001:\t00000002\n0150:\t89FGJKQQ\n6363:\tWWWWWWWQ\n",
-            &CELLS,
-        ),
-        (b"", &[]),
-        (b"0000:\t00000000\n0001:\t00000002\n", &[(1, 2)]),
-        (b"0001:\t00000002", &[(1, 2)]),
-        (
-            b"0001:\t00000002\r\nd -lt 0063 0000000F\r\n",
-            &[(1, 2), (63, 10)],
-        ),
-        (
-            b"d -lt 0001 fGjKqW00\n0100:\tfGjKqW00\n",
-            &[(1, 0xabcd_ef00), (64, 0xabcd_ef00)],
-        ),
-    ] {
-        let length = text.len();
-        assert_eq!(rt; is_read_as(rt.alloc(), text, cells), Some(true), "{length}");
-    }
+    expect_eq(&rt, first_read_otherwise(rt.alloc()), READ.len());
 }
 
 /// Texts with a fault, and that fault.
@@ -170,47 +192,61 @@ const FAULTY: [(&[u8], ExaminedFault); 23] = [
     ),
 ];
 
+/// The place of the first text with another fault, or how many there are.
+fn first_other_fault(global: Global) -> usize {
+    let mut place = 0usize;
+    for (text, fault) in FAULTY {
+        if fault_of(global, text) != Some(fault) {
+            return place;
+        }
+        place = place.saturating_add(1);
+    }
+    place
+}
+
 #[test]
 fn faulty_texts_are_refused(rt: HostRuntime) {
-    for (place, (text, fault)) in FAULTY.iter().enumerate() {
-        assert_eq!(rt; fault_of(rt.alloc(), text), Some(*fault), "{place}");
-    }
+    expect_eq(&rt, first_other_fault(rt.alloc()), FAULTY.len());
 }
 
 /// A drum without a word of zeros: at the address of number n the word 2 * (n + 1).
-pub fn full_drum<A: Allocator + Copy>(alloc: A) -> Option<Drum<A>> {
-    let mut drum = Drum::new(alloc).ok()?;
+pub fn full_drum(global: Global) -> Option<Drum> {
+    let mut drum = Drum::new(global).ok()?;
     for number in 0..4096 {
-        if !put(&mut drum, (number, 2 * u32::from(number) + 2)) {
-            return None;
-        }
+        let _ = put(&mut drum, (number, 2 * u32::from(number) + 2));
     }
     Some(drum)
 }
 
-/// How many bytes the deposits of a full drum have, and whether they are read back.
+/// How many bytes a text has, and whether it is read as these words.
+fn read_back(global: Global, text: &[u8], drum: &Drum) -> Option<(usize, bool)> {
+    match read_examined(global, text) {
+        Ok(read) => Some((text.len(), same_words(drum, &read))),
+        Err(_) => None,
+    }
+}
+
+/// The same of the deposits of a full drum.
 fn full_read_back(global: Global) -> Option<(usize, bool)> {
     let drum = full_drum(global)?;
-    let text = deposits_of(global, &drum).ok()?;
-    let read = read_examined(global, text.as_slice()).ok()?;
-    Some((text.len(), same_words(&drum, &read)))
+    match deposits_of(global, &drum) {
+        Ok(text) => read_back(global, text.as_slice(), &drum),
+        Err(_) => None,
+    }
 }
 
 #[test]
 fn a_full_drum_is_read_back(rt: HostRuntime) {
-    assert_eq!(rt; full_read_back(rt.alloc()), Some((4096 * 20, true)));
+    expect_eq(&rt, full_read_back(rt.alloc()), Some((4096 * 20, true)));
 }
 
 /// The fault of 100,000 lines after which one is bad.
 fn many_lines(global: Global) -> Option<ExaminedFault> {
-    let mut text = Vec::new(global);
-    for _ in 0..100_000 {
-        text.extend_from_slice(b"0000:\t00000000\n").ok()?;
-    }
+    let text = text_of(global, &[(b"0000:\t00000000\n", 100_000)])?;
     fault_of(global, text.as_slice())
 }
 
 #[test]
 fn a_long_text_is_refused_at_its_second_line(rt: HostRuntime) {
-    assert_eq!(rt; many_lines(rt.alloc()), Some(ExaminedFault::Order(2)));
+    expect_eq(&rt, many_lines(rt.alloc()), Some(ExaminedFault::Order(2)));
 }

@@ -2,6 +2,7 @@
 
 use super::tapes::codes_of;
 use super::*;
+use crate::text_of;
 
 /// Whether the codes of these numbers are shown as this text.
 fn is_shown_as(global: Global, numbers: &[u8], text: &[u8]) -> bool {
@@ -45,60 +46,58 @@ const PAPERS: [(&[u8], &[u8]); 24] = [
     (&[8, 2, 20, 57, 5], b"AB"),
 ];
 
+/// The place of the first codes that are shown otherwise, or how many rows there are.
+fn first_shown_otherwise(global: Global) -> usize {
+    let mut place = 0usize;
+    for (numbers, text) in PAPERS {
+        if !is_shown_as(global, numbers, text) {
+            return place;
+        }
+        place = place.saturating_add(1);
+    }
+    place
+}
+
 #[test]
 fn codes_are_shown(rt: HostRuntime) {
-    for (place, (numbers, text)) in PAPERS.iter().enumerate() {
-        assert!(rt; is_shown_as(rt.alloc(), numbers, text), "{place}");
-    }
+    expect_eq(&rt, first_shown_otherwise(rt.alloc()), PAPERS.len());
 }
 
-/// What a text has once the paper of these codes is appended.
-fn appended(global: Global, before: &[u8], numbers: &[u8]) -> Option<Vec<u8>> {
-    let codes = codes_of(global, numbers)?;
-    let mut text = Vec::new(global);
-    text.extend_from_slice(before).ok()?;
-    push_paper(global, &mut text, codes.as_slice()).ok()?;
-    Some(text)
-}
-
-/// Whether the paper comes after what the text had.
-fn is_appended(global: Global) -> bool {
-    match appended(global, b"first\n", &[24, 57, 16]) {
-        Some(text) => text.as_slice() == b"first\n        a\n".as_slice(),
-        None => false,
-    }
+/// Whether the paper of codes comes after what a text had.
+fn is_appended(global: Global) -> Option<bool> {
+    let codes = codes_of(global, &[24, 57, 16])?;
+    let mut text = text_of(global, &[(b"first\n", 1)])?;
+    let is_done = push_paper(global, &mut text, codes.as_slice()).is_ok();
+    Some(is_done && text.as_slice() == b"first\n        a\n".as_slice())
 }
 
 #[test]
 fn paper_comes_after_the_text(rt: HostRuntime) {
-    assert!(rt; is_appended(rt.alloc()));
+    expect_eq(&rt, is_appended(rt.alloc()), Some(true));
 }
 
-/// How long the paper of this many codes of `a` is, of which every hundredth is a carriage return.
-fn long_paper(global: Global, count: usize) -> Option<usize> {
-    let mut numbers = vec![in global; 57; count].ok()?;
-    for (place, number) in numbers.iter_mut().enumerate() {
-        if place % 100 == 99 {
-            *number = 16;
-        }
-    }
+/// How long the paper is of codes, each of which comes a given number of times.
+fn length_of(global: Global, pieces: &[(&[u8], u32)]) -> Option<usize> {
+    let numbers = text_of(global, pieces)?;
     let codes = codes_of(global, numbers.as_slice())?;
-    Some(paper_of(global, codes.as_slice()).ok()?.len())
+    match paper_of(global, codes.as_slice()) {
+        Ok(text) => Some(text.len()),
+        Err(_) => None,
+    }
 }
 
+/// Of a million codes of `a` every hundredth is a carriage return.
 #[test]
 fn a_long_paper(rt: HostRuntime) {
-    assert_eq!(rt; long_paper(rt.alloc(), 1_000_000), Some(1_000_000));
+    let mut row = [57; 100];
+    row[99] = 16;
+    let length = length_of(rt.alloc(), &[(&row, 10_000)]);
+    expect_eq(&rt, length, Some(1_000_000));
 }
 
-/// How long the paper of this many tabs and a sign is.
-fn wide_paper(global: Global, count: usize) -> Option<usize> {
-    let mut codes = vec![in global; Code::new(24)?; count].ok()?;
-    codes.push(Code::new(57)?).ok()?;
-    Some(paper_of(global, codes.as_slice()).ok()?.len())
-}
-
+/// Ten thousand tabs and a sign.
 #[test]
 fn a_wide_paper(rt: HostRuntime) {
-    assert_eq!(rt; wide_paper(rt.alloc(), 10_000), Some(80_001));
+    let length = length_of(rt.alloc(), &[(&[24], 10_000), (&[57], 1)]);
+    expect_eq(&rt, length, Some(80_001));
 }

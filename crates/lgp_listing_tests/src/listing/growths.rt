@@ -36,16 +36,26 @@ fn end_where(same: bool) -> End {
     if same { End::Same } else { End::Otherwise }
 }
 
+/// Whether faults are those of a listing with ample memory.
+fn same_faults(found: &[Fault], ample: &Ample) -> bool {
+    match ample {
+        Err(AssembleError::Faults(wanted)) => found == wanted.faults(),
+        _ => false,
+    }
+}
+
+/// Whether a text is that of a listing with ample memory.
+fn same_text(found: &[u8], ample: &Ample) -> bool {
+    match ample {
+        Ok(wanted) => found == wanted.as_slice(),
+        Err(_) => false,
+    }
+}
+
 fn listing_end<A: Allocator + Copy>(alloc: A, source: &[u8], ample: &Ample) -> End {
     match listing(alloc, source) {
-        Ok(text) => match ample {
-            Ok(wanted) => end_where(text.as_slice() == wanted.as_slice()),
-            Err(_) => End::Otherwise,
-        },
-        Err(AssembleError::Faults(list)) => match ample {
-            Err(AssembleError::Faults(wanted)) => end_where(list.faults() == wanted.faults()),
-            _ => End::Otherwise,
-        },
+        Ok(text) => end_where(same_text(text.as_slice(), ample)),
+        Err(AssembleError::Faults(list)) => end_where(same_faults(list.faults(), ample)),
         Err(AssembleError::Memory) => End::Refused,
     }
 }
@@ -120,65 +130,84 @@ const SOURCES: [(&[u8], u64); 4] = [
     (b"", 2),
 ];
 
-/// Whether the listing of each source has a given number of growths.
-fn all_sources<B: Allocator>(limited: &Limited<B>, global: Global) -> [bool; 4] {
-    SOURCES.map(|(source, least)| growths_of_listing(limited, global, source) >= Some(least))
+/// The place of the first source whose listing has fewer growths, or how many sources there are.
+fn first_with_fewer<B: Allocator>(limited: &Limited<B>, global: Global) -> usize {
+    let mut place = 0usize;
+    for (source, least) in &SOURCES {
+        if growths_of_listing(limited, global, source) < Some(*least) {
+            return place;
+        }
+        place = place.saturating_add(1);
+    }
+    place
+}
+
+/// The same over a heap of its own, and how many bytes are used there at last.
+fn fewer_over_heap(global: Global) -> Option<(usize, usize)> {
+    let heap = LocalHeap::new(global, 65536).ok()?;
+    let found = first_with_fewer(&Limited::new(&heap), global);
+    Some((found, heap.used()))
 }
 
 #[test]
-fn each_growth_of_a_listing_is_refused(rt: HostRuntime) -> Result<(), Fail> {
-    let heap = LocalHeap::new(rt.alloc(), 65536)?;
-    let limited = Limited::new(&heap);
-    let found = all_sources(&limited, rt.alloc());
-    assert_eq!(rt; (found, heap.used()), ([true; 4], 0));
-    Ok(())
+fn each_growth_of_a_listing_is_refused(rt: HostRuntime) {
+    let found = fewer_over_heap(rt.alloc());
+    expect_eq(&rt, found, Some((SOURCES.len(), 0)));
 }
 
-/// How many growths the dump of a drum has, and its reading.
+/// Whether the dump of a drum has growths, and whether its reading has.
 fn growths_of_dump<B: Allocator>(
     limited: &Limited<B>,
     global: Global,
     drum: &Drum,
-) -> Result<[Option<u64>; 2], AllocError> {
-    let text = dump(global, drum)?;
-    Ok([
-        growths(limited, Call::Dump(drum, &text)),
-        growths(limited, Call::Read(&text, drum)),
-    ])
+) -> Option<[bool; 2]> {
+    match dump(global, drum) {
+        Ok(text) => Some([
+            growths(limited, Call::Dump(drum, &text)) >= Some(1),
+            growths(limited, Call::Read(&text, drum)) >= Some(1),
+        ]),
+        Err(_) => None,
+    }
 }
 
 /// A drum with a hundred words.
-fn drum_of_hundred(alloc: Global) -> Result<Drum, AllocError> {
-    let mut drum = Drum::new(alloc)?;
+fn drum_of_hundred(alloc: Global) -> Option<Drum> {
+    let mut drum = Drum::new(alloc).ok()?;
     for number in 0..100 {
         let place = Address::new(40 * number).unwrap_or_default();
         drum.put(place, Word::of_bits(4 * u32::from(number) + 4));
     }
-    Ok(drum)
+    Some(drum)
+}
+
+/// The same of such a drum over a heap of its own, and how many bytes are used there at last.
+fn dump_over_heap(global: Global) -> Option<(Option<[bool; 2]>, usize)> {
+    let drum = drum_of_hundred(global)?;
+    let heap = LocalHeap::new(global, 65536).ok()?;
+    let found = growths_of_dump(&Limited::new(&heap), global, &drum);
+    Some((found, heap.used()))
 }
 
 #[test]
-fn each_growth_of_a_dump_and_its_reading_is_refused(rt: HostRuntime) -> Result<(), Fail> {
-    let heap = LocalHeap::new(rt.alloc(), 65536)?;
-    let drum = drum_of_hundred(rt.alloc())?;
-    let limited = Limited::new(&heap);
-    let found = growths_of_dump(&limited, rt.alloc(), &drum)?;
-    let some = found.map(|growths| growths >= Some(1));
-    assert_eq!(rt; (some, heap.used()), ([true; 2], 0));
-    Ok(())
+fn each_growth_of_a_dump_and_its_reading_is_refused(rt: HostRuntime) {
+    let found = dump_over_heap(rt.alloc());
+    expect_eq(&rt, found, Some((Some([true; 2]), 0)));
 }
 
-/// What is wrong with a text, with the first growth refused; `None` where one is.
-fn fault_without_memory<B: Allocator>(limited: &Limited<B>, text: &[u8]) -> Option<DumpFault> {
-    limited.refuse(1);
-    let fault = fault_of(limited, text);
-    if limited.was_refused() { None } else { fault }
+/// How many texts are reported with their fault where the first growth is refused, and without one.
+fn reported_without_memory<B: Allocator>(limited: &Limited<B>) -> usize {
+    let mut reported = 0usize;
+    for (text, wanted) in NO_DUMPS {
+        limited.refuse(1);
+        if fault_of(limited, text) == Some(*wanted) && !limited.was_refused() {
+            reported = reported.saturating_add(1);
+        }
+    }
+    reported
 }
 
 #[test]
 fn a_faulty_text_is_reported_without_memory(rt: HostRuntime) {
-    let limited = Limited::new(rt.alloc());
-    for (text, wanted) in NO_DUMPS {
-        assert_eq!(rt; fault_without_memory(&limited, text), Some(*wanted));
-    }
+    let reported = reported_without_memory(&Limited::new(rt.alloc()));
+    expect_eq(&rt, reported, NO_DUMPS.len());
 }
