@@ -39,7 +39,7 @@ enum End {
     Otherwise,
 }
 
-/// How lines ended, of which so many were to be refused in all.
+/// How lines ended, of which a given number were to be refused in all.
 #[cfg(test)]
 fn ended(has_refused: bool, answer: Result<u64, StreamFault>, refused: u64) -> End {
     match answer {

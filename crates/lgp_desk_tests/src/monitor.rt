@@ -277,7 +277,7 @@ fn run<A: Allocator + Copy>(
     run_monitor(alloc, &mut feed, &mut sink)
 }
 
-/// Whether this is written for typed lines, and so many replies begin with a question mark.
+/// Whether this is written for typed lines, and a given number of replies begin with a question mark.
 fn is_answered(alloc: Global, typed: &[u8], replies: &[u8], faults: u64) -> bool {
     let mut written = Vec::new(alloc);
     let answer = run(alloc, typed, &mut written);

@@ -57,7 +57,7 @@ fn is_done(answer: Result<u64, LabFault>, number: u64) -> bool {
     }
 }
 
-/// Whether a call answers that a write has failed after so many bytes.
+/// Whether a call answers that a write has failed after n bytes.
 fn is_cut_off(answer: Result<u64, LabFault>, taken: u64) -> bool {
     match answer {
         Err(LabFault::Write(bytes)) => bytes == taken,
@@ -68,7 +68,7 @@ fn is_cut_off(answer: Result<u64, LabFault>, taken: u64) -> bool {
 /// Parts of a text, each with how many times it stands there.
 type Parts<'a> = &'a [(&'a [u8], usize)];
 
-/// Whether a script of these parts has these replies, and so many of them begin with a question mark.
+/// Whether a script of these parts has these replies, and a given number of them begin with a question mark.
 fn is_long_answered(alloc: Global, script: Parts<'_>, replies: &[u8], faults: u64) -> bool {
     match built(alloc, script) {
         Ok(script) => is_answered(alloc, (&script, replies, faults)),

@@ -168,7 +168,7 @@ fn within_a_tape<A: Allocator + Copy>(alloc: A) -> Option<Machine<A>> {
     }
 }
 
-/// How a load ends: after so many orders, refused for memory, or otherwise.
+/// How a load ends: after n orders, refused for memory, or otherwise.
 enum End {
     Loaded(u64),
     Refused,

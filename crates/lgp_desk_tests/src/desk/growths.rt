@@ -17,7 +17,7 @@ const SHARED: &[u8] =
 /// More growths than those lines take.
 const MOST: u64 = 5000;
 
-/// Answers lines, of which so many are refused, with the nth growth refused.
+/// Answers lines, of which a given number are refused, with the nth growth refused.
 fn end_of(
     limited: &Limited<Global>,
     global: Global,

@@ -370,7 +370,7 @@ fn is_taken(alloc: Global, most: usize, calls: usize) -> bool {
     are_so && failing.taken() == FIRST_RUN_REPLIES.get(..taken).unwrap_or_default()
 }
 
-/// After how many calls of a writer that takes at most so many bytes a failure is reported otherwise.
+/// After how many calls of a writer that takes at most n bytes a failure is reported otherwise.
 fn reported_otherwise(alloc: Global, most: usize) -> Option<usize> {
     for calls in 0..FIRST_RUN_REPLIES.len() {
         if !is_taken(alloc, most, calls) {
