@@ -2,9 +2,10 @@
 
 use crate::expect_eq;
 use lgp_flexo::{
-    Code, TAPE_LIMIT, TextFault, code_of, digit_of, enter, read_tape_text, sign_of, skipped,
-    write_tape_text,
+    Code, TAPE_LIMIT, TextFault, code_of, digit_of, enter, read_archive_text, read_tape_text,
+    sign_of, skipped, write_tape_text,
 };
+use lgp_limited::Limited;
 use linked_list_allocator::LocalHeap;
 use std::alloc::{Allocator, Global};
 use std::test::Fail;
@@ -240,9 +241,19 @@ fn reading<A: Allocator>(read: Result<Vec<Code, A>, TextFault>, place: usize) ->
     }
 }
 
-/// How a tape's text is read, and the first code of it.
-fn read<A: Allocator + Copy>(alloc: A, text: &[u8]) -> Reading {
-    reading(read_tape_text(alloc, text), 0)
+/// The form of a text.
+#[derive(Clone, Copy)]
+enum Form {
+    Tape,
+    Archive,
+}
+
+/// How a text of a form is read, and the code of it at a place.
+fn read<A: Allocator + Copy>(alloc: A, form: Form, text: &[u8], place: usize) -> Reading {
+    match form {
+        Form::Tape => reading(read_tape_text(alloc, text), place),
+        Form::Archive => reading(read_archive_text(alloc, text), place),
+    }
 }
 
 /// Whether codes have these numbers.
@@ -325,10 +336,10 @@ const BAD_TEXTS: [(&[u8], usize); 8] = [
     (b"\n[03]]", 5),
 ];
 
-/// How the first of these texts is read that is not refused at its place.
-fn first_not_refused(global: Global) -> Option<Reading> {
-    for (text, place) in &BAD_TEXTS {
-        let reading = read(global, text);
+/// How the first of such texts is read that is not refused at its place.
+fn first_not_refused(global: Global, form: Form, texts: &[(&[u8], usize)]) -> Option<Reading> {
+    for (text, place) in texts {
+        let reading = read(global, form, text, 0);
         if reading != bad(*place) {
             return Some(reading);
         }
@@ -338,7 +349,11 @@ fn first_not_refused(global: Global) -> Option<Reading> {
 
 #[test]
 fn bad_texts_are_refused(rt: HostRuntime) {
-    expect_eq(&rt, first_not_refused(rt.alloc()), None);
+    let refused = [
+        first_not_refused(rt.alloc(), Form::Tape, &BAD_TEXTS),
+        first_not_refused(rt.alloc(), Form::Archive, &archives::BAD_TEXTS),
+    ];
+    expect_eq(&rt, refused, [None; 2]);
 }
 
 /// Whether a tape's text is read as these codes.
@@ -374,19 +389,35 @@ fn the_longest_tape_is_written_and_read(rt: HostRuntime) {
     );
 }
 
-/// How a text of a given number of codes is read; `None` without memory for the text.
-fn read_long(global: Global, count: usize) -> Option<Reading> {
-    let text = vec![in global; b'a'; count].ok()?;
-    Some(read(global, text.as_slice()))
+/// How a text of a given number of signs is read, with others after them; `None` without memory for the text.
+fn read_many(
+    global: Global,
+    form: Form,
+    (sign, count): (u8, usize),
+    others: &[u8],
+) -> Option<Reading> {
+    let mut text = vec![in global; sign; count].ok()?;
+    text.extend_from_slice(others).ok()?;
+    Some(read(global, form, text.as_slice(), 0))
 }
 
 #[test]
 fn one_code_too_many_is_refused(rt: HostRuntime) {
-    expect_eq(&rt, read_long(rt.alloc(), TAPE_LIMIT + 1), Some(TOO_LONG));
+    let alloc = rt.alloc();
+    let read = [
+        read_many(alloc, Form::Tape, (b'a', TAPE_LIMIT + 1), b""),
+        read_many(alloc, Form::Archive, (b'\r', TAPE_LIMIT), b"\n\n"),
+        read_many(alloc, Form::Archive, (b'\r', TAPE_LIMIT + 1), b""),
+    ];
+    let longest = Some(Ok((TAPE_LIMIT, Some(16))));
+    expect_eq(&rt, read, [Some(TOO_LONG), longest, Some(TOO_LONG)]);
 }
 
-/// The number of the code that a byte alone stands for in a tape's text, where it stands for one.
-fn code_of_byte(byte: u8) -> Option<u8> {
+/// The number of the code that a byte alone stands for in a text, where it stands for one.
+fn code_of_byte(form: Form, byte: u8) -> Option<u8> {
+    if matches!(form, Form::Archive) {
+        return archives::number_of(byte);
+    }
     if byte == b'l' {
         return Some(6);
     }
@@ -399,11 +430,11 @@ fn code_of_byte(byte: u8) -> Option<u8> {
 }
 
 /// Whether a byte at one of three places of a text is read as the table says.
-fn is_read_right(global: Global, byte: u8, place: usize) -> bool {
+fn is_read_right(global: Global, form: Form, byte: u8, place: usize) -> bool {
     let mut text = *b"aaa";
     text[place % 3] = byte;
-    let read = reading(read_tape_text(global, &text), place % 3);
-    match code_of_byte(byte) {
+    let read = read(global, form, &text, place % 3);
+    match code_of_byte(form, byte) {
         Some(number) => read == Ok((3, Some(number))),
         None if matches!(byte, b'\n' | b'\r') => matches!(read, Ok((2, _))),
         None => read == bad(place % 3),
@@ -411,11 +442,11 @@ fn is_read_right(global: Global, byte: u8, place: usize) -> bool {
 }
 
 /// The first byte that is not.
-fn first_misread(global: Global) -> Option<u8> {
+fn first_misread(global: Global, form: Form) -> Option<u8> {
     for byte in 0..=255u8 {
-        if !(is_read_right(global, byte, 0)
-            && is_read_right(global, byte, 1)
-            && is_read_right(global, byte, 2))
+        if !(is_read_right(global, form, byte, 0)
+            && is_read_right(global, form, byte, 1)
+            && is_read_right(global, form, byte, 2))
         {
             return Some(byte);
         }
@@ -425,19 +456,26 @@ fn first_misread(global: Global) -> Option<u8> {
 
 #[test]
 fn each_byte_anywhere_in_a_text(rt: HostRuntime) {
-    expect_eq(&rt, first_misread(rt.alloc()), None);
+    let misread = [
+        first_misread(rt.alloc(), Form::Tape),
+        first_misread(rt.alloc(), Form::Archive),
+    ];
+    expect_eq(&rt, misread, [None; 2]);
 }
 
-/// How a text of five codes is read, and whether these codes can be written.
-fn read_and_written(heap: &LocalHeap, codes: &[Code]) -> (Reading, bool) {
-    (
-        read(heap, b"12[16]3'"),
-        write_tape_text(heap, codes).is_ok(),
-    )
+/// How a text of five codes is read in each form, and whether these codes can be written.
+type Done = ([Reading; 2], bool);
+
+fn read_and_written(heap: &LocalHeap, codes: &[Code]) -> Done {
+    let read = [
+        read(heap, Form::Tape, b"12[16]3'", 0),
+        read(heap, Form::Archive, b"12\r3'", 0),
+    ];
+    (read, write_tape_text(heap, codes).is_ok())
 }
 
 /// The same where the heap has so much room.
-fn within_room(heap: &LocalHeap, room: usize, codes: &[Code]) -> Option<(Reading, bool)> {
+fn within_room(heap: &LocalHeap, room: usize, codes: &[Code]) -> Option<Done> {
     let filler: Vec<u8, &LocalHeap> = Vec::with_capacity(
         heap,
         heap.free().saturating_sub(room),
@@ -458,7 +496,7 @@ fn first_leak(heap: &LocalHeap, codes: &[Code]) -> Option<usize> {
 }
 
 /// What is read and written without room and with enough, and the first leak between.
-fn growths(heap: &LocalHeap, codes: &[Code]) -> ([Option<(Reading, bool)>; 2], Option<usize>) {
+fn growths(heap: &LocalHeap, codes: &[Code]) -> ([Option<Done>; 2], Option<usize>) {
     let refused = within_room(heap, 0, codes);
     let leak = first_leak(heap, codes);
     ([refused, within_room(heap, 512, codes)], leak)
@@ -468,23 +506,25 @@ fn growths(heap: &LocalHeap, codes: &[Code]) -> ([Option<(Reading, bool)>; 2], O
 fn each_growth_may_be_refused(rt: HostRuntime) -> Result<(), Fail> {
     let heap = LocalHeap::new(rt.alloc(), 1024)?;
     let grown = growths(&heap, &five_codes());
-    let done = Some((Ok((5, Some(6))), true));
-    expect_eq(&rt, grown, ([Some((NO_MEMORY, false)), done], None));
+    let refused = Some(([NO_MEMORY; 2], false));
+    let done = Some(([Ok((5, Some(6))); 2], true));
+    expect_eq(&rt, grown, ([refused, done], None));
     Ok(())
 }
 
-/// How a bad text is read where the heap has no room.
-fn bad_without_room(heap: &LocalHeap) -> Option<Reading> {
-    let filler: Vec<u8, &LocalHeap> = Vec::with_capacity(heap, 1024).ok()?;
-    let reading = read(heap, b"1A");
-    drop(filler);
-    Some(reading)
+/// How a text is read where the first growth is refused, and how many blocks are out then.
+fn refused(global: Global, form: Form, text: &[u8]) -> (Reading, u64) {
+    let limited = Limited::new(global);
+    limited.refuse(1);
+    (read(&limited, form, text, 0), limited.blocks_out())
 }
 
 #[test]
-fn a_bad_sign_is_reported_without_room(rt: HostRuntime) -> Result<(), Fail> {
-    let heap = LocalHeap::new(rt.alloc(), 1024)?;
-    let reading = bad_without_room(&heap);
-    expect_eq(&rt, reading, Some(bad(1)));
-    Ok(())
+fn a_bad_sign_is_reported_without_memory(rt: HostRuntime) {
+    let reported = [
+        refused(rt.alloc(), Form::Tape, b"1A"),
+        refused(rt.alloc(), Form::Archive, b"1<"),
+        refused(rt.alloc(), Form::Archive, b"1"),
+    ];
+    expect_eq(&rt, reported, [(bad(1), 0), (bad(1), 0), (NO_MEMORY, 0)]);
 }

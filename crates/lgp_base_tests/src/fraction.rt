@@ -14,66 +14,56 @@ fn left(arith: Arith) -> ([u8; 8], bool) {
     (write_bits(arith.accumulator), arith.overflow)
 }
 
+/// Sums wrap; products and quotients are those of fractions.
 #[test]
-fn sums_wrap(rt: HostRuntime) {
+fn sums_products_and_quotients(rt: HostRuntime) {
+    let sums = [
+        left(add(6, word(b"0000000f"))),
+        left(add(0x7fff_fffe, word(b"00000002"))),
+        left(add(0x8000_0000, word(b"wwwwwwwq"))),
+        left(sub(6, word(b"0000000f"))),
+        left(sub(0, word(b"80000000"))),
+    ];
+    let products = [
+        left(mul_high(0x8000_0000, word(b"80000000"))),
+        left(mul_low(0x8000_0000, word(b"80000000"))),
+        left(mul_high(6, word(b"0000000f"))),
+        left(mul_low(6, word(b"0000000f"))),
+        left(mul_high(0xffff_fffe, word(b"00000002"))),
+        left(mul_high(0x4000_0000, word(b"j0000000"))),
+    ];
+    let quotients = [
+        left(div(6, word(b"00000000"))),
+        left(div(2, word(b"00000006"))),
+        left(div(6, word(b"00000006"))),
+        left(div(4, word(b"wwwwwwwf"))),
+    ];
     expect_eq(
         &rt,
-        [
-            left(add(6, word(b"0000000f"))),
-            left(add(0x7fff_fffe, word(b"00000002"))),
-            left(add(0x8000_0000, word(b"wwwwwwwq"))),
-            left(sub(6, word(b"0000000f"))),
-            left(sub(0, word(b"80000000"))),
-        ],
-        [
-            (*b"00000010", false),
-            (*b"80000000", true),
-            (*b"7wwwwwwq", true),
-            (*b"wwwwwwwj", false),
-            (*b"80000000", true),
-        ],
-    );
-}
-
-#[test]
-fn products_are_those_of_fractions(rt: HostRuntime) {
-    expect_eq(
-        &rt,
-        [
-            left(mul_high(0x8000_0000, word(b"80000000"))),
-            left(mul_low(0x8000_0000, word(b"80000000"))),
-            left(mul_high(6, word(b"0000000f"))),
-            left(mul_low(6, word(b"0000000f"))),
-            left(mul_high(0xffff_fffe, word(b"00000002"))),
-            left(mul_high(0x4000_0000, word(b"j0000000"))),
-        ],
-        [
-            (*b"80000000", true),
-            (*b"00000000", false),
-            (*b"00000000", false),
-            (*b"0000003j", false),
-            (*b"wwwwwwwq", false),
-            (*b"q0000000", false),
-        ],
-    );
-}
-
-#[test]
-fn quotients_are_those_of_fractions(rt: HostRuntime) {
-    expect_eq(
-        &rt,
-        [
-            left(div(6, word(b"00000000"))),
-            left(div(2, word(b"00000006"))),
-            left(div(6, word(b"00000006"))),
-            left(div(4, word(b"wwwwwwwf"))),
-        ],
-        [
-            (*b"00000006", true),
-            (*b"2fffffff", false),
-            (*b"00000006", true),
-            (*b"ffffffff", false),
-        ],
+        (sums, products, quotients),
+        (
+            [
+                (*b"00000010", false),
+                (*b"80000000", true),
+                (*b"7wwwwwwq", true),
+                (*b"wwwwwwwj", false),
+                (*b"80000000", true),
+            ],
+            [
+                (*b"80000000", true),
+                (*b"00000000", false),
+                (*b"00000000", false),
+                (*b"0000003j", false),
+                (*b"wwwwwwwq", false),
+                (*b"q0000000", false),
+            ],
+            [
+                (*b"00000006", true),
+                (*b"2fffffff", false),
+                (*b"00000006", true),
+                (*b"ffffffff", false),
+            ],
+        ),
     );
 }
 

@@ -26,22 +26,6 @@ fn met_of_three(region: &Region, bytes: usize) -> usize {
     if is_met(region, bytes) { 3 } else { 2 }
 }
 
-/// What a region of 144 bytes has for three requests of one size, for sizes around 16 and 32. Each block has 32 bytes beside it.
-fn around_the_sizes<A: Allocator>(alloc: &A) -> Result<[usize; 6], AllocError> {
-    let mut met = [0; 6];
-    for (place, bytes) in met.iter_mut().zip([1, 16, 17, 32, 33, 113]) {
-        *place = met_of_three(&region_of(alloc, 144)?, bytes);
-    }
-    Ok(met)
-}
-
-#[test]
-fn a_block_is_16_bytes_or_twice_or_four_times_as_many(rt: HostRuntime) -> Result<(), Fail> {
-    let met = around_the_sizes(&rt.alloc())?;
-    expect_eq(&rt, met, [3, 3, 2, 2, 1, 0]);
-    Ok(())
-}
-
 /// How many of 1,000 requests are met, each freed before the next.
 fn met_one_by_one(region: &Region, bytes: usize) -> usize {
     let mut met = 0_usize;
@@ -53,27 +37,14 @@ fn met_one_by_one(region: &Region, bytes: usize) -> usize {
     met
 }
 
-#[test]
-fn what_is_freed_serves_the_next_request_of_its_size(rt: HostRuntime) -> Result<(), Fail> {
-    let region = region_of(&rt.alloc(), 96)?;
-    expect_eq(&rt, met_one_by_one(&region, 60), 1_000);
-    Ok(())
-}
-
-/// Whether a request is met after one of another size that was freed, which took all memory.
-fn met_after(region: &Region, first: usize, second: usize) -> [bool; 3] {
-    [
-        is_met(region, first),
-        is_met(region, second),
-        is_met(region, first),
-    ]
-}
-
-#[test]
-fn a_freed_block_serves_no_other_size(rt: HostRuntime) -> Result<(), Fail> {
-    let region = region_of(&rt.alloc(), 96)?;
-    expect_eq(&rt, met_after(&region, 64, 32), [true, false, true]);
-    Ok(())
+/// How many of three requests are met, each freed before the next: for a number of bytes that takes all memory, for another one, and
+/// for the first again; or 0 where they are not the first and the last.
+fn met_after(region: &Region, first: usize, second: usize) -> usize {
+    if is_met(region, first) && !is_met(region, second) && is_met(region, first) {
+        2
+    } else {
+        0
+    }
 }
 
 /// Takes blocks of 16 bytes up to a given number at the same time. How many it got.
@@ -87,40 +58,76 @@ fn at_once(region: &Region, most: usize) -> usize {
     at_once(region, most - 1).saturating_add(1)
 }
 
-/// How many blocks of 16 bytes a region that has memory for 1,000 of them gives out at the same time: at first, when all were freed,
-/// and when all were freed again.
-fn a_thousand_at_once(region: &Region) -> [usize; 3] {
-    [
-        at_once(region, 2_000),
-        at_once(region, 2_000),
-        at_once(region, 2_000),
-    ]
+/// How many blocks of 16 bytes a region gives out at the same time, up to a given number, when all were freed, and when all were
+/// freed again; or 0 where that changes.
+fn at_once_again(region: &Region, most: usize) -> usize {
+    let first = at_once(region, most);
+    if at_once(region, most) == first && at_once(region, most) == first {
+        first
+    } else {
+        0
+    }
+}
+
+/// What is asked of a region.
+#[derive(Clone, Copy)]
+enum Asked {
+    /// Three requests for a number of bytes.
+    Three(usize),
+    /// A thousand requests for a number of bytes, one by one.
+    OneByOne(usize),
+    /// A request for a number of bytes, one for another number, and one for the first again.
+    After(usize, usize),
+    /// Blocks of 16 bytes, thrice as many as can be up to a number.
+    AtOnce(usize),
+}
+
+/// How many of these a new region of a given size meets; `None` without memory for it.
+fn met<A: Allocator>(alloc: &A, size: usize, asked: &Asked) -> Option<usize> {
+    let region = region_of(alloc, size).ok()?;
+    Some(match asked {
+        Asked::Three(bytes) => met_of_three(&region, *bytes),
+        Asked::OneByOne(bytes) => met_one_by_one(&region, *bytes),
+        Asked::After(first, second) => met_after(&region, *first, *second),
+        Asked::AtOnce(most) => at_once_again(&region, *most),
+    })
+}
+
+/// Sizes of regions, what is asked of each, and how many are met. A block has 16 bytes, or twice or four times as many, and so on, and
+/// 32 bytes beside them: so three requests of a size differ around 16 and 32. What is freed serves the next request of its size, and of
+/// no other. A region that has memory for a thousand blocks gives a thousand out; bytes beyond a multiple of 16 are not used; of no
+/// memory nothing is given.
+const ASKED: [(usize, Asked, usize); 13] = [
+    (144, Asked::Three(1), 3),
+    (144, Asked::Three(16), 3),
+    (144, Asked::Three(17), 2),
+    (144, Asked::Three(32), 2),
+    (144, Asked::Three(33), 1),
+    (144, Asked::Three(113), 0),
+    (96, Asked::OneByOne(60), 1_000),
+    (96, Asked::After(64, 32), 2),
+    (48_000, Asked::AtOnce(2_000), 1_000),
+    (111, Asked::AtOnce(5), 2),
+    (48, Asked::AtOnce(1), 1),
+    (48, Asked::Three(17), 0),
+    (48, Asked::Three(1 << 40), 0),
+];
+
+/// The place of the first row of which another number is met, or how many rows there are.
+fn first_met_otherwise<A: Allocator>(alloc: &A) -> usize {
+    let mut place = 0usize;
+    for (size, asked, wanted) in &ASKED {
+        if met(alloc, *size, asked) != Some(*wanted) {
+            return place;
+        }
+        place = place.saturating_add(1);
+    }
+    place
 }
 
 #[test]
-fn every_freed_block_is_kept(rt: HostRuntime) -> Result<(), Fail> {
-    let region = region_of(&rt.alloc(), 48_000)?;
-    expect_eq(&rt, a_thousand_at_once(&region), [1_000; 3]);
-    Ok(())
-}
-
-#[test]
-fn bytes_beyond_a_multiple_of_16_are_not_used(rt: HostRuntime) -> Result<(), Fail> {
-    let region = region_of(&rt.alloc(), 111)?;
-    expect_eq(&rt, at_once(&region, 5), 2);
-    Ok(())
-}
-
-#[test]
-fn of_no_memory_nothing_is_given(rt: HostRuntime) -> Result<(), Fail> {
-    let region = region_of(&rt.alloc(), 48)?;
-    let all = at_once(&region, 1);
-    expect_eq(
-        &rt,
-        (all, is_met(&region, 17), is_met(&region, 1 << 40)),
-        (1, false, false),
-    );
-    Ok(())
+fn requests_are_met_by_their_sizes(rt: HostRuntime) {
+    expect_eq(&rt, first_met_otherwise(&rt.alloc()), ASKED.len());
 }
 
 /// Two vectors that grow in turn to 100 numbers each: whether each has its own numbers then.

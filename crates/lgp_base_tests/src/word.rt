@@ -214,29 +214,6 @@ fn plain_word(op: Op, number: u16) -> Option<u32> {
     Some(plain_order(op, Address::new(number)?).get())
 }
 
-#[test]
-fn orders_without_a_minus_have_words(rt: HostRuntime) {
-    expect_eq(
-        &rt,
-        [
-            plain_word(Op::Z, 0),
-            plain_word(Op::B, 50),
-            plain_word(Op::H, 64),
-            plain_word(Op::T, 4040),
-            plain_word(Op::S, 4095),
-            plain_word(Op::B, 4096),
-        ],
-        [
-            bits(b"00000000"),
-            bits(b"000100j8"),
-            bits(b"000j0100"),
-            bits(b"000g3w20"),
-            bits(b"000w3wwj"),
-            None,
-        ],
-    );
-}
-
 /// The orders by their letters.
 const BY_LETTER: [(u8, Op); 16] = [
     (b'z', Op::Z),
@@ -295,15 +272,31 @@ fn replaced(digits: &[u8], text: &[u8]) -> Option<u32> {
 }
 
 #[test]
-fn address_parts_are_replaced(rt: HostRuntime) {
+fn words_of_orders_without_a_minus_and_with_other_addresses(rt: HostRuntime) {
     expect_eq(
         &rt,
         [
+            plain_word(Op::Z, 0),
+            plain_word(Op::B, 50),
+            plain_word(Op::H, 64),
+            plain_word(Op::T, 4040),
+            plain_word(Op::S, 4095),
+            plain_word(Op::B, 4096),
             replaced(b"00010000", b"0100"),
             replaced(b"000f0000", b"0102"),
             replaced(b"wwwwwwwq", b"0000"),
         ],
-        [bits(b"00010100"), bits(b"000f0108"), bits(b"wwwwj002")],
+        [
+            bits(b"00000000"),
+            bits(b"000100j8"),
+            bits(b"000j0100"),
+            bits(b"000g3w20"),
+            bits(b"000w3wwj"),
+            None,
+            bits(b"00010100"),
+            bits(b"000f0108"),
+            bits(b"wwwwj002"),
+        ],
     );
 }
 

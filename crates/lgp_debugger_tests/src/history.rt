@@ -38,6 +38,13 @@ pub fn checkpoints<A: Allocator + Clone>(
     Checkpoints::new(alloc, capacity.clamp(1, CAPACITY_LIMIT))
 }
 
+/// A kind of history.
+#[derive(Clone, Copy)]
+pub enum Kind {
+    Records,
+    Checkpoints,
+}
+
 /// A machine at a boundary and a history of it. Nothing is said of it but that its calls can be made.
 #[derive(Drop)]
 struct Session<A: Allocator, H: History<A>> {

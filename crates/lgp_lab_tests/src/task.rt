@@ -100,41 +100,25 @@ fn is_refused<A: Allocator + Copy>(global: Global, alloc: A, typed: &[&str]) -> 
     is_reported(global, alloc, typed, Reported::Memory, "")
 }
 
-#[test]
-fn no_word_runs_standard_input(rt: HostRuntime) {
-    let is_read = is_read_as(rt.alloc(), rt.alloc(), &[], ("", "", 0));
-    expect_eq(&rt, is_read, true);
-}
-
 /// Whether the words are the task of a command with this file and this limit.
 fn reads(global: Global, typed: &[&str], wanted: (&str, &str, u64)) -> bool {
     is_read_as(global, global, typed, wanted)
 }
 
 #[test]
-fn a_command_takes_its_file(rt: HostRuntime) {
-    let are_read = [
-        reads(rt.alloc(), &["asm", "sum.src"], ("asm", "sum.src", 0)),
-        reads(rt.alloc(), &["tape", "sum.src"], ("tape", "sum.src", 0)),
-        reads(rt.alloc(), &["script", "a b"], ("script", "a b", 0)),
-    ];
-    expect_eq(&rt, are_read, [true; 3]);
-}
-
-#[test]
-fn a_run_takes_its_limit(rt: HostRuntime) {
+fn commands_take_their_files_and_limits(rt: HostRuntime) {
+    let alloc = rt.alloc();
     let last = ("run", "sum.src", 4_294_967_295);
     let are_read = [
-        reads(rt.alloc(), &["run", "sum.src", "0"], ("run", "sum.src", 0)),
-        reads(rt.alloc(), &["run", "sum.src", "4294967295"], last),
+        reads(alloc, &[], ("", "", 0)),
+        reads(alloc, &["asm", "sum.src"], ("asm", "sum.src", 0)),
+        reads(alloc, &["tape", "sum.src"], ("tape", "sum.src", 0)),
+        reads(alloc, &["script", "a b"], ("script", "a b", 0)),
+        reads(alloc, &["run", "sum.src", "0"], ("run", "sum.src", 0)),
+        reads(alloc, &["run", "sum.src", "4294967295"], last),
+        is_batch_of(alloc, &["batch", "b.txt", "a.txt"], "b.txt", "a.txt"),
     ];
-    expect_eq(&rt, are_read, [true; 2]);
-}
-
-#[test]
-fn a_batch_takes_its_files_in_order(rt: HostRuntime) {
-    let is_batch = is_batch_of(rt.alloc(), &["batch", "b.txt", "a.txt"], "b.txt", "a.txt");
-    expect_eq(&rt, is_batch, true);
+    expect_eq(&rt, are_read, [true; 7]);
 }
 
 /// Words, and a part of the text that is reported of them, or the whole text.
@@ -161,12 +145,6 @@ const MISTAKEN: [Row; 6] = [
     (&["run", "a"], "Usage: lgp_lab"),
 ];
 
-#[test]
-fn mistaken_words_are_reported(rt: HostRuntime) {
-    let reported = rows_reported(rt.alloc(), Reported::Usage, &MISTAKEN);
-    expect_eq(&rt, reported, 6);
-}
-
 const OUT_OF_RANGE: [Row; 4] = [
     (&["run", "a", "4294967296"], "is not in 0..=4294967295"),
     (
@@ -177,12 +155,6 @@ const OUT_OF_RANGE: [Row; 4] = [
     (&["run", "a", ""], "invalid"),
 ];
 
-#[test]
-fn a_limit_out_of_range_is_reported(rt: HostRuntime) {
-    let reported = rows_reported(rt.alloc(), Reported::Usage, &OUT_OF_RANGE);
-    expect_eq(&rt, reported, 4);
-}
-
 const HELPED: [Row; 6] = [
     (&["--help"], "Usage: lgp_lab [COMMAND]"),
     (&["-h"], "Usage: lgp_lab [COMMAND]"),
@@ -192,12 +164,6 @@ const HELPED: [Row; 6] = [
     (&["help", "tape"], "Usage: lgp_lab tape <FILE>"),
 ];
 
-#[test]
-fn help_is_given(rt: HostRuntime) {
-    let reported = rows_reported(rt.alloc(), Reported::Help, &HELPED);
-    expect_eq(&rt, reported, 6);
-}
-
 const ANSWERED: [Row; 2] = [
     (&["--version"], "lgp_lab 0.1.0\n"),
     (&["-V"], "lgp_lab 0.1.0\n"),
@@ -206,12 +172,16 @@ const ANSWERED: [Row; 2] = [
 const NO_VERSION: [Row; 1] = [(&["asm", "--version"], "Usage: lgp_lab asm <FILE>")];
 
 #[test]
-fn name_and_version_are_reported(rt: HostRuntime) {
+fn mistakes_help_and_version_are_reported(rt: HostRuntime) {
+    let alloc = rt.alloc();
     let reported = [
-        rows_reported(rt.alloc(), Reported::Answer, &ANSWERED),
-        rows_reported(rt.alloc(), Reported::Usage, &NO_VERSION),
+        rows_reported(alloc, Reported::Usage, &MISTAKEN),
+        rows_reported(alloc, Reported::Usage, &OUT_OF_RANGE),
+        rows_reported(alloc, Reported::Help, &HELPED),
+        rows_reported(alloc, Reported::Answer, &ANSWERED),
+        rows_reported(alloc, Reported::Usage, &NO_VERSION),
     ];
-    expect_eq(&rt, reported, [2, 1]);
+    expect_eq(&rt, reported, [6, 4, 6, 2, 1]);
 }
 
 /// What is refused while a heap has no room: a command with a file, a batch and the help; standard input takes none.

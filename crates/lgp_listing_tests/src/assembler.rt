@@ -9,21 +9,20 @@ use lgp_word::{Address, Word, read_digits};
 use std::alloc::{AllocError, Allocator, Global};
 
 mod bytes;
-mod growths;
-mod marks;
+pub mod marks;
 mod patches;
 mod sizes;
 
-pub use sizes::FULL_SOURCE;
+pub use sizes::{FULL_SOURCE, are_named};
 
-const FIRST_PROGRAM: &[u8] = b"start b one ; take\n h 0050\n z\none frac .1\n end start\n";
+pub const FIRST_PROGRAM: &[u8] = b"start b one ; take\n h 0050\n z\none frac .1\n end start\n";
 
 const FIRST_SYMBOLS: &[(&[u8], u16)] = &[(b"start", 0), (b"one", 3)];
 
-const FAULTY_SOURCE: &[u8] =
+pub const FAULTY_SOURCE: &[u8] =
     b" org 6304\n b 0100\na org 0100\n z\n org 0100\n z\n q 0000\n b\n b none\n b 6363+1\na z\n9a z\n z 0 0\n word 00000001\n end\n z\n";
 
-const OPERATIONS: &[u8] =
+pub const OPERATIONS: &[u8] =
     b" int 5 10\n int -1 0\n p =a\n -t 6308\n u *+2\n p\n word 7wwwwwwq\n frac -1.0\n i\n c x-1\nx h *\n end";
 
 /// What a source without faults assembles to: its words with their places, its start and its names.

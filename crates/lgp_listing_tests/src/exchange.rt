@@ -8,7 +8,8 @@ use lgp_exchange::{
 use lgp_flexo::{Code, TAPE_LIMIT, read_archive_text};
 use std::alloc::{Allocator, Global};
 
-mod drums;
-mod growths;
+pub mod drums;
 mod papers;
 mod tapes;
+
+pub use tapes::codes_of;

@@ -13,6 +13,8 @@ mod assembler;
 #[cfg(test)]
 mod exchange;
 #[cfg(test)]
+mod growths;
+#[cfg(test)]
 mod listing;
 
 /// Expects a value in a function of its own, so that a test needs no more than the call.

@@ -1,5 +1,6 @@
 //! Disassembly, listings and dumps.
 
+use crate::assembler::FIRST_PROGRAM;
 use crate::expect_eq;
 use lgp_assembler::{AssembleError, Fault, FaultKind, assemble};
 use lgp_drum::Drum;
@@ -10,11 +11,8 @@ use lgp_listing::{
 use lgp_word::{Address, Word, read_digits};
 use std::alloc::{AllocError, Allocator, Global};
 
-mod dumps;
-mod growths;
+pub mod dumps;
 mod sizes;
-
-const FIRST_PROGRAM: &[u8] = b"start b one ; take\n h 0050\n z\none frac .1\n end start\n";
 
 const FIRST_LISTING: &[u8] =
     b"0000 0001000j start b one ; take\n0001 000j00j8  h 0050\n0002 00000000  z\n0003 0jjjjjjj one frac .1\n               end start\n";

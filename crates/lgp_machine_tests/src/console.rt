@@ -7,6 +7,6 @@ use lgp_flexo::Code;
 use lgp_table::Action;
 
 /// The key of the code of that number, or of the conditional stop above all.
-fn key(number: u8) -> Action {
+pub fn key(number: u8) -> Action {
     Action::Key(Code::new(number).unwrap_or(Code::STOP))
 }

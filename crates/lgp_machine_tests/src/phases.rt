@@ -54,12 +54,7 @@ const SUM: Case = Case {
     ..CASE
 };
 
-#[test]
-fn a_sum_is_stored(rt: HostRuntime) {
-    expect_eq(&rt, perform_all(rt.alloc(), &SUM), Ok(()));
-}
-
-/// The same over a heap of a given size; `None` where there is none.
+/// Performs that over a heap of a given size; `None` where there is none.
 fn perform_sum_within(global: Global, size: usize) -> Option<Performed> {
     let heap = LocalHeap::new(global, size).ok()?;
     Some(perform_all(&heap, &SUM))
@@ -105,11 +100,8 @@ fn read_at(sector: u16, clock: u64, after: u64) -> Option<u64> {
 fn orders_wait_for_their_sectors(rt: HostRuntime) {
     expect_eq(
         &rt,
-        (
-            perform_each(rt.alloc(), &WAITS),
-            [read_at(1, 67, 0), read_at(1, 129, 0), read_at(1, 60, 69)],
-        ),
-        (Ok(()), [Some(73), Some(137), Some(137)]),
+        [read_at(1, 67, 0), read_at(1, 129, 0), read_at(1, 60, 69)],
+        [Some(73), Some(137), Some(137)],
     );
 }
 
@@ -169,11 +161,6 @@ const OVERFLOW: Case = Case {
     ],
     ..CASE
 };
-
-#[test]
-fn an_overflow_halts(rt: HostRuntime) {
-    expect_eq(&rt, perform_all(rt.alloc(), &OVERFLOW), Ok(()));
-}
 
 /// An address that is stored into a later order.
 const ADDRESS: Case = Case {
@@ -247,18 +234,6 @@ const REPLACED: Case = Case {
     ..CASE
 };
 
-#[test]
-fn orders_are_changed_before_they_are_read(rt: HostRuntime) {
-    expect_eq(
-        &rt,
-        [
-            perform_all(rt.alloc(), &ADDRESS),
-            perform_all(rt.alloc(), &REPLACED),
-        ],
-        [Ok(()); 2],
-    );
-}
-
 /// Return addresses, the last one after the last word of the drum.
 const RETURNS: [Case; 2] = [
     Case {
@@ -305,117 +280,156 @@ const RETURNS: [Case; 2] = [
     },
 ];
 
-#[test]
-fn return_addresses_are_stored(rt: HostRuntime) {
-    expect_eq(&rt, perform_each(rt.alloc(), &RETURNS), Ok(()));
-}
+/// A break point at track 32, with the switch down and up.
+const BREAK_POINTS: [Case; 2] = [
+    Case {
+        switches: Switches { b32: true, ..UP },
+        ends: &[AT_BREAK_POINT],
+        ..BREAK_POINT
+    },
+    Case {
+        ends: &[End {
+            status: Status::Halted(Cause::Stop),
+            ..AT_BREAK_POINT
+        }],
+        ..BREAK_POINT
+    },
+];
 
-/// A break point at track 32.
 const BREAK_POINT: Case = Case {
     cells: &[(*b"0000", *b"00002000")],
     ..CASE
 };
 
-/// Performs that with the switch down or up.
-fn perform_break_point(global: Global, b32: bool, status: Status) -> Performed {
-    let case = Case {
-        switches: Switches { b32, ..UP },
+const AT_BREAK_POINT: End = End {
+    clock: 67,
+    register: *b"00002000",
+    ..END
+};
+
+/// Orders with a word at 0050, of which the first four take a revolution more.
+const SUMS: [Case; 6] = [
+    Case {
+        cells: &[(*b"0000", *b"000500j8"), (*b"0050", *b"00000006")],
+        accumulator: 2,
         ends: &[End {
-            clock: 67,
-            status,
-            register: *b"00002000",
+            clock: 131,
+            register: *b"000500j8",
+            accumulator: 0x2aaa_aaaa,
             ..END
         }],
-        ..BREAK_POINT
-    };
-    perform_all(global, &case)
-}
-
-#[test]
-fn a_break_point_is_passed(rt: HostRuntime) {
-    let stopped = Status::Halted(Cause::Stop);
-    expect_eq(
-        &rt,
-        [
-            perform_break_point(rt.alloc(), true, Status::Going),
-            perform_break_point(rt.alloc(), false, stopped),
-        ],
-        [Ok(()); 2],
-    );
-}
-
-/// An order, the accumulator before it, the word at 0050, the accumulator after it and the clock then.
-type Sum = ([u8; 8], u32, [u8; 8], u32, u64);
-
-const SUMS: [Sum; 6] = [
-    (*b"000500j8", 2, *b"00000006", 0x2aaa_aaaa, 131),
-    (*b"000600j8", 6, *b"0000000f", 0x3c, 131),
-    (*b"000700j8", 6, *b"0000000f", 0, 131),
-    (*b"000700j8", 0xffff_fffe, *b"00000002", 0xffff_fffe, 131),
-    (*b"000900j8", 0x1d, *b"0000000q", 0xc, 67),
-    (*b"000w00j8", 10, *b"00000006", 4, 67),
+        ..CASE
+    },
+    Case {
+        cells: &[(*b"0000", *b"000600j8"), (*b"0050", *b"0000000f")],
+        accumulator: 6,
+        ends: &[End {
+            clock: 131,
+            register: *b"000600j8",
+            accumulator: 0x3c,
+            ..END
+        }],
+        ..CASE
+    },
+    Case {
+        cells: &[(*b"0000", *b"000700j8"), (*b"0050", *b"0000000f")],
+        accumulator: 6,
+        ends: &[End {
+            clock: 131,
+            register: *b"000700j8",
+            accumulator: 0,
+            ..END
+        }],
+        ..CASE
+    },
+    Case {
+        cells: &[(*b"0000", *b"000700j8"), (*b"0050", *b"00000002")],
+        accumulator: 0xffff_fffe,
+        ends: &[End {
+            clock: 131,
+            register: *b"000700j8",
+            accumulator: 0xffff_fffe,
+            ..END
+        }],
+        ..CASE
+    },
+    Case {
+        cells: &[(*b"0000", *b"000900j8"), (*b"0050", *b"0000000q")],
+        accumulator: 0x1d,
+        ends: &[End {
+            clock: 67,
+            register: *b"000900j8",
+            accumulator: 0xc,
+            ..END
+        }],
+        ..CASE
+    },
+    Case {
+        cells: &[(*b"0000", *b"000w00j8"), (*b"0050", *b"00000006")],
+        accumulator: 10,
+        ends: &[End {
+            clock: 67,
+            register: *b"000w00j8",
+            accumulator: 4,
+            ..END
+        }],
+        ..CASE
+    },
 ];
 
-/// Performs these one after the other.
-fn perform_sums(global: Global) -> Performed {
-    for (order, before, memory, accumulator, clock) in &SUMS {
-        let case = Case {
-            cells: &[(*b"0000", *order), (*b"0050", *memory)],
-            accumulator: *before,
-            ends: &[End {
-                clock: *clock,
-                register: *order,
-                accumulator: *accumulator,
-                ..END
-            }],
-            ..CASE
-        };
-        perform_all(global, &case)?;
-    }
-    Ok(())
-}
-
-#[test]
-fn arithmetic_takes_a_revolution_more(rt: HostRuntime) {
-    expect_eq(&rt, perform_sums(rt.alloc()), Ok(()));
-}
-
-/// A test order, the accumulator, whether TRANSFER CONTROL is down, and the counter after it.
-const TESTS: [([u8; 8], u32, bool, [u8; 4]); 4] = [
-    (*b"800g0100", 0, false, *b"0001"),
-    (*b"800g0100", 0, true, *b"0100"),
-    (*b"000g0100", 0, true, *b"0001"),
-    (*b"000g0100", 0x8000_0000, false, *b"0100"),
+/// Tests, which transfer by the accumulator's sign or by TRANSFER CONTROL.
+const TESTS: [Case; 4] = [
+    Case {
+        cells: &[(*b"0000", *b"800g0100")],
+        ends: &[End {
+            clock: 67,
+            counter: *b"0001",
+            register: *b"800g0100",
+            ..END
+        }],
+        ..CASE
+    },
+    Case {
+        cells: &[(*b"0000", *b"800g0100")],
+        switches: TRANSFER,
+        ends: &[End {
+            clock: 67,
+            counter: *b"0100",
+            register: *b"800g0100",
+            ..END
+        }],
+        ..CASE
+    },
+    Case {
+        cells: &[(*b"0000", *b"000g0100")],
+        switches: TRANSFER,
+        ends: &[End {
+            clock: 67,
+            counter: *b"0001",
+            register: *b"000g0100",
+            ..END
+        }],
+        ..CASE
+    },
+    Case {
+        cells: &[(*b"0000", *b"000g0100")],
+        accumulator: 0x8000_0000,
+        ends: &[End {
+            clock: 67,
+            counter: *b"0100",
+            register: *b"000g0100",
+            accumulator: 0x8000_0000,
+            ..END
+        }],
+        ..CASE
+    },
 ];
 
-/// Performs these one after the other.
-fn perform_tests(global: Global) -> Performed {
-    for (order, accumulator, transfer, counter) in &TESTS {
-        let case = Case {
-            cells: &[(*b"0000", *order)],
-            accumulator: *accumulator,
-            switches: Switches {
-                transfer: *transfer,
-                ..UP
-            },
-            ends: &[End {
-                clock: 67,
-                counter: *counter,
-                register: *order,
-                accumulator: *accumulator,
-                ..END
-            }],
-            ..CASE
-        };
-        perform_all(global, &case)?;
-    }
-    Ok(())
-}
-
-#[test]
-fn a_test_transfers_by_sign_or_switch(rt: HostRuntime) {
-    expect_eq(&rt, perform_tests(rt.alloc()), Ok(()));
-}
+/// TRANSFER CONTROL is down.
+const TRANSFER: Switches = Switches {
+    transfer: true,
+    ..UP
+};
 
 /// The code 57, printed.
 const PRINT: Case = Case {
@@ -428,11 +442,6 @@ const PRINT: Case = Case {
     }],
     ..CASE
 };
-
-#[test]
-fn a_code_is_printed(rt: HostRuntime) {
-    expect_eq(&rt, perform_all(rt.alloc(), &PRINT), Ok(()));
-}
 
 /// Whether all but the last word time of a print pass as they should, whether the processor could be copied, whether the last one,
 /// of the copy, is predicted to print, and that one.
@@ -464,99 +473,134 @@ const INPUT: Case = Case {
     ..CASE
 };
 
-/// A tape, whether 6 BIT INPUT is down, its codes, the clock after the input, the status and the accumulator then.
-type Tape<'a> = (&'a [u8], bool, usize, u64, Status, u32);
-
-const TAPES: [Tape; 3] = [
-    (b"12[16]3'", false, 5, 1996, Status::Going, 0x123),
-    (b"12[16]3", false, 4, 1612, Status::Waiting, 0x123),
-    (b"a'", true, 2, 844, Status::Going, 0x39),
-];
-
-/// Performs an input of each of these tapes.
-fn perform_inputs(global: Global) -> Performed {
-    for (tape, six_bit, codes, clock, status, accumulator) in &TAPES {
-        let started = End {
-            clock: 67,
-            register: *b"00080000",
-            is_on: true,
-            left: *codes,
-            ..END
-        };
-        let done = End {
-            clock: *clock,
-            status: *status,
-            counter: *b"0002",
-            register: *b"00040000",
-            accumulator: *accumulator,
-            ..END
-        };
-        let case = Case {
-            tape: *tape,
-            switches: Switches {
-                six_bit: *six_bit,
-                ..UP
-            },
-            ends: &[started, done],
-            ..INPUT
-        };
-        perform_all(global, &case)?;
-    }
-    Ok(())
-}
-
-#[test]
-fn an_input_passes_codes(rt: HostRuntime) {
-    expect_eq(&rt, perform_inputs(rt.alloc()), Ok(()));
-}
-
-/// A tape that is read from the console, the mode, the clock and the status after it, and the codes that are left.
-const READ: [(&[u8], Mode, u64, Status, usize); 5] = [
-    (b"12'3", Mode::Normal, 1153, Status::Going, 1),
-    (
-        b"12'3",
-        Mode::OneOperation,
-        1153,
-        Status::Halted(Cause::Step),
-        1,
-    ),
-    (
-        b"12'3",
-        Mode::Manual,
-        1153,
-        Status::Halted(Cause::Operator),
-        1,
-    ),
-    (b"12", Mode::OneOperation, 769, Status::Waiting, 0),
-    (b"12", Mode::Manual, 769, Status::Halted(Cause::Operator), 0),
-];
-
-/// Reads each of these tapes.
-fn perform_reads(global: Global) -> Performed {
-    for (tape, mode, clock, status, left) in &READ {
-        let case = Case {
-            tape: *tape,
-            status: Status::Reading,
-            mode: *mode,
-            ends: &[End {
-                clock: *clock,
-                status: *status,
-                counter: *b"0000",
-                accumulator: 0x12,
-                left: *left,
+/// Tapes that are read up to their stops or to their ends, the last one by six bits.
+const INPUTS: [Case; 3] = [
+    Case {
+        tape: b"12[16]3'",
+        ends: &[
+            End { left: 5, ..STARTED },
+            End {
+                clock: 1996,
+                counter: *b"0002",
+                register: *b"00040000",
+                accumulator: 0x123,
                 ..END
-            }],
-            ..CASE
-        };
-        perform_all(global, &case)?;
-    }
-    Ok(())
-}
+            },
+        ],
+        ..INPUT
+    },
+    Case {
+        tape: b"12[16]3",
+        ends: &[
+            End { left: 4, ..STARTED },
+            End {
+                clock: 1612,
+                status: Status::Waiting,
+                counter: *b"0002",
+                register: *b"00040000",
+                accumulator: 0x123,
+                ..END
+            },
+        ],
+        ..INPUT
+    },
+    Case {
+        tape: b"a'",
+        switches: Switches {
+            six_bit: true,
+            ..UP
+        },
+        ends: &[
+            End { left: 2, ..STARTED },
+            End {
+                clock: 844,
+                counter: *b"0002",
+                register: *b"00040000",
+                accumulator: 0x39,
+                ..END
+            },
+        ],
+        ..INPUT
+    },
+];
 
-#[test]
-fn a_tape_is_read_from_the_console(rt: HostRuntime) {
-    expect_eq(&rt, perform_reads(rt.alloc()), Ok(()));
-}
+/// The reader has been switched on.
+const STARTED: End = End {
+    clock: 67,
+    register: *b"00080000",
+    is_on: true,
+    ..END
+};
+
+/// Tapes that are read from the console in each mode, the last two without a stop.
+const READ: [Case; 5] = [
+    Case {
+        tape: b"12'3",
+        status: Status::Reading,
+        ends: &[End {
+            clock: 1153,
+            counter: *b"0000",
+            accumulator: 0x12,
+            left: 1,
+            ..END
+        }],
+        ..CASE
+    },
+    Case {
+        tape: b"12'3",
+        status: Status::Reading,
+        mode: Mode::OneOperation,
+        ends: &[End {
+            clock: 1153,
+            status: Status::Halted(Cause::Step),
+            counter: *b"0000",
+            accumulator: 0x12,
+            left: 1,
+            ..END
+        }],
+        ..CASE
+    },
+    Case {
+        tape: b"12'3",
+        status: Status::Reading,
+        mode: Mode::Manual,
+        ends: &[End {
+            clock: 1153,
+            status: Status::Halted(Cause::Operator),
+            counter: *b"0000",
+            accumulator: 0x12,
+            left: 1,
+            ..END
+        }],
+        ..CASE
+    },
+    Case {
+        tape: b"12",
+        status: Status::Reading,
+        mode: Mode::OneOperation,
+        ends: &[End {
+            clock: 769,
+            status: Status::Waiting,
+            counter: *b"0000",
+            accumulator: 0x12,
+            ..END
+        }],
+        ..CASE
+    },
+    Case {
+        tape: b"12",
+        status: Status::Reading,
+        mode: Mode::Manual,
+        ends: &[End {
+            clock: 769,
+            status: Status::Halted(Cause::Operator),
+            counter: *b"0000",
+            accumulator: 0x12,
+            ..END
+        }],
+        ..CASE
+    },
+];
 
 /// A load in the instruction register.
 const EXECUTED: Case = Case {
@@ -574,33 +618,71 @@ const EXECUTED: Case = Case {
     ..CASE
 };
 
-#[test]
-fn the_register_is_executed(rt: HostRuntime) {
-    expect_eq(&rt, perform_all(rt.alloc(), &EXECUTED), Ok(()));
-}
-
-/// Lets a word time pass where the machine has halted, and where it waits.
-fn perform_rests(global: Global) -> Performed {
-    for status in [Status::Halted(Cause::Operator), Status::Waiting] {
-        let end = End {
+/// A word time where the machine has halted, and one where it waits.
+const RESTS: [Case; 2] = [
+    Case {
+        status: Status::Halted(Cause::Operator),
+        ends: &[End {
             clock: 1,
-            status,
+            status: Status::Halted(Cause::Operator),
             counter: *b"0000",
             ..END
-        };
-        let case = Case {
-            status,
-            ends: &[end],
-            ..CASE
-        };
-        perform_all(global, &case)?;
-    }
-    Ok(())
+        }],
+        ..CASE
+    },
+    Case {
+        status: Status::Waiting,
+        ends: &[End {
+            clock: 1,
+            status: Status::Waiting,
+            counter: *b"0000",
+            ..END
+        }],
+        ..CASE
+    },
+];
+
+/// The other cases.
+const OTHERS: [Case; 6] = [SUM, OVERFLOW, ADDRESS, REPLACED, PRINT, EXECUTED];
+
+// Each table is named in one function, in which it is written out.
+
+fn perform_others(global: Global) -> Performed {
+    perform_each(global, &OTHERS)
+}
+
+fn perform_in_order(global: Global) -> [Performed; 3] {
+    [
+        perform_each(global, &WAITS),
+        perform_each(global, &RETURNS),
+        perform_each(global, &BREAK_POINTS),
+    ]
+}
+
+fn perform_sums(global: Global) -> Performed {
+    perform_each(global, &SUMS)
+}
+
+fn perform_tests(global: Global) -> [Performed; 2] {
+    [perform_each(global, &TESTS), perform_each(global, &RESTS)]
+}
+
+fn perform_tapes(global: Global) -> [Performed; 2] {
+    [perform_each(global, &INPUTS), perform_each(global, &READ)]
 }
 
 #[test]
-fn at_rest_the_clock_goes_on(rt: HostRuntime) {
-    expect_eq(&rt, perform_rests(rt.alloc()), Ok(()));
+fn worked_orders(rt: HostRuntime) {
+    let alloc = rt.alloc();
+    let performed = (
+        perform_others(alloc),
+        perform_in_order(alloc),
+        perform_sums(alloc),
+        perform_tests(alloc),
+        perform_tapes(alloc),
+    );
+    let wanted = (Ok(()), [Ok(()); 3], Ok(()), [Ok(()); 2], [Ok(()); 2]);
+    expect_eq(&rt, performed, wanted);
 }
 
 /// What is decoded at 0000 and at 0001.

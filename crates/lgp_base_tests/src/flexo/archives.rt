@@ -1,10 +1,9 @@
 //! Texts of archives, read as SIMH's simulator reads them.
 
-use super::{NO_MEMORY, Reading, TOO_LONG, bad, has_numbers, reading};
+use super::{Form, bad, has_numbers, read};
 use crate::expect_eq;
-use lgp_flexo::{TAPE_LIMIT, read_archive_text};
-use lgp_limited::Limited;
-use std::alloc::{Allocator, Global};
+use lgp_flexo::read_archive_text;
+use std::alloc::Global;
 
 /// The bytes that stand for a code, and its number.
 const CODES: [(u8, u8); 88] = [
@@ -98,49 +97,14 @@ const CODES: [(u8, u8); 88] = [
     (b'~', 30),
 ];
 
-/// How an archive's text is read, and the code of it at a place.
-fn read<A: Allocator + Copy>(alloc: A, text: &[u8], place: usize) -> Reading {
-    reading(read_archive_text(alloc, text), place)
-}
-
 /// The number of the code that a byte stands for by itself.
-fn number_of(byte: u8) -> Option<u8> {
+pub fn number_of(byte: u8) -> Option<u8> {
     for (known, number) in &CODES {
         if *known == byte {
             return Some(*number);
         }
     }
     None
-}
-
-/// Whether a byte at one of three places of a text is read as the table says.
-fn is_read_right(global: Global, byte: u8, place: usize) -> bool {
-    let mut text = *b"aaa";
-    text[place % 3] = byte;
-    let read = read(global, &text, place % 3);
-    match number_of(byte) {
-        Some(number) => read == Ok((3, Some(number))),
-        None if byte == b'\n' => matches!(read, Ok((2, _))),
-        None => read == bad(place % 3),
-    }
-}
-
-/// The first byte that is not.
-fn first_misread(global: Global) -> Option<u8> {
-    for byte in 0..=255u8 {
-        if !(is_read_right(global, byte, 0)
-            && is_read_right(global, byte, 1)
-            && is_read_right(global, byte, 2))
-        {
-            return Some(byte);
-        }
-    }
-    None
-}
-
-#[test]
-fn each_byte_anywhere_in_a_text(rt: HostRuntime) {
-    expect_eq(&rt, first_misread(rt.alloc()), None);
 }
 
 /// Whether the group of a number stands for its code, and from 64 on for none.
@@ -152,7 +116,7 @@ fn is_group_right(global: Global, number: u8) -> bool {
         b'0' + number % 10,
         b's',
     ];
-    let read = read(global, &text, 1);
+    let read = read(global, Form::Archive, &text, 1);
     if number < 64 {
         read == Ok((3, Some(number)))
     } else {
@@ -176,7 +140,7 @@ fn each_group_of_a_text(rt: HostRuntime) {
 }
 
 /// Bad texts, and the places of their first bad bytes.
-const BAD_TEXTS: [(&[u8], usize); 8] = [
+pub const BAD_TEXTS: [(&[u8], usize); 8] = [
     (b"!", 0),
     (b"!1", 0),
     (b"a!6", 1),
@@ -187,22 +151,6 @@ const BAD_TEXTS: [(&[u8], usize); 8] = [
     (b"[02]@", 4),
 ];
 
-/// How the first of these texts is read that is not refused at its place.
-fn first_not_refused(global: Global) -> Option<Reading> {
-    for (text, place) in &BAD_TEXTS {
-        let reading = read(global, text, 0);
-        if reading != bad(*place) {
-            return Some(reading);
-        }
-    }
-    None
-}
-
-#[test]
-fn the_first_bad_byte_is_reported(rt: HostRuntime) {
-    expect_eq(&rt, first_not_refused(rt.alloc()), None);
-}
-
 /// A line of a program, its end as the tape has it, and a heading in upper case.
 const LINE: &[u8] = b";000L'/0r\r\n!08LOG!04'";
 
@@ -210,72 +158,11 @@ const LINE: &[u8] = b";000L'/0r\r\n!08LOG!04'";
 const LINE_CODES: [u8; 16] = [15, 2, 2, 2, 6, 32, 19, 2, 13, 16, 8, 6, 35, 46, 4, 32];
 
 /// Whether that line is read as these codes.
-fn line_is_read<A: Allocator + Copy>(alloc: A) -> bool {
-    has_numbers(read_archive_text(alloc, LINE), &LINE_CODES)
+fn line_is_read(global: Global) -> bool {
+    has_numbers(read_archive_text(global, LINE), &LINE_CODES)
 }
 
 #[test]
 fn a_line_of_a_tape(rt: HostRuntime) {
     expect_eq(&rt, line_is_read(rt.alloc()), true);
-}
-
-/// How a text of a given number of carriage returns is read, with line feeds after it; `None` without memory for the text.
-fn read_many(global: Global, count: usize, feeds: &[u8]) -> Option<Reading> {
-    let mut text = vec![in global; b'\r'; count].ok()?;
-    text.extend_from_slice(feeds).ok()?;
-    Some(read(global, text.as_slice(), 0))
-}
-
-#[test]
-fn one_code_too_many_is_refused(rt: HostRuntime) {
-    expect_eq(
-        &rt,
-        [
-            read_many(rt.alloc(), TAPE_LIMIT, b"\n\n"),
-            read_many(rt.alloc(), TAPE_LIMIT + 1, b""),
-        ],
-        [Some(Ok((TAPE_LIMIT, Some(16)))), Some(TOO_LONG)],
-    );
-}
-
-/// Reads the line with the nth growth refused: whether it was read, and whether a growth was refused.
-fn read_within_limit<B: Allocator>(limited: &Limited<B>, nth: u64) -> (bool, bool) {
-    limited.refuse(nth);
-    (line_is_read(limited), limited.was_refused())
-}
-
-/// That with the first growth and with the second one, and how many blocks are out then.
-fn read_twice(global: Global) -> ([(bool, bool); 2], u64) {
-    let limited = Limited::new(global);
-    let reads = [
-        read_within_limit(&limited, 1),
-        read_within_limit(&limited, 2),
-    ];
-    (reads, limited.blocks_out())
-}
-
-#[test]
-fn a_growth_may_be_refused(rt: HostRuntime) {
-    expect_eq(
-        &rt,
-        read_twice(rt.alloc()),
-        ([(false, true), (true, false)], 0),
-    );
-}
-
-/// How a text is read where the first growth is refused, and how many blocks are out then.
-fn refused(global: Global, text: &[u8]) -> (Reading, u64) {
-    let limited = Limited::new(global);
-    limited.refuse(1);
-    (read(&limited, text, 0), limited.blocks_out())
-}
-
-#[test]
-fn a_refused_growth_is_reported_as_such(rt: HostRuntime) {
-    expect_eq(&rt, refused(rt.alloc(), b"1"), (NO_MEMORY, 0));
-}
-
-#[test]
-fn a_bad_byte_is_reported_without_memory(rt: HostRuntime) {
-    expect_eq(&rt, refused(rt.alloc(), b"1<"), (bad(1), 0));
 }

@@ -5,7 +5,7 @@ use super::calls::{
     press_button, put, run, run_freely, step, with_order, word_at,
 };
 use crate::expect_eq;
-use crate::history::{checkpoints, records};
+use crate::history::{Kind, checkpoints, records};
 use crate::loader::image;
 use lgp_assembler::Image;
 use lgp_debugger::{
@@ -86,7 +86,7 @@ enum Call {
 }
 
 /// How a call ends.
-#[derive(Clone, Copy, PartialEq, Eq)]
+#[derive(Clone, Copy)]
 enum Ended {
     Done,
     Refused,
@@ -144,12 +144,10 @@ fn in_turn<H: History<A>, A: Allocator>(
     let before = whole(lab);
     for nth in 1..MOST {
         limited.refuse(nth);
-        let ended = called(lab, call);
-        if ended == Ended::Done && !limited.was_refused() {
-            return Some(nth > 1);
-        }
-        if ended != Ended::Refused || !limited.was_refused() || whole(lab) != before {
-            return None;
+        match called(lab, call) {
+            Ended::Done if !limited.was_refused() => return Some(nth > 1),
+            Ended::Refused if limited.was_refused() && whole(lab) == before => {}
+            _ => return None,
         }
     }
     None
@@ -197,13 +195,6 @@ fn mount_text_in_turn<H: History<A>, A: Allocator + Copy>(
         Ok(codes) => mount_in_turn(limited, lab, codes),
         Err(_) => None,
     }
-}
-
-/// A kind of history.
-#[derive(Clone, Copy)]
-enum Kind {
-    Records,
-    Checkpoints,
 }
 
 /// A call, and whether it takes memory over records and over checkpoints.
@@ -411,15 +402,12 @@ fn gone_over_kind(global: Global, kind: Kind) -> (Option<ThereAndBack>, u64) {
 const THERE_AND_BACK: (Option<ThereAndBack>, u64) = (Some((true, true, true, true, 76, true)), 0);
 
 #[test]
-fn records_with_each_growth_refused(rt: HostRuntime) {
-    let seen = gone_over_kind(rt.alloc(), Kind::Records);
-    expect_eq(&rt, seen, THERE_AND_BACK);
-}
-
-#[test]
-fn checkpoints_with_each_growth_refused(rt: HostRuntime) {
-    let seen = gone_over_kind(rt.alloc(), Kind::Checkpoints);
-    expect_eq(&rt, seen, THERE_AND_BACK);
+fn debuggers_with_each_growth_refused(rt: HostRuntime) {
+    let seen = [
+        gone_over_kind(rt.alloc(), Kind::Records),
+        gone_over_kind(rt.alloc(), Kind::Checkpoints),
+    ];
+    expect_eq(&rt, seen, [THERE_AND_BACK; 2]);
 }
 
 /// Starts the loop. True where it is started; three steps are kept then.
@@ -580,27 +568,15 @@ fn runs_expected(at_copy: bool) -> (Runs, u64) {
 }
 
 #[test]
-fn a_run_over_records_says_after_how_many_orders_it_is_refused(rt: HostRuntime) {
-    let runs = runs_of(rt.alloc(), (Kind::Records, Way::ByRules));
-    expect_eq(&rt, runs, runs_expected(false));
-}
-
-#[test]
-fn a_free_run_over_records_says_after_how_many_orders_it_is_refused(rt: HostRuntime) {
-    let runs = runs_of(rt.alloc(), (Kind::Records, Way::Freely));
-    expect_eq(&rt, runs, runs_expected(false));
-}
-
-#[test]
-fn a_run_over_checkpoints_says_after_how_many_orders_it_is_refused(rt: HostRuntime) {
-    let runs = runs_of(rt.alloc(), (Kind::Checkpoints, Way::ByRules));
-    expect_eq(&rt, runs, runs_expected(true));
-}
-
-#[test]
-fn a_free_run_over_checkpoints_says_after_how_many_orders_it_is_refused(rt: HostRuntime) {
-    let runs = runs_of(rt.alloc(), (Kind::Checkpoints, Way::Freely));
-    expect_eq(&rt, runs, runs_expected(true));
+fn a_run_says_after_how_many_orders_it_is_refused(rt: HostRuntime) {
+    let runs = [
+        runs_of(rt.alloc(), (Kind::Records, Way::ByRules)),
+        runs_of(rt.alloc(), (Kind::Records, Way::Freely)),
+        runs_of(rt.alloc(), (Kind::Checkpoints, Way::ByRules)),
+        runs_of(rt.alloc(), (Kind::Checkpoints, Way::Freely)),
+    ];
+    let (records, checkpoints) = (runs_expected(false), runs_expected(true));
+    expect_eq(&rt, runs, [records, records, checkpoints, checkpoints]);
 }
 
 /// Whether a load takes memory, and the clock and what is kept then.

@@ -107,13 +107,11 @@ fn expected() -> Option<(Filled, [Back; 4])> {
 }
 
 #[test]
-fn full_records_are_gone_back_through(rt: HostRuntime) {
-    let seen = filled_and_back(rt.alloc(), records(rt.alloc(), CAPACITY_LIMIT));
-    expect_eq(&rt, seen, expected());
-}
-
-#[test]
-fn full_checkpoints_are_gone_back_through(rt: HostRuntime) {
-    let seen = filled_and_back(rt.alloc(), checkpoints(rt.alloc(), CAPACITY_LIMIT));
-    expect_eq(&rt, seen, expected());
+fn full_histories_are_gone_back_through(rt: HostRuntime) {
+    let alloc = rt.alloc();
+    let seen = [
+        filled_and_back(alloc, records(alloc, CAPACITY_LIMIT)),
+        filled_and_back(alloc, checkpoints(alloc, CAPACITY_LIMIT)),
+    ];
+    expect_eq(&rt, seen, [expected(), expected()]);
 }

@@ -2,7 +2,7 @@
 
 use super::calls::{Button, Named, Row, Shown, first_wrong, with_order};
 use crate::expect_eq;
-use crate::history::{checkpoints, records};
+use crate::history::{Kind, checkpoints, records};
 use lgp_debugger::{
     HitFault, IdleFault, MountFault, PutFault, Ran, Reason, RuleFault, RunFault, RunRefusal,
     StepFault,
@@ -406,26 +406,20 @@ fn first_in<H: History<Global>>(
     }
 }
 
-/// What goes wrong first over records: the place of the example and of the row, `None` where nothing does.
-fn first_over_records(alloc: Global) -> Option<(usize, usize)> {
-    let mut place = 0usize;
-    for example in &EXAMPLES {
-        let history = records(alloc, example.capacity);
-        let row = first_in(alloc, history, example);
-        if row != example.rows.len() {
-            return Some((place, row));
-        }
-        place = place.saturating_add(1);
+/// The same over a history of a kind.
+fn first_over(alloc: Global, kind: Kind, example: &Example) -> usize {
+    let capacity = example.capacity;
+    match kind {
+        Kind::Records => first_in(alloc, records(alloc, capacity), example),
+        Kind::Checkpoints => first_in(alloc, checkpoints(alloc, capacity), example),
     }
-    None
 }
 
-/// The same over checkpoints.
-fn first_over_checkpoints(alloc: Global) -> Option<(usize, usize)> {
+/// What goes wrong first: the place of the example and of the row, `None` where nothing does.
+fn first_of_all(alloc: Global, kind: Kind) -> Option<(usize, usize)> {
     let mut place = 0usize;
     for example in &EXAMPLES {
-        let history = checkpoints(alloc, example.capacity);
-        let row = first_in(alloc, history, example);
+        let row = first_over(alloc, kind, example);
         if row != example.rows.len() {
             return Some((place, row));
         }
@@ -435,11 +429,10 @@ fn first_over_checkpoints(alloc: Global) -> Option<(usize, usize)> {
 }
 
 #[test]
-fn over_records(rt: HostRuntime) {
-    expect_eq(&rt, first_over_records(rt.alloc()), None);
-}
-
-#[test]
-fn over_checkpoints(rt: HostRuntime) {
-    expect_eq(&rt, first_over_checkpoints(rt.alloc()), None);
+fn examples_over_each_history(rt: HostRuntime) {
+    let found = [
+        first_of_all(rt.alloc(), Kind::Records),
+        first_of_all(rt.alloc(), Kind::Checkpoints),
+    ];
+    expect_eq(&rt, found, [None; 2]);
 }

@@ -3,8 +3,8 @@
 ghost use Rattle.std.specs.Prelude.{◌≤◌};
 
 use super::{
-    Deed, Seen, Session, TRANSFER, address, back, checkpoints, records, seen, session_of, step_of,
-    take,
+    Deed, Kind, Seen, Session, TRANSFER, address, back, checkpoints, records, seen, session_of,
+    step_of, take,
 };
 use crate::expect_eq;
 use lgp_flexo::Code;
@@ -68,13 +68,6 @@ fn copied_step(global: Global) -> Option<Copied> {
 fn each_growth_of_a_copied_step_is_refused(rt: HostRuntime) {
     let wanted = (Some([(3, [6, 10, 32]); 2]), false, 1);
     expect_eq(&rt, copied_step(rt.alloc()), Some(wanted));
-}
-
-/// A kind of history.
-#[derive(Clone, Copy)]
-enum Kind {
-    Records,
-    Checkpoints,
 }
 
 /// How many steps a new history keeps; `None` without memory.
@@ -363,13 +356,10 @@ fn over_kind(global: Global, kind: Kind) -> (Option<ThereAndBack>, u64) {
 const THERE_AND_BACK: (Option<ThereAndBack>, u64) = (Some((true, [true; 5], [true; 2])), 0);
 
 #[test]
-fn records_with_each_growth_refused(rt: HostRuntime) {
-    let seen = over_kind(rt.alloc(), Kind::Records);
-    expect_eq(&rt, seen, THERE_AND_BACK);
-}
-
-#[test]
-fn checkpoints_with_each_growth_refused(rt: HostRuntime) {
-    let seen = over_kind(rt.alloc(), Kind::Checkpoints);
-    expect_eq(&rt, seen, THERE_AND_BACK);
+fn histories_with_each_growth_refused(rt: HostRuntime) {
+    let seen = [
+        over_kind(rt.alloc(), Kind::Records),
+        over_kind(rt.alloc(), Kind::Checkpoints),
+    ];
+    expect_eq(&rt, seen, [THERE_AND_BACK; 2]);
 }

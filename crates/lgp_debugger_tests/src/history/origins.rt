@@ -68,23 +68,21 @@ fn put_and_hold<A: Allocator + Copy, H: Origins<A>>(
     (puts && begun && ended).then_some([none, by_hand, first, origin(session)])
 }
 
-/// The same on a new machine, with records of at most nine steps or of two.
-fn put_and_held(alloc: Global, are_few: bool) -> Option<[Option<Said>; 4]> {
-    let capacity = if are_few { 2 } else { 9 };
+/// The same on a new machine, with records of at most a given number of steps.
+fn put_and_held(alloc: Global, capacity: usize) -> Option<[Option<Said>; 4]> {
     let mut session = session_of(alloc, records(alloc, capacity), [HOLD, TRANSFER])?;
     put_and_hold(alloc, &mut session)
 }
 
+/// A word that is stored again has not changed, and a step that is forgotten is no origin.
 #[test]
-fn a_word_that_is_stored_again_has_not_changed(rt: HostRuntime) {
-    let wanted = [None, BY_HAND, held(1), held(3)];
-    expect_eq(&rt, put_and_held(rt.alloc(), false), Some(wanted));
-}
-
-#[test]
-fn a_step_that_is_forgotten_is_no_origin(rt: HostRuntime) {
-    let wanted = [None, None, held(1), None];
-    expect_eq(&rt, put_and_held(rt.alloc(), true), Some(wanted));
+fn words_come_from_kept_steps_that_changed_them(rt: HostRuntime) {
+    let found = [put_and_held(rt.alloc(), 9), put_and_held(rt.alloc(), 2)];
+    let wanted = [
+        Some([None, BY_HAND, held(1), held(3)]),
+        Some([None, None, held(1), None]),
+    ];
+    expect_eq(&rt, found, wanted);
 }
 
 /// Three orders likewise, then two back and one more. What is said then.

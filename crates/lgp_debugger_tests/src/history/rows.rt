@@ -61,12 +61,9 @@ const TEN_TRANSFERS: TenOrders = (
 
 #[test]
 fn the_fourth_last_of_ten(rt: HostRuntime) {
-    let found = ten_transfers(rt.alloc(), records(rt.alloc(), 4));
-    expect_eq(&rt, found, Some(TEN_TRANSFERS));
-}
-
-#[test]
-fn the_fourth_last_of_ten_again(rt: HostRuntime) {
-    let found = ten_transfers(rt.alloc(), checkpoints(rt.alloc(), 4));
-    expect_eq(&rt, found, Some(TEN_TRANSFERS));
+    let found = [
+        ten_transfers(rt.alloc(), records(rt.alloc(), 4)),
+        ten_transfers(rt.alloc(), checkpoints(rt.alloc(), 4)),
+    ];
+    expect_eq(&rt, found, [Some(TEN_TRANSFERS); 2]);
 }

@@ -81,7 +81,7 @@ fn each_growth_of_a_tape_is_refused(rt: HostRuntime) {
 /// How many of the numbers that do not cut two words are reported as such with the first growth refused, and without one.
 fn cut_without_memory<B: Allocator>(limited: &Limited<B>, image: &Image) -> usize {
     let mut reported = 0usize;
-    for counts in NO_CUTS {
+    for counts in &NO_CUTS {
         limited.refuse(1);
         let length = tape_length(limited, image, Way::Cut(counts));
         if length == Err(CutFault::BadCut) && !limited.was_refused() {
@@ -135,9 +135,9 @@ const READING: [(u16, u32); 3] = [(0, 0x0008_3900), (1, 0x0008_0000), (2, 0x0004
 
 /// Puts these orders on the drum, and mounts a tape of five codes; false where anything is refused.
 fn is_ready<A: Allocator + Copy>(alloc: A, machine: &mut Machine<A>) -> bool {
-    for (number, bits) in READING {
-        let place = Address::new(number).unwrap_or_default();
-        if machine.put(place, Word::of_bits(bits)).is_err() {
+    for (number, bits) in &READING {
+        let place = Address::new(*number).unwrap_or_default();
+        if machine.put(place, Word::of_bits(*bits)).is_err() {
             return false;
         }
     }
@@ -150,7 +150,7 @@ fn is_ready<A: Allocator + Copy>(alloc: A, machine: &mut Machine<A>) -> bool {
 /// Performs the three orders; false where one is refused.
 fn perform<A: Allocator>(machine: &mut Machine<A>) -> bool {
     press(machine, &[Action::Start]);
-    for _ in READING {
+    for _ in &READING {
         if machine.next_order().is_err() {
             return false;
         }
@@ -318,11 +318,16 @@ const AT_REST: Stand = (7, false);
 const AT_END: Stand = (CLOCK_END - 1, false);
 
 /// What loads of two words answer with the first growth refused, and whether that growth is asked for.
-const ANSWERS: [(Stand, Way<'static>, LoadFault, bool); 7] = [
+const ANSWERS: [(Stand, Way<'static>, LoadFault, bool); 12] = [
     (WITHIN, Way::Longest, LoadFault::Moving, false),
     (WITHIN, Way::Cut(&[1]), LoadFault::Moving, false),
     (WITHIN, Way::Single, LoadFault::Moving, false),
+    (AT_REST, Way::Cut(&[2, 0]), LoadFault::BadCut, false),
+    (AT_REST, Way::Cut(&[0, 2]), LoadFault::BadCut, false),
     (AT_REST, Way::Cut(&[1]), LoadFault::BadCut, false),
+    (AT_REST, Way::Cut(&[3]), LoadFault::BadCut, false),
+    (AT_REST, Way::Cut(&[1, 1, 1]), LoadFault::BadCut, false),
+    (AT_REST, Way::Cut(&[]), LoadFault::BadCut, false),
     (AT_END, Way::Longest, LoadFault::Memory, true),
     (AT_END, Way::Cut(&[2]), LoadFault::Memory, true),
     (AT_END, Way::Single, LoadFault::Memory, true),

@@ -2,56 +2,6 @@
 
 use super::*;
 
-/// Loads within an order, on a new machine.
-const WITHIN: [Task<'static>; 3] = [
-    (ONE_WORD, Way::Longest, (0, true)),
-    (TWO_WORDS, Way::Cut(&[1]), (0, true)),
-    (ONE_WORD, Way::Single, (0, true)),
-];
-
-/// How many of some loads answer that the machine is moving.
-fn refused_as_moving(alloc: Global, tasks: &[Task]) -> usize {
-    let mut refused = 0usize;
-    for task in tasks {
-        match loaded(alloc, *task, &[]) {
-            Some((Err(LoadFault::Moving), _, _)) => refused = refused.saturating_add(1),
-            _ => {}
-        }
-    }
-    refused
-}
-
-/// A call within an order is refused before the lengths of its blocks are looked at.
-#[test]
-fn nothing_is_loaded_within_an_order(rt: HostRuntime) {
-    let found = refused_as_moving(rt.alloc(), &WITHIN);
-    expect_eq(&rt, found, WITHIN.len());
-}
-
-/// Whether each load whose numbers do not cut two words is refused, with nothing pressed.
-fn are_refused(alloc: Global, machine: &mut Machine, image: &Image) -> bool {
-    let before = look(machine);
-    for counts in NO_CUTS {
-        let answer = load_by(alloc, machine, image, Way::Cut(counts));
-        if answer != Err(LoadFault::BadCut) || look(machine) != before {
-            return false;
-        }
-    }
-    true
-}
-
-/// The same on a machine of its own.
-fn are_refused_on_one(alloc: Global) -> Option<bool> {
-    let image = image(alloc, TWO_WORDS)?;
-    let mut machine = machine_at(alloc, (7, false))?;
-    Some(are_refused(alloc, &mut machine, &image))
-}
-
-#[test]
-fn nothing_is_pressed_where_the_lengths_are_no_cutting(rt: HostRuntime) {
-    expect_eq(&rt, are_refused_on_one(rt.alloc()), Some(true));
-}
-
 /// What shows where the clock's end stops a load at its first order: the answer, the status, the register and the accumulator. `true`
 /// at last where nothing has been stored at the loader's first place.
 type Stopped = (Result<u64, LoadFault>, Status, u32, u32, bool);

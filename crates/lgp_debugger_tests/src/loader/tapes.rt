@@ -102,19 +102,3 @@ fn first_other_length(alloc: Global) -> usize {
 fn lengths_of_cut_tapes(rt: HostRuntime) {
     expect_eq(&rt, first_other_length(rt.alloc()), LENGTHS.len());
 }
-
-/// How many of the numbers that do not cut two words are refused as such.
-fn refused_cuts(alloc: Global) -> usize {
-    let mut refused = 0usize;
-    for counts in NO_CUTS {
-        if cut_length(alloc, TWO_WORDS, counts) == Some(Err(CutFault::BadCut)) {
-            refused = refused.saturating_add(1);
-        }
-    }
-    refused
-}
-
-#[test]
-fn lengths_that_are_no_cutting_are_refused(rt: HostRuntime) {
-    expect_eq(&rt, refused_cuts(rt.alloc()), NO_CUTS.len());
-}

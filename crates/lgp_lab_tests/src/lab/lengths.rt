@@ -53,20 +53,11 @@ const LINES: [LongRow; 5] = [
     ),
 ];
 
-#[test]
-fn a_line_has_at_most_4096_bytes(rt: HostRuntime) {
-    expect_eq(&rt, rows_answered(rt.alloc(), &LINES), 5);
-}
-
+/// A blank line and a comment have any length.
 const UNREAD: [LongRow; 2] = [
     (&[(b" ", 9000), (b"\nturn 1", 1)], b"clock 1\n", 0),
     (&[(b";", 9000), (b"\nturn 1", 1)], b"clock 1\n", 0),
 ];
-
-#[test]
-fn a_blank_line_and_a_comment_have_any_length(rt: HostRuntime) {
-    expect_eq(&rt, rows_answered(rt.alloc(), &UNREAD), 2);
-}
 
 /// A script with a source of a comment of 4,096 bytes and of an end line, and one whose comment has a byte more.
 const COMMENTS: [LongRow; 2] = [
@@ -83,8 +74,13 @@ const COMMENTS: [LongRow; 2] = [
 ];
 
 #[test]
-fn a_line_of_a_source_has_at_most_4096_bytes(rt: HostRuntime) {
-    expect_eq(&rt, rows_answered(rt.alloc(), &COMMENTS), 2);
+fn a_line_of_a_script_or_of_a_source_has_at_most_4096_bytes(rt: HostRuntime) {
+    let answered = [
+        rows_answered(rt.alloc(), &LINES),
+        rows_answered(rt.alloc(), &UNREAD),
+        rows_answered(rt.alloc(), &COMMENTS),
+    ];
+    expect_eq(&rt, answered, [5, 2, 2]);
 }
 
 /// How many lines of 1,024 bytes a source has, how many bytes more of a comment and which text after them, the replies to it and

@@ -1,39 +1,14 @@
 //! Scripts and their replies.
 
 use super::streams::Pieces;
-use super::{FIRST_RUN, FIRST_RUN_REPLIES, Row, built, is_answered, is_done, run, run_between};
+use super::{Row, built, is_answered, is_done, run, run_between};
 use crate::expect_eq;
 use crate::trace::address;
 use lgp_listing::read_dump;
 use std::alloc::Global;
 
-/// The first five are those of `examples/`, without their comments.
-const ROWS: [Row<'static>; 14] = [
-    (FIRST_RUN, FIRST_RUN_REPLIES, 0),
-    // A program that changes its own orders: the sum of a table.
-    (
-        b"put 0000 00030044\nput 0001 000f0010\nput 0002 000j0064\nput 0003 00000000\nput 0004 00010050\nput 0005 00020024\nput 0006 0001005j\nput 0007 000j0060\nput 0008 00010060\nput 0009 000q0000\nput 0010 000j0060\nput 0011 00010024\nput 0012 000q0058\nput 0013 00020024\nput 0014 000w0054\nput 0015 000g0020\nput 0016 00010060\nput 0017 000f0000\nput 0020 00000100\nput 0021 000q0110\nput 0022 00000004\nput 0023 00000000\nput 0100 00000002\nput 0101 00000004\nput 0102 00000006\nput 0103 00000008\npress start\norders 8\nwords 0009 1\norders 8\nwords 0009 1\norders 100\nwords 0025 1\nwords 0009 1\nwords 0017 1\npanel\n",
-        b"ok\nok\nok\nok\nok\nok\nok\nok\nok\nok\nok\nok\nok\nok\nok\nok\nok\nok\nok\nok\nok\nok\nok\nok\nok\nok\nlive\norders 8 going\n0009 000q0100\norders 8 going\n0009 000q0104\norders 26 halted stop\n0025 00000014\n0009 000q0110\n0017 000f0008\ncounter 0004 accumulator 00000014 register 00000000 status halted stop mode normal switches uuuuuu reader off tape 0 clock 2910\n",
-        0,
-    ),
-    // A number read from tape, and a word printed.
-    (
-        b"put 0000 00080000\nput 0001 00040000\nput 0002 000j00j8\nput 0003 00081500\nput 0004 00080k00\nput 0005 00082900\nput 0006 00081k00\nput 0007 00000000\nmount 12[16]34'\npanel\npress start\norders 100\nwords 0050 1\nprinted\npanel\nmount 5\npress clear\npress start\norders 100\ntype 68'\norders 100\nwords 0050 1\nprinted\n",
-        b"ok\nok\nok\nok\nok\nok\nok\nok\nok 6\ncounter 0000 accumulator 00000000 register 00000000 status halted operator mode normal switches uuuuuu reader off tape 6 clock 0\nlive\norders 8 halted stop\n0050 00001234\nprinted 4 drum\ncounter 0008 accumulator 00001234 register 00000000 status halted stop mode normal switches uuuuuu reader off tape 0 clock 4034\nok 1\nlive\nlive\norders 2 waiting\nlive 3 dead 0\norders 6 halted stop\n0050 01234568\nprinted 8 drumdrum\n",
-        0,
-    ),
-    // An order stored by hand from the console.
-    (
-        b"type 0\npress manual\ntype 000j0100\npress fill\ntype 00083900\npress oneop\npress execute\norders 1\nwords 0100 1\npanel\npress manual\ntype 000f0100\npress fill\npress oneop\npress execute\norders 1\npanel\npress normal\npress start\norders 10\nprinted\npanel\n",
-        b"live 0 dead 1\nlive\nlive 8 dead 0\nlive\nlive 8 dead 0\nlive\nlive\norders 1 halted step\n0100 00083900\ncounter 0000 accumulator 00083900 register 000j0100 status halted step mode oneop switches uuuuuu reader off tape 0 clock 65\nlive\nlive 8 dead 0\nlive\nlive\nlive\norders 1 halted step\ncounter 0100 accumulator 000f0100 register 000f0100 status halted step mode oneop switches uuuuuu reader off tape 0 clock 67\nlive\nlive\norders 2 halted stop\nprinted 1 a\ncounter 0102 accumulator 000f0100 register 00000000 status halted stop mode normal switches uuuuuu reader off tape 0 clock 524\n",
-        0,
-    ),
-    // The same words as orders, as digits and in a dump.
-    (
-        b"put 0000 000100j8\nput 0001 000q00jj\nput 0002 000j00k0\nput 0050 00000006\nput 0051 0000000f\nshow 0000 4\nshow 0050 2\npress start\norders 10\nwords 0052 1\nshow 0052 1\ndump\n",
-        b"ok\nok\nok\nok\nok\n0000 b 0050\n0001 a 0051\n0002 h 0052\n0003 z 0000\n0050 word 00000006\n0051 word 0000000f\nlive\norders 4 halted stop\n0052 00000010\n0052 z 0004\ndump 6\n0000 000100j8\n0001 000q00jj\n0002 000j00k0\n0050 00000006\n0051 0000000f\n0052 00000010\n",
-        0,
-    ),
+/// Scripts of a few commands each. Those of `examples/` are compared by the proved program.
+const ROWS: [Row<'static>; 9] = [
     (
         b"dump\nput 6308 800g3w20\nshow 6308 1\ndump\nput 6363 80000000\nput 0100 00000004\nshow 6362 2\ndump\nput 6308 00000000\ndump\n",
         b"dump 0\nok\n6308 -t 6308\ndump 1\n6308 800g3w20\nok\nok\n6362 z 0000\n6363 word 80000000\ndump 3\n0100 00000004\n6308 800g3w20\n6363 80000000\nok\ndump 2\n0100 00000004\n6363 80000000\n",
@@ -102,11 +77,6 @@ fn rows_answered(alloc: Global, rows: &[Row<'static>]) -> usize {
     answered
 }
 
-#[test]
-fn scripts_are_answered_in_pieces_of_any_length(rt: HostRuntime) {
-    expect_eq(&rt, rows_answered(rt.alloc(), &ROWS), 14);
-}
-
 /// Lines in no command's form.
 const NOT_IN_FORM: [&[u8]; 37] = [
     b"pan",
@@ -158,11 +128,6 @@ fn lines_refused(alloc: Global) -> usize {
         refused = refused.saturating_add(1);
     }
     refused
-}
-
-#[test]
-fn lines_not_in_form_are_refused(rt: HostRuntime) {
-    expect_eq(&rt, lines_refused(rt.alloc()), 37);
 }
 
 /// Scripts of a few lines.
@@ -251,7 +216,8 @@ fn lines_answered(alloc: Global) -> usize {
 
 #[test]
 fn lines_are_answered_one_by_one(rt: HostRuntime) {
-    expect_eq(&rt, lines_answered(rt.alloc()), 20);
+    let answered = [lines_refused(rt.alloc()), lines_answered(rt.alloc())];
+    expect_eq(&rt, answered, [37, 20]);
 }
 
 /// How the replies to the line `turn 5` begin, in which a byte is in the first place, before the number, in place of the number, or
@@ -390,11 +356,6 @@ const SOURCES: [Row<'static>; 12] = [
     ),
 ];
 
-#[test]
-fn sources_are_assembled_and_listed(rt: HostRuntime) {
-    expect_eq(&rt, rows_answered(rt.alloc(), &SOURCES), 12);
-}
-
 /// Scripts with rules and steps back.
 const HISTORIES: [Row<'static>; 6] = [
     (
@@ -433,8 +394,13 @@ const HISTORIES: [Row<'static>; 6] = [
 ];
 
 #[test]
-fn rules_stop_a_run_and_orders_are_taken_back(rt: HostRuntime) {
-    expect_eq(&rt, rows_answered(rt.alloc(), &HISTORIES), 6);
+fn scripts_are_answered_in_pieces_of_any_length(rt: HostRuntime) {
+    let answered = [
+        rows_answered(rt.alloc(), &ROWS),
+        rows_answered(rt.alloc(), &SOURCES),
+        rows_answered(rt.alloc(), &HISTORIES),
+    ];
+    expect_eq(&rt, answered, [9, 12, 6]);
 }
 
 /// Whether a line is without faults 64 times and refused the 65th time, and whether its replies end so.

@@ -197,16 +197,18 @@ fn two_reads<R: Read + Drop>(reader: R, reads: u64) -> [(Option<usize>, bool, u6
     [first, (second, feed.has_failed(), feed.reads_left())]
 }
 
+/// A feed reads again after a failed read, and fails with no read left.
 #[test]
-fn a_feed_reads_again_after_a_failed_read(rt: HostRuntime) {
-    let reads = two_reads(Pieces::new(b"", 1, true), 3);
-    expect_eq(&rt, reads, [(None, true, 2), (Some(0), true, 1)]);
-}
-
-#[test]
-fn a_feed_with_no_read_left_fails(rt: HostRuntime) {
-    let reads = two_reads(Pieces::whole(b"12", 2), 1);
-    expect_eq(&rt, reads, [(Some(2), false, 0), (None, true, 0)]);
+fn a_feed_counts_its_reads(rt: HostRuntime) {
+    let reads = [
+        two_reads(Pieces::new(b"", 1, true), 3),
+        two_reads(Pieces::whole(b"12", 2), 1),
+    ];
+    let wanted = [
+        [(None, true, 2), (Some(0), true, 1)],
+        [(Some(2), false, 0), (None, true, 0)],
+    ];
+    expect_eq(&rt, reads, wanted);
 }
 
 /// How many bytes a read into a buffer of such a length, 5,000 at most, gives, which go to the end of `taken`; `None` where it fails.

@@ -11,6 +11,7 @@ use lgp_lab::{
 use std::alloc::{AllocError, Global};
 use std::io::Write;
 
+/// A file is read at most 4,294,967,296 times.
 #[test]
 fn what_became_of_a_file_gives_the_status(rt: HostRuntime) {
     let statuses = [
@@ -22,12 +23,8 @@ fn what_became_of_a_file_gives_the_status(rt: HostRuntime) {
         status_of(Err(FileFault::Broken(LabFault::Write(3)))),
         status_of(Err(FileFault::Broken(LabFault::Memory))),
     ];
-    expect_eq(&rt, statuses, [0, 1, 1, 2, 2, 2, 3]);
-}
-
-#[test]
-fn a_file_is_read_at_most_a_given_number_of_times(rt: HostRuntime) {
-    expect_eq(&rt, READS, 4_294_967_296);
+    let wanted = ([0, 1, 1, 2, 2, 2, 3], 4_294_967_296);
+    expect_eq(&rt, (statuses, READS), wanted);
 }
 
 /// Four files, and none else. Of `fails` two lines are read, and then a read fails.
@@ -173,11 +170,6 @@ fn commands_performed(alloc: Global) -> usize {
     performed
 }
 
-#[test]
-fn a_command_reads_its_file_and_writes_what_is_defined(rt: HostRuntime) {
-    expect_eq(&rt, commands_performed(rt.alloc()), 12);
-}
-
 /// How many orders the source of 196 orders is run for, and how what is written begins.
 const RUNS: [(u64, &[u8]); 6] = [
     (0, b"printed 0\ncounter 0000 "),
@@ -210,11 +202,6 @@ fn runs_left(alloc: Global) -> usize {
         left = left.saturating_add(1);
     }
     left
-}
-
-#[test]
-fn a_run_ends_at_its_limit_or_at_rest(rt: HostRuntime) {
-    expect_eq(&rt, runs_left(rt.alloc()), 6);
 }
 
 /// The names of a batch, what is written, and the status.
@@ -258,27 +245,18 @@ fn batches_performed(alloc: Global) -> usize {
 }
 
 #[test]
-fn a_batch_ends_at_a_bad_file_and_gives_the_greatest_status(rt: HostRuntime) {
-    expect_eq(&rt, batches_performed(rt.alloc()), 8);
+fn commands_runs_and_batches_write_what_is_defined(rt: HostRuntime) {
+    let performed = [
+        commands_performed(rt.alloc()),
+        runs_left(rt.alloc()),
+        batches_performed(rt.alloc()),
+    ];
+    expect_eq(&rt, performed, [12, 6, 8]);
 }
 
 /// The status of a task where the first write fails.
 fn unwritten(alloc: Global, task: Result<Task, AllocError>) -> Option<u8> {
     status_into(alloc, task, Failing::after(alloc, 0, 1))
-}
-
-#[test]
-fn a_write_that_fails_gives_status_2(rt: HostRuntime) {
-    let alloc = rt.alloc();
-    let statuses = [
-        unwritten(alloc, task_on(alloc, Command::Stdin, "")),
-        unwritten(alloc, task_on(alloc, Command::Script, "one")),
-        unwritten(alloc, task_on(alloc, Command::Asm, "tenth")),
-        unwritten(alloc, task_on(alloc, Command::Tape, "tenth")),
-        unwritten(alloc, task_on(alloc, Command::Run(1), "tenth")),
-        unwritten(alloc, batch_on(alloc, &["one", "two"])),
-    ];
-    expect_eq(&rt, statuses, [Some(2); 6]);
 }
 
 /// A fault of the words on the command line, with this text.
@@ -345,13 +323,19 @@ fn unwritten_refusal(
 }
 
 #[test]
-fn help_or_a_mistake_that_cannot_be_written_gives_status_2(rt: HostRuntime) {
+fn a_write_that_fails_gives_status_2(rt: HostRuntime) {
     let alloc = rt.alloc();
     let help = fault_of(alloc, false, "help\n");
     let mistake = fault_of(alloc, true, "wrong\n");
     let statuses = [
+        unwritten(alloc, task_on(alloc, Command::Stdin, "")),
+        unwritten(alloc, task_on(alloc, Command::Script, "one")),
+        unwritten(alloc, task_on(alloc, Command::Asm, "tenth")),
+        unwritten(alloc, task_on(alloc, Command::Tape, "tenth")),
+        unwritten(alloc, task_on(alloc, Command::Run(1), "tenth")),
+        unwritten(alloc, batch_on(alloc, &["one", "two"])),
         unwritten_refusal(help, alloc, (2, usize::MAX)),
         unwritten_refusal(mistake, alloc, (usize::MAX, 2)),
     ];
-    expect_eq(&rt, statuses, [Some(2); 2]);
+    expect_eq(&rt, statuses, [Some(2); 8]);
 }

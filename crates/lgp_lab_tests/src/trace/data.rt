@@ -1,14 +1,4 @@
-//! Accounts and profiles as lines of a key and a value.
-
-use super::origins::PROGRAM;
-use super::profile_of_a_sum;
-use super::steps::{debugger, put_all};
-use crate::expect_eq;
-use lgp_debugger::Debugger;
-use lgp_history::Origins;
-use lgp_table::Action;
-use lgp_trace::{Form, NoLabels, Profile, push_heading_in, push_profile_in, trace_run};
-use std::alloc::Allocator;
+//! What is told of accounts and profiles as lines of a key and a value.
 
 /// The two orders of the program that changes its own order, and what put each of them there.
 pub const ORDERS_DATA: &[u8] = b"clock 0
@@ -46,28 +36,6 @@ put-ago 1
 put-over u 0005
 ";
 
-/// The program put on the drum and started: two orders reported. Whether all was, and as above.
-fn reported<H: Origins<A>, A: Allocator, B: Allocator>(
-    alloc: B,
-    lab: &mut Debugger<H, A>,
-) -> (bool, bool) {
-    put_all(lab, PROGRAM);
-    let _live = lab.press(Action::Start);
-    let mut text = Vec::new(alloc);
-    let whole = push_heading_in(&mut text, Form::Data).is_ok()
-        && trace_run(lab, 2, Form::Data, &mut text, &NoLabels).is_ok();
-    (whole, text.as_slice() == ORDERS_DATA)
-}
-
-#[test]
-fn orders_as_data(rt: HostRuntime) {
-    let seen = match debugger(rt.alloc()) {
-        Some(mut lab) => reported(rt.alloc(), &mut lab),
-        None => (false, false),
-    };
-    expect_eq(&rt, seen, (true, true));
-}
-
 /// The word times of the program's rows added up by phase and by place.
 pub const PROFILE_DATA: &[u8] = b"orders 42
 times 2910
@@ -98,19 +66,3 @@ times 90
 place 0007
 times 73
 ";
-
-/// Whether a profile is told, and as above.
-fn told_profile<A: Allocator, B: Allocator>(alloc: B, profile: &Profile<A>) -> (bool, bool) {
-    let mut text = Vec::new(alloc);
-    let told = push_profile_in(&mut text, Form::Data, 42, profile, &NoLabels).is_ok();
-    (told, text.as_slice() == PROFILE_DATA)
-}
-
-#[test]
-fn a_profile_as_data(rt: HostRuntime) {
-    let seen = match profile_of_a_sum(rt.alloc()) {
-        Some(profile) => told_profile(rt.alloc(), &profile),
-        None => (false, false),
-    };
-    expect_eq(&rt, seen, (true, true));
-}

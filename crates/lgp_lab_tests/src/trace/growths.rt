@@ -115,29 +115,27 @@ fn words_refused<H: Origins<A>, A: Allocator, B: Allocator>(
     ended(limited.was_refused(), refused, text.as_slice() == WORDS)
 }
 
-/// Whether growths were refused before the orders were reported, and each of them was answered so.
-fn orders_in_turn<H: Origins<A>, A: Allocator, B: Allocator>(
+/// Orders reported in a way, or what is said of three words where there is none, with a growth refused.
+fn refused<H: Origins<A>, A: Allocator, B: Allocator>(
     limited: &Limited<B>,
-    way: Way,
+    nth: u64,
+    way: Option<Way>,
+    lab: &mut Debugger<H, A>,
+) -> Attempt {
+    match way {
+        Some(way) => run_refused((limited, nth), way, lab),
+        None => words_refused(limited, nth, lab),
+    }
+}
+
+/// Whether growths were refused before that was reported, and each of them was answered so.
+fn told_in_turn<H: Origins<A>, A: Allocator, B: Allocator>(
+    limited: &Limited<B>,
+    way: Option<Way>,
     lab: &mut Debugger<H, A>,
 ) -> bool {
     for nth in 1..MOST {
-        match run_refused((limited, nth), way, lab) {
-            Attempt::Reported => return nth > 1,
-            Attempt::Refused => {}
-            Attempt::Otherwise => return false,
-        }
-    }
-    false
-}
-
-/// The same of the lines on three words.
-fn words_in_turn<H: Origins<A>, A: Allocator, B: Allocator>(
-    limited: &Limited<B>,
-    lab: &Debugger<H, A>,
-) -> bool {
-    for nth in 1..MOST {
-        match words_refused(limited, nth, lab) {
+        match refused(limited, nth, way, lab) {
             Attempt::Reported => return nth > 1,
             Attempt::Refused => {}
             Attempt::Otherwise => return false,
@@ -192,11 +190,11 @@ fn in_turn<H: Origins<A>, A: Allocator, B: Allocator>(
 ) -> [bool; 6] {
     [
         start(lab),
-        orders_in_turn(limited, Way::Lines, lab),
-        orders_in_turn(limited, Way::Data, lab),
-        orders_in_turn(limited, Way::Signs, lab),
+        told_in_turn(limited, Some(Way::Lines), lab),
+        told_in_turn(limited, Some(Way::Data), lab),
+        told_in_turn(limited, Some(Way::Signs), lab),
         matches!(lab.run(2), Ok(ran) if ran.orders == 2),
-        words_in_turn(limited, lab),
+        told_in_turn(limited, None, lab),
     ]
 }
 

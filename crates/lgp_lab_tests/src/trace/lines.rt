@@ -5,8 +5,8 @@ use crate::expect_eq;
 use lgp_machine::Machine;
 use lgp_table::Action;
 use lgp_trace::{
-    Account, Labels, NoLabels, Profile, push_account, push_drum, push_heading, push_profile,
-    push_rows_begun, push_rows_ended,
+    Account, Form, Labels, NoLabels, Profile, push_account, push_drum, push_heading,
+    push_heading_in, push_profile, push_rows_begun, push_rows_ended,
 };
 use lgp_word::Address;
 use std::alloc::{AllocError, Allocator};
@@ -158,10 +158,11 @@ the ten places with most word times
   0007                      73    2 %
 ";
 
-/// Whether a profile is told, and as above.
+/// Whether a profile is told, after the heading of data, which is nothing; and as above.
 fn told_profile<A: Allocator, B: Allocator>(alloc: B, profile: &Profile<A>) -> (bool, bool) {
     let mut text = Vec::new(alloc);
-    let told = push_profile(&mut text, 42, profile, &NoLabels).is_ok();
+    let told = push_heading_in(&mut text, Form::Data).is_ok()
+        && push_profile(&mut text, 42, profile, &NoLabels).is_ok();
     (told, text.as_slice() == PROFILE)
 }
 

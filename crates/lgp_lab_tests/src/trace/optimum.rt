@@ -14,7 +14,7 @@ use lgp_machine::Machine;
 use lgp_table::Action;
 use lgp_trace::optimum_laws::{all_save_the_sum, own_sector, savings_add_up};
 use lgp_trace::{Account, Freedom, Optimum, optimum_run};
-use std::alloc::Allocator;
+use std::alloc::{Allocator, Global};
 
 /// What is noted of at most a given number of the orders that come; none where that is refused.
 pub(super) fn noted<H: History<A>, A: Allocator, B: Allocator + Copy>(
@@ -59,8 +59,34 @@ fn are_sectors<A: Allocator>(optimum: &Optimum<A>, number: u16, wanted: &[u128; 
     optimum.at(address(number)) == *wanted
 }
 
+/// Whether an optimum of a program tells of the word at 0100 these numbers of the 64 sectors, and this; and all word times.
+fn told_of<A: Allocator>(
+    optimum: &Optimum<A>,
+    numbers: &[u128; 64],
+    wanted: Reported,
+) -> (bool, u64) {
+    let is_so = are_sectors(optimum, 64, numbers) && is_told(optimum, 64, wanted);
+    (is_so, optimum.took())
+}
+
+/// The same of a program and a number of its orders.
+fn told_of_orders(
+    alloc: Global,
+    (words, limit): (&[(u16, u32)], u64),
+    numbers: &[u128; 64],
+    wanted: Reported,
+) -> (bool, u64) {
+    match optimum_of(alloc, words, limit) {
+        Some(optimum) => told_of(&optimum, numbers, wanted),
+        None => (false, 0),
+    }
+}
+
 /// b 0100, z 0000.
 const TWO_ORDERS: &[(u16, u32)] = &[(0, 0x0001_0100), (1, 0)];
+
+/// b 0100, u 0000. Each turn of the loop takes 64 word times, or twice as many where the word of the b is read too late for the u.
+const LOOP: &[(u16, u32)] = &[(0, 0x0001_0100), (1, 0x000a_0000)];
 
 /// The b is read at clock 64, and taken at 65. The z is at position 9 and is read at 73, if the b has acted at 72 at the latest: so
 /// its word has to be read from 66 to 71, at the positions 2 to 7. Those are the sectors 50, 43, 36, 29, 22 and 15. The z ends three
@@ -73,20 +99,6 @@ fn of_two_orders() -> [u128; 64] {
     times
 }
 
-#[test]
-fn two_orders(rt: HostRuntime) {
-    let seen = match optimum_of(rt.alloc(), TWO_ORDERS, 9) {
-        Some(optimum) => (
-            are_sectors(&optimum, 64, &of_two_orders())
-                && is_told(&optimum, 64, (Freedom::Free, 15, 64))
-                && is_told(&optimum, 1, (Freedom::Unnamed, 1, 0)),
-            optimum.took(),
-        ),
-        None => (false, 0),
-    };
-    expect_eq(&rt, seen, (true, 140));
-}
-
 /// The b alone ends a word time after its word is read: at position 2 that is clock 66, and at position 1, the last, clock 129.
 fn of_one_order() -> [u128; 64] {
     let mut times = [0; 64];
@@ -96,17 +108,31 @@ fn of_one_order() -> [u128; 64] {
     times
 }
 
+/// 100,000 orders of the loop take 50,000 turns of it, and 12 word times more.
+fn of_many_orders() -> [u128; 64] {
+    let mut times = [6_400_012; 64];
+    for sector in [15, 22, 29, 36, 43, 50] {
+        times[sector] = 3_200_012;
+    }
+    times
+}
+
 #[test]
-fn one_order(rt: HostRuntime) {
-    let seen = match optimum_of(rt.alloc(), TWO_ORDERS, 1) {
-        Some(optimum) => (
-            are_sectors(&optimum, 64, &of_one_order())
-                && is_told(&optimum, 64, (Freedom::Free, 50, 62)),
-            optimum.took(),
+fn orders_that_name_one_word(rt: HostRuntime) {
+    let alloc = rt.alloc();
+    let two = (Freedom::Free, 15, 64);
+    let many = (Freedom::Free, 15, 3_200_000);
+    let seen = [
+        told_of_orders(alloc, (TWO_ORDERS, 9), &of_two_orders(), two),
+        told_of_orders(
+            alloc,
+            (TWO_ORDERS, 1),
+            &of_one_order(),
+            (Freedom::Free, 50, 62),
         ),
-        None => (false, 0),
-    };
-    expect_eq(&rt, seen, (true, 129));
+        told_of_orders(alloc, (LOOP, 100_000), &of_many_orders(), many),
+    ];
+    expect_eq(&rt, seen, [(true, 140), (true, 129), (true, 6_400_012)]);
 }
 
 /// A word of the program that sums a table: what is reported of it, and the sum of its 64 numbers.
@@ -151,14 +177,12 @@ fn rows_as<A: Allocator>(optimum: &Optimum<A>, rows: &[Row]) -> usize {
     as_said
 }
 
-/// 42 orders, of which the one at 0009 is changed.
-#[test]
-fn the_words_of_a_program(rt: HostRuntime) {
-    let seen = match optimum_of(rt.alloc(), SUM_OF_A_TABLE, 100) {
+/// How many word times the program takes, and how many rows come before the first that is reported otherwise.
+fn rows_noted(alloc: Global) -> (u64, usize) {
+    match optimum_of(alloc, SUM_OF_A_TABLE, 100) {
         Some(optimum) => (optimum.took(), rows_as(&optimum, NAMED)),
         None => (0, 0),
-    };
-    expect_eq(&rt, seen, (2910, 14));
+    }
 }
 
 /// Notes an account of few word times; false where it has many, or memory is refused.
@@ -200,29 +224,19 @@ fn rows_singly<A: Allocator + Copy>(alloc: A, machine: &mut Machine<A>) -> (u64,
     }
 }
 
-#[test]
-fn accounts_one_after_another(rt: HostRuntime) {
-    let seen = match with_words(rt.alloc(), SUM_OF_A_TABLE) {
-        Some(mut machine) => rows_singly(rt.alloc(), &mut machine),
+/// The same on a new machine.
+fn rows_noted_singly(alloc: Global) -> (u64, usize) {
+    match with_words(alloc, SUM_OF_A_TABLE) {
+        Some(mut machine) => rows_singly(alloc, &mut machine),
         None => (0, 0),
-    };
-    expect_eq(&rt, seen, (2910, 14));
+    }
 }
 
-/// b 0100, u 0000.
-const LOOP: &[(u16, u32)] = &[(0, 0x0001_0100), (1, 0x000a_0000)];
-
-/// Each turn of the loop takes 64 word times, or twice as many where the word of the b is read too late for the u.
+/// 42 orders, of which the one at 0009 is changed: noted by a run, and by one account after another.
 #[test]
-fn many_orders(rt: HostRuntime) {
-    let seen = match optimum_of(rt.alloc(), LOOP, 100_000) {
-        Some(optimum) => (
-            is_told(&optimum, 64, (Freedom::Free, 15, 3_200_000)),
-            optimum.took(),
-        ),
-        None => (false, 0),
-    };
-    expect_eq(&rt, seen, (true, 6_400_012));
+fn the_words_of_a_program(rt: HostRuntime) {
+    let seen = [rows_noted(rt.alloc()), rows_noted_singly(rt.alloc())];
+    expect_eq(&rt, seen, [(2910, 14); 2]);
 }
 
 /// The program noted from its start, and gone back where a growth is refused. Where no growth was refused, all its orders are noted;

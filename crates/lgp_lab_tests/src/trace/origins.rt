@@ -1,12 +1,9 @@
-//! Accounts of a program that changes its own order, with where its orders came from.
+//! A program that changes its own order, and what is told of its orders and words, with where they came from.
 
 use super::address;
-use super::steps::{debugger, put_all};
-use crate::expect_eq;
 use lgp_debugger::Debugger;
 use lgp_history::Origins;
-use lgp_table::Action;
-use lgp_trace::{Form, NoLabels, push_why, trace_run};
+use lgp_trace::{NoLabels, push_why};
 use std::alloc::{AllocError, Allocator};
 
 /// At 0000 y 0001, which puts the accumulator's address, 0000, into the order after it: at 0001 u 0005.
@@ -38,28 +35,3 @@ pub const WORDS: &[u8] =
 0001: 000f0000 u 0000 = 327680, put there by y 0001 at 0000, clock 0, 2 orders ago; before it was u 0005
 0002: 00000000 z 0000 = 0, changed by no kept step
 ";
-
-/// The program put on the drum and started: two orders reported, and then why three words are as they are. Whether all was reported,
-/// and whether both texts are as above.
-fn reported<H: Origins<A>, A: Allocator, B: Allocator + Copy>(
-    alloc: B,
-    lab: &mut Debugger<H, A>,
-) -> (bool, (bool, bool)) {
-    put_all(lab, PROGRAM);
-    let _live = lab.press(Action::Start);
-    let mut orders = Vec::new(alloc);
-    let mut words = Vec::new(alloc);
-    let ran = trace_run(lab, 2, Form::Columns, &mut orders, &NoLabels).is_ok();
-    let whole = ran && push_words(lab, &mut words).is_ok();
-    let texts = (orders.as_slice() == ORDERS, words.as_slice() == WORDS);
-    (whole, texts)
-}
-
-#[test]
-fn an_order_that_was_changed(rt: HostRuntime) {
-    let seen = match debugger(rt.alloc()) {
-        Some(mut lab) => reported(rt.alloc(), &mut lab),
-        None => (false, (false, false)),
-    };
-    expect_eq(&rt, seen, (true, (true, true)));
-}

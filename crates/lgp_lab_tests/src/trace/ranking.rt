@@ -72,18 +72,6 @@ fn rankings<A: Allocator + Copy, B: Allocator>(alloc: A, optimum: &Optimum<B>) -
     ]
 }
 
-#[test]
-fn the_words_of_a_sum(rt: HostRuntime) {
-    let seen = match optimum_of(rt.alloc(), SUM_OF_A_TABLE, 100) {
-        Some(optimum) => (
-            rankings(rt.alloc(), &optimum),
-            optimum.together(Freedom::Free),
-        ),
-        None => ([false; 5], 0),
-    };
-    expect_eq(&rt, seen, ([true; 5], 960));
-}
-
 /// What is reported of its 42 orders. A part in per cent is cut off: 256 of 2,910 are 8.79.
 const REPORTED: &[u8] = b"orders 42, word times 2910, turns of the drum 45.4
 the ten words with most to gain
@@ -190,15 +178,18 @@ fn texts<A: Allocator + Copy, B: Allocator>(alloc: A, optimum: &Optimum<B>) -> [
 }
 
 #[test]
-fn lines_of_a_sum(rt: HostRuntime) {
+fn words_and_lines_of_a_sum(rt: HostRuntime) {
     let seen = match optimum_of(rt.alloc(), SUM_OF_A_TABLE, 100) {
         Some(optimum) => (
+            rankings(rt.alloc(), &optimum),
+            optimum.together(Freedom::Free),
             texts(rt.alloc(), &optimum),
             lines_reported(rt.alloc(), &optimum, 20),
         ),
-        None => ([false; 4], (0, false, false)),
+        None => ([false; 5], 0, [false; 4], (0, false, false)),
     };
-    expect_eq(&rt, seen, ([true; 4], (67, true, true)));
+    let lines = (67, true, true);
+    expect_eq(&rt, seen, ([true; 5], 960, [true; 4], lines));
 }
 
 /// The words of a run reported with the nth growth refused.

@@ -2,7 +2,6 @@
 
 use crate::{expect_eq, text_of};
 use lgp_assembler::{FaultKind, push_marked};
-use lgp_limited::Limited;
 use std::alloc::{Allocator, Global};
 
 /// A line, the kind of its fault, and what is shown.
@@ -78,12 +77,17 @@ const ROWS: [Row; 16] = [
     ),
 ];
 
-/// Whether this is shown for a line.
-fn is_shown<A: Allocator + Copy>(alloc: A, line: &[u8], kind: FaultKind, wanted: &[u8]) -> bool {
+/// Whether this is shown for a line; `None` without memory.
+pub fn is_shown<A: Allocator>(
+    alloc: A,
+    line: &[u8],
+    kind: FaultKind,
+    wanted: &[u8],
+) -> Option<bool> {
     let mut text = Vec::new(alloc);
     match push_marked(&mut text, line, kind) {
-        Ok(()) => text.as_slice() == wanted,
-        Err(_) => false,
+        Ok(()) => Some(text.as_slice() == wanted),
+        Err(_) => None,
     }
 }
 
@@ -91,7 +95,7 @@ fn is_shown<A: Allocator + Copy>(alloc: A, line: &[u8], kind: FaultKind, wanted:
 fn first_mismarked(alloc: Global, rows: &[Row]) -> usize {
     let mut place = 0usize;
     for (line, kind, wanted) in rows {
-        if !is_shown(alloc, line, *kind, wanted) {
+        if is_shown(alloc, line, *kind, wanted) != Some(true) {
             return place;
         }
         place = place.saturating_add(1);
@@ -108,7 +112,7 @@ fn faulty_lines_are_marked(rt: HostRuntime) {
 fn is_shown_so(alloc: Global, line: &[(&[u8], u32)], wanted: &[(&[u8], u32)]) -> Option<bool> {
     let line = text_of(alloc, line)?;
     let wanted = text_of(alloc, wanted)?;
-    Some(is_shown(alloc, &line, FaultKind::UnknownName, &wanted))
+    is_shown(alloc, &line, FaultKind::UnknownName, &wanted)
 }
 
 /// Of a line with a name of 300 letters 200 bytes are shown and 197 letters marked. Nothing is
@@ -132,34 +136,4 @@ fn long_lines_are_cut(rt: HostRuntime) {
         &[(b"         b", 1), (b" ", 198), (b" ..\n", 1)],
     );
     expect_eq(&rt, (cut, unmarked), (Some(true), Some(true)));
-}
-
-/// Shows a line with the nth growth refused: whether it was, and whether the call said so or showed
-/// the line.
-fn ended(limited: &Limited<Global>, nth: u64) -> (bool, bool) {
-    let mut text = Vec::new(limited);
-    limited.refuse(nth);
-    let shown = push_marked(&mut text, b" b none", FaultKind::UnknownName);
-    let refused = limited.was_refused();
-    let whole = text.as_slice() == b"         b none\n           ^^^^\n".as_slice();
-    (refused, shown.is_err() == refused && (refused || whole))
-}
-
-/// How many growths there are, where each that is refused in turn is reported.
-fn refusals(limited: &Limited<Global>) -> Option<u64> {
-    for nth in 1..100 {
-        match ended(limited, nth) {
-            (true, true) => {}
-            (false, true) => return Some(nth - 1),
-            _ => return None,
-        }
-    }
-    None
-}
-
-#[test]
-fn each_growth_may_be_refused(rt: HostRuntime) {
-    let limited = Limited::new(rt.alloc());
-    let has_many = refusals(&limited) > Some(1);
-    expect_eq(&rt, (has_many, limited.blocks_out()), (true, 0));
 }

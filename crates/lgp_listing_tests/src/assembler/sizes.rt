@@ -126,7 +126,7 @@ fn is_named(source: &mut Vec<u8>, [one, two, three]: [u8; 3]) -> bool {
 }
 
 /// Appends a thousand such words and the end; false without memory.
-fn are_named(source: &mut Vec<u8>) -> bool {
+pub fn are_named(source: &mut Vec<u8>) -> bool {
     for number in 0..1000u16 {
         let digits = [
             b'0' + (number / 100 % 10) as u8,

@@ -1,6 +1,7 @@
 //! Drums as SIMH's deposits, and as it shows them.
 
 use super::*;
+use crate::growths::same_words;
 use crate::text_of;
 use lgp_drum::Drum;
 use lgp_word::{Address, Word};
@@ -39,26 +40,8 @@ pub fn drum_of(global: Global, cells: &[Cell]) -> Option<Drum> {
     }
 }
 
-/// The word at the address of a number; zero where there is none.
-fn bits_at<A: Allocator>(drum: &Drum<A>, number: u16) -> u32 {
-    match Address::new(number) {
-        Some(address) => drum.word(address).get(),
-        None => 0,
-    }
-}
-
-/// Whether two drums have the same words.
-pub fn same_words<A: Allocator, B: Allocator>(drum: &Drum<A>, other: &Drum<B>) -> bool {
-    for number in 0..4096 {
-        if bits_at(drum, number) != bits_at(other, number) {
-            return false;
-        }
-    }
-    true
-}
-
 /// Words at the drum's ends and between, with each digit.
-pub const CELLS: [Cell; 4] = [
+const CELLS: [Cell; 4] = [
     (0, 0x0123_4566),
     (1, 2),
     (114, 0x89ab_cdee),
@@ -66,7 +49,7 @@ pub const CELLS: [Cell; 4] = [
 ];
 
 /// The deposits of these words.
-pub const DEPOSITS: &[u8] =
+const DEPOSITS: &[u8] =
     b"d -lt 0000 01234566\nd -lt 0001 00000002\nd -lt 0150 89fgjkqq\nd -lt 6363 wwwwwwwq\n";
 
 /// Whether a drum of these words has these deposits.
@@ -101,7 +84,7 @@ fn deposits_come_after_the_text(rt: HostRuntime) {
 }
 
 /// The fault of a text; `None` where it has none.
-pub fn fault_of<A: Allocator + Copy>(alloc: A, text: &[u8]) -> Option<ExaminedFault> {
+fn fault_of<A: Allocator + Copy>(alloc: A, text: &[u8]) -> Option<ExaminedFault> {
     read_examined(alloc, text).err()
 }
 
@@ -139,7 +122,7 @@ const READ: [(&[u8], &[Cell]); 7] = [
 /// The place of the first text that is read otherwise, or how many there are.
 fn first_read_otherwise(global: Global) -> usize {
     let mut place = 0usize;
-    for (text, cells) in READ {
+    for (text, cells) in &READ {
         if !is_read_as(global, text, cells) {
             return place;
         }
@@ -154,7 +137,7 @@ fn deposits_and_shown_words_are_read(rt: HostRuntime) {
 }
 
 /// Texts with a fault, and that fault.
-const FAULTY: [(&[u8], ExaminedFault); 23] = [
+pub const FAULTY: [(&[u8], ExaminedFault); 23] = [
     (b"\n", ExaminedFault::Form(1)),
     (b"0000:\t0000000\n", ExaminedFault::Form(1)),
     (b"0000:\t000000000\n", ExaminedFault::Form(1)),
@@ -193,10 +176,10 @@ const FAULTY: [(&[u8], ExaminedFault); 23] = [
 ];
 
 /// The place of the first text with another fault, or how many there are.
-fn first_other_fault(global: Global) -> usize {
+pub fn first_other_fault<A: Allocator + Copy>(alloc: A) -> usize {
     let mut place = 0usize;
-    for (text, fault) in FAULTY {
-        if fault_of(global, text) != Some(fault) {
+    for (text, fault) in &FAULTY {
+        if fault_of(alloc, text) != Some(*fault) {
             return place;
         }
         place = place.saturating_add(1);
@@ -216,28 +199,6 @@ pub fn full_drum(global: Global) -> Option<Drum> {
         let _ = put(&mut drum, (number, 2 * u32::from(number) + 2));
     }
     Some(drum)
-}
-
-/// How many bytes a text has, and whether it is read as these words.
-fn read_back(global: Global, text: &[u8], drum: &Drum) -> Option<(usize, bool)> {
-    match read_examined(global, text) {
-        Ok(read) => Some((text.len(), same_words(drum, &read))),
-        Err(_) => None,
-    }
-}
-
-/// The same of the deposits of a full drum.
-fn full_read_back(global: Global) -> Option<(usize, bool)> {
-    let drum = full_drum(global)?;
-    match deposits_of(global, &drum) {
-        Ok(text) => read_back(global, text.as_slice(), &drum),
-        Err(_) => None,
-    }
-}
-
-#[test]
-fn a_full_drum_is_read_back(rt: HostRuntime) {
-    expect_eq(&rt, full_read_back(rt.alloc()), Some((4096 * 20, true)));
 }
 
 /// The fault of 100,000 lines after which one is bad.

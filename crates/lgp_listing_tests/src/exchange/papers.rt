@@ -49,7 +49,7 @@ const PAPERS: [(&[u8], &[u8]); 24] = [
 /// The place of the first codes that are shown otherwise, or how many rows there are.
 fn first_shown_otherwise(global: Global) -> usize {
     let mut place = 0usize;
-    for (numbers, text) in PAPERS {
+    for (numbers, text) in &PAPERS {
         if !is_shown_as(global, numbers, text) {
             return place;
         }

@@ -87,9 +87,9 @@ fn is_written_as(global: Global, numbers: &[u8], text: &[u8]) -> bool {
 
 /// The byte that stands for a code by itself, or `None`.
 fn sign_of(number: u8) -> Option<u8> {
-    for (known, sign) in SIGNS {
-        if known == number {
-            return Some(sign);
+    for (known, sign) in &SIGNS {
+        if *known == number {
+            return Some(*sign);
         }
     }
     None

@@ -1,31 +1,12 @@
 //! Drums as texts, and back.
 
 use super::*;
+use crate::exchange::drums::drum_of;
+use crate::growths::same_words;
 use crate::text_of;
 
-/// A place and its word, as texts.
-type Cell = (&'static [u8], &'static [u8]);
-
-/// Puts words at their places; false where one is no word or no place.
-fn are_put<A: Allocator>(drum: &mut Drum<A>, cells: &[Cell]) -> bool {
-    for (place, digits) in cells {
-        match (Address::parse(place), read_digits(digits)) {
-            (Some(place), Some(word)) => drum.put(place, word),
-            _ => return false,
-        }
-    }
-    true
-}
-
-/// A drum with these words at these places.
-fn drum_with(alloc: Global, cells: &[Cell]) -> Option<Drum> {
-    let mut drum = Drum::new(alloc).ok()?;
-    if are_put(&mut drum, cells) {
-        Some(drum)
-    } else {
-        None
-    }
-}
+/// The number of an address, and the bits of its word.
+type Cell = (u16, u32);
 
 /// Whether a drum has this dump.
 fn has_dump<A: Allocator + Copy>(alloc: A, drum: &Drum, wanted: &[u8]) -> bool {
@@ -35,46 +16,33 @@ fn has_dump<A: Allocator + Copy>(alloc: A, drum: &Drum, wanted: &[u8]) -> bool {
     }
 }
 
-/// Whether a drum has these words at these places.
-fn has_words(drum: &Drum, wanted: &[Cell]) -> bool {
-    for (place, digits) in wanted {
-        match (Address::parse(place), read_digits(digits)) {
-            (Some(place), Some(word)) if drum.word(place) == word => {}
-            _ => return false,
-        }
-    }
-    true
-}
-
-/// Whether a text is the dump of a drum with these words.
-fn reads_as(alloc: Global, text: &[u8], wanted: &[Cell]) -> bool {
+/// Whether a text is the dump of a drum.
+fn reads_as(alloc: Global, text: &[u8], wanted: &Drum) -> bool {
     match read_dump(alloc, text) {
-        Ok(drum) => has_words(&drum, wanted),
+        Ok(drum) => same_words(&drum, wanted),
         Err(_) => false,
     }
 }
 
 /// Whether a drum of these words has this dump, and whether the dump is read as them.
 fn is_dumped(alloc: Global, cells: &[Cell], text: &[u8]) -> Option<(bool, bool)> {
-    let drum = drum_with(alloc, cells)?;
-    Some((has_dump(alloc, &drum, text), reads_as(alloc, text, cells)))
+    let drum = drum_of(alloc, cells)?;
+    Some((has_dump(alloc, &drum, text), reads_as(alloc, text, &drum)))
 }
 
+/// The dump of the words 4 at 0100 and 80000000 at 6363.
+const DUMP: &[u8] = b"0100 00000004\n6363 80000000\n";
+
+/// Those two words, and one of zeros.
+const CELLS: [Cell; 3] = [(64, 4), (4095, 0x8000_0000), (65, 0)];
+
 #[test]
-fn a_dump_of_two_words_is_read_back(rt: HostRuntime) {
-    let cells: [Cell; 3] = [
-        (b"0100", b"00000004"),
-        (b"6363", b"80000000"),
-        (b"0101", b"00000000"),
+fn dumps_are_read_back(rt: HostRuntime) {
+    let found = [
+        is_dumped(rt.alloc(), &CELLS, DUMP),
+        is_dumped(rt.alloc(), &[(0, 0)], b""),
     ];
-    let found = is_dumped(rt.alloc(), &cells, b"0100 00000004\n6363 80000000\n");
-    expect_eq(&rt, found, Some((true, true)));
-}
-
-#[test]
-fn an_empty_dump_is_of_zeros(rt: HostRuntime) {
-    let found = is_dumped(rt.alloc(), &[(b"0000", b"00000000")], b"");
-    expect_eq(&rt, found, Some((true, true)));
+    expect_eq(&rt, found, [Some((true, true)); 2]);
 }
 
 /// A drum that is lent word by word.
@@ -98,7 +66,7 @@ fn lines_of(text: &mut Vec<u8>, drum: &Drum) -> Option<u64> {
 
 /// The same of a drum with these words, and whether it comes after what was there.
 fn appended(alloc: Global, cells: &[Cell], wanted: &[u8]) -> Option<(Option<u64>, bool)> {
-    let drum = drum_with(alloc, cells)?;
+    let drum = drum_of(alloc, cells)?;
     let mut text = text_of(alloc, &[(b"dump\n", 1)])?;
     let lines = lines_of(&mut text, &drum);
     Some((lines, text.as_slice() == wanted))
@@ -106,41 +74,31 @@ fn appended(alloc: Global, cells: &[Cell], wanted: &[u8]) -> Option<(Option<u64>
 
 #[test]
 fn the_dump_of_a_lent_drum_is_appended(rt: HostRuntime) {
-    let cells: [Cell; 2] = [(b"0100", b"00000004"), (b"6363", b"80000000")];
     let wanted = b"dump\n0100 00000004\n6363 80000000\n";
-    let found = appended(rt.alloc(), &cells, wanted);
+    let found = appended(rt.alloc(), &CELLS, wanted);
     expect_eq(&rt, found, Some((Some(2), true)));
 }
 
-/// Whether the line of an address and its word is this.
-fn has_line(alloc: Global, address: Address, word: Word, wanted: &[u8]) -> bool {
+/// Whether the line of the address of a number and of a word is this; `None` where they are no address and no word.
+fn has_line(alloc: Global, cell: Cell, wanted: &[u8]) -> Option<bool> {
+    let (address, word) = (Address::new(cell.0)?, Word::new(cell.1)?);
     let mut text = Vec::new(alloc);
-    match push_cell_line(&mut text, address, word) {
-        Ok(()) => text.as_slice() == wanted,
-        Err(_) => false,
-    }
-}
-
-/// The same of texts; false where they are no address and no word.
-fn cell_has_line(alloc: Global, cell: Cell, wanted: &[u8]) -> bool {
-    match (Address::parse(cell.0), read_digits(cell.1)) {
-        (Some(address), Some(word)) => has_line(alloc, address, word, wanted),
-        _ => false,
-    }
+    let is_done = push_cell_line(&mut text, address, word).is_ok();
+    Some(is_done && text.as_slice() == wanted)
 }
 
 #[test]
 fn a_word_of_zeros_has_a_line_of_its_own(rt: HostRuntime) {
-    let found = cell_has_line(rt.alloc(), (b"0100", b"00000000"), b"0100 00000000\n");
-    expect_eq(&rt, found, true);
+    let found = has_line(rt.alloc(), (64, 0), b"0100 00000000\n");
+    expect_eq(&rt, found, Some(true));
 }
 
 /// Why a text is no dump.
-pub(super) fn fault_of<A: Allocator + Copy>(alloc: A, text: &[u8]) -> Option<DumpFault> {
+fn fault_of<A: Allocator + Copy>(alloc: A, text: &[u8]) -> Option<DumpFault> {
     read_dump(alloc, text).err()
 }
 
-pub(super) const NO_DUMPS: &[(&[u8], DumpFault)] = &[
+pub const NO_DUMPS: &[(&[u8], DumpFault)] = &[
     (b"0100 00000000\n", DumpFault::Form(1)),
     (b"6364 00000004\n", DumpFault::Form(1)),
     (b"0100 00000003\n", DumpFault::Form(1)),
@@ -154,9 +112,9 @@ pub(super) const NO_DUMPS: &[(&[u8], DumpFault)] = &[
 ];
 
 /// The place of the first text with another fault, or how many there are.
-fn first_other_fault<A: Allocator + Copy>(alloc: A, rows: &[(&[u8], DumpFault)]) -> usize {
+pub fn first_other_fault<A: Allocator + Copy>(alloc: A) -> usize {
     let mut place = 0usize;
-    for (text, wanted) in rows {
+    for (text, wanted) in NO_DUMPS {
         if fault_of(alloc, text) != Some(*wanted) {
             return place;
         }
@@ -167,8 +125,7 @@ fn first_other_fault<A: Allocator + Copy>(alloc: A, rows: &[(&[u8], DumpFault)])
 
 #[test]
 fn texts_that_are_no_dump(rt: HostRuntime) {
-    let found = first_other_fault(rt.alloc(), NO_DUMPS);
-    expect_eq(&rt, found, NO_DUMPS.len());
+    expect_eq(&rt, first_other_fault(rt.alloc()), NO_DUMPS.len());
 }
 
 /// Places in the line `0100 00000004` and its line feed, each with the bytes that may be there
@@ -212,9 +169,9 @@ fn first_wrong_byte(alloc: Global, place: usize, taken: &[u8]) -> Option<u8> {
 
 /// The same at the first place that has one.
 fn first_wrong_place(alloc: Global) -> Option<(usize, u8)> {
-    for (place, taken) in TAKEN {
-        if let Some(byte) = first_wrong_byte(alloc, place, taken) {
-            return Some((place, byte));
+    for (place, taken) in &TAKEN {
+        if let Some(byte) = first_wrong_byte(alloc, *place, taken) {
+            return Some((*place, byte));
         }
     }
     None

@@ -158,11 +158,6 @@ fn first_unreported_action(global: Global) -> Option<(Action, (Status, Mode))> {
     None
 }
 
-#[test]
-fn actions_are_live_by_the_table(rt: HostRuntime) {
-    expect_eq(&rt, first_unreported_action(rt.alloc()), None);
-}
-
 /// A status in Normal, and the ones after the three mode buttons.
 const BUTTONS: [(Status, [Status; 3]); 5] = [
     (STOPPED, [STOPPED; 3]),
@@ -194,20 +189,15 @@ fn sets_mode(global: Global, before: Status, mode: Mode, left: Status) -> bool {
 
 /// The first status after which a mode button does something else.
 fn first_unset(global: Global) -> Option<Status> {
-    for (status, left) in BUTTONS {
-        if !(sets_mode(global, status, Mode::Normal, left[0])
-            && sets_mode(global, status, Mode::OneOperation, left[1])
-            && sets_mode(global, status, Mode::Manual, left[2]))
+    for (status, left) in &BUTTONS {
+        if !(sets_mode(global, *status, Mode::Normal, left[0])
+            && sets_mode(global, *status, Mode::OneOperation, left[1])
+            && sets_mode(global, *status, Mode::Manual, left[2]))
         {
-            return Some(status);
+            return Some(*status);
         }
     }
     None
-}
-
-#[test]
-fn mode_buttons_set_the_mode(rt: HostRuntime) {
-    expect_eq(&rt, first_unset(rt.alloc()), None);
 }
 
 /// What a machine that has halted in One Operation is to have after an action.
@@ -233,20 +223,6 @@ fn halted_leaves(global: Global, action: &Action) -> bool {
     )
 }
 
-#[test]
-fn halted_actions_act(rt: HostRuntime) {
-    expect_eq(
-        &rt,
-        [
-            halted_leaves(rt.alloc(), &Action::Start),
-            halted_leaves(rt.alloc(), &Action::ClearCounter),
-            halted_leaves(rt.alloc(), &Action::Fill),
-            halted_leaves(rt.alloc(), &Action::Execute),
-        ],
-        [true; 4],
-    );
-}
-
 /// Whether the key of code 6 changes the accumulator alone, and to this.
 fn enters(global: Global, status: Status, mode: Mode, six_bit: bool, accumulator: u32) -> bool {
     let mut before = panel(status, mode);
@@ -256,37 +232,11 @@ fn enters(global: Global, status: Status, mode: Mode, six_bit: bool, accumulator
     leaves(global, &before, key(6), &wanted)
 }
 
-#[test]
-fn keys_enter_where_codes_are_taken(rt: HostRuntime) {
-    expect_eq(
-        &rt,
-        [
-            enters(rt.alloc(), OPERATOR, Mode::Manual, false, 0x131),
-            enters(rt.alloc(), Status::Waiting, Mode::Normal, false, 0x131),
-            enters(rt.alloc(), Status::Waiting, Mode::Normal, true, 0x4c6),
-        ],
-        [true; 3],
-    );
-}
-
 /// Whether both actions that end an input in a mode leave this status, and change nothing else.
 fn end_input(global: Global, mode: Mode, status: Status) -> bool {
     let (before, wanted) = (panel(Status::Waiting, mode), panel(status, mode));
     leaves(global, &before, Action::StartCompute, &wanted)
         && leaves(global, &before, key(32), &wanted)
-}
-
-#[test]
-fn a_waiting_machine_goes_on(rt: HostRuntime) {
-    expect_eq(
-        &rt,
-        [
-            end_input(rt.alloc(), Mode::Normal, Status::Going),
-            end_input(rt.alloc(), Mode::OneOperation, STEPPED),
-            end_input(rt.alloc(), Mode::Manual, OPERATOR),
-        ],
-        [true; 3],
-    );
 }
 
 /// Whether the tape reader is switched on, and nothing else changes but the status.
@@ -297,16 +247,34 @@ fn starts_reading(global: Global, status: Status, mode: Mode) -> bool {
 }
 
 #[test]
-fn the_reader_is_started(rt: HostRuntime) {
+fn halted_and_waiting_machines_take_actions(rt: HostRuntime) {
+    let alloc = rt.alloc();
+    let halted = [
+        halted_leaves(alloc, &Action::Start),
+        halted_leaves(alloc, &Action::ClearCounter),
+        halted_leaves(alloc, &Action::Fill),
+        halted_leaves(alloc, &Action::Execute),
+    ];
+    let entered = [
+        enters(alloc, OPERATOR, Mode::Manual, false, 0x131),
+        enters(alloc, Status::Waiting, Mode::Normal, false, 0x131),
+        enters(alloc, Status::Waiting, Mode::Normal, true, 0x4c6),
+    ];
+    let ended = [
+        end_input(alloc, Mode::Normal, Status::Going),
+        end_input(alloc, Mode::OneOperation, STEPPED),
+        end_input(alloc, Mode::Manual, OPERATOR),
+    ];
+    let reading = [
+        starts_reading(alloc, Status::Waiting, Mode::Normal),
+        starts_reading(alloc, Status::Waiting, Mode::OneOperation),
+        starts_reading(alloc, Status::Waiting, Mode::Manual),
+        starts_reading(alloc, OPERATOR, Mode::Manual),
+    ];
     expect_eq(
         &rt,
-        [
-            starts_reading(rt.alloc(), Status::Waiting, Mode::Normal),
-            starts_reading(rt.alloc(), Status::Waiting, Mode::OneOperation),
-            starts_reading(rt.alloc(), Status::Waiting, Mode::Manual),
-            starts_reading(rt.alloc(), OPERATOR, Mode::Manual),
-        ],
-        [true; 4],
+        (halted, entered, ended, reading),
+        ([true; 4], [true; 3], [true; 3], [true; 4]),
     );
 }
 
@@ -367,6 +335,12 @@ fn first_not_set(global: Global) -> Option<Action> {
 }
 
 #[test]
-fn switches_are_set(rt: HostRuntime) {
-    expect_eq(&rt, first_not_set(rt.alloc()), None);
+fn actions_are_live_by_the_table_and_set_modes_and_switches(rt: HostRuntime) {
+    let alloc = rt.alloc();
+    let found = (
+        first_unreported_action(alloc),
+        first_unset(alloc),
+        first_not_set(alloc),
+    );
+    expect_eq(&rt, found, (None, None, None));
 }

@@ -5,15 +5,15 @@ use super::{
     parts_at, press, printed, put, rest, shown, start, started, status_after, tape_left, turn,
     turns, with_tape, with_words, within_an_order, word_at,
 };
+use crate::console::key;
 use crate::expect_eq;
-use lgp_drum::Drum;
 use lgp_flexo::{Code, TAPE_LIMIT};
 use lgp_machine::{
     Look, Machine, MountFault, OrderFault, PressFault, Pressed, PutFault, RestFault, TurnFault,
 };
 use lgp_table::{Action, Cause, Mode, Status};
-use lgp_word::{Address, Op, Word};
-use std::alloc::{AllocError, Allocator, Global};
+use lgp_word::{Address, Op};
+use std::alloc::{Allocator, Global};
 
 const OPERATOR: Status = Status::Halted(Cause::Operator);
 
@@ -89,41 +89,6 @@ fn goes_on_at_rest(global: Global) -> Option<bool> {
     )
 }
 
-#[test]
-fn the_clock_goes_on_at_rest(rt: HostRuntime) {
-    expect_eq(&rt, goes_on_at_rest(rt.alloc()), Some(true));
-}
-
-/// The statuses after two orders.
-fn two_statuses<A: Allocator>(machine: &mut Machine<A>) -> [Result<Status, OrderFault>; 2] {
-    [status_after(machine), status_after(machine)]
-}
-
-/// How many codes are on the tape of an input, the statuses after two orders, and what shows then and is left.
-type Input = (
-    Option<usize>,
-    [Result<Status, OrderFault>; 2],
-    Option<Look>,
-    Option<usize>,
-);
-
-fn read_to_the_stop(global: Global) -> Option<Input> {
-    let mut machine = with_tape(global, &INPUT, b"12[16]3'")?;
-    let mounted = tape_left(&machine);
-    let statuses = two_statuses(&mut machine);
-    Some((mounted, statuses, look(&machine), tape_left(&machine)))
-}
-
-#[test]
-fn a_tape_is_read_to_its_stop(rt: HostRuntime) {
-    let look = shown(2, 0x123, 0x0004_0000, Status::Going, 1996);
-    expect_eq(
-        &rt,
-        read_to_the_stop(rt.alloc()),
-        Some((Some(5), [Ok(Status::Going); 2], look, Some(0))),
-    );
-}
-
 /// Whether an input reads three codes, waits after them, and ends where the stop code is struck.
 fn waits_for_a_stop(global: Global) -> Option<bool> {
     let mut machine = with_tape(global, &INPUT, b"12[16]3")?;
@@ -137,33 +102,15 @@ fn waits_for_a_stop(global: Global) -> Option<bool> {
     )
 }
 
-#[test]
-fn a_tape_without_a_stop_leaves_it_waiting(rt: HostRuntime) {
-    expect_eq(&rt, waits_for_a_stop(rt.alloc()), Some(true));
-}
-
-/// What becomes of the press of 6 BIT INPUT, the statuses after two orders after it, and the accumulator and the clock then.
-type SixBits = (
-    Result<Pressed, PressFault>,
-    [Result<Status, OrderFault>; 2],
-    Option<(u32, u64)>,
-);
-
-fn enter_six_bits(global: Global) -> Option<SixBits> {
+/// Whether an input by six bits enters two codes.
+fn enters_six_bits(global: Global) -> Option<bool> {
     let mut machine = with_tape(global, &INPUT, b"a'")?;
-    let pressed = press(&mut machine, Action::SixBit(true));
-    let statuses = two_statuses(&mut machine);
-    Some((pressed, statuses, accumulator_and_clock(&machine)))
-}
-
-#[test]
-fn six_bits_enter_where_the_switch_is_down(rt: HostRuntime) {
-    let going = [Ok(Status::Going); 2];
-    expect_eq(
-        &rt,
-        enter_six_bits(rt.alloc()),
-        Some((Ok(Pressed::Live), going, Some((0x39, 844)))),
-    );
+    Some(
+        press(&mut machine, Action::SixBit(true)) == Ok(Pressed::Live)
+            && status_after(&mut machine) == Ok(Status::Going)
+            && status_after(&mut machine) == Ok(Status::Going)
+            && accumulator_and_clock(&machine) == Some((0x39, 844)),
+    )
 }
 
 /// What striking a key would be, what becomes of it, and the accumulator and the clock after it.
@@ -172,11 +119,6 @@ type Struck = (
     Result<Pressed, PressFault>,
     Option<(u32, u64)>,
 );
-
-/// The key of that code.
-fn key(number: u8) -> Action {
-    Action::Key(Code::new(number).unwrap_or(Code::STOP))
-}
 
 /// Strikes the key of a code.
 fn strike<A: Allocator>(machine: &mut Machine<A>, number: u8) -> Struck {
@@ -265,11 +207,6 @@ fn refuses_all(global: Global) -> Option<bool> {
     )
 }
 
-#[test]
-fn calls_are_refused_within_an_order(rt: HostRuntime) {
-    expect_eq(&rt, refuses_all(rt.alloc()), Some(true));
-}
-
 /// Whether none of the calls that need a boundary shows anything.
 fn is_hidden(global: Global) -> Option<bool> {
     let machine = within_an_order(global)?;
@@ -279,38 +216,6 @@ fn is_hidden(global: Global) -> Option<bool> {
             && live(&machine, Action::Start).is_none()
             && tape_left(&machine).is_none(),
     )
-}
-
-#[test]
-fn nothing_shows_within_an_order(rt: HostRuntime) {
-    expect_eq(&rt, is_hidden(rt.alloc()), Some(true));
-}
-
-/// A drum of two words.
-fn drum_of_two(global: Global) -> Option<Drum> {
-    let mut drum = Drum::new(global).ok()?;
-    drum.put(address(64), Word::of_bits(4));
-    drum.put(address(4095), Word::of_bits(0x8000_0000));
-    Some(drum)
-}
-
-/// The two words of a machine that could be made.
-fn two_words(machine: Result<Machine, AllocError>) -> Option<[u32; 2]> {
-    let machine = machine.ok()?;
-    Some([word_at(&machine, 64), word_at(&machine, 4095)])
-}
-
-/// The two words of a copy of a machine that begins with that drum, and its own.
-fn begun_with_a_drum(global: Global) -> Option<[Option<[u32; 2]>; 2]> {
-    let machine = Machine::with_drum(global, drum_of_two(global)?).ok()?;
-    let copied = two_words(machine.copy());
-    Some([copied, two_words(Ok(machine))])
-}
-
-#[test]
-fn a_machine_begins_with_a_drum(rt: HostRuntime) {
-    let words = Some([4, 0x8000_0000]);
-    expect_eq(&rt, begun_with_a_drum(rt.alloc()), Some([words; 2]));
 }
 
 /// Whether an order of seven word times begins four before the clock's end, is refused whole and changes nothing, and within it
@@ -330,11 +235,6 @@ fn ends_within(global: Global) -> Option<bool> {
     )
 }
 
-#[test]
-fn the_clock_ends_within_an_order(rt: HostRuntime) {
-    expect_eq(&rt, ends_within(rt.alloc()), Some(true));
-}
-
 /// Whether a machine at rest goes to the clock's end, and no word time further.
 fn ends_at_rest(global: Global) -> Option<bool> {
     let mut machine = Machine::new(global).ok()?;
@@ -348,8 +248,18 @@ fn ends_at_rest(global: Global) -> Option<bool> {
 }
 
 #[test]
-fn the_clock_ends_at_rest(rt: HostRuntime) {
-    expect_eq(&rt, ends_at_rest(rt.alloc()), Some(true));
+fn calls_are_answered_at_rest_within_an_order_and_at_the_clocks_end(rt: HostRuntime) {
+    let alloc = rt.alloc();
+    let answered = [
+        goes_on_at_rest(alloc),
+        waits_for_a_stop(alloc),
+        enters_six_bits(alloc),
+        refuses_all(alloc),
+        is_hidden(alloc),
+        ends_within(alloc),
+        ends_at_rest(alloc),
+    ];
+    expect_eq(&rt, answered, [Some(true); 7]);
 }
 
 /// What becomes of a tape of a given number of codes, and how many are left then.
@@ -362,20 +272,17 @@ fn mounted(global: Global, count: usize) -> Option<Mounted> {
 }
 
 #[test]
-fn a_tape_above_the_limit_is_handed_back(rt: HostRuntime) {
+fn a_tape_has_at_most_1048576_codes(rt: HostRuntime) {
     let back = Err((MountFault::TooLong, 1_048_577));
     expect_eq(
         &rt,
-        mounted(rt.alloc(), TAPE_LIMIT + 1),
-        Some((Some(back), Some(0))),
-    );
-}
-
-#[test]
-fn a_tape_of_1048576_codes_is_mounted(rt: HostRuntime) {
-    expect_eq(
-        &rt,
-        mounted(rt.alloc(), 1_048_576),
-        Some((Some(Ok(())), Some(1_048_576))),
+        [
+            mounted(rt.alloc(), TAPE_LIMIT + 1),
+            mounted(rt.alloc(), 1_048_576),
+        ],
+        [
+            Some((Some(back), Some(0))),
+            Some((Some(Ok(())), Some(1_048_576))),
+        ],
     );
 }

@@ -109,12 +109,22 @@ const FOUR: [Event; 4] = [
 type Ended = (bool, Result<(), PlayFault>, bool);
 
 /// Plays a print there.
-fn play_at_the_end<B: Allocator>(limited: &Limited<B>) -> Option<Ended> {
-    let mut machine = with_words(limited, &[(0, PRINT)])?;
-    let rested = rest(&mut machine, CLOCK_END - 2).is_ok();
+fn play_at_the_end<B: Allocator>(
+    limited: &Limited<B>,
+    machine: &mut Machine<&Limited<B>>,
+) -> Ended {
+    let rested = rest(machine, CLOCK_END - 2).is_ok();
     limited.refuse(1);
-    let played = play(&mut machine, &FOUR);
-    Some((rested, played, limited.was_refused()))
+    let played = play(machine, &FOUR);
+    (rested, played, limited.was_refused())
+}
+
+/// The same of a new machine.
+fn played_at_the_end<B: Allocator>(limited: &Limited<B>) -> Option<Ended> {
+    match with_words(limited, &[(0, PRINT)]) {
+        Some(mut machine) => Some(play_at_the_end(limited, &mut machine)),
+        None => None,
+    }
 }
 
 #[test]
@@ -123,7 +133,7 @@ fn a_play_stops_at_the_clocks_end(rt: HostRuntime) {
         done: 3,
         fault: TurnFault::ClockEnd,
     };
-    let played = play_at_the_end(&Limited::new(rt.alloc()));
+    let played = played_at_the_end(&Limited::new(rt.alloc()));
     expect_eq(&rt, played, Some((true, Err(stopped), false)));
 }
 
@@ -137,13 +147,24 @@ type Unprinted = (
 );
 
 /// Plays a start and 451 word times of a print so, and a word time more.
-fn play_without_room<B: Allocator>(limited: &Limited<B>, events: &[Event]) -> Option<Unprinted> {
-    let mut machine = with_words(limited, &[(0, PRINT)])?;
+fn play_without_room<B: Allocator>(
+    limited: &Limited<B>,
+    machine: &mut Machine<&Limited<B>>,
+    events: &[Event],
+) -> Unprinted {
     limited.refuse(1);
-    let first = (play(&mut machine, events), limited.was_refused());
-    let before = (printed(&machine), look(&machine));
-    let second = play(&mut machine, &[Event::WordTime]);
-    Some((first, before, second, printed(&machine)))
+    let first = (play(machine, events), limited.was_refused());
+    let before = (printed(machine), look(machine));
+    let second = play(machine, &[Event::WordTime]);
+    (first, before, second, printed(machine))
+}
+
+/// The same of a new machine.
+fn played_without_room<B: Allocator>(limited: &Limited<B>, events: &[Event]) -> Option<Unprinted> {
+    match with_words(limited, &[(0, PRINT)]) {
+        Some(mut machine) => Some(play_without_room(limited, &mut machine, events)),
+        None => None,
+    }
 }
 
 #[test]
@@ -151,7 +172,7 @@ fn a_play_stops_where_there_is_no_room(rt: HostRuntime) {
     let limited = Limited::new(rt.alloc());
     let mut events = [Event::WordTime; 452];
     events[0] = Event::Press(Action::Start);
-    let unprinted = play_without_room(&limited, &events);
+    let unprinted = played_without_room(&limited, &events);
     let stopped = PlayFault {
         done: 451,
         fault: TurnFault::Memory,

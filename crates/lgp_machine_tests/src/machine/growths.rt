@@ -228,14 +228,21 @@ fn print_refused<B: Allocator>(
     (answer, after, turned, limited.was_refused())
 }
 
-fn print_without_room<B: Allocator>(limited: &Limited<B>) -> Option<Prints> {
-    let mut machine = started(limited, &[(0, PRINT)])?;
-    let refused = print_refused(limited, &mut machine);
-    let still = (printed(&machine), look(&machine));
+fn prints<B: Allocator>(limited: &Limited<B>, machine: &mut Machine<&Limited<B>>) -> Prints {
+    let refused = print_refused(limited, machine);
+    let still = (printed(machine), look(machine));
     limited.refuse(2);
-    let answer = turn(&mut machine);
-    let ended = (answer, limited.was_refused(), whole(&machine));
-    Some((refused, still, ended))
+    let answer = turn(machine);
+    let ended = (answer, limited.was_refused(), whole(machine));
+    (refused, still, ended)
+}
+
+/// That of a machine that is started on a print.
+fn print_without_room<B: Allocator>(limited: &Limited<B>) -> Option<Prints> {
+    match started(limited, &[(0, PRINT)]) {
+        Some(mut machine) => Some(prints(limited, &mut machine)),
+        None => None,
+    }
 }
 
 /// A machine that is started on a print, and has printed a given number of codes.

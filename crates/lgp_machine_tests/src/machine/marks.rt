@@ -67,29 +67,28 @@ fn after_start(
     after_orders(&mut machine, orders, at, in_one_call)
 }
 
-#[test]
-fn a_stored_address_both_ways(rt: HostRuntime) {
-    let look = shown(3, 0x22, 0x0001_0100, Status::Going, 193);
-    expect_eq(
-        &rt,
-        [
-            after_start(rt.alloc(), &ADDRESS, 3, 2, false),
-            after_start(rt.alloc(), &ADDRESS, 3, 2, true),
-        ],
-        [Some((look, 0x0001_0100)); 2],
-    );
+/// The same by word times and in one call.
+fn both_ways(global: Global, words: &[(u16, u32)], orders: u64, at: u16) -> [After; 2] {
+    [
+        after_start(global, words, orders, at, false),
+        after_start(global, words, orders, at, true),
+    ]
 }
 
 #[test]
-fn a_replaced_order_both_ways(rt: HostRuntime) {
-    let look = shown(0, 0, 0x000a_0000, Status::Going, 204);
+fn changed_orders_both_ways(rt: HostRuntime) {
+    let stored = shown(3, 0x22, 0x0001_0100, Status::Going, 193);
+    let replaced = shown(0, 0, 0x000a_0000, Status::Going, 204);
     expect_eq(
         &rt,
-        [
-            after_start(rt.alloc(), &REPLACED, 4, 1, false),
-            after_start(rt.alloc(), &REPLACED, 4, 1, true),
-        ],
-        [Some((look, 0x000a_0000)); 2],
+        (
+            both_ways(rt.alloc(), &ADDRESS, 3, 2),
+            both_ways(rt.alloc(), &REPLACED, 4, 1),
+        ),
+        (
+            [Some((stored, 0x0001_0100)); 2],
+            [Some((replaced, 0x000a_0000)); 2],
+        ),
     );
 }
 
