@@ -27,15 +27,13 @@ fn push_byte<A: Allocator>(text: &mut Vec<u8, A>, byte: u8) -> Result<(), AllocE
     ensures { OnOk result (text.new.items ≡ text.old.items ++ json_byte byte) }
 {
     if byte == b'"' || byte == b'\\' {
-        text.push(b'\\')?;
-        return Ok(text.push(byte)?);
+        return text.extend_from_slice(&[b'\\', byte]);
     }
     if 32 <= byte && byte <= 126 {
-        return Ok(text.push(byte)?);
+        return text.extend_from_slice(&[byte]);
     }
-    text.extend_from_slice(b"\\u00")?;
-    text.push(hex_digit(byte / 16))?;
-    Ok(text.push(hex_digit(byte % 16))?)
+    let (high, low) = (hex_digit(byte / 16), hex_digit(byte % 16));
+    text.extend_from_slice(&[b'\\', b'u', b'0', b'0', high, low])
 }
 
 /// Appends the bytes of a string.

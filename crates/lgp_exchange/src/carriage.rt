@@ -1,6 +1,6 @@
 //! The typewriter's carriage.
 
-ghost use Rattle.std.specs.Prelude.{◌≡◌, ◌==◌, ◌++◌, OnOk, position, slice_get};
+ghost use Rattle.std.specs.Prelude.{◌≡◌, ◌==◌, ◌++◌, ◌<◌, OnOk, length, position, slice_get};
 ghost use Rattle.lgp_exchange.specs.Paper as spec;
 
 use crate::archive_text::sign_byte;
@@ -106,15 +106,28 @@ impl<A: Allocator> Carriage<A> {
         }
     }
 
+    /// Puts a struck code at the column.
+    fn mark(&mut self, code: Code) -> Result<(), AllocError>
+        ensures struck { OnOk result (self.new ≡ record self.old {
+          row = spec.row_struck self.old.row self.old.column (self.old.upper, code);
+        }) }
+        ensures within { OnOk result (self.new.column < length self.new.row) }
+    {
+        if self.column == self.row.len() {
+            self.row.push((self.upper, code))?;
+            return Ok(());
+        }
+        if code != space() {
+            self.row[self.column] = (self.upper, code);
+        }
+        Ok(())
+    }
+
     /// Strikes a code that has a sign, or no known effect.
     fn strike(&mut self, code: Code) -> Result<(), AllocError>
         ensures { OnOk result (self.new ≡ spec.struck_at self.old code) }
     {
-        if self.column == self.row.len() {
-            self.row.push((self.upper, code))?;
-        } else if code != space() {
-            self.row[self.column] = (self.upper, code);
-        }
+        self.mark(code)?;
         self.column += 1;
         Ok(())
     }

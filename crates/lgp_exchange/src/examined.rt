@@ -1,6 +1,8 @@
 //! The drum of what SIMH shows.
 
-ghost use Rattle.std.specs.Prelude.{◌≡◌, IfOk, IfErr, IfSome, IfNone, IsErrOf, None, length, map};
+ghost use Rattle.std.specs.Prelude.{◌≡◌, ◌==◌, ◌&&◌, nat_eq, IfOk, IfErr, IfSome, IfNone, IsErrOf, None, codes, length, map, slice_index};
+ghost use Rattle.std.specs.List.{starts_with};
+ghost use Rattle.std.specs.Str.{byte};
 ghost use Rattle.std.specs.Char.{to_ascii_lowercase};
 ghost use Rattle.lgp_word.specs.Digits.{word_of_digits};
 ghost use Rattle.lgp_exchange.specs.Examined as spec;
@@ -58,15 +60,31 @@ fn cell_of(address: &[u8], digits: &[u8]) -> Option<(Address, Word)>
     }
 }
 
+/// Whether a line has the form of those that SIMH shows.
+fn is_shown(line: &[u8]) -> bool
+    ensures { result ≡ (length line.now == 14 && slice_index line.now 4 == byte ":"
+        && slice_index line.now 5 == 9) }
+{
+    line.len() == 14 && line[4] == b':' && line[5] == b'\t'
+}
+
 /// The address and the word of a line that SIMH shows.
 #[tactic(auto, unfolding(crate::specs::Examined::shown_cell))]
 fn shown_cell(line: &[u8]) -> Option<(Address, Word)>
     ensures { result ≡ spec.shown_cell line.now }
 {
-    if line.len() != 14 || line[4] != b':' || line[5] != b'\t' {
+    if !is_shown(line) {
         return None;
     }
     cell_of(&line[..4], &line[6..])
+}
+
+/// Whether a line has the form of the commands that SIMH is given.
+fn is_given(line: &[u8]) -> bool
+    ensures { result ≡ (length line.now == 19 && starts_with nat_eq line.now (codes "d -lt ")
+        && slice_index line.now 10 == byte " ") }
+{
+    line.len() == 19 && line.starts_with(b"d -lt ") && line[10] == b' '
 }
 
 /// The address and the word of a command that SIMH is given.
@@ -74,7 +92,7 @@ fn shown_cell(line: &[u8]) -> Option<(Address, Word)>
 fn given_cell(line: &[u8]) -> Option<(Address, Word)>
     ensures { result ≡ spec.given_cell line.now }
 {
-    if line.len() != 19 || !line.starts_with(b"d -lt ") || line[10] != b' ' {
+    if !is_given(line) {
         return None;
     }
     cell_of(&line[6..10], &line[11..])

@@ -6,7 +6,7 @@ ghost use Rattle.lgp_table.specs.Console.{is_at_rest};
 ghost use Rattle.lgp_machine.specs.Answers.{clock_end};
 ghost use Rattle.lgp_table.specs.State.{State};
 ghost use Rattle.lgp_table.specs.Interleaving.{at_boundary};
-ghost use Rattle.lgp_history.specs.Step.{plain};
+ghost use Rattle.lgp_history.specs.Step.{Mount, plain};
 ghost use Rattle.lgp_history.specs.Steps.{CanStep, is_order, orders_in, state_back, stepped, steps_back};
 ghost use Rattle.lgp_history.specs.CheckpointsInside.{IsNoted, hit_more, noted_after, played, played_to, start_of};
 ghost use Rattle.lgp_history.specs.Hits.{first_hit, last_hit};
@@ -15,7 +15,7 @@ use crate::changes::Record;
 use crate::history::{BackFault, History};
 use crate::records::CAPACITY_LIMIT;
 use crate::rule::Rule;
-use crate::step::Step;
+use crate::step::{Step, Tape};
 use circular_buffer::HeapCircularBuffer;
 use lgp_machine::{Machine, OrderFault};
 use std::alloc::{AllocError, Allocator, Global};
@@ -113,6 +113,18 @@ fn perform<A: Allocator>(machine: &mut Machine<A>) -> Result<(), AllocError>
     }
 }
 
+/// Mounts a tape that can be mounted.
+fn mount<A: Allocator>(machine: &mut Machine<A>, tape: Tape<A>) -> Result<(), AllocError>
+    requires boundary { machine.old ≡ at_boundary machine.old.state }
+    requires possible { CanStep (Mount tape) machine.old.state }
+    ensures { machine.new ≡ at_boundary (stepped (Mount tape) machine.old.state) }
+{
+    let Ok(()) = machine.mount(tape.into_codes()) else {
+        unreachable!()
+    };
+    Ok(())
+}
+
 /// Does a step that can be done.
 fn do_step<A: Allocator + Clone>(machine: &mut Machine<A>, step: &Step<A>) -> Result<(), AllocError>
     requires boundary { machine.old ≡ at_boundary machine.old.state }
@@ -121,29 +133,27 @@ fn do_step<A: Allocator + Clone>(machine: &mut Machine<A>, step: &Step<A>) -> Re
         (machine.new ≡ at_boundary (stepped (plain step.now) machine.old.state)) }
 {
     match step {
-        Step::Perform => perform(machine)?,
+        Step::Perform => perform(machine),
         Step::Press(action) => {
             let Ok(_) = machine.press(*action) else {
                 unreachable!()
             };
+            Ok(())
         }
         Step::Idle(times) => {
             let Ok(()) = machine.rest(*times) else {
                 unreachable!()
             };
+            Ok(())
         }
-        Step::Mount(tape) => {
-            let Ok(()) = machine.mount(tape.copy()?.into_codes()) else {
-                unreachable!()
-            };
-        }
+        Step::Mount(tape) => mount(machine, tape.copy()?),
         Step::Put(address, word) => {
             let Ok(()) = machine.put(*address, *word) else {
                 unreachable!()
             };
+            Ok(())
         }
     }
-    Ok(())
 }
 
 /// The machine before the step at a place of a trail where a copy was made.
@@ -344,6 +354,23 @@ impl<A: Allocator + Clone> Checkpoints<A> {
     }
 }
 
+/// How many steps in front of a trail do not count once one more is put after it.
+fn passed_with_one_more<A: Allocator>(
+    trail: &HeapCircularBuffer<Checkpoint<A>, A>,
+    passed: usize,
+) -> usize
+    requires room { 64 < trail.now.capacity }
+    requires few { passed < 64 }
+    ensures { result ≡ (if length trail.now.items == passed + (trail.now.capacity - 64)
+        then passed + 1 else passed) }
+{
+    if trail.len() == passed + (trail.capacity() - SPACING) {
+        passed + 1
+    } else {
+        passed
+    }
+}
+
 /// Puts a step after a trail. Answers how many steps in front do not count then: one more where as many count as there is room for.
 fn push<A: Allocator>(
     trail: &mut HeapCircularBuffer<Checkpoint<A>, A>,
@@ -358,9 +385,9 @@ fn push<A: Allocator>(
         then passed + 1 else passed) }
     ensures capacity { trail.new.capacity ≡ trail.old.capacity }
 {
-    let full = trail.len() == passed + (trail.capacity() - SPACING);
+    let passed = passed_with_one_more(trail, passed);
     let _none = trail.push_back(noted);
-    if full { passed + 1 } else { passed }
+    passed
 }
 
 /// Drops the first 64 steps of a trail where none of them counts. Answers how many steps in front do not count then.

@@ -94,12 +94,13 @@ fn prepare<A: Allocator, M: Operate<Tape = Vec<Code, A>>>(
         < (keyed (M.configuration machine.old).state loader_base loader.now).clock) }
 {
     match key_in(machine, loader_base(), loader) {
-        Ok(()) => {}
-        Err(KeyFault::ClockEnd) => return false,
+        Ok(()) => {
+            mount(machine, tape);
+            true
+        }
+        Err(KeyFault::ClockEnd) => false,
         Err(KeyFault::Moving | KeyFault::PastEnd) => unreachable!(),
     }
-    mount(machine, tape);
-    true
 }
 
 /// Starts the loader. Answers false where the order that jumps to it would pass the end of the clock: all is then pressed, and the

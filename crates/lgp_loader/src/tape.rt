@@ -4,7 +4,7 @@ ghost use Rattle.std.specs.Prelude.{◌≡◌, ◌++◌, [], ◌<◌, ◌≤◌,
 ghost use Rattle.std.specs.List.{concat};
 ghost use Rattle.lgp_word.specs.Order.{};
 ghost use Rattle.lgp_loader.specs.BlockLoading.{cut_load, longest_load};
-ghost use Rattle.lgp_loader.specs.BlockTape.{block_codes, count_word};
+ghost use Rattle.lgp_loader.specs.BlockTape.{block_codes, count_word, word_of_cell};
 ghost use Rattle.lgp_loader.specs.Cutting.{is_cutting, longest_blocks, pieces_of};
 ghost use Rattle.lgp_loader.specs.LoaderTape.{control_word, end_word, stopped_word};
 ghost use Rattle.lgp_loader.specs.SingleTape.{cell_codes, single_tape_codes};
@@ -65,6 +65,17 @@ fn push_word<A: Allocator>(codes: &mut Vec<Code, A>, word: Word) -> Result<(), A
     Ok(())
 }
 
+/// Punches the words of cells.
+fn push_words<A: Allocator>(codes: &mut Vec<Code, A>, block: &[Cell]) -> Result<(), AllocError>
+    ensures { OnOk result (codes.new.items
+        ≡ codes.old.items ++ concat (map word_of_cell block.now)) }
+{
+    for cell in block {
+        push_word(codes, cell.1)?;
+    }
+    Ok(())
+}
+
 /// Punches a block: the order that stores its first word, its count, and its words.
 fn push_block<A: Allocator>(codes: &mut Vec<Code, A>, block: &[Cell]) -> Result<(), AllocError>
     requires some { 0 < length block.now }
@@ -73,9 +84,7 @@ fn push_block<A: Allocator>(codes: &mut Vec<Code, A>, block: &[Cell]) -> Result<
 {
     push_word(codes, control_word(block[0].0))?;
     push_word(codes, count_word(block.len()))?;
-    for cell in block {
-        push_word(codes, cell.1)?;
-    }
+    push_words(codes, block)?;
     codes.push(Code::CARRIAGE_RETURN)?;
     Ok(())
 }

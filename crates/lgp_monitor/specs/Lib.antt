@@ -2,6 +2,7 @@ pub mod Verbs
 pub mod RunEnds
 pub mod Reasons
 pub mod Telling
+pub mod TellingInside
 pub mod Scaled
 pub mod Forms
 pub mod PanelData

@@ -85,6 +85,20 @@ fn changed_cells<A: Allocator, B: Allocator, C: Allocator>(
     Ok(cells)
 }
 
+/// Puts a word by a line of a script.
+fn put_cell<A: Allocator + Copy>(
+    alloc: A,
+    recorder: &mut Recorder<Laboratory<A>, A>,
+    cell: &(Address, Word),
+    reply: &mut Vec<u8, A>,
+) -> Result<(), AllocError>
+    ensures { OnOk result (recorder.new
+        ≡ after_lines script_language recorder.old (put_cell cell.now ∷ [])) }
+{
+    let line = put_line(alloc, cell.0, cell.1)?;
+    recorder.answer_line(&line, reply)
+}
+
 /// Puts words by lines of a script, whose replies are thrown away.
 fn put_cells<A: Allocator + Copy>(
     alloc: A,
@@ -96,10 +110,32 @@ fn put_cells<A: Allocator + Copy>(
 {
     let mut replies = Vec::new(alloc);
     for cell in cells {
-        let line = put_line(alloc, cell.0, cell.1)?;
-        recorder.answer_line(&line, &mut replies)?;
+        put_cell(alloc, recorder, cell, &mut replies)?;
     }
     Ok(())
+}
+
+/// Puts words, and appends how many these are.
+fn restore_cells<A: Allocator + Copy, B: Allocator>(
+    alloc: A,
+    recorder: &mut Recorder<Laboratory<A>, A>,
+    cells: &[(Address, Word)],
+    reply: &mut Vec<u8, B>,
+) -> Result<(), AllocError>
+    ensures { OnOk result (IsAnswered reply.old.items reply.new.items recorder.new
+        (answered_with recorder.old
+        (codes "restored " ++ (decimal (length cells.now) ++ codes "\n"))
+        (map put_cell cells.now))) }
+{
+    put_cells(alloc, recorder, cells)?;
+    push_pieces(
+        reply,
+        &[
+            Piece::Text(b"restored "),
+            Piece::Number(cells.len() as u64),
+            Piece::Text(b"\n"),
+        ],
+    )
 }
 
 /// Puts the words of a drum, of a machine at rest, where they differ; appends how many these are.
@@ -121,15 +157,7 @@ fn restore_drum<A: Allocator + Copy, B: Allocator>(
         return push_reasoned(reply, b"? 2 Moving\n");
     }
     let cells = changed_cells(alloc, debugger.machine(), drum)?;
-    put_cells(alloc, recorder, &cells)?;
-    push_pieces(
-        reply,
-        &[
-            Piece::Text(b"restored "),
-            Piece::Number(cells.len() as u64),
-            Piece::Text(b"\n"),
-        ],
-    )
+    restore_cells(alloc, recorder, &cells, reply)
 }
 
 /// Puts the words of a dump on the drum.

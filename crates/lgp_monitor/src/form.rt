@@ -9,7 +9,7 @@ ghost use Rattle.lgp_monitor.specs.Forms.{address_mistake, are_digits, command_l
 ghost use Rattle.lgp_monitor.specs.Verbs.{operands_form, operands_kind, verb_names};
 
 use crate::verb::{
-    VERBS, Verb, only_asks, operands_form, operands_kind, takes_address, verb_named,
+    Verb, named_verbs, only_asks, operands_form, operands_kind, takes_address, verb_named,
 };
 use lgp_assembler::{Name, OperandFault, Symbols, address_operand};
 use lgp_script::lone_number;
@@ -224,7 +224,7 @@ fn push_forms<A: Allocator>(text: &mut Vec<u8, A>, names: &[Named<Verb>]) -> Res
 pub(crate) fn push_help<A: Allocator>(text: &mut Vec<u8, A>) -> Result<(), AllocError>
     ensures { OnOk result (text.new.items ≡ text.old.items ++ help_text) }
 {
-    push_forms(text, &VERBS)
+    push_forms(text, named_verbs())
 }
 
 /// Appends a command's line for programs.
@@ -266,7 +266,7 @@ fn push_command_lines<A: Allocator>(
 pub(crate) fn push_commands<A: Allocator>(text: &mut Vec<u8, A>) -> Result<(), AllocError>
     ensures { OnOk result (text.new.items ≡ text.old.items ++ commands_text) }
 {
-    push_command_lines(text, &VERBS)
+    push_command_lines(text, named_verbs())
 }
 
 /// A command whose line is in no form, with what its addresses may name: the labels of the last source, and the counter.

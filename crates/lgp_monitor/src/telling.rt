@@ -1,12 +1,16 @@
 //! Runs that are reported: order by order, added up, along the drum, or by where their words would have cost less.
 
-ghost use Rattle.std.specs.Prelude.{◌≡◌, OnOk};
+ghost use Rattle.std.specs.Prelude.{◌≡◌, ◌++◌, ℕ, OnOk, Option};
+ghost use Rattle.lgp_table.specs.State.{State};
+ghost use Rattle.lgp_history.specs.declared.origin.Origin.{Origin};
+ghost use Rattle.lgp_trace.specs.OptimumKept.{IsOptimumOf};
 ghost use Rattle.lgp_stream.specs.Language.{IsAnswered};
-ghost use Rattle.lgp_debugger.specs.Debugging.{order_origins};
-ghost use Rattle.lgp_debugger.specs.Run.{orders_of};
+ghost use Rattle.lgp_debugger.specs.Debugging.{order_origins, performed};
+ghost use Rattle.lgp_debugger.specs.Run.{UnlessMemory, orders_of, run_of};
 ghost use Rattle.lgp_script.specs.HistoryCommands.{answer_to_run, orders_run};
 ghost use Rattle.lgp_script.specs.LabState.{after_text, labels_of};
 ghost use Rattle.lgp_monitor.specs.Telling.{reported_text};
+ghost use Rattle.lgp_monitor.specs.TellingInside.{sectors_told};
 
 use crate::labels::NamedAddresses;
 use lgp_assembler::Name;
@@ -142,48 +146,66 @@ fn orders_in(outcome: &Result<Ran, RunFault>) -> u64
     }
 }
 
-/// Tells a run by the words that would have cost less at other sectors.
-struct WordsToMove;
+/// Appends which words would have cost less at other sectors, or what one word would have cost at each.
+#[tactic(auto, unfolding(crate::specs::Telling::reported_text))]
+fn push_sectors<A: Allocator + Copy>(
+    alloc: A,
+    text: &mut Vec<u8, A>,
+    orders: u64,
+    optimum: &Optimum<A>,
+    word: Option<Address>,
+    names: &[(Name, u16)],
+) -> Result<(), AllocError>
+    ensures { (s : State) → (origins : ℕ → Option Origin) → IsOptimumOf optimum.now s orders
+        → OnOk result (text.new.items ≡ text.old.items
+        ++ reported_text (sectors_told word) names.now s origins orders) }
+{
+    let labels = NamedAddresses { names };
+    match word {
+        Some(word) => push_word_optimum(text, orders, optimum, word, &labels),
+        None => push_optimum(alloc, text, orders, optimum, &labels),
+    }
+}
 
-impl Teller for WordsToMove {
-    ghost use Rattle.lgp_monitor.specs.declared.telling.Telling.{Telling};
+/// Tells a run by the words that would have cost less at other sectors, or by what one word would have cost at each.
+#[derive(Drop)]
+struct BySectors {
+    word: Option<Address>,
+}
 
-    ghost reported = { λ _. reported_text Telling.Optimum };
-
-    #[tactic(auto, unfolding(crate::specs::Telling::reported_text))]
-    fn run<A: Allocator + Copy>(
+impl BySectors {
+    /// Runs a debugger as `run` does, and notes in `optimum` what its orders would have taken.
+    fn run_noting<A: Allocator + Copy>(
         &self,
         alloc: A,
         debugger: &mut Debugger<Records<A>, A>,
         limit: u64,
         names: &[(Name, u16)],
         text: &mut Vec<u8, A>,
-    ) -> Result<Ran, RunFault> {
-        let Ok(mut optimum) = Optimum::new(alloc) else {
-            return Err(NO_MEMORY);
-        };
-        let outcome = optimum_run(debugger, limit, &mut optimum);
+        optimum: &mut Optimum<A>,
+    ) -> Result<Ran, RunFault>
+        ensures ran { UnlessMemory result
+            (run_of debugger.old.rules limit debugger.old.state ≡ result) }
+        ensures performed { UnlessMemory result
+            (debugger.new ≡ performed debugger.old (orders_of result)) }
+        ensures reported { UnlessMemory result (text.new.items ≡ text.old.items
+            ++ reported_text (sectors_told self.now.word) names.now debugger.old.state
+            (order_origins debugger.old) (orders_of result)) }
+    {
+        let outcome = optimum_run(debugger, limit, optimum);
         let orders = orders_in(&outcome);
-        let labels = NamedAddresses { names };
-        if push_optimum(alloc, text, orders, &optimum, &labels).is_err() {
+        if push_sectors(alloc, text, orders, optimum, self.word, names).is_err() {
             return Err(NO_MEMORY);
         }
         outcome
     }
 }
 
-/// Tells a run by what one word would have cost at each sector.
-#[derive(Drop)]
-struct OneWord {
-    word: Address,
-}
+impl Teller for BySectors {
+    ghost use Rattle.lgp_monitor.specs.TellingInside.{sectors_told};
 
-impl Teller for OneWord {
-    ghost use Rattle.lgp_monitor.specs.declared.telling.Telling.{Telling};
+    ghost reported = { λ teller. reported_text (sectors_told teller.word) };
 
-    ghost reported = { λ o. reported_text (Telling.OptimumOf o.word) };
-
-    #[tactic(auto, unfolding(crate::specs::Telling::reported_text))]
     fn run<A: Allocator + Copy>(
         &self,
         alloc: A,
@@ -195,13 +217,7 @@ impl Teller for OneWord {
         let Ok(mut optimum) = Optimum::new(alloc) else {
             return Err(NO_MEMORY);
         };
-        let outcome = optimum_run(debugger, limit, &mut optimum);
-        let orders = orders_in(&outcome);
-        let labels = NamedAddresses { names };
-        if push_word_optimum(text, orders, &optimum, self.word, &labels).is_err() {
-            return Err(NO_MEMORY);
-        }
-        outcome
+        self.run_noting(alloc, debugger, limit, names, text, &mut optimum)
     }
 }
 
@@ -221,7 +237,9 @@ pub fn run_reported<A: Allocator + Copy>(
         Telling::Trace(form) => laboratory.run_reported(&OrderByOrder { form }, limit, reply),
         Telling::Profile(form) => laboratory.run_reported(&AddedUp { form }, limit, reply),
         Telling::Drum => laboratory.run_reported(&AlongTheDrum, limit, reply),
-        Telling::Optimum => laboratory.run_reported(&WordsToMove, limit, reply),
-        Telling::OptimumOf(word) => laboratory.run_reported(&OneWord { word }, limit, reply),
+        Telling::Optimum => laboratory.run_reported(&BySectors { word: None }, limit, reply),
+        Telling::OptimumOf(word) => {
+            laboratory.run_reported(&BySectors { word: Some(word) }, limit, reply)
+        }
     }
 }

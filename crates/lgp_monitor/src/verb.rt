@@ -1,7 +1,7 @@
 //! The commands of the monitor, each with what comes after its name.
 
 ghost use Rattle.std.specs.Prelude.{◌≡◌};
-ghost use Rattle.lgp_text.specs.NamedValues.{named};
+ghost use Rattle.lgp_text.specs.NamedValues.{named, pairs_of};
 ghost use Rattle.lgp_monitor.specs.Verbs.{only_asks, operands_form, operands_kind, takes_address, verb_names};
 
 use lgp_text::{Named, value_named};
@@ -78,7 +78,7 @@ pub enum Verb {
 }
 
 /// The commands by their first word.
-pub const VERBS: [Named<Verb>; 54] = [
+const VERBS: [Named<Verb>; 54] = [
     (b"put", Verb::Word),
     (b"go", Verb::Address(AddressCommand::Go)),
     (b"mount", Verb::Text),
@@ -144,11 +144,18 @@ pub const VERBS: [Named<Verb>; 54] = [
     (b"quit", Verb::End),
 ];
 
+/// The commands by their first word, as they are handed out.
+pub fn named_verbs() -> &'static [Named<Verb>]
+    ensures { pairs_of result.now ≡ verb_names }
+{
+    &VERBS
+}
+
 /// The command of a first word.
 pub fn verb_named(name: &[u8]) -> Option<Verb>
     ensures { result ≡ named verb_names name.now }
 {
-    value_named(&VERBS, name)
+    value_named(named_verbs(), name)
 }
 
 /// What comes after a command's name in its form.

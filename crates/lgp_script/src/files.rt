@@ -1,15 +1,21 @@
 //! What the program's commands write for a file.
 
-ghost use Rattle.std.specs.Prelude.{◌≡◌, ◌++◌, ℕ, List, Some, option_map, IfErr, IfOk, IfSome, OnOk, false};
+ghost use Rattle.std.specs.Prelude.{◌≡◌, ◌++◌, [], Some, option_map, IfErr, IfOk, IfSome, OnOk, false};
+ghost use Rattle.std.specs.Result.{result_map_both, result_ok};
+ghost use Rattle.lgp_word.specs.Drum.{blank_words};
+ghost use Rattle.lgp_table.specs.State.{opening};
+ghost use Rattle.lgp_table.specs.After.{after};
+ghost use Rattle.lgp_debugger.specs.Run.{run_of};
 ghost use Rattle.std.specs.Io.KnownBytes.{IsAtEnd};
-ghost use Rattle.lgp_script.specs.Files.{FileAnswer, IsFileAnswer, answer_left, answer_of, asm_answer, listed, run_answer, run_to, tape_answer, taped};
+ghost use Rattle.lgp_script.specs.Files.{IsFileAnswer, answer_left, answer_of, asm_answer, run_answer, run_to, tape_answer, taped};
+ghost use Rattle.lgp_script.specs.FilesInside.{wanted_of};
 ghost use Rattle.lgp_table.specs.Interleaving.{at_boundary};
 ghost use Rattle.lgp_stream.specs.Language.{HasCause};
 ghost use Rattle.lgp_script.specs.Refusal.{refusal_text};
 ghost use Rattle.lgp_script.specs.SourceCommands.{faults_text};
 ghost use Rattle.lgp_script.specs.SourceText.{source_of};
 
-use crate::laboratory::{push_faults, push_panel, push_printed};
+use crate::laboratory::{new_debugger, push_faults, push_panel, push_printed};
 use crate::program::Program;
 use crate::refusal::{Refusal, push_refusal};
 use crate::source_text::SourceText;
@@ -21,6 +27,7 @@ use lgp_loader::{LoadFault, tape_of};
 use lgp_machine::Machine;
 use lgp_stream::{CHUNK, Feed, Sink, StreamFault, write_whole};
 use std::alloc::{AllocError, Allocator};
+use std::marker::Model;
 
 /// Reads a source to the reader's end. Of one that is too long nothing is kept.
 #[tactic(auto, unfolding(crate::specs::SourceText::source_of))]
@@ -48,6 +55,17 @@ fn read_source<A: Allocator + Copy, R: Feed>(
     }
 }
 
+/// What is wanted of a source without faults.
+#[derive(Clone, Copy)]
+enum Wanted {
+    /// Its listing.
+    Listing,
+    /// The text of its tape.
+    Tape,
+    /// What a run of at most a given number of orders prints and leaves.
+    Run(u64),
+}
+
 /// What is written for a source, and the status of the program.
 #[derive(Drop)]
 struct FileReply<A: Allocator> {
@@ -55,11 +73,19 @@ struct FileReply<A: Allocator> {
     status: u64,
 }
 
+impl<A: Allocator> Model for FileReply<A> {
+    ghost use Rattle.lgp_script.specs.Files.{FileAnswer};
+
+    ghost Value = { FileAnswer };
+
+    ghost view = { λ reply. record { text = reply.text.items; status = reply.status } };
+}
+
 impl<A: Allocator + Copy> FileReply<A> {
     /// A refusal, and 1.
     fn refused(alloc: A, refusal: Refusal) -> Result<FileReply<A>, AllocError>
-        ensures text { IfOk result (λ reply. reply.text.items ≡ refusal_text refusal) }
-        ensures status { IfOk result (λ reply. reply.status ≡ 1) }
+        ensures { IfOk result (λ reply.
+            reply ≡ record { text = refusal_text refusal; status = 1 }) }
     {
         let mut text = Vec::new(alloc);
         push_refusal(&mut text, refusal)?;
@@ -68,33 +94,12 @@ impl<A: Allocator + Copy> FileReply<A> {
 
     /// A line for each fault, and 1.
     fn faulty(alloc: A, faults: &[Fault]) -> Result<FileReply<A>, AllocError>
-        ensures text { IfOk result (λ reply. reply.text.items ≡ faults_text faults.now) }
-        ensures status { IfOk result (λ reply. reply.status ≡ 1) }
+        ensures { IfOk result (λ reply.
+            reply ≡ record { text = faults_text faults.now; status = 1 }) }
     {
         let mut text = Vec::new(alloc);
         push_faults(&mut text, faults)?;
         Ok(FileReply { text, status: 1 })
-    }
-}
-
-/// Assembles a source; where it has a fault or is too long, what is written for it.
-fn assembled<A: Allocator + Copy>(
-    alloc: A,
-    source: SourceText<A>,
-) -> Result<Result<Program<A>, FileReply<A>>, AllocError>
-    ensures program { (answer : List ℕ → FileAnswer) → IfOk result (λ outcome. IfOk outcome
-        (λ program. answer_of answer source ≡ answer program)) }
-    ensures refused { (answer : List ℕ → FileAnswer) → IfOk result (λ outcome. IfErr outcome
-        (λ reply. answer_of answer source
-        ≡ record { text = reply.text.items; status = reply.status })) }
-{
-    if source.is_too_long() {
-        return Ok(Err(FileReply::refused(alloc, Refusal::TooLong)?));
-    }
-    match Program::new(alloc, source.into_text()) {
-        Ok(program) => Ok(Ok(program)),
-        Err(AssembleError::Faults(list)) => Ok(Err(FileReply::faulty(alloc, list.faults())?)),
-        Err(AssembleError::Memory) => Err(AllocError),
     }
 }
 
@@ -106,32 +111,6 @@ fn tape_text<A: Allocator + Copy>(alloc: A, program: &Program<A>) -> Result<Vec<
     let mut text = write_tape_text(alloc, &codes)?;
     text.push(b'\n')?;
     Ok(text)
-}
-
-/// Loads a program into a new machine and performs at most a given number of orders more; `None` where the clock's end stops it.
-fn run_program<A: Allocator + Copy>(
-    alloc: A,
-    program: &Program<A>,
-    limit: u64,
-) -> Result<Option<Debugger<Records<A>, A>>, AllocError>
-    ensures { IfOk result (λ outcome. run_to limit program.now
-        ≡ answer_left (option_map (λ debugger. debugger.state) outcome)) }
-{
-    let machine = Machine::new(alloc)?;
-    let mut debugger = Debugger::new(machine, Records::new(alloc, 1)?);
-    match debugger.load(alloc, program.image()) {
-        Ok(_) => {}
-        Err(LoadFault::ClockEnd) => return Ok(None),
-        Err(LoadFault::Memory) => return Err(AllocError),
-        Err(LoadFault::Moving | LoadFault::BadCut) => unreachable!(),
-    }
-    match debugger.run_freely(limit) {
-        Ok(_) => Ok(Some(debugger)),
-        Err(broken) => match broken.fault {
-            RunRefusal::ClockEnd => Ok(None),
-            RunRefusal::Memory => Err(AllocError),
-        },
-    }
 }
 
 /// Appends what a machine has printed, and its panel.
@@ -149,70 +128,126 @@ fn push_left<A: Allocator + Copy>(
 }
 
 impl<A: Allocator + Copy> FileReply<A> {
-    /// The listing of a source, or why there is none.
-    fn listing(alloc: A, source: SourceText<A>) -> Result<FileReply<A>, AllocError>
-        ensures text { IfOk result (λ reply. reply.text.items ≡ (answer_of listed source).text) }
-        ensures status { IfOk result (λ reply. reply.status ≡ (answer_of listed source).status) }
+    /// A text, and 0.
+    fn written(text: Result<Vec<u8, A>, AllocError>) -> Result<FileReply<A>, AllocError>
+        ensures { result ≡ result_map_both (λ it. record { text = it.items; status = 0 }) (λ it. it) text }
     {
-        match assembled(alloc, source)? {
-            Ok(program) => Ok(FileReply {
-                text: program.listing(alloc)?,
-                status: 0,
-            }),
-            Err(reply) => Ok(reply),
-        }
-    }
-
-    /// The tape of a source, or why there is none.
-    fn tape(alloc: A, source: SourceText<A>) -> Result<FileReply<A>, AllocError>
-        ensures text { IfOk result (λ reply. reply.text.items ≡ (answer_of taped source).text) }
-        ensures status { IfOk result (λ reply. reply.status ≡ (answer_of taped source).status) }
-    {
-        match assembled(alloc, source)? {
-            Ok(program) => Ok(FileReply {
-                text: tape_text(alloc, &program)?,
-                status: 0,
-            }),
-            Err(reply) => Ok(reply),
-        }
+        Ok(FileReply {
+            text: text?,
+            status: 0,
+        })
     }
 
     /// What a machine has printed, and its panel.
     fn left_by(alloc: A, machine: &Machine<A>) -> Result<FileReply<A>, AllocError>
         requires { machine.now ≡ at_boundary machine.now.state }
-        ensures text { IfOk result (λ reply.
-            reply.text.items ≡ (answer_left (Some machine.now.state)).text) }
-        ensures status { IfOk result (λ reply. reply.status ≡ 0) }
+        ensures { IfOk result (λ reply. reply ≡ answer_left (Some machine.now.state)) }
     {
         let mut text = Vec::new(alloc);
         push_left(alloc, &mut text, machine)?;
         Ok(FileReply { text, status: 0 })
     }
 
-    /// What a run of a program prints and leaves, or that the clock's end stopped it.
-    fn ran(alloc: A, program: &Program<A>, limit: u64) -> Result<FileReply<A>, AllocError>
-        ensures text { IfOk result (λ reply.
-            reply.text.items ≡ (run_to limit program.now).text) }
-        ensures status { IfOk result (λ reply. reply.status ≡ (run_to limit program.now).status) }
+    /// What a run of at most a given number of orders leaves, or that the clock's end stopped it.
+    fn run_from(
+        alloc: A,
+        debugger: &mut Debugger<Records<A>, A>,
+        limit: u64,
+    ) -> Result<FileReply<A>, AllocError>
+        ensures { IfOk result (λ reply. reply ≡ answer_left (option_map
+            (λ ran. after debugger.old.state ran.orders)
+            (result_ok (run_of [] limit debugger.old.state)))) }
     {
-        match run_program(alloc, program, limit)? {
-            Some(debugger) => FileReply::left_by(alloc, debugger.machine()),
-            None => FileReply::refused(alloc, Refusal::ClockEnd),
+        match debugger.run_freely(limit) {
+            Ok(_) => FileReply::left_by(alloc, debugger.machine()),
+            Err(broken) => match broken.fault {
+                RunRefusal::ClockEnd => FileReply::refused(alloc, Refusal::ClockEnd),
+                RunRefusal::Memory => Err(AllocError),
+            },
         }
     }
 
-    /// What a run of a source prints and leaves, or why there is none.
-    fn run(alloc: A, source: SourceText<A>, limit: u64) -> Result<FileReply<A>, AllocError>
-        ensures text { IfOk result (λ reply.
-            reply.text.items ≡ (answer_of (run_to limit) source).text) }
-        ensures status { IfOk result (λ reply.
-            reply.status ≡ (answer_of (run_to limit) source).status) }
+    /// The same of a program, which is first loaded into a machine in its opening state.
+    fn run_in(
+        alloc: A,
+        debugger: &mut Debugger<Records<A>, A>,
+        program: &Program<A>,
+        limit: u64,
+    ) -> Result<FileReply<A>, AllocError>
+        requires { debugger.old.state ≡ opening blank_words }
+        ensures { IfOk result (λ reply. reply ≡ run_to limit program.now) }
     {
-        match assembled(alloc, source)? {
-            Ok(program) => FileReply::ran(alloc, &program, limit),
-            Err(reply) => Ok(reply),
+        match debugger.load(alloc, program.image()) {
+            Ok(_) => FileReply::run_from(alloc, debugger, limit),
+            Err(LoadFault::ClockEnd) => FileReply::refused(alloc, Refusal::ClockEnd),
+            Err(LoadFault::Memory) => Err(AllocError),
+            Err(LoadFault::Moving | LoadFault::BadCut) => unreachable!(),
         }
     }
+
+    /// The same of a program in a new machine.
+    fn ran(alloc: A, program: &Program<A>, limit: u64) -> Result<FileReply<A>, AllocError>
+        ensures { IfOk result (λ reply. reply ≡ run_to limit program.now) }
+    {
+        let mut debugger = new_debugger(alloc, 1)?;
+        FileReply::run_in(alloc, &mut debugger, program, limit)
+    }
+
+    /// What is wanted of a program.
+    fn of_program(
+        alloc: A,
+        program: &Program<A>,
+        wanted: Wanted,
+    ) -> Result<FileReply<A>, AllocError>
+        ensures { IfOk result (λ reply. reply ≡ wanted_of wanted program.now) }
+    {
+        match wanted {
+            Wanted::Listing => FileReply::written(program.listing(alloc)),
+            Wanted::Tape => FileReply::written(tape_text(alloc, program)),
+            Wanted::Run(limit) => FileReply::ran(alloc, program, limit),
+        }
+    }
+
+    /// What is wanted of a source, or why there is none.
+    fn of_source(
+        alloc: A,
+        source: SourceText<A>,
+        wanted: Wanted,
+    ) -> Result<FileReply<A>, AllocError>
+        ensures { IfOk result (λ reply. reply ≡ answer_of (wanted_of wanted) source) }
+    {
+        if source.is_too_long() {
+            return FileReply::refused(alloc, Refusal::TooLong);
+        }
+        match Program::new(alloc, source.into_text()) {
+            Ok(program) => FileReply::of_program(alloc, &program, wanted),
+            Err(AssembleError::Faults(list)) => FileReply::faulty(alloc, list.faults()),
+            Err(AssembleError::Memory) => Err(AllocError),
+        }
+    }
+}
+
+/// Reads a source to its end, and writes what is wanted of it, or its faults; answers the status.
+fn answer_file<A: Allocator + Copy, R: Feed, W: Sink>(
+    alloc: A,
+    reader: &mut R,
+    wanted: Wanted,
+    writer: &mut W,
+) -> Result<u64, StreamFault>
+    requires reader { R.failed reader.old ≡ false }
+    requires writer { W.failed writer.old ≡ false }
+    ensures { IsFileAnswer (λ bytes. answer_of (wanted_of wanted) (source_of bytes))
+        (R.remaining reader.old) (R.remaining reader.new)
+        (R.failed reader.new) (W.failed writer.new) (W.contents writer.old) (W.contents writer.new)
+        result }
+{
+    let source = read_source(alloc, reader)?;
+    let Ok(reply) = FileReply::of_source(alloc, source, wanted) else {
+        return Err(StreamFault::Memory);
+    };
+    let FileReply { text, status } = reply;
+    write_whole(writer, &text)?;
+    Ok(status)
 }
 
 /// Reads a source to its end and writes its listing, or its faults; answers 0 where it has none, and else 1.
@@ -228,13 +263,7 @@ pub fn asm_file<A: Allocator + Copy, R: Feed, W: Sink>(
         (R.failed reader.new) (W.failed writer.new) (W.contents writer.old) (W.contents writer.new)
         result }
 {
-    let source = read_source(alloc, reader)?;
-    let Ok(reply) = FileReply::listing(alloc, source) else {
-        return Err(StreamFault::Memory);
-    };
-    let FileReply { text, status } = reply;
-    write_whole(writer, &text)?;
-    Ok(status)
+    answer_file(alloc, reader, Wanted::Listing, writer)
 }
 
 /// Reads a source to its end and writes the text of its tape and a line feed, or its faults; answers 0 where it has none, and
@@ -251,13 +280,7 @@ pub fn tape_file<A: Allocator + Copy, R: Feed, W: Sink>(
         (R.failed reader.new) (W.failed writer.new) (W.contents writer.old) (W.contents writer.new)
         result }
 {
-    let source = read_source(alloc, reader)?;
-    let Ok(reply) = FileReply::tape(alloc, source) else {
-        return Err(StreamFault::Memory);
-    };
-    let FileReply { text, status } = reply;
-    write_whole(writer, &text)?;
-    Ok(status)
+    answer_file(alloc, reader, Wanted::Tape, writer)
 }
 
 /// Reads a source to its end, loads it into a new machine, performs at most a given number of orders more, and writes what is printed and
@@ -275,11 +298,5 @@ pub fn run_file<A: Allocator + Copy, R: Feed, W: Sink>(
         (R.failed reader.new) (W.failed writer.new) (W.contents writer.old) (W.contents writer.new)
         result }
 {
-    let source = read_source(alloc, reader)?;
-    let Ok(reply) = FileReply::run(alloc, source, limit) else {
-        return Err(StreamFault::Memory);
-    };
-    let FileReply { text, status } = reply;
-    write_whole(writer, &text)?;
-    Ok(status)
+    answer_file(alloc, reader, Wanted::Run(limit), writer)
 }

@@ -1,11 +1,14 @@
 //! The laboratory: a machine with its history and the source at hand, and what is answered to a line.
 
-ghost use Rattle.std.specs.Prelude.{◌≡◌, ◌≤◌, List, ℕ, IfOk, OnOk, is_some, length};
+ghost use Rattle.std.specs.Prelude.{◌≡◌, ◌≤◌, List, [], ℕ, IfOk, OnOk, is_some, length};
+ghost use Rattle.lgp_word.specs.Drum.{blank_words};
+ghost use Rattle.lgp_table.specs.State.{opening};
 ghost use Rattle.lgp_stream.specs.Language.{IsAnswered};
 ghost use Rattle.lgp_stream.specs.KeptLine.{line_limit};
 ghost use Rattle.lgp_stream.specs.KeptLine.{kept_of};
 ghost use Rattle.lgp_script.specs.Script.{answer_to, answer_to_command, is_passed_over, script_language};
 ghost use Rattle.lgp_script.specs.LabState.{labels_of, opened_text, opening_state};
+ghost use Rattle.lgp_script.specs.Limits.{kept_limit};
 
 use crate::command::{Asked, Command, asked_in, is_comment};
 use crate::limits::KEPT_LIMIT;
@@ -30,6 +33,25 @@ mod tape_commands;
 pub use machine_commands::push_panel;
 pub use source_commands::{push_fault_line, push_faults};
 pub use tape_commands::push_printed;
+
+/// A new machine with a history that keeps at most a given number of steps.
+pub fn new_debugger<A: Allocator + Copy>(
+    alloc: A,
+    capacity: usize,
+) -> Result<Debugger<Records<A>, A>, AllocError>
+    requires some { 1 ≤ capacity }
+    requires few { capacity ≤ kept_limit }
+    ensures { IfOk result (λ debugger. debugger ≡ record {
+      state = opening blank_words;
+      steps = [];
+      capacity = capacity;
+      rules = [];
+    }) }
+{
+    let machine = Machine::new(alloc)?;
+    let history = Records::new(alloc, capacity)?;
+    Ok(Debugger::new(machine, history))
+}
 
 /// A machine with its history and its rules, on which a script's commands are performed, with the last source that assembled and
 /// the one that is open. It is seen as its state.
@@ -59,11 +81,9 @@ impl<A: Allocator + Copy> Laboratory<A> {
     pub fn new(alloc: A) -> Result<Laboratory<A>, AllocError>
         ensures { IfOk result (λ laboratory. laboratory ≡ opening_state) }
     {
-        let machine = Machine::new(alloc)?;
-        let history = Records::new(alloc, KEPT_LIMIT)?;
         Ok(Laboratory {
             alloc,
-            debugger: Debugger::new(machine, history),
+            debugger: new_debugger(alloc, KEPT_LIMIT)?,
             program: None,
             opened: None,
         })
@@ -121,8 +141,8 @@ impl<A: Allocator + Copy> Laboratory<A> {
             Command::Turn(times) => self.turn(*times, reply),
             Command::Orders(limit) => self.orders(*limit, reply),
             Command::Panel => self.panel(reply),
-            Command::Words(span) => self.words(span, reply),
-            Command::Show(span) => self.show(span, reply),
+            Command::Words(span) => self.words(span, false, reply),
+            Command::Show(span) => self.words(span, true, reply),
             Command::Printed => self.printed(reply),
             Command::Dump => self.dump(reply),
             Command::Source => {
@@ -170,15 +190,13 @@ impl<A: Allocator + Copy> Laboratory<A> {
             return Ok(());
         }
         if line.is_longer() {
-            push_refusal(reply, Refusal::TooLong)?;
-            return Ok(());
+            return push_refusal(reply, Refusal::TooLong);
         }
         let Asked { command, text } = asked_in(line.front());
         match command {
-            Some(command) => self.perform_command(&command, text, reply)?,
-            None => push_refusal(reply, Refusal::Form)?,
+            Some(command) => self.perform_command(&command, text, reply),
+            None => push_refusal(reply, Refusal::Form),
         }
-        Ok(())
     }
 }
 

@@ -33,8 +33,7 @@ pub fn run_script<A: Allocator + Copy, R: Feed, W: Sink>(
     let Ok(laboratory) = Laboratory::new(alloc) else {
         return Err(StreamFault::Memory);
     };
-    let faults = run_text(alloc, laboratory, reader, writer)?;
-    Ok(faults)
+    run_text(alloc, laboratory, reader, writer)
 }
 
 /// The line that names a script's file.

@@ -1,9 +1,10 @@
 //! The command line as `clap` is given it, with its help.
 
-ghost use Rattle.std.specs.Prelude.{◌≡◌, IfOk, codes, false};
-ghost use Rattle.clap.specs.Words.{App, app_of, new_app, rule_of, with_rule, with_subcommand};
+ghost use Rattle.std.specs.Prelude.{◌≡◌, IfOk, Some, codes, false};
+ghost use Rattle.clap.specs.Words.{App, Rule, app_of, new_app, new_rule, rule_of, with_rule, with_subcommand};
+ghost use Rattle.clap.specs.declared.builder.action.ArgAction.TheVariants.{SetTrue};
 ghost use Rattle.clap.specs.declared.builder.command.Command.TheViews.{out-Command as fields_of};
-ghost use Rattle.lgp_task.specs.CommandLine.{any_files_rule, bare_line, batch_command, command_line, echo_rule, file_command, file_rule, files_rule, json_rule, limit_rule, monitor_line, run_command};
+ghost use Rattle.lgp_task.specs.CommandLine.{any_files_rule, bare_line, batch_command, command_line, file_command, file_rule, files_rule, limit_rule, monitor_line, run_command};
 
 use clap::{Arg, ArgAction, Command, value_parser};
 use std::alloc::{AllocError, Global};
@@ -75,44 +76,68 @@ fn command<'a>(
         .after_long_help(example)
 }
 
-/// A command with one argument more.
-fn with_argument<'a>(command: Command<'a>, argument: Arg<'a>) -> Result<Command<'a>, AllocError>
+/// A command with one argument more, if the command could be made.
+fn with_argument<'a>(
+    command: Result<Command<'a>, AllocError>,
+    argument: Arg<'a>,
+) -> Result<Command<'a>, AllocError>
     requires own { argument.global ≡ false }
-    ensures app { IfOk result (λ new.
-        app_of new ≡ with_rule (app_of command.entry) (rule_of argument.entry)) }
-    ensures own { IfOk result (λ new.
-        (fields_of new).has_globals ≡ (fields_of command.entry).has_globals) }
+    ensures app { (app : App) → (rule : Rule) → rule_of argument.entry ≡ rule
+        → IfOk command.entry (λ command. app_of command ≡ app)
+        → IfOk result (λ new. app_of new ≡ with_rule app rule) }
+    ensures own { IfOk command.entry (λ command. (fields_of command).has_globals ≡ false)
+        → IfOk result (λ new. (fields_of new).has_globals ≡ false) }
 {
-    command.arg(argument)
+    command?.arg(argument)
 }
 
-/// A command line with one command more, if that could be made.
+/// A command line with one command more, if both could be made.
 fn with_command<'a>(
-    line: Command<'a>,
+    line: Result<Command<'a>, AllocError>,
     command: Result<Command<'a>, AllocError>,
 ) -> Result<Command<'a>, AllocError>
     requires own { IfOk command (λ command. (fields_of command).has_globals ≡ false) }
-    ensures app { IfOk result (λ new. (app : App)
-        → IfOk command.entry (λ command. app_of command ≡ app)
-        → app_of new ≡ with_subcommand (app_of line.entry) app.top) }
+    ensures { (app : App) → (sub : App) → IfOk line.entry (λ line. app_of line ≡ app)
+        → IfOk command.entry (λ command. app_of command ≡ sub)
+        → IfOk result (λ new. app_of new ≡ with_subcommand app sub.top) }
 {
-    line.subcommand(command?)
+    line?.subcommand(command?)
 }
+
+/// A command of this name, which takes a file: what it does in a line, what it does in full, an example of its use, and what the
+/// file is.
+fn file_command<'a>(
+    global: Global,
+    name: &'a str,
+    about: &'a str,
+    long_about: &'a str,
+    example: &'a str,
+    help: &'a str,
+) -> Result<Command<'a>, AllocError>
+    ensures app { IfOk result (λ command. app_of command ≡ file_command name.now) }
+    ensures own { IfOk result (λ command. (fields_of command).has_globals ≡ false) }
+{
+    let command = command(global, name, about, long_about, example);
+    with_argument(Ok(command), file(global, help))
+}
+
+/// What the file of a command is that assembles it.
+const SOURCE: &str = "The source, a text file";
 
 /// `asm FILE`
 fn asm_command<'a>(global: Global) -> Result<Command<'a>, AllocError>
     ensures app { IfOk result (λ command. app_of command ≡ file_command (codes "asm")) }
     ensures own { IfOk result (λ command. (fields_of command).has_globals ≡ false) }
 {
-    let asm = command(
+    file_command(
         global,
         "asm",
         "Assemble a source and write its listing",
         "Assemble a source and write its listing: each line after its address and the word that \
          it became. Of a faulty source the faults are written instead, a line each.",
         "Example: write the listing of the program in sum.src.\n  lgp_lab asm sum.src",
-    );
-    with_argument(asm, file(global, "The source, a text file"))
+        SOURCE,
+    )
 }
 
 /// `tape FILE`
@@ -120,15 +145,15 @@ fn tape_command<'a>(global: Global) -> Result<Command<'a>, AllocError>
     ensures app { IfOk result (λ command. app_of command ≡ file_command (codes "tape")) }
     ensures own { IfOk result (λ command. (fields_of command).has_globals ≡ false) }
 {
-    let tape = command(
+    file_command(
         global,
         "tape",
         "Assemble a source and write the paper tape that loads it",
         "Assemble a source and write, as text, the paper tape from which the loader stores its \
          words and starts it. The tape can be mounted in a script by the command mount.",
         "Example: make the tape of the program in sum.src.\n  lgp_lab tape sum.src",
-    );
-    with_argument(tape, file(global, "The source, a text file"))
+        SOURCE,
+    )
 }
 
 /// `run FILE LIMIT`
@@ -136,7 +161,7 @@ fn run_command<'a>(global: Global) -> Result<Command<'a>, AllocError>
     ensures app { IfOk result (λ command. app_of command ≡ run_command) }
     ensures own { IfOk result (λ command. (fields_of command).has_globals ≡ false) }
 {
-    let run = command(
+    let run = file_command(
         global,
         "run",
         "Assemble a source, load it into a new machine and run it",
@@ -144,8 +169,8 @@ fn run_command<'a>(global: Global) -> Result<Command<'a>, AllocError>
          loader and reading the tape, and run it until it stops or LIMIT orders were performed. \
          Then write what was printed, and the registers, status, switches and clock.",
         "Example: run the program in sum.src for 1000 orders at most.\n  lgp_lab run sum.src 1000",
+        SOURCE,
     );
-    let run = with_argument(run, file(global, "The source, a text file"))?;
     with_argument(run, limit(global))
 }
 
@@ -154,15 +179,15 @@ fn script_command<'a>(global: Global) -> Result<Command<'a>, AllocError>
     ensures app { IfOk result (λ command. app_of command ≡ file_command (codes "script")) }
     ensures own { IfOk result (λ command. (fields_of command).has_globals ≡ false) }
 {
-    let script = command(
+    file_command(
         global,
         "script",
         "Run a script and write its replies",
         "Run a script, a command of the laboratory on each line, on a new machine, and write the \
          reply to each command.",
         "Example: run the commands in first-day.txt.\n  lgp_lab script first-day.txt",
-    );
-    with_argument(script, file(global, "The script, a text file"))
+        "The script, a text file",
+    )
 }
 
 /// `batch FILE..`
@@ -178,14 +203,30 @@ fn batch_command<'a>(global: Global) -> Result<Command<'a>, AllocError>
          name before the replies to each.",
         "Example: run all scripts of a lesson.\n  lgp_lab batch first-day.txt second-day.txt",
     );
-    with_argument(batch, files(global, "The scripts, text files"))
+    with_argument(Ok(batch), files(global, "The scripts, text files"))
 }
 
-/// `lgp_lab`, without its commands, which knows its version.
-fn bare_line<'a>(global: Global) -> Result<Command<'a>, AllocError>
-    ensures { IfOk result (λ line. app_of line ≡ bare_line (codes "lgp_lab")) }
+/// A program of this name, without its commands and arguments, which knows its version.
+fn bare_line<'a>(
+    global: Global,
+    name: &'a str,
+    about: &'a str,
+    long_about: &'a str,
+    example: &'a str,
+) -> Result<Command<'a>, AllocError>
+    ensures { IfOk result (λ line. app_of line ≡ bare_line name.now) }
 {
-    let line = command(
+    command(global, name, about, long_about, example)
+        .version(VERSION)
+        .bin_name(name)
+}
+
+/// The whole command line.
+#[tactic(auto, unfolding(crate::specs::CommandLine::command_line))]
+pub(crate) fn command_line<'a>(global: Global) -> Result<Command<'a>, AllocError>
+    ensures { IfOk result (λ line. app_of line ≡ command_line) }
+{
+    let line = bare_line(
         global,
         "lgp_lab",
         "A laboratory for the LGP-30, a drum computer of 1956",
@@ -195,48 +236,33 @@ fn bare_line<'a>(global: Global) -> Result<Command<'a>, AllocError>
         "Example: run a script, and then a program.\n  lgp_lab < first-day.txt\n  \
          lgp_lab run sum.src 1000",
     );
-    line.version(VERSION).bin_name("lgp_lab")
-}
-
-/// The whole command line.
-#[tactic(auto, unfolding(crate::specs::CommandLine::command_line))]
-pub(crate) fn command_line<'a>(global: Global) -> Result<Command<'a>, AllocError>
-    ensures { IfOk result (λ line. app_of line ≡ command_line) }
-{
-    let line = with_command(bare_line(global)?, asm_command(global))?;
-    let line = with_command(line, tape_command(global))?;
-    let line = with_command(line, run_command(global))?;
-    let line = with_command(line, script_command(global))?;
+    let line = with_command(line, asm_command(global));
+    let line = with_command(line, tape_command(global));
+    let line = with_command(line, run_command(global));
+    let line = with_command(line, script_command(global));
     with_command(line, batch_command(global))
 }
 
-/// `--echo`
-fn echo<'a>(global: Global) -> Arg<'a>
-    ensures rule { rule_of result ≡ echo_rule }
+/// `--NAME`, there or not.
+fn flag<'a>(global: Global, name: &'a str, help: &'a str) -> Arg<'a>
+    ensures rule { rule_of result ≡ record (new_rule name.now) {
+      long = Some name.now;
+      action = Some SetTrue;
+    } }
     ensures own { result.global ≡ false }
 {
-    Arg::new(global, ECHO)
-        .long(ECHO)
+    Arg::new(global, name)
+        .long(name)
         .action(ArgAction::SetTrue)
-        .help("Show each line above its reply")
+        .help(help)
 }
 
-/// `--json`
-fn json<'a>(global: Global) -> Arg<'a>
-    ensures rule { rule_of result ≡ json_rule }
-    ensures own { result.global ≡ false }
+/// `lgp_monitor`, which takes files, `--echo` and `--json`.
+#[tactic(auto, unfolding(crate::specs::CommandLine::monitor_line))]
+pub(crate) fn monitor_line<'a>(global: Global) -> Result<Command<'a>, AllocError>
+    ensures { IfOk result (λ line. app_of line ≡ monitor_line) }
 {
-    Arg::new(global, JSON)
-        .long(JSON)
-        .action(ArgAction::SetTrue)
-        .help("Write each reply as a JSON object on a line of its own")
-}
-
-/// `lgp_monitor`, without its arguments, which knows its version.
-fn bare_monitor_line<'a>(global: Global) -> Result<Command<'a>, AllocError>
-    ensures app { IfOk result (λ line. app_of line ≡ bare_line (codes "lgp_monitor")) }
-{
-    let line = command(
+    let line = bare_line(
         global,
         "lgp_monitor",
         "A monitor for the LGP-30: work the machine line by line",
@@ -246,17 +272,10 @@ fn bare_monitor_line<'a>(global: Global) -> Result<Command<'a>, AllocError>
         "Example: answer the lines in lesson.txt, and then those that are typed.\n  \
          lgp_monitor lesson.txt",
     );
-    line.version(VERSION).bin_name("lgp_monitor")
-}
-
-/// `lgp_monitor`, which takes files, `--echo` and `--json`.
-#[tactic(auto, unfolding(crate::specs::CommandLine::monitor_line))]
-pub(crate) fn monitor_line<'a>(global: Global) -> Result<Command<'a>, AllocError>
-    ensures { IfOk result (λ line. app_of line ≡ monitor_line) }
-{
-    let line = bare_monitor_line(global)?;
     let help = "Text files with lines that come before standard input's";
-    let line = with_argument(line, any_files(global, help))?;
-    let line = with_argument(line, echo(global))?;
-    with_argument(line, json(global))
+    let line = with_argument(line, any_files(global, help));
+    let echo = flag(global, ECHO, "Show each line above its reply");
+    let line = with_argument(line, echo);
+    let help = "Write each reply as a JSON object on a line of its own";
+    with_argument(line, flag(global, JSON, help))
 }

@@ -1,6 +1,7 @@
 //! What the words of the command line ask for.
 
-ghost use Rattle.std.specs.Prelude.{◌≡◌, ◌∷◌, [], IfErr, IfOk, OnOk, true, map};
+ghost use Rattle.std.specs.Prelude.{◌≡◌, ◌∷◌, [], IfErr, IfOk, OnOk, codes, if◌then◌else◌, true, map};
+ghost use Rattle.std.specs.Str.{bytes_eq};
 ghost use Rattle.std.specs.String.{string_bytes};
 ghost use Rattle.clap.specs.Words.{fault_of, found_of, kind_of, rows_of, subcommand_of, subcommand_rows_of, takes};
 ghost use Rattle.clap.specs.declared.error.kind.ErrorKind.TheVariants.{OutOfMemory};
@@ -83,6 +84,26 @@ fn limit_of(matches: &ArgMatches<'_>) -> u64
     matches.get_one::<u64>(LIMIT).unwrap_or(0)
 }
 
+/// The task of the command of this name, where it takes a file.
+fn file_task<A: Allocator>(name: &str, file: FileName<A>, limit: u64) -> Task<A>
+    ensures { result ≡ (if bytes_eq name.now (codes "asm") then Task.Asm file
+        else (if bytes_eq name.now (codes "tape") then Task.Tape file
+        else (if bytes_eq name.now (codes "run") then Task.Run file limit
+        else Task.Script file))) }
+{
+    if name == "asm" {
+        return Task::Asm(file);
+    }
+    if name == "tape" {
+        return Task::Tape(file);
+    }
+    if name == "run" {
+        Task::Run(file, limit)
+    } else {
+        Task::Script(file)
+    }
+}
+
 /// The task of the command of this name.
 fn named_task<A: Allocator + Copy>(
     alloc: A,
@@ -93,17 +114,9 @@ fn named_task<A: Allocator + Copy>(
         task ≡ task_named name.now (rows_of (found_of matches.now))) }
     ensures memory { IfErr result (λ fault. fault ≡ TaskFault.Memory) }
 {
-    if name == "asm" {
-        return Ok(Task::Asm(file_of(alloc, matches)?));
-    }
-    if name == "tape" {
-        return Ok(Task::Tape(file_of(alloc, matches)?));
-    }
-    if name == "run" {
-        return Ok(Task::Run(file_of(alloc, matches)?, limit_of(matches)));
-    }
-    if name == "script" {
-        return Ok(Task::Script(file_of(alloc, matches)?));
+    if name == "asm" || name == "tape" || name == "run" || name == "script" {
+        let file = file_of(alloc, matches)?;
+        return Ok(file_task(name, file, limit_of(matches)));
     }
     Ok(Task::Batch(files_of(alloc, matches)?))
 }

@@ -43,6 +43,15 @@ changes_by (Some operand) address = leaves_other operand && (address == operand.
 abbrev pub word_names : ℕ → ℕ → Bool
 word_names word address = seeks (op_at word) && (address_at word == address)
 
+-- with what a word named that was performed and not changed before
+abbrev pub use_with_named : List Use → Operand → ℕ → Use
+use_with_named uses operand other =
+    let before = use_at uses operand.address in
+    record (use_at uses other) {
+      by_other = (use_at uses other).by_other
+          || (before.performed && not before.changed && word_names operand.found other);
+    }
+
 -- with an order that may have left another word
 abbrev pub use_with_change : List Use → Operand → ℕ → Use
 use_with_change uses operand other =

@@ -1,9 +1,10 @@
 //! The lines of an account.
 
-ghost use Rattle.std.specs.Prelude.{◌≡◌, ◌++◌, ◌^◌, ◌<◌, OnOk, [], codes, decimal};
+ghost use Rattle.std.specs.Prelude.{◌≡◌, ◌++◌, ◌^◌, ◌<◌, ◌&&◌, OnOk, [], codes, decimal};
+ghost use Rattle.lgp_word.specs.Order.{op_at, sign_of, takes_minus};
 ghost use Rattle.std.specs.Option.{option_map_or};
 ghost use Rattle.lgp_text.specs.PanelWords.{status_text};
-ghost use Rattle.lgp_trace.specs.AccountLines.{account_details, account_line, account_text, accumulator_text, change_text, heading_text, number_text, order_after, order_columns, passed_lines, performed_text, phases_text, place_text, printed_line, reference_text, register_line, result_columns, sign_text, stored_line, stored_lines, word_text};
+ghost use Rattle.lgp_trace.specs.AccountLines.{account_details, account_line, account_text, accumulator_text, change_text, heading_text, minus_text, number_text, order_after, order_columns, passed_lines, performed_text, phases_text, place_text, printed_line, reference_text, register_line, result_columns, sign_text, stored_line, stored_lines, word_text};
 ghost use Rattle.lgp_trace.specs.Columns.{left_aligned};
 ghost use Rattle.lgp_trace.specs.Phases.{all_phases};
 ghost use Rattle.lgp_flexo.specs.Code.{sign_at};
@@ -58,6 +59,19 @@ fn push_reference<L: Labels, A: Allocator>(
     labels.push_label(text, address)
 }
 
+/// Appends the minus sign of an order, if it has one.
+fn push_minus<A: Allocator>(text: &mut Vec<u8, A>, word: Word) -> Result<(), AllocError>
+    ensures { OnOk result (text.new.items
+        ≡ text.old.items ++ minus_text (takes_minus (op_at word) && sign_of word)) }
+{
+    let (minus, op, _) = parts(word);
+    if minus && matches!(op, Op::T) {
+        text.extend_from_slice(b"-")
+    } else {
+        Ok(())
+    }
+}
+
 /// Appends a word as the order that is performed.
 #[tactic(auto, unfolding(crate::specs::AccountLines::performed_text))]
 pub(crate) fn push_performed<L: Labels, A: Allocator>(
@@ -68,12 +82,17 @@ pub(crate) fn push_performed<L: Labels, A: Allocator>(
     ensures { OnOk result (text.new.items
         ≡ text.old.items ++ performed_text (L.label labels.now) word) }
 {
-    let (minus, op, address) = parts(word);
-    if minus && matches!(op, Op::T) {
-        text.push(b'-')?;
-    }
-    text.push(op.letter())?;
-    push_pieces(text, &[Piece::Text(b" "), Piece::Place(address)])?;
+    let (_, op, address) = parts(word);
+    push_minus(text, word)?;
+    let letter = [op.letter()];
+    push_pieces(
+        text,
+        &[
+            Piece::Text(&letter),
+            Piece::Text(b" "),
+            Piece::Place(address),
+        ],
+    )?;
     push_reference(text, op, address, labels)
 }
 

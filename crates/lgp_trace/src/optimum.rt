@@ -14,7 +14,7 @@ ghost use Rattle.lgp_trace.specs.OptimumKept.{IsBest, IsLeast, IsOptimumOf, shar
 ghost use Rattle.lgp_trace.specs.TurnsInside.{is_last_late, one_turn_if};
 ghost use Rattle.lgp_trace.specs.Phases.{all_phases, phases_of};
 
-use crate::account::Account;
+use crate::account::{Account, Operand};
 use crate::turns::Turns;
 use crate::uses::{Freedom, Uses};
 use lgp_phases::wait;
@@ -103,11 +103,22 @@ impl<A: Allocator> Optimum<A> {
             → account.now ≡ account_of (after s count) → IsOptimumOf self.new s (count + 1)) }
         ensures unchanged { OnErr result (self.new ≡ self.old) }
     {
-        if let Some(operand) = &account.operand {
-            self.make_room(operand.address)?;
-        }
+        self.make_room_for(&account.operand)?;
         self.add(account);
         Ok(())
+    }
+
+    /// Gives the word that an order waited for room for its counts, if it waited for one; or a refused growth.
+    fn make_room_for(&mut self, operand: &Option<Operand>) -> Result<(), AllocError>
+        ensures room { OnOk result (IfSome operand.now (λ found.
+            0 < slice_index self.new.turned.rows found.address)) }
+        ensures same { ShowsSame self.old self.new }
+        ensures unchanged { OnErr result (self.new ≡ self.old) }
+    {
+        match operand {
+            Some(operand) => self.make_room(operand.address),
+            None => Ok(()),
+        }
     }
 
     /// Gives a word room for its counts, unless it has some; or a refused growth.

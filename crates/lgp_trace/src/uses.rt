@@ -7,7 +7,7 @@ ghost use Rattle.lgp_table.specs.State.{State};
 ghost use Rattle.lgp_trace.specs.Account.{found_of, operand_in, place_of};
 ghost use Rattle.lgp_trace.specs.Optimum.{freedom};
 ghost use Rattle.lgp_trace.specs.OptimumKept.{AreUsesOf, use_at};
-ghost use Rattle.lgp_trace.specs.UsesInside.{is_other, joined, no_uses, use_with, use_with_change, use_with_operand, use_with_place};
+ghost use Rattle.lgp_trace.specs.UsesInside.{is_other, joined, no_uses, use_with, use_with_change, use_with_named, use_with_operand, use_with_place};
 
 use crate::account::Operand;
 use lgp_table::seeks;
@@ -141,8 +141,7 @@ impl<A: Allocator> Uses<A> {
         }
     }
 
-    /// Adds whether an order left another word. If it did, and the word there was performed as an order before, the word that this order
-    /// named is named by one that is changed.
+    /// Adds whether an order left another word, and what that word as an order named.
     fn note_change(&mut self, operand: &Operand)
         ensures { (other : ℕ) → use_at self.new other
             ≡ use_with_change self.old operand.now other }
@@ -150,6 +149,19 @@ impl<A: Allocator> Uses<A> {
         if operand.found == operand.left {
             return;
         }
+        self.note_named(operand);
+        let changed = Use {
+            changed: true,
+            ..Use::NONE
+        };
+        self.add(operand.address, changed);
+    }
+
+    /// If a word that is changed now for the first time was performed before, the word that it named is named by one that is changed.
+    fn note_named(&mut self, operand: &Operand)
+        ensures { (other : ℕ) → use_at self.new other
+            ≡ use_with_named self.old operand.now other }
+    {
         let before = self.at(operand.address);
         let (_, op, named) = parts(operand.found);
         if before.performed && !before.changed && seeks(op) {
@@ -159,11 +171,6 @@ impl<A: Allocator> Uses<A> {
             };
             self.add(named, by_other);
         }
-        let changed = Use {
-            changed: true,
-            ..Use::NONE
-        };
-        self.add(operand.address, changed);
     }
 
     /// Whether an order at a place is another one than at the start.

@@ -7,7 +7,7 @@ ghost use Rattle.lgp_flexo.specs.TapeText.{written_tape};
 ghost use Rattle.lgp_stream.specs.Language.{HasCause};
 ghost use Rattle.lgp_desk.specs.FileForms.{text_made};
 ghost use Rattle.lgp_desk.specs.Files.{Drawer, IsKept};
-ghost use Rattle.lgp_desk.specs.Desk.{all_answered, answered, long_tape, mounted, own, restore_word, restored, restored_or_refused, saved, source_said, tape_or_refused, text_at, used, used_or_refused, within};
+ghost use Rattle.lgp_desk.specs.Desk.{all_answered, answered, long_tape, mounted, own, restore_word, restored, restored_or_refused, saved, source_said, tape_or_refused, text_at, used, used_or_refused, within, written};
 ghost use Rattle.lgp_desk.specs.DeskInside.{HasSaid, IsOfText};
 ghost use Rattle.lgp_desk.specs.Troubles.{kept_text};
 ghost use Rattle.lgp_desk.specs.declared.files.FileTrouble.{FileTrouble};
@@ -18,7 +18,7 @@ use crate::files::{FileTrouble, Files};
 use crate::keeping::text_made;
 use crate::request::{DrumForm, Made, Work};
 use crate::trouble::{note_within, push_kept};
-use crate::writing::push_written;
+use crate::writing::{Manner, push_written};
 use lgp_monitor::Progress;
 use lgp_stream::{Sink, StreamFault, Tally};
 use std::alloc::{AllocError, Allocator};
@@ -36,6 +36,22 @@ fn restore_word(form: DrumForm) -> &'static [u8]
     }
 }
 
+/// Appends what is written for a line and its reply, if the line and the note could be made.
+fn push_made<A: Allocator>(
+    text: &mut Vec<u8, A>,
+    manner: Manner,
+    line: Result<Vec<u8, A>, AllocError>,
+    note: Result<Vec<u8, A>, AllocError>,
+    reply: &[u8],
+) -> Result<(), AllocError>
+    ensures { (front : List ℕ) → (from : List ℕ) → IfOk line (λ it. it.items ≡ front)
+        → IfOk note (λ it. it.items ≡ from)
+        → OnOk result (text.new.items
+        ≡ text.old.items ++ written manner front false from reply.now) }
+{
+    push_written(text, manner, &line?, false, &note?, reply)
+}
+
 impl<A: Allocator + Copy, P: Progress, F: Files> Desk<A, P, F> {
     /// A command and what comes after it.
     fn line_of(&self, command: &[u8], operand: &[u8]) -> Result<Vec<u8, A>, AllocError>
@@ -45,6 +61,25 @@ impl<A: Allocator + Copy, P: Progress, F: Files> Desk<A, P, F> {
         line.extend_from_slice(command)?;
         line.extend_from_slice(operand)?;
         Ok(line)
+    }
+
+    /// The text for a line of the desk's own, which names a file, and its reply.
+    fn text_for(
+        &self,
+        command: &[u8],
+        name: &[u8],
+        note: &[u8],
+        reply: &[u8],
+    ) -> Result<Vec<u8, A>, AllocError>
+        ensures { IfOk result (λ made. made.items
+            ≡ written self.now.manner (command.now ++ name.now) false (within name.now note.now)
+            reply.now) }
+    {
+        let line = self.line_of(command, name);
+        let note = note_within(self.alloc, name, note);
+        let mut text = Vec::new(self.alloc);
+        push_made(&mut text, self.manner, line, note, reply)?;
+        Ok(text)
     }
 
     /// The text for a dump that is restored.
@@ -61,13 +96,9 @@ impl<A: Allocator + Copy, P: Progress, F: Files> Desk<A, P, F> {
         ensures after { OnOk result (self.new
             ≡ (restored form note.now self.old name.now dump.now).seat) }
     {
-        let note = note_within(self.alloc, name, note)?;
         let mut reply = Vec::new(self.alloc);
         self.monitor.restore(dump, &mut reply)?;
-        let mut text = Vec::new(self.alloc);
-        let line = self.line_of(restore_word(form), name)?;
-        push_written(&mut text, self.manner, &line, false, &note, &reply)?;
-        Ok(text)
+        self.text_for(restore_word(form), name, note, &reply)
     }
 
     /// Puts the words of a dump on the drum.
@@ -129,13 +160,9 @@ impl<A: Allocator + Copy, P: Progress, F: Files> Desk<A, P, F> {
         ensures after { OnOk result (self.new
             ≡ (long_tape note.now self.old name.now tape.now).seat) }
     {
-        let note = note_within(self.alloc, name, note)?;
         let mut reply = Vec::new(self.alloc);
         self.monitor.mount_tape(name, tape, &mut reply)?;
-        let mut text = Vec::new(self.alloc);
-        let line = self.line_of(b"tape ", name)?;
-        push_written(&mut text, self.manner, &line, false, &note, &reply)?;
-        Ok(text)
+        self.text_for(b"tape ", name, note, &reply)
     }
 
     /// Mounts a tape by a line.

@@ -2,10 +2,11 @@
 
 ghost use Rattle.std.specs.Prelude.{◌≡◌, ◌++◌, IfOk, OnOk, codes, decimal};
 ghost use Rattle.lgp_stream.specs.Language.{IsAnswered};
-ghost use Rattle.lgp_listing.specs.Dump.{cell_line, dump_of};
+ghost use Rattle.lgp_listing.specs.Dump.{dump_of};
 ghost use Rattle.lgp_history.specs.Step.{Put};
 ghost use Rattle.lgp_script.specs.LabState.{answer_to_step};
-ghost use Rattle.lgp_script.specs.DrumCommands.{answer_to_words, dump_text, lines_text, order_line};
+ghost use Rattle.lgp_script.specs.DrumCommands.{answer_to_words, dump_text, lines_text};
+ghost use Rattle.lgp_script.specs.LaboratoryInside.{line_by};
 
 use super::Laboratory;
 use crate::refusal::{Refusal, push_counted, push_refusal};
@@ -35,20 +36,17 @@ impl<A: Allocator + Copy> Laboratory<A> {
         }
     }
 
-    /// Shows words by their digits.
-    pub(super) fn words(&self, span: &Span, reply: &mut Vec<u8, A>) -> Result<(), AllocError>
-        ensures { OnOk result (reply.new.items
-            ≡ reply.old.items ++ (answer_to_words cell_line self.now span.now).reply) }
+    /// Shows words by their digits, or by their disassembly.
+    pub(super) fn words(
+        &self,
+        span: &Span,
+        disassembled: bool,
+        reply: &mut Vec<u8, A>,
+    ) -> Result<(), AllocError>
+        ensures { OnOk result (reply.new.items ≡ reply.old.items
+            ++ (answer_to_words (line_by disassembled) self.now span.now).reply) }
     {
-        push_words(reply, self.debugger.machine(), span)
-    }
-
-    /// Shows words by their disassembly.
-    pub(super) fn show(&self, span: &Span, reply: &mut Vec<u8, A>) -> Result<(), AllocError>
-        ensures { OnOk result (reply.new.items
-            ≡ reply.old.items ++ (answer_to_words order_line self.now span.now).reply) }
-    {
-        push_orders(reply, self.debugger.machine(), span)
+        push_words(reply, self.debugger.machine(), span, disassembled)
     }
 
     /// The dump of the drum: a line for each word that is not zero.
@@ -81,15 +79,19 @@ impl<A: Allocator + Copy> DrumWords for Laboratory<A> {
     }
 }
 
-/// Appends a word's line by its disassembly.
+/// Appends a word's line by its digits, or by its disassembly.
 #[tactic(auto, unfolding(crate::specs::DrumCommands::order_line))]
-fn push_order<A: Allocator>(
+fn push_word<A: Allocator>(
     text: &mut Vec<u8, A>,
     address: Address,
     word: Word,
+    disassembled: bool,
 ) -> Result<(), AllocError>
-    ensures { OnOk result (text.new.items ≡ text.old.items ++ order_line address word) }
+    ensures { OnOk result (text.new.items ≡ text.old.items ++ line_by disassembled address word) }
 {
+    if !disassembled {
+        return push_cell_line(text, address, word);
+    }
     let order = disassemble(word);
     push_pieces(
         text,
@@ -107,29 +109,14 @@ fn push_words<A: Allocator>(
     text: &mut Vec<u8, A>,
     machine: &Machine<A>,
     span: &Span,
+    disassembled: bool,
 ) -> Result<(), AllocError>
     ensures { OnOk result (text.new.items ≡ text.old.items
-        ++ lines_text cell_line machine.now.state span.now.first span.now.count) }
+        ++ lines_text (line_by disassembled) machine.now.state span.now.first span.now.count) }
 {
     for place in 0..span.count() {
         let address = span.address(place);
-        push_cell_line(text, address, machine.word(address))?;
-    }
-    Ok(())
-}
-
-/// Appends the words of a range, each by its disassembly.
-fn push_orders<A: Allocator>(
-    text: &mut Vec<u8, A>,
-    machine: &Machine<A>,
-    span: &Span,
-) -> Result<(), AllocError>
-    ensures { OnOk result (text.new.items ≡ text.old.items
-        ++ lines_text order_line machine.now.state span.now.first span.now.count) }
-{
-    for place in 0..span.count() {
-        let address = span.address(place);
-        push_order(text, address, machine.word(address))?;
+        push_word(text, address, machine.word(address), disassembled)?;
     }
     Ok(())
 }
@@ -144,6 +131,5 @@ fn push_lines<A: Allocator>(
         ++ (codes "dump " ++ (decimal count ++ (codes "\n" ++ lines.now)))) }
 {
     push_counted(text, b"dump ", count)?;
-    text.extend_from_slice(lines)?;
-    Ok(())
+    text.extend_from_slice(lines)
 }

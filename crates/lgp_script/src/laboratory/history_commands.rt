@@ -92,15 +92,13 @@ impl<A: Allocator + Copy> Laboratory<A> {
     {
         let kept = self.debugger.orders_kept();
         if kept < orders {
-            push_refusal(reply, Refusal::TooFar(kept))?;
-            return Ok(());
+            return push_refusal(reply, Refusal::TooFar(kept));
         }
         match self.debugger.back(orders) {
-            Ok(()) => push_clock(reply, self.debugger.look().clock)?,
+            Ok(()) => push_clock(reply, self.debugger.look().clock),
             Err(BackFault::TooFar(_)) => unreachable!(),
-            Err(BackFault::Memory) => return Err(AllocError),
+            Err(BackFault::Memory) => Err(AllocError),
         }
-        Ok(())
     }
 
     /// Goes back to the latest order that a rule hits.
@@ -148,8 +146,7 @@ fn push_ran<A: Allocator>(text: &mut Vec<u8, A>, ran: &Ran) -> Result<(), AllocE
     ensures { OnOk result (text.new.items ≡ text.old.items ++ ran_text ran.now) }
 {
     push_pieces(text, &[Piece::Text(b"ran "), Piece::Number(ran.orders)])?;
-    push_reason(text, ran.reason)?;
-    Ok(())
+    push_reason(text, ran.reason)
 }
 
 /// Appends how many orders back a hit lies, and the number of the rule.

@@ -1,6 +1,6 @@
 //! Pressing, waiting, performing orders, the panel.
 
-ghost use Rattle.std.specs.Prelude.{◌≡◌, ◌++◌, ◌≤◌, IfOk, IsTrue, OnOk, codes, length};
+ghost use Rattle.std.specs.Prelude.{◌≡◌, ◌++◌, ◌≤◌, IfOk, IsTrue, Ok, OnOk, codes, length};
 ghost use Rattle.lgp_stream.specs.Language.{IsAnswered};
 ghost use Rattle.lgp_table.specs.Interleaving.{is_boundary};
 ghost use Rattle.lgp_stream.specs.KeptLine.{line_limit};
@@ -28,8 +28,7 @@ impl<A: Allocator + Copy> Laboratory<A> {
             (answer_to_press self.old action)) }
     {
         let live = self.debugger.press(action)?;
-        reply.extend_from_slice(if live { b"live\n" } else { b"dead\n" })?;
-        Ok(())
+        reply.extend_from_slice(if live { b"live\n" } else { b"dead\n" })
     }
 
     /// Strikes the keys of a text.
@@ -43,13 +42,18 @@ impl<A: Allocator + Copy> Laboratory<A> {
             (answer_to_keys self.old (codes_of_text text.now))) }
     {
         match read_codes(self.alloc, text)? {
-            Ok(codes) => {
-                let keys = strike(&mut self.debugger, &codes)?;
-                push_keys(reply, keys)?;
-            }
-            Err(place) => push_refusal(reply, Refusal::BadSign(place))?,
+            Ok(codes) => self.strike_codes(&codes, reply),
+            Err(place) => push_refusal(reply, Refusal::BadSign(place)),
         }
-        Ok(())
+    }
+
+    /// Strikes the keys of codes.
+    fn strike_codes(&mut self, codes: &[Code], reply: &mut Vec<u8, A>) -> Result<(), AllocError>
+        ensures { OnOk result (IsAnswered reply.old.items reply.new.items self.new
+            (answer_to_keys self.old (Ok codes.now))) }
+    {
+        let keys = strike(&mut self.debugger, codes)?;
+        push_keys(reply, keys)
     }
 
     /// Lets word times pass at rest.
@@ -60,12 +64,11 @@ impl<A: Allocator + Copy> Laboratory<A> {
     {
         let clock = self.debugger.look().clock;
         match self.debugger.idle(times) {
-            Ok(()) => push_clock(reply, clock.saturating_add(times))?,
-            Err(IdleFault::AtWork) => push_refusal(reply, Refusal::AtWork)?,
-            Err(IdleFault::ClockEnd) => push_refusal(reply, Refusal::ClockEnd)?,
-            Err(IdleFault::Memory) => return Err(AllocError),
+            Ok(()) => push_clock(reply, clock.saturating_add(times)),
+            Err(IdleFault::AtWork) => push_refusal(reply, Refusal::AtWork),
+            Err(IdleFault::ClockEnd) => push_refusal(reply, Refusal::ClockEnd),
+            Err(IdleFault::Memory) => Err(AllocError),
         }
-        Ok(())
     }
 
     /// Performs orders.
@@ -175,8 +178,7 @@ pub fn push_panel<A: Allocator>(
     };
     push_registers(text, &look)?;
     text.extend_from_slice(&switches_text(look.switches))?;
-    push_reader(text, &look, left.len() as u64)?;
-    Ok(())
+    push_reader(text, &look, left.len() as u64)
 }
 
 /// Appends the registers, the status and the mode.

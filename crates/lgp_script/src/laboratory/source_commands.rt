@@ -40,9 +40,9 @@ impl<A: Allocator + Copy> Laboratory<A> {
             return self.close_source(source, reply);
         }
         let mut source = source;
-        source.push_line(line)?;
+        let kept = source.push_line(line);
         self.opened = Some(source);
-        Ok(())
+        kept
     }
 
     /// Closes a source.
@@ -75,9 +75,9 @@ impl<A: Allocator + Copy> Laboratory<A> {
           opened = self.old.opened;
         }) }
     {
-        push_cells(reply, program.image())?;
+        let told = push_cells(reply, program.image());
         self.program = Some(program);
-        Ok(())
+        told
     }
 
     /// Lists the last source that assembled.
@@ -87,8 +87,7 @@ impl<A: Allocator + Copy> Laboratory<A> {
             ≡ reply.old.items ++ list_text self.now.source) }
     {
         let Some(program) = &self.program else {
-            push_refusal(reply, Refusal::NoImage)?;
-            return Ok(());
+            return push_refusal(reply, Refusal::NoImage);
         };
         let listing = program.listing(self.alloc)?;
         reply.extend_from_slice(&listing)?;
@@ -118,8 +117,7 @@ fn push_cells<A: Allocator>(text: &mut Vec<u8, A>, image: &Image<A>) -> Result<(
             Piece::Text(b" start "),
         ],
     )?;
-    push_start(text, image.start())?;
-    Ok(())
+    push_start(text, image.start())
 }
 
 /// Appends that a source has faults, and a line for each of them.

@@ -119,8 +119,7 @@ fn push_written<A: Allocator>(
         ],
     )?;
     text.extend_from_slice(written)?;
-    text.push(b'\n')?;
-    Ok(())
+    text.extend_from_slice(b"\n")
 }
 
 /// Appends what is printed.

@@ -1,4 +1,4 @@
-use Rattle.std.proofs.Common.{◌∙◌, ap, arith, map}
+use Rattle.std.proofs.Common.{ap, arith, map}
 use Rattle.lgp_stream.specs.Transcript.{after_lines}
 use Rattle.lgp_script.specs.Script.{script_language}
 use Rattle.lgp_monitor.specs.FileTexts.{put_cell}
@@ -10,7 +10,7 @@ loop-cell-preserved g c =
     put_more _ _
     _
     _ _ _ _ c.loop-cell-test.true
-    (c.deref.ensures.value ∙ c.in_ok-line.ensures ∙ ap put_cell c.cell-item.is) c.in_ok-answer_line.ensures.after c.loop-cell.invariant
+    (ap put_cell c.cell-item.is) c.in_ok-put_cell.ensures c.loop-cell.invariant
 
 pub returns : goal.returns
 returns g c =
