@@ -40,6 +40,8 @@ const LEAST_SPEED = Engine === Chromium ? Number(process.env.LEAST_SPEED ?? 10e6
 const given = (name, otherwise) => Number(process.env[name] ?? otherwise);
 const [LEAST_PICTURES, LONGEST_TASK, LONGEST_STOP] = Engine === Chromium ? [given("LEAST_PICTURES", 30), given("LONGEST_TASK", 50), given("LONGEST_STOP", 100)] : [0, Infinity, Infinity];
 const LARGEST_DRIFT = given("LARGEST_DRIFT", 0.05);
+/** After so many milliseconds without an answer an engine counts as ended. */
+const LONGEST_ANSWER = 60_000;
 
 /** Replies as a script has them: what a refusal has in a session alone is its reason, behind a colon. */
 const withoutReasons = (replies) => replies.replace(/^(\? \d+ \w+(?: \d+)?): .*$/gm, "$1");
@@ -1267,24 +1269,48 @@ async function touch(browser) {
 const all = { ...visitsOfTasks(address), ...visitsOfGames(address), ...visitsOfExamples(address), kiosk, addresses, changes, thereAndBack, openSource, whatToPress, operated, endlessPrint, firstHour, lesson, stories, scope, doors, look, ...lessonVisits({ address, press, settled, steps, picture, textOf, sideways }), sound, saved, notLost, source, profile, costs, examples, badInput, usedUp, longRun, paces, forPeople, widths, everyone, byKeys, readOut, stillness, touch, withoutWebAssembly, cannotOpen };
 const wanted = process.env.VISITS?.split(" ") ?? Object.keys(all).filter((name) => !left.includes(name));
 const visits = Object.fromEntries(wanted.map((name) => [name, all[name]]));
-const browser = await Engine.start();
+let browser = await Engine.start();
+const toldByPages = [];
 let failed = 0;
-for (const [name, visit] of Object.entries(visits)) {
+
+/** Visits the page, and says in a line how that went. */
+async function visited(name) {
     const began = Date.now();
     try {
-        const found = await visit(browser);
+        const found = await visits[name](browser);
         if (name === "longRun") assert.ok(found >= LEAST_SPEED, `${Math.round(found)} orders a second`);
         const lines = ["withoutWebAssembly", "cannotOpen"].includes(name) ? null : await endsThere(browser);
         const saves = lines === null ? "" : `, ${lines[1]} lines saved of ${lines[0]}`;
-        console.log(`${name}: well${found === undefined ? "" : `, ${typeof found === "number" ? Math.round(found) : found}`}${saves}, ${((Date.now() - began) / 1000).toFixed(1)} s`);
+        return { isWell: true, line: `${name}: well${found === undefined ? "" : `, ${typeof found === "number" ? Math.round(found) : found}`}${saves}, ${((Date.now() - began) / 1000).toFixed(1)} s` };
     } catch (failure) {
-        failed += 1;
-        console.log(`${name}: ${failure.message}`);
+        return { isWell: false, line: `${name}: ${failure.message}` };
     }
 }
-if (browser.told.length > 0) {
-    failed += 1;
-    console.log(`the page has told: ${browser.told.join("\n")}`);
+
+/** Whether the engine still answers. One that has crashed, or hangs, does not. */
+const answers = () => Promise.race([browser.value("true").catch(() => false), new Promise((resolve) => { setTimeout(() => resolve(false), LONGEST_ANSWER).unref(); })]);
+
+/** Ends the engine, and keeps what its page has told. */
+async function end() {
+    toldByPages.push(...browser.told);
+    await browser.end();
 }
-await browser.end();
+
+for (const name of Object.keys(visits)) {
+    let { isWell, line } = await visited(name);
+    // the crash of an engine says nothing of the page, unless the next one crashes there too
+    if (!isWell && !await answers()) {
+        await end();
+        browser = await Engine.start();
+        const again = await visited(name);
+        [isWell, line] = [again.isWell, `${again.line}; ${browser.engine} had ended before: ${line}`];
+    }
+    failed += isWell ? 0 : 1;
+    console.log(line.replaceAll("\n", " "));
+}
+await end();
+if (toldByPages.length > 0) {
+    failed += 1;
+    console.log(`the page has told: ${toldByPages.join("\n")}`);
+}
 process.exitCode = failed === 0 ? 0 : 1;
