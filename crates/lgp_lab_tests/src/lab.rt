@@ -68,14 +68,6 @@ fn is_cut_off(answer: Result<u64, LabFault>, taken: u64) -> bool {
 /// Parts of a text, each with how many times it stands there.
 type Parts<'a> = &'a [(&'a [u8], usize)];
 
-/// Whether a script of these parts has these replies, and a given number of them begin with a question mark.
-fn is_long_answered(alloc: Global, script: Parts<'_>, replies: &[u8], faults: u64) -> bool {
-    match built(alloc, script) {
-        Ok(script) => is_answered(alloc, (&script, replies, faults)),
-        Err(_) => false,
-    }
-}
-
 /// A text of parts, each as many times as its number says.
 fn built(alloc: Global, parts: Parts<'_>) -> Result<Vec<u8>, AllocError> {
     let mut text = Vec::new(alloc);

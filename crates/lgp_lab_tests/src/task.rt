@@ -6,7 +6,7 @@ use linked_list_allocator::LocalHeap;
 use std::alloc::{AllocError, Allocator, Global};
 
 /// The words after the program's name, with a path for the latter.
-fn words(global: Global, words: &[&str]) -> Result<Vec<String>, AllocError> {
+pub fn words(global: Global, words: &[&str]) -> Result<Vec<String>, AllocError> {
     let mut all = vec![in global; String::from_str(global, "/usr/local/bin/lab")?]?;
     for word in words {
         all.push(String::from_str(global, word)?)?;
@@ -15,7 +15,7 @@ fn words(global: Global, words: &[&str]) -> Result<Vec<String>, AllocError> {
 }
 
 /// The task of words, with names and texts from `alloc`.
-fn read<A: Allocator + Copy>(
+pub fn read<A: Allocator + Copy>(
     global: Global,
     alloc: A,
     typed: &[&str],

@@ -155,11 +155,10 @@ fn is_answered(
         return false;
     };
     let listener = Listener { portion, reported };
-    let kept = Cell::new(0);
     answer(
         alloc,
         Manner::Bare,
-        Made { kept: &kept },
+        Made,
         listener,
         typed.as_slice(),
         written,

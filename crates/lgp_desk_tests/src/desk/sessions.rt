@@ -104,30 +104,6 @@ fn status_typed(
     }
 }
 
-/// Whether anything is written to the output and to the messages, and the status.
-fn reported_for(alloc: Global, typed: &[&str]) -> (bool, bool, Option<u8>) {
-    let mut output = Vec::new(alloc);
-    let mut messages = Vec::new(alloc);
-    let status = status_typed(alloc, typed, Manner::Bare, &mut output, &mut messages);
-    (!output.is_empty(), !messages.is_empty(), status)
-}
-
-#[test]
-fn help_is_no_message_and_a_mistake_is_one(rt: HostRuntime) {
-    let alloc = rt.alloc();
-    let reported = [
-        reported_for(alloc, &["lgp_monitor"]),
-        reported_for(alloc, &["lgp_monitor", "--help"]),
-        reported_for(alloc, &["lgp_monitor", "--version"]),
-        reported_for(alloc, &["lgp_monitor", "--bare"]),
-        reported_for(alloc, &["lgp_monitor", "--echo=no"]),
-    ];
-    let held = (true, false, Some(1));
-    let help = (true, false, Some(0));
-    let mistake = (false, true, Some(64));
-    expect_eq(&rt, reported, [held, help, help, mistake, mistake]);
-}
-
 /// Words, what is written for them, and the status.
 type Row = (&'static [&'static str], &'static [u8], u8);
 
