@@ -22,16 +22,27 @@ const FIRST_RUN_REPLIES: &[u8] =
 /// How a call ended: its answer, and whether the reader and the writer have failed.
 type Ended = (Result<u64, LabFault>, bool, bool);
 
+/// Runs a script that is read at most so often; and how many reads are left.
+fn run_reads<A: Allocator + Copy, R: Read + Drop, W: Write + Drop>(
+    alloc: A,
+    reads: u64,
+    reader: R,
+    writer: W,
+) -> (Ended, u64) {
+    let mut feed = FeedOf::new(reader, reads);
+    let mut sink = SinkOf::new(writer);
+    let answer = run_script(alloc, &mut feed, &mut sink);
+    let ended = (answer, feed.has_failed(), sink.has_failed());
+    (ended, feed.reads_left())
+}
+
 /// Runs a script.
 fn run_between<A: Allocator + Copy, R: Read + Drop, W: Write + Drop>(
     alloc: A,
     reader: R,
     writer: W,
 ) -> Ended {
-    let mut feed = FeedOf::new(reader, READS);
-    let mut sink = SinkOf::new(writer);
-    let answer = run_script(alloc, &mut feed, &mut sink);
-    (answer, feed.has_failed(), sink.has_failed())
+    run_reads(alloc, READS, reader, writer).0
 }
 
 /// Runs a script; its replies are written after `written`.

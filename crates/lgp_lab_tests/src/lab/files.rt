@@ -1,7 +1,7 @@
 //! What is written for files.
 
 use super::streams::{Failing, Pieces};
-use super::{FIRST_RUN, FIRST_RUN_REPLIES, built, is_cut_off, is_done};
+use super::{FIRST_RUN, built, is_cut_off, is_done};
 use crate::expect_eq;
 use lgp_lab::{FeedOf, LabFault, READS, SinkOf, asm_file, batch_part, run_file, tape_file};
 use std::alloc::{Allocator, Global};
@@ -108,16 +108,13 @@ pub fn run_part<A: Allocator + Copy, R: Read + Drop, W: Write + Drop>(
     batch_part(alloc, name, &mut feed, &mut sink)
 }
 
-/// Whether a text is the first script's name and replies, and then this.
-pub fn is_first_and(text: &[u8], more: &[u8]) -> bool {
-    match text.strip_prefix(b"file first run\n") {
-        Some(replies) => match replies.strip_prefix(FIRST_RUN_REPLIES) {
-            Some(left) => left == more,
-            None => false,
-        },
-        None => false,
-    }
-}
+/// What is written for the first script, with its name above its replies.
+pub const FIRST_PART: &[u8] =
+    b"file first run\nok\nok\nok\nok\nok\nlive\norders 4 halted stop\ncounter 0004 accumulator 00000010 register 00000000 status halted stop mode normal switches uuuuuu reader off tape 0 clock 94\n0052 00000010\n";
+
+/// What is written for that and another one after it.
+const TWO_PARTS: &[u8] =
+    b"file first run\nok\nok\nok\nok\nok\nlive\norders 4 halted stop\ncounter 0004 accumulator 00000010 register 00000000 status halted stop mode normal switches uuuuuu reader off tape 0 clock 94\n0052 00000010\nfile other\n? 1 Form\n";
 
 /// Whether the first of two scripts has no fault and the other one has one, and whether both are answered so.
 fn two_parts(alloc: Global) -> (bool, bool, bool) {
@@ -128,7 +125,7 @@ fn two_parts(alloc: Global) -> (bool, bool, bool) {
     (
         is_done(first, 0),
         is_done(other, 1),
-        is_first_and(&written, b"file other\n? 1 Form\n"),
+        written.as_slice() == TWO_PARTS,
     )
 }
 

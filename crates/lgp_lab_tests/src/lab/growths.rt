@@ -1,8 +1,8 @@
 //! Scripts and files with each growth refused in turn: what was replied before remains whole, and nothing of the reply that is refused.
 
-use super::files::{FILES, FileRow, is_first_and, run_part, write_between};
+use super::files::{FILES, FIRST_PART, FileRow, run_part, write_between};
 use super::streams::{Failing, Pieces};
-use super::{FIRST_RUN, FIRST_RUN_REPLIES, run_between};
+use super::{FIRST_RUN, run_between};
 use crate::expect_eq;
 use lgp_lab::LabFault;
 use lgp_limited::Limited;
@@ -178,12 +178,9 @@ fn nothing_is_written_for_a_file_whose_growth_is_refused(rt: HostRuntime) {
     expect_eq(&rt, (refused, limited.blocks_out()), (8, 0));
 }
 
-/// Whether a text is empty, or the line of a name and then as many of the replies as end with a line.
+/// Whether a text is some of the first lines that are written for a script with its name.
 fn is_part(text: &[u8]) -> bool {
-    let Some(replies) = text.strip_prefix(b"file first run\n") else {
-        return text.is_empty();
-    };
-    FIRST_RUN_REPLIES.starts_with(replies) && (replies.is_empty() || replies.ends_with(b"\n"))
+    FIRST_PART.starts_with(text) && (text.is_empty() || text.ends_with(b"\n"))
 }
 
 /// How a script of several ends, over such a reader and writer. Where it is refused, a part of its text is written.
@@ -192,7 +189,7 @@ fn part_end(limited: &Limited<Global>, global: Global, nth: u64) -> End {
     limited.refuse(nth);
     let script = Pieces::whole(FIRST_RUN, 7);
     let answer = run_part(limited, "first run", script, &mut writer);
-    let texts = (is_part(writer.taken()), is_first_and(writer.taken(), b""));
+    let texts = (is_part(writer.taken()), writer.taken() == FIRST_PART);
     ended(limited.was_refused(), answer, 0, texts)
 }
 
