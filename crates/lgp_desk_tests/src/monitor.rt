@@ -6,7 +6,7 @@ use lgp_lab::{FeedOf, READS, SinkOf};
 use lgp_limited::Limited;
 use lgp_monitor::run_monitor;
 use lgp_stream::StreamFault;
-use std::alloc::{AllocError, Allocator, Global};
+use std::alloc::{Allocator, Global};
 
 /// Typed lines, what is written for them, and how many replies begin with a question mark.
 type Row = (&'static [u8], &'static [u8], u64);
@@ -75,21 +75,21 @@ fn typed_lines_are_answered(rt: HostRuntime) {
     expect_eq(&rt, rows_answered(rt.alloc()), 4);
 }
 
-/// A text of these parts, one after another.
-fn joined(alloc: Global, parts: [&[u8]; 3]) -> Result<Vec<u8>, AllocError> {
-    let mut text = Vec::new(alloc);
+/// Appends parts one after another; false where memory is refused.
+fn push_parts(text: &mut Vec<u8>, parts: [&[u8]; 3]) -> bool {
     for part in parts {
-        text.extend_from_slice(part)?;
+        if text.extend_from_slice(part).is_err() {
+            return false;
+        }
     }
-    Ok(text)
+    true
 }
 
 /// Whether this is written for a source of these lines between a short one and its point.
 fn is_marked(alloc: Global, lines: &[u8], text: &[u8]) -> bool {
-    match joined(alloc, [b"source\n q\n", lines, b"\n.\n"]) {
-        Ok(typed) => is_answered(alloc, &typed, text, 1),
-        Err(_) => false,
-    }
+    let mut typed = Vec::new(alloc);
+    push_parts(&mut typed, [b"source\n q\n", lines, b"\n.\n"])
+        && is_answered(alloc, &typed, text, 1)
 }
 
 /// A line of a source as long as a line may be, and one that is longer.

@@ -10,7 +10,7 @@ mod tasks;
 mod words;
 
 use lgp_lab::{Feed, FeedOf, LabFault, READS, Sink, SinkOf, run_script};
-use std::alloc::{AllocError, Allocator, Global};
+use std::alloc::{Allocator, Global};
 use std::io::{Read, Write};
 
 const FIRST_RUN: &[u8] =
@@ -79,19 +79,32 @@ fn is_cut_off(answer: Result<u64, LabFault>, taken: u64) -> bool {
 /// Parts of a text, each with how many times it stands there.
 type Parts<'a> = &'a [(&'a [u8], usize)];
 
-/// A text of parts, each as many times as its number says.
-fn built(alloc: Global, parts: Parts<'_>) -> Result<Vec<u8>, AllocError> {
+/// A text of parts, each as many times as its number says; none where memory is refused.
+fn built(alloc: Global, parts: Parts<'_>) -> Option<Vec<u8>> {
     let mut text = Vec::new(alloc);
-    for (part, times) in parts {
-        push_times(&mut text, part, *times)?;
+    if push_parts(&mut text, parts) {
+        Some(text)
+    } else {
+        None
     }
-    Ok(text)
 }
 
-/// Appends a part a given number of times.
-fn push_times(text: &mut Vec<u8>, part: &[u8], times: usize) -> Result<(), AllocError> {
-    for _ in 0..times {
-        text.extend_from_slice(part)?;
+/// Appends parts, each as many times as its number says; false where memory is refused.
+fn push_parts(text: &mut Vec<u8>, parts: Parts<'_>) -> bool {
+    for (part, times) in parts {
+        if !push_times(text, part, *times) {
+            return false;
+        }
     }
-    Ok(())
+    true
+}
+
+/// Appends a part a given number of times; false where memory is refused.
+fn push_times(text: &mut Vec<u8>, part: &[u8], times: usize) -> bool {
+    for _ in 0..times {
+        if text.extend_from_slice(part).is_err() {
+            return false;
+        }
+    }
+    true
 }

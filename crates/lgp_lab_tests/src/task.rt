@@ -3,22 +3,34 @@
 use crate::expect_eq;
 use lgp_limited::Limited;
 use lgp_task::{SessionTask, Task, TaskFault, ask_for_session, task_of};
-use std::alloc::{AllocError, Allocator, Global};
+use std::alloc::{Allocator, Global};
 
-/// The words after the program's name, with a path for the latter.
-pub fn words(global: Global, typed: &[&str]) -> Result<Vec<String>, AllocError> {
+/// The words after the program's name, with a path for the latter; none where memory is refused.
+pub fn words(global: Global, typed: &[&str]) -> Option<Vec<String>> {
     let mut all = Vec::new(global);
-    push_word(global, &mut all, "/usr/local/bin/lab")?;
-    for word in typed {
-        push_word(global, &mut all, word)?;
+    if push_word(global, &mut all, "/usr/local/bin/lab") && push_words(global, &mut all, typed) {
+        Some(all)
+    } else {
+        None
     }
-    Ok(all)
 }
 
-/// Appends a word.
-fn push_word(global: Global, all: &mut Vec<String>, word: &str) -> Result<(), AllocError> {
-    all.push(String::from_str(global, word)?)?;
-    Ok(())
+/// Appends words; false where memory is refused.
+fn push_words(global: Global, all: &mut Vec<String>, typed: &[&str]) -> bool {
+    for word in typed {
+        if !push_word(global, all, word) {
+            return false;
+        }
+    }
+    true
+}
+
+/// Appends a word; false where memory is refused.
+fn push_word(global: Global, all: &mut Vec<String>, word: &str) -> bool {
+    match String::from_str(global, word) {
+        Ok(word) => all.push(word).is_ok(),
+        Err(_) => false,
+    }
 }
 
 /// The task of words, with names and texts from `alloc`.
@@ -28,8 +40,8 @@ pub fn read<A: Allocator + Copy>(
     typed: &[&str],
 ) -> Result<Task<A>, TaskFault<A>> {
     match words(global, typed) {
-        Ok(all) => task_of(global, alloc, all.as_slice()),
-        Err(_) => Err(TaskFault::Memory),
+        Some(all) => task_of(global, alloc, all.as_slice()),
+        None => Err(TaskFault::Memory),
     }
 }
 
@@ -40,8 +52,8 @@ fn session<A: Allocator + Copy>(
     typed: &[&str],
 ) -> Result<SessionTask<A>, TaskFault<A>> {
     match words(global, typed) {
-        Ok(all) => ask_for_session(global, alloc, all.as_slice()),
-        Err(_) => Err(TaskFault::Memory),
+        Some(all) => ask_for_session(global, alloc, all.as_slice()),
+        None => Err(TaskFault::Memory),
     }
 }
 

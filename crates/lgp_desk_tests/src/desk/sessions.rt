@@ -6,7 +6,7 @@ use crate::expect_eq;
 use lgp_desk::{FilesOf, Filing, Manner, obey_session};
 use lgp_lab::{Feed, FeedOf, READS, Sink, SinkOf, WordFault};
 use lgp_monitor::Silence;
-use std::alloc::{AllocError, Global};
+use std::alloc::Global;
 
 /// One file, and none that can be kept.
 #[derive(Clone, Copy, Drop)]
@@ -27,19 +27,22 @@ impl Filing for OneFile {
     }
 }
 
-/// Words as the runtime gives them.
-fn words_of(alloc: Global, typed: &[&str]) -> Result<Vec<String>, AllocError> {
-    let mut words = Vec::new(alloc);
+/// Appends words as the runtime gives them; false where memory is refused.
+fn push_words(alloc: Global, words: &mut Vec<String>, typed: &[&str]) -> bool {
     for word in typed {
-        push_word(alloc, &mut words, word)?;
+        if !push_word(alloc, words, word) {
+            return false;
+        }
     }
-    Ok(words)
+    true
 }
 
-/// Appends a word.
-fn push_word(alloc: Global, words: &mut Vec<String>, word: &str) -> Result<(), AllocError> {
-    words.push(String::from_str(alloc, word)?)?;
-    Ok(())
+/// Appends a word; false where memory is refused.
+fn push_word(alloc: Global, words: &mut Vec<String>, word: &str) -> bool {
+    match String::from_str(alloc, word) {
+        Ok(word) => words.push(word).is_ok(),
+        Err(_) => false,
+    }
 }
 
 /// The status for words, with these files and this input.
@@ -98,9 +101,11 @@ fn status_typed(
     output: &mut Vec<u8>,
     messages: &mut Vec<u8>,
 ) -> Option<u8> {
-    match words_of(alloc, typed) {
-        Ok(words) => Some(status_for(alloc, Ok(&words), manner, output, messages)),
-        Err(_) => None,
+    let mut words = Vec::new(alloc);
+    if push_words(alloc, &mut words, typed) {
+        Some(status_for(alloc, Ok(&words), manner, output, messages))
+    } else {
+        None
     }
 }
 

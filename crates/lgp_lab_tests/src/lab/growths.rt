@@ -6,7 +6,7 @@ use super::{FIRST_RUN, run_between};
 use crate::expect_eq;
 use lgp_lab::LabFault;
 use lgp_limited::Limited;
-use std::alloc::{AllocError, Global};
+use std::alloc::Global;
 
 /// More growths than any call has.
 const MOST: u64 = 5000;
@@ -52,13 +52,14 @@ const COMMANDS: [(&[u8], &[u8]); 27] = [
     (b"back 1\n", b"clock 15347\n"),
 ];
 
-/// The script of all of these commands.
-fn script(alloc: Global) -> Result<Vec<u8>, AllocError> {
-    let mut text = Vec::new(alloc);
+/// Appends all of these commands; false where memory is refused.
+fn push_commands(script: &mut Vec<u8>) -> bool {
     for (command, _) in &COMMANDS {
-        text.extend_from_slice(command)?;
+        if script.extend_from_slice(command).is_err() {
+            return false;
+        }
     }
-    Ok(text)
+    true
 }
 
 /// How many whole replies a text is; `None` where there is anything else.
@@ -129,9 +130,11 @@ fn refusals(limited: &Limited<Global>, global: Global, script: &[u8]) -> Option<
 #[test]
 fn each_growth_of_each_command_is_refused(rt: HostRuntime) {
     let limited = Limited::new(rt.alloc());
-    let refused = match script(rt.alloc()) {
-        Ok(script) => refusals(&limited, rt.alloc(), &script),
-        Err(_) => None,
+    let mut script = Vec::new(rt.alloc());
+    let refused = if push_commands(&mut script) {
+        refusals(&limited, rt.alloc(), &script)
+    } else {
+        None
     };
     expect_eq(&rt, (refused, limited.blocks_out()), (Some([true; 27]), 0));
 }

@@ -10,8 +10,8 @@ type LongRow = (Parts<'static>, &'static [u8], u64);
 /// Whether a script of these parts is answered as its row says.
 fn is_long_answered(alloc: Global, (script, replies, faults): &LongRow) -> bool {
     match built(alloc, script) {
-        Ok(script) => is_answered(alloc, (&script, replies, *faults)),
-        Err(_) => false,
+        Some(script) => is_answered(alloc, (&script, replies, *faults)),
+        None => false,
     }
 }
 

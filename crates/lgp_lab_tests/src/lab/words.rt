@@ -40,8 +40,8 @@ fn status_typed<W: Write + Drop, M: Write + Drop>(
     messages: M,
 ) -> Option<u8> {
     match words(alloc, typed) {
-        Ok(words) => Some(status_for(alloc, Ok(&words), output, messages)),
-        Err(_) => None,
+        Some(words) => Some(status_for(alloc, Ok(&words), output, messages)),
+        None => None,
     }
 }
 
