@@ -13,13 +13,10 @@ use lgp_lab::{FeedOf, FileNames, READS, SinkOf};
 use lgp_monitor::{Progress, Silence};
 use lgp_stream::StreamFault;
 use std::alloc::{Allocator, Global};
-use std::cell::Cell;
 
-/// A few files, of which `kept` may be written; how many bytes were to be kept at last.
+/// A few files, of which `kept` may be written.
 #[derive(Clone, Copy, Drop)]
-pub(crate) struct Made<'a> {
-    pub(crate) kept: &'a Cell<usize>,
-}
+pub(crate) struct Made;
 
 /// A tape as long as a line has room for, one that is longer by a code, and one of carriage returns.
 const FITTING: [u8; 4090] = [b'f'; 4090];
@@ -117,7 +114,7 @@ fn long_text_of(name: &str) -> Option<&'static [u8]> {
     None
 }
 
-impl Filing for Made<'_> {
+impl Filing for Made {
     type Reader = FeedOf<&'static [u8]>;
 
     fn open(&self, name: &str) -> Option<FeedOf<&'static [u8]>> {
@@ -128,8 +125,7 @@ impl Filing for Made<'_> {
         Some(FeedOf::new(text, READS))
     }
 
-    fn keep(&self, name: &str, text: &[u8]) -> bool {
-        self.kept.set(text.len());
+    fn keep(&self, name: &str, _text: &[u8]) -> bool {
         name == "kept"
     }
 }
@@ -164,8 +160,7 @@ pub(crate) fn run<A: Allocator + Copy>(
     typed: &[u8],
     written: &mut Vec<u8>,
 ) -> Result<u64, StreamFault> {
-    let kept = Cell::new(0);
-    answer(alloc, manner, Made { kept: &kept }, Silence, typed, written)
+    answer(alloc, manner, Made, Silence, typed, written)
 }
 
 /// Typed lines, how they are written, what is written, and how many replies begin with a question mark.
@@ -191,7 +186,8 @@ pub(crate) fn rows_answered(alloc: Global, rows: &[Row]) -> usize {
     answered
 }
 
-const LINES: [Row; 11] = [
+/// Lines without prompts are in `texts/` and `examples/`, and the proved program answers those.
+const LINES: [Row; 7] = [
     // Counter and status come before each line but those of a source, in which quit is a line as others.
     (
         Manner::Prompting,
@@ -227,41 +223,14 @@ const LINES: [Row; 11] = [
         b"> put 0000 = 1\nok\n? panels\n? 1 Form: there is no such command, help lists them\n>  quit \n",
         1,
     ),
-    // It stands for no line, and with more words it is none that leaves.
-    (
-        Manner::Bare,
-        b"quit now\ntranscript\n quit\ntranscript\n",
-        b"? 1 Form: quit, which ends the program lgp_monitor\nquit now\n",
-        1,
-    ),
-    // A line that begins with a number sign is no command.
-    (
-        Manner::Bare,
-        b"# a\ntranscript\n",
-        b"? 1 Form: there is no such command, help lists them\n# a\n",
-        1,
-    ),
-    // In a source these are the source's.
-    (
-        Manner::Bare,
-        b"source\ndo two lines\n end\n.\n",
-        b"? 9 Faults\nline 1 UnknownOrder\n        do two lines\n           ^^^\n",
-        1,
-    ),
-    (
-        Manner::Bare,
-        b"\n; do two lines\ndo\n",
-        b"? 1 Form: do FILE, in the program lgp_monitor\n",
-        1,
-    ),
 ];
 
 #[test]
 fn lines_at_a_desk_are_answered(rt: HostRuntime) {
-    expect_eq(&rt, rows_answered(rt.alloc(), &LINES), 11);
+    expect_eq(&rt, rows_answered(rt.alloc(), &LINES), 7);
 }
 
-const NAMING: [Row; 19] = [
+const NAMING: [Row; 20] = [
     (
         Manner::Bare,
         b"do two lines\ntranscript\n",
@@ -383,11 +352,18 @@ const NAMING: [Row; 19] = [
         b"> tape longer\nok 4091\n> tape returns\nok 1023\n> new\nnew\n> tape longer\nok 4091\n> transcript\ntape longer\n",
         0,
     ),
+    // The drum is kept, also at work, and what cannot be written is refused.
+    (
+        Manner::Bare,
+        b"put 0100 00000004\nsave kept\npress start\nsave locked\ntranscript\n",
+        b"ok\nsaved kept\nlive\n? 13 File locked: it cannot be written, and is as it was\nput 0100 00000004\npress start\n",
+        1,
+    ),
 ];
 
 #[test]
 fn files_are_named(rt: HostRuntime) {
-    expect_eq(&rt, rows_answered(rt.alloc(), &NAMING), 19);
+    expect_eq(&rt, rows_answered(rt.alloc(), &NAMING), 20);
 }
 
 /// Whether no line is refused, whether the first reply and the front of the second are these, and how many bytes are written.
@@ -407,23 +383,6 @@ fn a_tape_that_fits_is_mounted_by_its_line(rt: HostRuntime) {
     let front = b"ok 4090\nmount ffff";
     let seen = fitting(rt.alloc(), b"tape fitting\ntranscript\n", front);
     expect_eq(&rt, seen, (true, true, 8 + 6 + 4090 + 1));
-}
-
-/// Whether this is written where a name is kept, and how many bytes are kept.
-fn saved(alloc: Global, typed: &[u8], text: &[u8]) -> (usize, bool) {
-    let kept = Cell::new(0);
-    let mut written = Vec::new(alloc);
-    let made = Made { kept: &kept };
-    let _ = answer(alloc, Manner::Bare, made, Silence, typed, &mut written);
-    (kept.get(), written.as_slice() == text)
-}
-
-#[test]
-fn the_drum_is_kept(rt: HostRuntime) {
-    let typed = b"put 0100 00000004\nsave kept\npress start\nsave locked\ntranscript\n";
-    let text =
-        b"ok\nsaved kept\nlive\n? 13 File locked: it cannot be written, and is as it was\nput 0100 00000004\npress start\n";
-    expect_eq(&rt, saved(rt.alloc(), typed, text), (14, true));
 }
 
 /// What a file is refused for has a name of its own.

@@ -10,7 +10,7 @@ mod tasks;
 mod words;
 
 use lgp_lab::{Feed, FeedOf, LabFault, READS, Sink, SinkOf, run_script};
-use std::alloc::{AllocError, Allocator, Global};
+use std::alloc::{Allocator, Global};
 use std::io::{Read, Write};
 
 const FIRST_RUN: &[u8] =
@@ -22,16 +22,27 @@ const FIRST_RUN_REPLIES: &[u8] =
 /// How a call ended: its answer, and whether the reader and the writer have failed.
 type Ended = (Result<u64, LabFault>, bool, bool);
 
+/// Runs a script that is read at most so often; and how many reads are left.
+fn run_reads<A: Allocator + Copy, R: Read + Drop, W: Write + Drop>(
+    alloc: A,
+    reads: u64,
+    reader: R,
+    writer: W,
+) -> (Ended, u64) {
+    let mut feed = FeedOf::new(reader, reads);
+    let mut sink = SinkOf::new(writer);
+    let answer = run_script(alloc, &mut feed, &mut sink);
+    let ended = (answer, feed.has_failed(), sink.has_failed());
+    (ended, feed.reads_left())
+}
+
 /// Runs a script.
 fn run_between<A: Allocator + Copy, R: Read + Drop, W: Write + Drop>(
     alloc: A,
     reader: R,
     writer: W,
 ) -> Ended {
-    let mut feed = FeedOf::new(reader, READS);
-    let mut sink = SinkOf::new(writer);
-    let answer = run_script(alloc, &mut feed, &mut sink);
-    (answer, feed.has_failed(), sink.has_failed())
+    run_reads(alloc, READS, reader, writer).0
 }
 
 /// Runs a script; its replies are written after `written`.
@@ -68,27 +79,32 @@ fn is_cut_off(answer: Result<u64, LabFault>, taken: u64) -> bool {
 /// Parts of a text, each with how many times it stands there.
 type Parts<'a> = &'a [(&'a [u8], usize)];
 
-/// Whether a script of these parts has these replies, and a given number of them begin with a question mark.
-fn is_long_answered(alloc: Global, script: Parts<'_>, replies: &[u8], faults: u64) -> bool {
-    match built(alloc, script) {
-        Ok(script) => is_answered(alloc, (&script, replies, faults)),
-        Err(_) => false,
-    }
-}
-
-/// A text of parts, each as many times as its number says.
-fn built(alloc: Global, parts: Parts<'_>) -> Result<Vec<u8>, AllocError> {
+/// A text of parts, each as many times as its number says; none where memory is refused.
+fn built(alloc: Global, parts: Parts<'_>) -> Option<Vec<u8>> {
     let mut text = Vec::new(alloc);
-    for (part, times) in parts {
-        push_times(&mut text, part, *times)?;
+    if push_parts(&mut text, parts) {
+        Some(text)
+    } else {
+        None
     }
-    Ok(text)
 }
 
-/// Appends a part a given number of times.
-fn push_times(text: &mut Vec<u8>, part: &[u8], times: usize) -> Result<(), AllocError> {
-    for _ in 0..times {
-        text.extend_from_slice(part)?;
+/// Appends parts, each as many times as its number says; false where memory is refused.
+fn push_parts(text: &mut Vec<u8>, parts: Parts<'_>) -> bool {
+    for (part, times) in parts {
+        if !push_times(text, part, *times) {
+            return false;
+        }
     }
-    Ok(())
+    true
+}
+
+/// Appends a part a given number of times; false where memory is refused.
+fn push_times(text: &mut Vec<u8>, part: &[u8], times: usize) -> bool {
+    for _ in 0..times {
+        if text.extend_from_slice(part).is_err() {
+            return false;
+        }
+    }
+    true
 }

@@ -1,27 +1,73 @@
-//! Tests of the command line.
+//! Tests of the command line: words and what they are read as, each with each growth refused in turn.
 
 use crate::expect_eq;
+use lgp_limited::Limited;
 use lgp_task::{SessionTask, Task, TaskFault, ask_for_session, task_of};
-use linked_list_allocator::LocalHeap;
-use std::alloc::{AllocError, Allocator, Global};
+use std::alloc::{Allocator, Global};
 
-/// The words after the program's name, with a path for the latter.
-fn words(global: Global, words: &[&str]) -> Result<Vec<String>, AllocError> {
-    let mut all = vec![in global; String::from_str(global, "/usr/local/bin/lab")?]?;
-    for word in words {
-        all.push(String::from_str(global, word)?)?;
+/// The words after the program's name, with a path for the latter; none where memory is refused.
+pub fn words(global: Global, typed: &[&str]) -> Option<Vec<String>> {
+    let mut all = Vec::new(global);
+    if push_word(global, &mut all, "/usr/local/bin/lab") && push_words(global, &mut all, typed) {
+        Some(all)
+    } else {
+        None
     }
-    Ok(all)
+}
+
+/// Appends words; false where memory is refused.
+fn push_words(global: Global, all: &mut Vec<String>, typed: &[&str]) -> bool {
+    for word in typed {
+        if !push_word(global, all, word) {
+            return false;
+        }
+    }
+    true
+}
+
+/// Appends a word; false where memory is refused.
+fn push_word(global: Global, all: &mut Vec<String>, word: &str) -> bool {
+    match String::from_str(global, word) {
+        Ok(word) => all.push(word).is_ok(),
+        Err(_) => false,
+    }
 }
 
 /// The task of words, with names and texts from `alloc`.
-fn read<A: Allocator + Copy>(
+pub fn read<A: Allocator + Copy>(
     global: Global,
     alloc: A,
     typed: &[&str],
 ) -> Result<Task<A>, TaskFault<A>> {
-    let all = words(global, typed)?;
-    task_of(global, alloc, all.as_slice())
+    match words(global, typed) {
+        Some(all) => task_of(global, alloc, all.as_slice()),
+        None => Err(TaskFault::Memory),
+    }
+}
+
+/// The session that words ask for.
+fn session<A: Allocator + Copy>(
+    global: Global,
+    alloc: A,
+    typed: &[&str],
+) -> Result<SessionTask<A>, TaskFault<A>> {
+    match words(global, typed) {
+        Some(all) => ask_for_session(global, alloc, all.as_slice()),
+        None => Err(TaskFault::Memory),
+    }
+}
+
+/// What words are read as: the task of a command with its file and limit, a batch of two files, or a session of so many files, with the
+/// name of the first, with lines above their replies or not, and with replies in JSON or not. Or what is reported of them: a mistake or
+/// help, with a part of the text, or an answer that is the text whole.
+#[derive(Clone, Copy)]
+enum Wanted {
+    Command(&'static str, &'static str, u64),
+    Batch(&'static str, &'static str),
+    Session(usize, &'static str, bool, bool),
+    Usage(&'static str),
+    Help(&'static str),
+    Answer(&'static str),
 }
 
 /// What a task is, by its command's word, with its file's name and the limit of a run.
@@ -36,23 +82,10 @@ fn parts_of<A: Allocator>(task: &Task<A>) -> (&'static str, &str, u64) {
     }
 }
 
-/// Whether the words are the task of a command with this file and this limit.
-fn is_read_as<A: Allocator + Copy>(
-    global: Global,
-    alloc: A,
-    typed: &[&str],
-    wanted: (&str, &str, u64),
-) -> bool {
-    match read(global, alloc, typed) {
-        Ok(task) => parts_of(&task) == wanted,
-        Err(_) => false,
-    }
-}
-
-/// Whether the words are the task of a batch with these two files.
-fn is_batch_of(global: Global, typed: &[&str], first: &str, last: &str) -> bool {
-    match read(global, global, typed) {
-        Ok(Task::Batch(files)) => match files.names() {
+/// Whether a task is a batch of these two files.
+fn is_batch<A: Allocator>(task: &Task<A>, first: &str, last: &str) -> bool {
+    match task {
+        Task::Batch(files) => match files.names() {
             [one, two] => one.text() == first && two.text() == last,
             _ => false,
         },
@@ -60,254 +93,220 @@ fn is_batch_of(global: Global, typed: &[&str], first: &str, last: &str) -> bool 
     }
 }
 
-/// What may be reported in place of a task.
-#[derive(Clone, Copy, PartialEq, Eq)]
-enum Reported {
-    Usage,
-    Help,
-    /// An answer that is the text whole.
-    Answer,
-    Memory,
-}
-
-/// Whether a text has a part, or is it whole.
-fn is_text(text: &str, reported: Reported, part: &str) -> bool {
-    match reported {
-        Reported::Help => text.contains(part),
-        Reported::Answer => text == part,
-        Reported::Usage | Reported::Memory => false,
+/// Whether a task is as wanted.
+fn is_task<A: Allocator>(task: &Task<A>, wanted: Wanted) -> bool {
+    match wanted {
+        Wanted::Command(command, file, limit) => parts_of(task) == (command, file, limit),
+        Wanted::Batch(first, last) => is_batch(task, first, last),
+        _ => false,
     }
 }
 
-/// Whether the words are no task and this is reported of them, with a text that has this part.
-fn is_reported<A: Allocator + Copy>(
+/// The name of the first file of a session, or nothing.
+fn first_file<A: Allocator>(task: &SessionTask<A>) -> &str {
+    match task.files().names() {
+        [one, ..] => one.text(),
+        [] => "",
+    }
+}
+
+/// Whether a session is as wanted.
+fn is_session<A: Allocator>(task: &SessionTask<A>, wanted: Wanted) -> bool {
+    match wanted {
+        Wanted::Session(files, first, is_echoing, is_json) => {
+            let ways = (task.is_echoing(), task.is_json());
+            let count = task.files().names().len();
+            count == files && ways == (is_echoing, is_json) && first_file(task) == first
+        }
+        _ => false,
+    }
+}
+
+/// Whether a mistake is reported as wanted.
+fn is_usage(text: &str, wanted: Wanted) -> bool {
+    match wanted {
+        Wanted::Usage(part) => text.contains(part),
+        _ => false,
+    }
+}
+
+/// Whether help or an answer is reported as wanted.
+fn is_help(text: &str, wanted: Wanted) -> bool {
+    match wanted {
+        Wanted::Help(part) => text.contains(part),
+        Wanted::Answer(whole) => text == whole,
+        _ => false,
+    }
+}
+
+/// How the reading of words ends: for want of memory, as wanted, or otherwise.
+#[derive(Clone, Copy)]
+enum End {
+    Refused,
+    Done,
+    Otherwise,
+}
+
+/// How it ended where there was a task or a text.
+fn done(is_wanted: bool) -> End {
+    if is_wanted { End::Done } else { End::Otherwise }
+}
+
+/// How it ended where there was no task.
+fn fault_end<A: Allocator>(fault: &TaskFault<A>, wanted: Wanted) -> End {
+    match fault {
+        TaskFault::Usage(text) => done(is_usage(text.as_str(), wanted)),
+        TaskFault::Help(text) => done(is_help(text.as_str(), wanted)),
+        TaskFault::Memory => End::Refused,
+    }
+}
+
+/// How words are read that are typed for a task, or for a session.
+fn end_of(
+    limited: &Limited<Global>,
     global: Global,
-    alloc: A,
-    typed: &[&str],
-    reported: Reported,
-    part: &str,
-) -> bool {
-    match read(global, alloc, typed) {
-        Err(TaskFault::Usage(text)) => reported == Reported::Usage && text.as_str().contains(part),
-        Err(TaskFault::Help(text)) => is_text(text.as_str(), reported, part),
-        Err(TaskFault::Memory) => reported == Reported::Memory,
-        Ok(_) => false,
+    (typed, wanted): Row,
+    of_session: bool,
+) -> End {
+    if of_session {
+        match session(global, limited, typed) {
+            Ok(task) => done(is_session(&task, wanted)),
+            Err(fault) => fault_end(&fault, wanted),
+        }
+    } else {
+        match read(global, limited, typed) {
+            Ok(task) => done(is_task(&task, wanted)),
+            Err(fault) => fault_end(&fault, wanted),
+        }
     }
 }
 
-/// Whether memory was refused.
-fn is_refused<A: Allocator + Copy>(global: Global, alloc: A, typed: &[&str]) -> bool {
-    is_reported(global, alloc, typed, Reported::Memory, "")
-}
-
-/// Whether the words are the task of a command with this file and this limit.
-fn reads(global: Global, typed: &[&str], wanted: (&str, &str, u64)) -> bool {
-    is_read_as(global, global, typed, wanted)
-}
-
-#[test]
-fn commands_take_their_files_and_limits(rt: HostRuntime) {
-    let alloc = rt.alloc();
-    let last = ("run", "sum.src", 4_294_967_295);
-    let are_read = [
-        reads(alloc, &[], ("", "", 0)),
-        reads(alloc, &["asm", "sum.src"], ("asm", "sum.src", 0)),
-        reads(alloc, &["tape", "sum.src"], ("tape", "sum.src", 0)),
-        reads(alloc, &["script", "a b"], ("script", "a b", 0)),
-        reads(alloc, &["run", "sum.src", "0"], ("run", "sum.src", 0)),
-        reads(alloc, &["run", "sum.src", "4294967295"], last),
-        is_batch_of(alloc, &["batch", "b.txt", "a.txt"], "b.txt", "a.txt"),
-    ];
-    expect_eq(&rt, are_read, [true; 7]);
-}
-
-/// Words, and a part of the text that is reported of them, or the whole text.
-type Row = (&'static [&'static str], &'static str);
-
-/// How many rows come before the first of which anything else is reported.
-fn rows_reported(global: Global, reported: Reported, rows: &[Row]) -> usize {
-    let mut as_said: usize = 0;
-    for (typed, part) in rows {
-        if !is_reported(global, global, typed, reported, part) {
-            return as_said;
-        }
-        as_said = as_said.saturating_add(1);
-    }
-    as_said
-}
-
-const MISTAKEN: [Row; 6] = [
-    (&["assemble"], "Usage: lgp_lab"),
-    (&["--fast"], "Usage: lgp_lab"),
-    (&["asm"], "Usage: lgp_lab asm <FILE>"),
-    (&["asm", "a", "b"], "Usage: lgp_lab"),
-    (&["batch"], "Usage: lgp_lab"),
-    (&["run", "a"], "Usage: lgp_lab"),
-];
-
-const OUT_OF_RANGE: [Row; 4] = [
-    (&["run", "a", "4294967296"], "is not in 0..=4294967295"),
-    (
-        &["run", "a", "99999999999999999"],
-        "is not in 0..=4294967295",
-    ),
-    (&["run", "a", "ten"], "invalid"),
-    (&["run", "a", ""], "invalid"),
-];
-
-const HELPED: [Row; 6] = [
-    (&["--help"], "Usage: lgp_lab [COMMAND]"),
-    (&["-h"], "Usage: lgp_lab [COMMAND]"),
-    (&["run", "--help"], "Usage: lgp_lab run <FILE> <LIMIT>"),
-    (&["batch", "-h"], "Usage: lgp_lab batch <FILE>..."),
-    (&["asm", "--help"], "Example"),
-    (&["help", "tape"], "Usage: lgp_lab tape <FILE>"),
-];
-
-const ANSWERED: [Row; 2] = [
-    (&["--version"], "lgp_lab 0.1.0\n"),
-    (&["-V"], "lgp_lab 0.1.0\n"),
-];
-
-const NO_VERSION: [Row; 1] = [(&["asm", "--version"], "Usage: lgp_lab asm <FILE>")];
-
-#[test]
-fn mistakes_help_and_version_are_reported(rt: HostRuntime) {
-    let alloc = rt.alloc();
-    let reported = [
-        rows_reported(alloc, Reported::Usage, &MISTAKEN),
-        rows_reported(alloc, Reported::Usage, &OUT_OF_RANGE),
-        rows_reported(alloc, Reported::Help, &HELPED),
-        rows_reported(alloc, Reported::Answer, &ANSWERED),
-        rows_reported(alloc, Reported::Usage, &NO_VERSION),
-    ];
-    expect_eq(&rt, reported, [6, 4, 6, 2, 1]);
-}
-
-/// What is refused while a heap has no room: a command with a file, a batch and the help; standard input takes none.
-fn refused_without_room(global: Global, heap: &LocalHeap) -> Option<[bool; 4]> {
-    let _filler: Vec<u8, &LocalHeap> = Vec::with_capacity(heap, heap.free()).ok()?;
-    Some([
-        is_refused(global, heap, &["asm", "sum.src"]),
-        is_refused(global, heap, &["batch", "a", "b"]),
-        is_refused(global, heap, &["--help"]),
-        is_read_as(global, heap, &[], ("", "", 0)),
-    ])
-}
-
-/// What is refused without room, and whether a command with a file is read once there is.
-fn refused_and_read(global: Global, heap: &LocalHeap) -> (Option<[bool; 4]>, bool) {
-    (
-        refused_without_room(global, heap),
-        is_read_as(global, heap, &["asm", "sum.src"], ("asm", "sum.src", 0)),
-    )
-}
-
-#[test]
-fn a_refused_growth_is_helped(rt: HostRuntime) {
-    let seen = match LocalHeap::new(rt.alloc(), 4096) {
-        Ok(heap) => (refused_and_read(rt.alloc(), &heap), heap.used()),
-        Err(_) => ((None, false), 0),
-    };
-    expect_eq(&rt, seen, ((Some([true; 4]), true), 0));
-}
-
-/// Whether the task of a batch is refused for want of memory where there is so much room.
-fn is_batch_refused(global: Global, heap: &LocalHeap, room: usize) -> Option<bool> {
-    let filled = heap.free().saturating_sub(room);
-    let _filler: Vec<u8, &LocalHeap> = Vec::with_capacity(heap, filled).ok()?;
-    Some(is_refused(global, heap, &["batch", "first", "second"]))
-}
-
-/// With how much room the task of a batch is read, in steps of 4 bytes, where it was refused with less, and all room was given back
-/// each time.
-fn room_of_batch(global: Global, heap: &LocalHeap) -> Option<usize> {
-    for tries in 0..256usize {
-        let refused = is_batch_refused(global, heap, 4 * tries)?;
-        if heap.used() > 0 {
-            return None;
-        }
-        if !refused {
-            return Some(4 * tries);
+/// How many growths are refused in turn before words are read as wanted; none where one of them ends otherwise.
+fn growths_of(
+    limited: &Limited<Global>,
+    global: Global,
+    row: Row,
+    of_session: bool,
+) -> Option<u64> {
+    for nth in 1..40 {
+        limited.refuse(nth);
+        match (
+            end_of(limited, global, row, of_session),
+            limited.was_refused(),
+        ) {
+            (End::Refused, true) => {}
+            (End::Done, false) => return Some(nth - 1),
+            _ => return None,
         }
     }
     None
 }
 
-#[test]
-fn each_growth_may_be_refused(rt: HostRuntime) {
-    let room = match LocalHeap::new(rt.alloc(), 4096) {
-        Ok(heap) => room_of_batch(rt.alloc(), &heap).unwrap_or(0),
-        Err(_) => 0,
-    };
-    expect_eq(&rt, room > 0, true);
-}
+/// Words, and what they are read as.
+type Row = (&'static [&'static str], Wanted);
 
-/// The session that words ask for.
-fn session<A: Allocator + Copy>(
-    global: Global,
-    alloc: A,
-    typed: &[&str],
-) -> Result<SessionTask<A>, TaskFault<A>> {
-    let all = words(global, typed)?;
-    ask_for_session(global, alloc, all.as_slice())
-}
-
-/// How many files a session has, whether the first one has this name, whether lines are shown above their replies, and whether
-/// replies are values of JSON.
-fn session_parts(global: Global, typed: &[&str], first: &str) -> Option<(usize, bool, bool, bool)> {
-    match session(global, global, typed) {
-        Ok(task) => {
-            let names = task.files().names();
-            let is_first = match names {
-                [one, ..] => one.text() == first,
-                [] => first.is_empty(),
-            };
-            Some((names.len(), is_first, task.is_echoing(), task.is_json()))
+/// How many rows come before the first that is read otherwise, and how many growths they have in all.
+fn rows_read(global: Global, rows: &[Row], of_session: bool) -> (usize, u64) {
+    let limited = Limited::new(global);
+    let mut read: usize = 0;
+    let mut growths: u64 = 0;
+    for row in rows {
+        match growths_of(&limited, global, *row, of_session) {
+            Some(more) => growths = growths.saturating_add(more),
+            None => return (read, growths),
         }
-        Err(_) => None,
+        read = read.saturating_add(1);
+    }
+    if limited.blocks_out() == 0 {
+        (read, growths)
+    } else {
+        (0, growths)
     }
 }
 
-#[test]
-fn a_session_takes_files_and_two_flags(rt: HostRuntime) {
-    let parts = [
-        session_parts(rt.alloc(), &[], ""),
-        session_parts(rt.alloc(), &["a b"], "a b"),
-        session_parts(rt.alloc(), &["--echo", "one", "two"], "one"),
-        session_parts(rt.alloc(), &["one", "--echo"], "one"),
-        session_parts(rt.alloc(), &["--json"], ""),
-        session_parts(rt.alloc(), &["--echo", "one", "--json"], "one"),
-    ];
-    let wanted = [
-        Some((0, true, false, false)),
-        Some((1, true, false, false)),
-        Some((2, true, true, false)),
-        Some((1, true, true, false)),
-        Some((0, true, false, true)),
-        Some((1, true, true, true)),
-    ];
-    expect_eq(&rt, parts, wanted);
-}
+const ROWS: [Row; 26] = [
+    (&[], Wanted::Command("", "", 0)),
+    (&["asm", "sum.src"], Wanted::Command("asm", "sum.src", 0)),
+    (&["tape", "sum.src"], Wanted::Command("tape", "sum.src", 0)),
+    (&["script", "a b"], Wanted::Command("script", "a b", 0)),
+    (
+        &["run", "sum.src", "0"],
+        Wanted::Command("run", "sum.src", 0),
+    ),
+    (
+        &["run", "sum.src", "4294967295"],
+        Wanted::Command("run", "sum.src", 4_294_967_295),
+    ),
+    (
+        &["batch", "b.txt", "a.txt"],
+        Wanted::Batch("b.txt", "a.txt"),
+    ),
+    (&["assemble"], Wanted::Usage("Usage: lgp_lab")),
+    (&["--fast"], Wanted::Usage("Usage: lgp_lab")),
+    (&["asm"], Wanted::Usage("Usage: lgp_lab asm <FILE>")),
+    (&["asm", "a", "b"], Wanted::Usage("Usage: lgp_lab")),
+    (&["batch"], Wanted::Usage("Usage: lgp_lab")),
+    (&["run", "a"], Wanted::Usage("Usage: lgp_lab")),
+    (
+        &["run", "a", "4294967296"],
+        Wanted::Usage("is not in 0..=4294967295"),
+    ),
+    (
+        &["run", "a", "99999999999999999"],
+        Wanted::Usage("is not in 0..=4294967295"),
+    ),
+    (&["run", "a", "ten"], Wanted::Usage("invalid")),
+    (&["run", "a", ""], Wanted::Usage("invalid")),
+    (&["--help"], Wanted::Help("Usage: lgp_lab [COMMAND]")),
+    (&["-h"], Wanted::Help("Usage: lgp_lab [COMMAND]")),
+    (
+        &["run", "--help"],
+        Wanted::Help("Usage: lgp_lab run <FILE> <LIMIT>"),
+    ),
+    (
+        &["batch", "-h"],
+        Wanted::Help("Usage: lgp_lab batch <FILE>..."),
+    ),
+    (&["asm", "--help"], Wanted::Help("Example")),
+    (
+        &["help", "tape"],
+        Wanted::Help("Usage: lgp_lab tape <FILE>"),
+    ),
+    (&["--version"], Wanted::Answer("lgp_lab 0.1.0\n")),
+    (&["-V"], Wanted::Answer("lgp_lab 0.1.0\n")),
+    (
+        &["asm", "--version"],
+        Wanted::Usage("Usage: lgp_lab asm <FILE>"),
+    ),
+];
 
-/// Whether this is reported of words that ask for no session.
-fn is_no_session(global: Global, typed: &[&str], wanted: Reported) -> bool {
-    match session(global, global, typed) {
-        Err(TaskFault::Usage(_)) => wanted == Reported::Usage,
-        Err(TaskFault::Help(_)) => wanted == Reported::Help,
-        Err(TaskFault::Memory) => wanted == Reported::Memory,
-        Ok(_) => false,
-    }
-}
+const SESSIONS: [Row; 11] = [
+    (&[], Wanted::Session(0, "", false, false)),
+    (&["a b"], Wanted::Session(1, "a b", false, false)),
+    (
+        &["--echo", "one", "two"],
+        Wanted::Session(2, "one", true, false),
+    ),
+    (&["one", "--echo"], Wanted::Session(1, "one", true, false)),
+    (&["--json"], Wanted::Session(0, "", false, true)),
+    (
+        &["--echo", "one", "--json"],
+        Wanted::Session(1, "one", true, true),
+    ),
+    (&["--loud"], Wanted::Usage("")),
+    (&["--echo=no"], Wanted::Usage("")),
+    (&["--json=2"], Wanted::Usage("")),
+    (&["--help"], Wanted::Help("")),
+    (&["--version"], Wanted::Help("")),
+];
 
 #[test]
-fn words_that_ask_for_no_session_are_refused(rt: HostRuntime) {
-    let refused = [
-        is_no_session(rt.alloc(), &["--loud"], Reported::Usage),
-        is_no_session(rt.alloc(), &["--echo=no"], Reported::Usage),
-        is_no_session(rt.alloc(), &["--json=2"], Reported::Usage),
-        is_no_session(rt.alloc(), &["--help"], Reported::Help),
-        is_no_session(rt.alloc(), &["--version"], Reported::Help),
-    ];
-    expect_eq(&rt, refused, [true; 5]);
+fn words_are_read_and_each_growth_is_refused(rt: HostRuntime) {
+    let (tasks, growths) = rows_read(rt.alloc(), &ROWS, false);
+    let (sessions, more) = rows_read(rt.alloc(), &SESSIONS, true);
+    expect_eq(
+        &rt,
+        (tasks, growths > 26, sessions, more > 11),
+        (26, true, 11, true),
+    );
 }

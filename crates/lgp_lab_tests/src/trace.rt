@@ -5,14 +5,11 @@ ghost use Rattle.lgp_trace.specs.Phases.{all_phases};
 
 mod data;
 mod ends;
-mod exchanges;
 mod growths;
 mod lines;
-mod moves;
 mod optimum;
 mod origins;
 mod ranking;
-mod runs;
 mod single;
 mod steps;
 

@@ -4,7 +4,7 @@ use super::{Made, answer};
 use crate::expect_eq;
 use lgp_desk::Manner;
 use lgp_monitor::Progress;
-use std::alloc::{AllocError, Global};
+use std::alloc::Global;
 use std::cell::Cell;
 
 /// The numbers of orders that were reported, how many they are, and how often a run was reported to have ended.
@@ -135,12 +135,9 @@ const ROWS: [Row; 10] = [
     ),
 ];
 
-/// The loop and lines after it.
-fn after_loop(alloc: Global, lines: &[u8]) -> Result<Vec<u8>, AllocError> {
-    let mut typed = Vec::new(alloc);
-    typed.extend_from_slice(LOOP)?;
-    typed.extend_from_slice(lines)?;
-    Ok(typed)
+/// Appends the loop and lines after it; false where memory is refused.
+fn push_after_loop(typed: &mut Vec<u8>, lines: &[u8]) -> bool {
+    typed.extend_from_slice(LOOP).is_ok() && typed.extend_from_slice(lines).is_ok()
 }
 
 /// Whether lines after the loop are answered; what is written comes after `written`.
@@ -151,20 +148,18 @@ fn is_answered(
     reported: &Cell<Reported>,
     written: &mut Vec<u8>,
 ) -> bool {
-    let Ok(typed) = after_loop(alloc, lines) else {
-        return false;
-    };
+    let mut typed = Vec::new(alloc);
     let listener = Listener { portion, reported };
-    let kept = Cell::new(0);
-    answer(
-        alloc,
-        Manner::Bare,
-        Made { kept: &kept },
-        listener,
-        typed.as_slice(),
-        written,
-    )
-    .is_ok()
+    push_after_loop(&mut typed, lines)
+        && answer(
+            alloc,
+            Manner::Bare,
+            Made,
+            listener,
+            typed.as_slice(),
+            written,
+        )
+        .is_ok()
 }
 
 /// Whether these numbers of orders were reported, and a run was so often reported to have ended.

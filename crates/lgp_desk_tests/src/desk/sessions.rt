@@ -6,7 +6,7 @@ use crate::expect_eq;
 use lgp_desk::{FilesOf, Filing, Manner, obey_session};
 use lgp_lab::{Feed, FeedOf, READS, Sink, SinkOf, WordFault};
 use lgp_monitor::Silence;
-use std::alloc::{AllocError, Global};
+use std::alloc::Global;
 
 /// One file, and none that can be kept.
 #[derive(Clone, Copy, Drop)]
@@ -27,19 +27,22 @@ impl Filing for OneFile {
     }
 }
 
-/// Words as the runtime gives them.
-fn words_of(alloc: Global, typed: &[&str]) -> Result<Vec<String>, AllocError> {
-    let mut words = Vec::new(alloc);
+/// Appends words as the runtime gives them; false where memory is refused.
+fn push_words(alloc: Global, words: &mut Vec<String>, typed: &[&str]) -> bool {
     for word in typed {
-        push_word(alloc, &mut words, word)?;
+        if !push_word(alloc, words, word) {
+            return false;
+        }
     }
-    Ok(words)
+    true
 }
 
-/// Appends a word.
-fn push_word(alloc: Global, words: &mut Vec<String>, word: &str) -> Result<(), AllocError> {
-    words.push(String::from_str(alloc, word)?)?;
-    Ok(())
+/// Appends a word; false where memory is refused.
+fn push_word(alloc: Global, words: &mut Vec<String>, word: &str) -> bool {
+    match String::from_str(alloc, word) {
+        Ok(word) => words.push(word).is_ok(),
+        Err(_) => false,
+    }
 }
 
 /// The status for words, with these files and this input.
@@ -98,34 +101,12 @@ fn status_typed(
     output: &mut Vec<u8>,
     messages: &mut Vec<u8>,
 ) -> Option<u8> {
-    match words_of(alloc, typed) {
-        Ok(words) => Some(status_for(alloc, Ok(&words), manner, output, messages)),
-        Err(_) => None,
+    let mut words = Vec::new(alloc);
+    if push_words(alloc, &mut words, typed) {
+        Some(status_for(alloc, Ok(&words), manner, output, messages))
+    } else {
+        None
     }
-}
-
-/// Whether anything is written to the output and to the messages, and the status.
-fn reported_for(alloc: Global, typed: &[&str]) -> (bool, bool, Option<u8>) {
-    let mut output = Vec::new(alloc);
-    let mut messages = Vec::new(alloc);
-    let status = status_typed(alloc, typed, Manner::Bare, &mut output, &mut messages);
-    (!output.is_empty(), !messages.is_empty(), status)
-}
-
-#[test]
-fn help_is_no_message_and_a_mistake_is_one(rt: HostRuntime) {
-    let alloc = rt.alloc();
-    let reported = [
-        reported_for(alloc, &["lgp_monitor"]),
-        reported_for(alloc, &["lgp_monitor", "--help"]),
-        reported_for(alloc, &["lgp_monitor", "--version"]),
-        reported_for(alloc, &["lgp_monitor", "--bare"]),
-        reported_for(alloc, &["lgp_monitor", "--echo=no"]),
-    ];
-    let held = (true, false, Some(1));
-    let help = (true, false, Some(0));
-    let mistake = (false, true, Some(64));
-    expect_eq(&rt, reported, [held, help, help, mistake, mistake]);
 }
 
 /// Words, what is written for them, and the status.

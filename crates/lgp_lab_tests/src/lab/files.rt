@@ -1,7 +1,7 @@
 //! What is written for files.
 
 use super::streams::{Failing, Pieces};
-use super::{FIRST_RUN, FIRST_RUN_REPLIES, built, is_cut_off, is_done};
+use super::{FIRST_RUN, built, is_cut_off, is_done};
 use crate::expect_eq;
 use lgp_lab::{FeedOf, LabFault, READS, SinkOf, asm_file, batch_part, run_file, tape_file};
 use std::alloc::{Allocator, Global};
@@ -35,17 +35,10 @@ pub fn write_between<A: Allocator + Copy, R: Read + Drop, W: Write + Drop>(
 /// A call and a source, what is written for it, and the status.
 pub type FileRow<'a> = (FileCall, &'a [u8], &'a [u8], u64);
 
-/// Whether a call writes for a source what its row says.
-fn is_written(alloc: Global, (call, source, text, status): FileRow<'_>) -> bool {
-    let mut written = Vec::new(alloc);
-    let answer = write_between(call, alloc, source, &mut written);
-    is_done(answer, status) && written.as_slice() == text
-}
-
 /// A source of four words.
 const SOURCE: &[u8] = b"start b one ; take\n h 0050\n z\none frac .1\n end start\n";
 
-/// Calls and sources.
+/// Calls and sources. Each is made with each of its growths refused, and last of all with none.
 pub const FILES: [FileRow<'static>; 8] = [
     (
         FileCall::Listing,
@@ -87,28 +80,18 @@ pub const FILES: [FileRow<'static>; 8] = [
     ),
 ];
 
-/// How many rows come before the first for which anything else is written.
-fn files_written(alloc: Global) -> usize {
-    let mut written: usize = 0;
-    for row in &FILES {
-        if !is_written(alloc, *row) {
-            return written;
-        }
-        written = written.saturating_add(1);
-    }
-    written
-}
-
-#[test]
-fn a_source_file_is_listed_taped_and_run_or_its_faults_are_reported(rt: HostRuntime) {
-    expect_eq(&rt, files_written(rt.alloc()), 8);
+/// Whether a listing of a source that is too long is refused.
+fn is_long_refused(alloc: Global, source: &[u8]) -> bool {
+    let mut written = Vec::new(alloc);
+    let answer = write_between(FileCall::Listing, alloc, source, &mut written);
+    is_done(answer, 1) && written.as_slice() == b"? 11 TooLong\n".as_slice()
 }
 
 #[test]
 fn a_source_file_has_at_most_1048576_bytes(rt: HostRuntime) {
     let is_refused = match built(rt.alloc(), &[(b";", 1_048_577)]) {
-        Ok(long) => is_written(rt.alloc(), (FileCall::Listing, &long, b"? 11 TooLong\n", 1)),
-        Err(_) => false,
+        Some(long) => is_long_refused(rt.alloc(), &long),
+        None => false,
     };
     expect_eq(&rt, is_refused, true);
 }
@@ -125,16 +108,13 @@ pub fn run_part<A: Allocator + Copy, R: Read + Drop, W: Write + Drop>(
     batch_part(alloc, name, &mut feed, &mut sink)
 }
 
-/// Whether a text is the first script's name and replies, and then this.
-pub fn is_first_and(text: &[u8], more: &[u8]) -> bool {
-    match text.strip_prefix(b"file first run\n") {
-        Some(replies) => match replies.strip_prefix(FIRST_RUN_REPLIES) {
-            Some(left) => left == more,
-            None => false,
-        },
-        None => false,
-    }
-}
+/// What is written for the first script, with its name above its replies.
+pub const FIRST_PART: &[u8] =
+    b"file first run\nok\nok\nok\nok\nok\nlive\norders 4 halted stop\ncounter 0004 accumulator 00000010 register 00000000 status halted stop mode normal switches uuuuuu reader off tape 0 clock 94\n0052 00000010\n";
+
+/// What is written for that and another one after it.
+const TWO_PARTS: &[u8] =
+    b"file first run\nok\nok\nok\nok\nok\nlive\norders 4 halted stop\ncounter 0004 accumulator 00000010 register 00000000 status halted stop mode normal switches uuuuuu reader off tape 0 clock 94\n0052 00000010\nfile other\n? 1 Form\n";
 
 /// Whether the first of two scripts has no fault and the other one has one, and whether both are answered so.
 fn two_parts(alloc: Global) -> (bool, bool, bool) {
@@ -145,7 +125,7 @@ fn two_parts(alloc: Global) -> (bool, bool, bool) {
     (
         is_done(first, 0),
         is_done(other, 1),
-        is_first_and(&written, b"file other\n? 1 Form\n"),
+        written.as_slice() == TWO_PARTS,
     )
 }
 

@@ -1,12 +1,12 @@
 //! Scripts and files with each growth refused in turn: what was replied before remains whole, and nothing of the reply that is refused.
 
-use super::files::{FILES, FileRow, is_first_and, run_part, write_between};
+use super::files::{FILES, FIRST_PART, FileRow, run_part, write_between};
 use super::streams::{Failing, Pieces};
-use super::{FIRST_RUN, FIRST_RUN_REPLIES, run_between};
+use super::{FIRST_RUN, run_between};
 use crate::expect_eq;
 use lgp_lab::LabFault;
 use lgp_limited::Limited;
-use std::alloc::{AllocError, Global};
+use std::alloc::Global;
 
 /// More growths than any call has.
 const MOST: u64 = 5000;
@@ -52,13 +52,14 @@ const COMMANDS: [(&[u8], &[u8]); 27] = [
     (b"back 1\n", b"clock 15347\n"),
 ];
 
-/// The script of all of these commands.
-fn script(alloc: Global) -> Result<Vec<u8>, AllocError> {
-    let mut text = Vec::new(alloc);
+/// Appends all of these commands; false where memory is refused.
+fn push_commands(script: &mut Vec<u8>) -> bool {
     for (command, _) in &COMMANDS {
-        text.extend_from_slice(command)?;
+        if script.extend_from_slice(command).is_err() {
+            return false;
+        }
     }
-    Ok(text)
+    true
 }
 
 /// How many whole replies a text is; `None` where there is anything else.
@@ -129,9 +130,11 @@ fn refusals(limited: &Limited<Global>, global: Global, script: &[u8]) -> Option<
 #[test]
 fn each_growth_of_each_command_is_refused(rt: HostRuntime) {
     let limited = Limited::new(rt.alloc());
-    let refused = match script(rt.alloc()) {
-        Ok(script) => refusals(&limited, rt.alloc(), &script),
-        Err(_) => None,
+    let mut script = Vec::new(rt.alloc());
+    let refused = if push_commands(&mut script) {
+        refusals(&limited, rt.alloc(), &script)
+    } else {
+        None
     };
     expect_eq(&rt, (refused, limited.blocks_out()), (Some([true; 27]), 0));
 }
@@ -178,12 +181,9 @@ fn nothing_is_written_for_a_file_whose_growth_is_refused(rt: HostRuntime) {
     expect_eq(&rt, (refused, limited.blocks_out()), (8, 0));
 }
 
-/// Whether a text is empty, or the line of a name and then as many of the replies as end with a line.
+/// Whether a text is some of the first lines that are written for a script with its name.
 fn is_part(text: &[u8]) -> bool {
-    let Some(replies) = text.strip_prefix(b"file first run\n") else {
-        return text.is_empty();
-    };
-    FIRST_RUN_REPLIES.starts_with(replies) && (replies.is_empty() || replies.ends_with(b"\n"))
+    FIRST_PART.starts_with(text) && (text.is_empty() || text.ends_with(b"\n"))
 }
 
 /// How a script of several ends, over such a reader and writer. Where it is refused, a part of its text is written.
@@ -192,7 +192,7 @@ fn part_end(limited: &Limited<Global>, global: Global, nth: u64) -> End {
     limited.refuse(nth);
     let script = Pieces::whole(FIRST_RUN, 7);
     let answer = run_part(limited, "first run", script, &mut writer);
-    let texts = (is_part(writer.taken()), is_first_and(writer.taken(), b""));
+    let texts = (is_part(writer.taken()), writer.taken() == FIRST_PART);
     ended(limited.was_refused(), answer, 0, texts)
 }
 

@@ -4,9 +4,10 @@ ghost use Rattle.std.specs.Prelude.{None};
 
 use super::streams::{Failing, Pieces};
 use crate::expect_eq;
+use crate::task::read;
 use lgp_lab::{
-    FeedOf, FileFault, FileName, FileNames, Folder, LabFault, NotOpened, READS, SinkOf, Task,
-    TaskFault, perform, refuse, status_of,
+    FeedOf, FileFault, FileNames, Folder, LabFault, NotOpened, READS, SinkOf, Task, TaskFault,
+    perform, refuse, status_of,
 };
 use std::alloc::{AllocError, Global};
 use std::io::Write;
@@ -70,173 +71,141 @@ impl Folder for Made {
     }
 }
 
-/// A command of the program.
-#[derive(Clone, Copy)]
-enum Command {
-    Stdin,
-    Asm,
-    Tape,
-    Run(u64),
-    Script,
-}
-
-/// The task of a command on the file of a name.
-fn task_on(alloc: Global, command: Command, name: &str) -> Result<Task, AllocError> {
-    let name = FileName::new(alloc, name)?;
-    Ok(match command {
-        Command::Stdin => Task::Stdin,
-        Command::Asm => Task::Asm(name),
-        Command::Tape => Task::Tape(name),
-        Command::Run(limit) => Task::Run(name, limit),
-        Command::Script => Task::Script(name),
-    })
-}
-
-/// Appends a name.
-fn push_name(alloc: Global, names: &mut FileNames, name: &str) -> Result<(), AllocError> {
-    names.push(FileName::new(alloc, name)?)
-}
-
-/// The task of a batch on the files of these names.
-fn batch_on(alloc: Global, names: &[&str]) -> Result<Task, AllocError> {
-    let mut all = FileNames::new(alloc);
-    for name in names {
-        push_name(alloc, &mut all, name)?;
-    }
-    Ok(Task::Batch(all))
-}
-
 /// The status of a task where standard input is a line that is no command. What is written goes to `writer`.
-fn status_into<W: Write + Drop>(
-    alloc: Global,
-    task: Result<Task, AllocError>,
-    writer: W,
-) -> Option<u8> {
+fn status_into<W: Write + Drop>(alloc: Global, task: &Task, writer: W) -> u8 {
     let mut input = FeedOf::new(b"bar".as_slice(), READS);
     let mut output = SinkOf::new(writer);
-    match task {
-        Ok(task) => Some(perform(alloc, &task, &Made, &mut input, &mut output)),
+    perform(alloc, task, &Made, &mut input, &mut output)
+}
+
+/// The same of the task that words ask for; none where they ask for no task.
+fn status_asked<W: Write + Drop>(alloc: Global, typed: &[&str], writer: W) -> Option<u8> {
+    match read(alloc, alloc, typed) {
+        Ok(task) => Some(status_into(alloc, &task, writer)),
         Err(_) => None,
     }
 }
 
-/// Whether a task has this status, and this is written.
-fn is_performed(alloc: Global, task: Result<Task, AllocError>, text: &[u8], status: u8) -> bool {
-    let mut written = Vec::new(alloc);
-    let ended = status_into(alloc, task, &mut written);
-    ended == Some(status) && written.as_slice() == text
+/// What is written: a text, or what begins with one.
+#[derive(Clone, Copy)]
+enum Wanted {
+    Text(&'static [u8]),
+    Front(&'static [u8]),
 }
 
-/// Commands, each with the name of its file, what is written, and the status.
-const COMMANDS: [(Command, &str, &[u8], u8); 12] = [
-    (Command::Stdin, "", b"? 1 Form\n", 1),
-    (Command::Script, "one", b"clock 5\n", 0),
-    (Command::Script, "two", b"? 1 Form\n", 1),
-    (Command::Script, "none", b"", 2),
-    (Command::Script, "fails", b"clock 5\n", 2),
-    (
-        Command::Tape,
-        "tenth",
-        b"000k0000'wwwwwww0'0001000j'000j00j8'00000000'0jjjjjjj'[16]800f0000'\n",
-        0,
-    ),
-    (Command::Tape, "fails", b"", 2),
-    (
-        Command::Asm,
-        "tenth",
-        b"0000 0001000j start b one ; take\n0001 000j00j8  h 0050\n0002 00000000  z\n0003 0jjjjjjj one frac .1\n               end start\n",
-        0,
-    ),
-    (Command::Asm, "fails", b"", 2),
-    (Command::Asm, "", b"", 2),
-    (
-        Command::Run(10),
-        "tenth",
-        b"printed 0\ncounter 0003 accumulator 0jjjjjjj register 00000000 status halted stop mode normal switches uuuuuu reader off tape 0 clock 27605\n",
-        0,
-    ),
-    (Command::Run(10), "fails", b"", 2),
-];
-
-/// How many of the commands come before the first that does otherwise.
-fn commands_performed(alloc: Global) -> usize {
-    let mut performed: usize = 0;
-    for (command, name, text, status) in &COMMANDS {
-        if !is_performed(alloc, task_on(alloc, *command, name), text, *status) {
-            return performed;
-        }
-        performed = performed.saturating_add(1);
+/// Whether that is written.
+fn is_written(written: &[u8], wanted: Wanted) -> bool {
+    match wanted {
+        Wanted::Text(text) => written == text,
+        Wanted::Front(front) => written.starts_with(front),
     }
-    performed
 }
 
-/// How many orders the source of 196 orders is run for, and how what is written begins.
-const RUNS: [(u64, &[u8]); 6] = [
-    (0, b"printed 0\ncounter 0000 "),
-    (1, b"printed 0\ncounter 0001 accumulator 00000080 "),
-    (2, b"printed 0\ncounter 0002 accumulator 0000007q "),
-    (195, b"printed 0\ncounter 0004 accumulator wwwwwwwq "),
-    (196, AT_REST),
-    (4_294_967_295, AT_REST),
-];
+/// Words, what is written for them, and the status.
+type Row = (&'static [&'static str], Wanted, u8);
 
-/// How what is written begins where that source has come to rest.
+/// Whether words are performed as their row says.
+fn is_performed(alloc: Global, row: &Row) -> bool {
+    let (typed, wanted, status) = *row;
+    let mut written = Vec::new(alloc);
+    let ended = status_asked(alloc, typed, &mut written);
+    ended == Some(status) && is_written(&written, wanted)
+}
+
+/// How what is written begins where the source of 196 orders has come to rest.
 const AT_REST: &[u8] =
     b"printed 0\ncounter 0005 accumulator wwwwwwwq register 00000000 status halted stop ";
 
-/// Whether that source, run for this number of orders, leaves a panel that begins so.
-fn is_left_with(alloc: Global, limit: u64, panel: &[u8]) -> bool {
-    let task = task_on(alloc, Command::Run(limit), "long");
-    let mut written = Vec::new(alloc);
-    let status = status_into(alloc, task, &mut written);
-    status == Some(0) && written.starts_with(panel)
-}
-
-/// How many of the runs come before the first that is left otherwise.
-fn runs_left(alloc: Global) -> usize {
-    let mut left: usize = 0;
-    for (limit, panel) in &RUNS {
-        if !is_left_with(alloc, *limit, panel) {
-            return left;
-        }
-        left = left.saturating_add(1);
-    }
-    left
-}
-
-/// The names of a batch, what is written, and the status.
-const BATCHES: [(&[&str], &[u8], u8); 8] = [
-    (&[], b"", 0),
+const ROWS: [Row; 25] = [
+    (&[], Wanted::Text(b"? 1 Form\n"), 1),
+    (&["script", "one"], Wanted::Text(b"clock 5\n"), 0),
+    (&["script", "two"], Wanted::Text(b"? 1 Form\n"), 1),
+    (&["script", "none"], Wanted::Text(b""), 2),
+    (&["script", "fails"], Wanted::Text(b"clock 5\n"), 2),
     (
-        &["one", "one"],
-        b"file one\nclock 5\nfile one\nclock 5\n",
+        &["tape", "tenth"],
+        Wanted::Text(b"000k0000'wwwwwww0'0001000j'000j00j8'00000000'0jjjjjjj'[16]800f0000'\n"),
+        0,
+    ),
+    (&["tape", "fails"], Wanted::Text(b""), 2),
+    (
+        &["asm", "tenth"],
+        Wanted::Text(
+            b"0000 0001000j start b one ; take\n0001 000j00j8  h 0050\n0002 00000000  z\n0003 0jjjjjjj one frac .1\n               end start\n",
+        ),
+        0,
+    ),
+    (&["asm", "fails"], Wanted::Text(b""), 2),
+    (&["asm", ""], Wanted::Text(b""), 2),
+    (
+        &["run", "tenth", "10"],
+        Wanted::Text(
+            b"printed 0\ncounter 0003 accumulator 0jjjjjjj register 00000000 status halted stop mode normal switches uuuuuu reader off tape 0 clock 27605\n",
+        ),
+        0,
+    ),
+    (&["run", "fails", "10"], Wanted::Text(b""), 2),
+    // The source of 196 orders, performed up to a limit.
+    (
+        &["run", "long", "0"],
+        Wanted::Front(b"printed 0\ncounter 0000 "),
         0,
     ),
     (
-        &["one", "two"],
-        b"file one\nclock 5\nfile two\n? 1 Form\n",
+        &["run", "long", "1"],
+        Wanted::Front(b"printed 0\ncounter 0001 accumulator 00000080 "),
+        0,
+    ),
+    (
+        &["run", "long", "2"],
+        Wanted::Front(b"printed 0\ncounter 0002 accumulator 0000007q "),
+        0,
+    ),
+    (
+        &["run", "long", "195"],
+        Wanted::Front(b"printed 0\ncounter 0004 accumulator wwwwwwwq "),
+        0,
+    ),
+    (&["run", "long", "196"], Wanted::Front(AT_REST), 0),
+    (&["run", "long", "4294967295"], Wanted::Front(AT_REST), 0),
+    (
+        &["batch", "one", "one"],
+        Wanted::Text(b"file one\nclock 5\nfile one\nclock 5\n"),
+        0,
+    ),
+    (
+        &["batch", "one", "two"],
+        Wanted::Text(b"file one\nclock 5\nfile two\n? 1 Form\n"),
         1,
     ),
     (
-        &["two", "one"],
-        b"file two\n? 1 Form\nfile one\nclock 5\n",
+        &["batch", "two", "one"],
+        Wanted::Text(b"file two\n? 1 Form\nfile one\nclock 5\n"),
         1,
     ),
-    (&["none", "one"], b"", 2),
-    (&["two", "none", "one"], b"file two\n? 1 Form\n", 2),
-    (&["fails", "one"], b"file fails\nclock 5\n", 2),
+    (&["batch", "none", "one"], Wanted::Text(b""), 2),
     (
-        &["one", "fails", "two"],
-        b"file one\nclock 5\nfile fails\nclock 5\n",
+        &["batch", "two", "none", "one"],
+        Wanted::Text(b"file two\n? 1 Form\n"),
+        2,
+    ),
+    (
+        &["batch", "fails", "one"],
+        Wanted::Text(b"file fails\nclock 5\n"),
+        2,
+    ),
+    (
+        &["batch", "one", "fails", "two"],
+        Wanted::Text(b"file one\nclock 5\nfile fails\nclock 5\n"),
         2,
     ),
 ];
 
-/// How many of the batches come before the first that does otherwise.
-fn batches_performed(alloc: Global) -> usize {
+/// How many rows come before the first that is performed otherwise.
+fn rows_performed(alloc: Global) -> usize {
     let mut performed: usize = 0;
-    for (names, text, status) in &BATCHES {
-        if !is_performed(alloc, batch_on(alloc, names), text, *status) {
+    for row in &ROWS {
+        if !is_performed(alloc, row) {
             return performed;
         }
         performed = performed.saturating_add(1);
@@ -244,19 +213,23 @@ fn batches_performed(alloc: Global) -> usize {
     performed
 }
 
-#[test]
-fn commands_runs_and_batches_write_what_is_defined(rt: HostRuntime) {
-    let performed = [
-        commands_performed(rt.alloc()),
-        runs_left(rt.alloc()),
-        batches_performed(rt.alloc()),
-    ];
-    expect_eq(&rt, performed, [12, 6, 8]);
+/// The status of a batch without files, and how much is written.
+fn empty_batch(alloc: Global) -> (u8, usize) {
+    let mut written = Vec::new(alloc);
+    let task = Task::Batch(FileNames::new(alloc));
+    let status = status_into(alloc, &task, &mut written);
+    (status, written.len())
 }
 
-/// The status of a task where the first write fails.
-fn unwritten(alloc: Global, task: Result<Task, AllocError>) -> Option<u8> {
-    status_into(alloc, task, Failing::after(alloc, 0, 1))
+#[test]
+fn commands_runs_and_batches_write_what_is_defined(rt: HostRuntime) {
+    let performed = (rows_performed(rt.alloc()), empty_batch(rt.alloc()));
+    expect_eq(&rt, performed, (25, (0, 0)));
+}
+
+/// The status of words where the first write fails.
+fn unwritten(alloc: Global, typed: &[&str]) -> Option<u8> {
+    status_asked(alloc, typed, Failing::after(alloc, 0, 1))
 }
 
 /// A fault of the words on the command line, with this text.
@@ -328,12 +301,12 @@ fn a_write_that_fails_gives_status_2(rt: HostRuntime) {
     let help = fault_of(alloc, false, "help\n");
     let mistake = fault_of(alloc, true, "wrong\n");
     let statuses = [
-        unwritten(alloc, task_on(alloc, Command::Stdin, "")),
-        unwritten(alloc, task_on(alloc, Command::Script, "one")),
-        unwritten(alloc, task_on(alloc, Command::Asm, "tenth")),
-        unwritten(alloc, task_on(alloc, Command::Tape, "tenth")),
-        unwritten(alloc, task_on(alloc, Command::Run(1), "tenth")),
-        unwritten(alloc, batch_on(alloc, &["one", "two"])),
+        unwritten(alloc, &[]),
+        unwritten(alloc, &["script", "one"]),
+        unwritten(alloc, &["asm", "tenth"]),
+        unwritten(alloc, &["tape", "tenth"]),
+        unwritten(alloc, &["run", "tenth", "1"]),
+        unwritten(alloc, &["batch", "one", "two"]),
         unwritten_refusal(help, alloc, (2, usize::MAX)),
         unwritten_refusal(mistake, alloc, (usize::MAX, 2)),
     ];

@@ -3,27 +3,13 @@
 use super::streams::Failing;
 use super::tasks::Made;
 use crate::expect_eq;
+use crate::task::words;
 use lgp_lab::{FeedOf, READS, SinkOf, WordFault, obey, refuse_unread};
-use std::alloc::{AllocError, Global};
+use std::alloc::Global;
 use std::io::Write;
 
-/// The program's name and at most two words more.
+/// Words after the program's name.
 type CommandWords = &'static [&'static str];
-
-/// Words as the runtime gives them.
-fn words_of(alloc: Global, typed: &[&str]) -> Result<Vec<String>, AllocError> {
-    let mut words = Vec::new(alloc);
-    for word in typed {
-        push_word(alloc, &mut words, word)?;
-    }
-    Ok(words)
-}
-
-/// Appends a word.
-fn push_word(alloc: Global, words: &mut Vec<String>, word: &str) -> Result<(), AllocError> {
-    words.push(String::from_str(alloc, word)?)?;
-    Ok(())
-}
 
 /// The status for words, where standard input is a line that is no command.
 fn status_for<W: Write + Drop, M: Write + Drop>(
@@ -53,9 +39,9 @@ fn status_typed<W: Write + Drop, M: Write + Drop>(
     output: W,
     messages: M,
 ) -> Option<u8> {
-    match words_of(alloc, typed) {
-        Ok(words) => Some(status_for(alloc, Ok(&words), output, messages)),
-        Err(_) => None,
+    match words(alloc, typed) {
+        Some(words) => Some(status_for(alloc, Ok(&words), output, messages)),
+        None => None,
     }
 }
 
@@ -69,16 +55,16 @@ fn is_obeyed(alloc: Global, typed: CommandWords, text: &[u8], status: u8) -> boo
 
 /// Words, each with what is written and the status. A script of a batch has a line that names it, and one alone has none.
 const DONE: [(CommandWords, &[u8], u8); 6] = [
-    (&["lgp_lab"], b"? 1 Form\n", 1),
-    (&["lgp_lab", "script", "one"], b"clock 5\n", 0),
-    (&["lgp_lab", "batch", "one"], b"file one\nclock 5\n", 0),
+    (&[], b"? 1 Form\n", 1),
+    (&["script", "one"], b"clock 5\n", 0),
+    (&["batch", "one"], b"file one\nclock 5\n", 0),
     (
-        &["lgp_lab", "batch", "one", "two"],
+        &["batch", "one", "two"],
         b"file one\nclock 5\nfile two\n? 1 Form\n",
         1,
     ),
-    (&["lgp_lab", "script", "none"], b"", 2),
-    (&["lgp_lab", "--version"], b"lgp_lab 0.1.0\n", 0),
+    (&["script", "none"], b"", 2),
+    (&["--version"], b"lgp_lab 0.1.0\n", 0),
 ];
 
 /// How many of the words come before the first that are obeyed otherwise.
@@ -96,29 +82,6 @@ fn words_obeyed(alloc: Global) -> usize {
 #[test]
 fn words_are_obeyed_without_a_message(rt: HostRuntime) {
     expect_eq(&rt, words_obeyed(rt.alloc()), 6);
-}
-
-/// Whether anything was written to the output and to the messages, and the status.
-fn reported_for(alloc: Global, typed: CommandWords) -> (bool, bool, Option<u8>) {
-    let mut output = Vec::new(alloc);
-    let mut messages = Vec::new(alloc);
-    let status = status_typed(alloc, typed, &mut output, &mut messages);
-    (!output.is_empty(), !messages.is_empty(), status)
-}
-
-#[test]
-fn help_is_no_message_and_a_mistake_is_one(rt: HostRuntime) {
-    let alloc = rt.alloc();
-    let reported = [
-        reported_for(alloc, &["lgp_lab", "--help"]),
-        reported_for(alloc, &["lgp_lab", "run", "--help"]),
-        reported_for(alloc, &["lgp_lab", "sing"]),
-        reported_for(alloc, &["lgp_lab", "script"]),
-        reported_for(alloc, &["lgp_lab", "run", "tenth", "many"]),
-    ];
-    let help = (true, false, Some(0));
-    let mistake = (false, true, Some(64));
-    expect_eq(&rt, reported, [help, help, mistake, mistake, mistake]);
 }
 
 /// What is reported of words that cannot be read.

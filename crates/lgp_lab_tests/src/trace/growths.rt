@@ -3,8 +3,8 @@
 use super::data::{ORDERS_DATA, PROFILE_DATA};
 use super::lines::PROFILE;
 use super::origins::{ORDERS, PROGRAM, WORDS, push_words};
-use super::profile_of_a_sum;
 use super::steps::{debugger, goes_back, put_all};
+use super::{address, profile_of_a_sum};
 use crate::expect_eq;
 use lgp_debugger::{Debugger, Ran, RunFault, RunRefusal};
 use lgp_history::{History, Origins};
@@ -183,17 +183,18 @@ fn profile_in_turn<A: Allocator, B: Allocator>(
 }
 
 /// Whether the program is started; whether lines, data and signs had growths in turn and each was reported at last; whether two orders
-/// are run then; and the same of the words.
+/// are run then, and the order at 0001 has lost the u 0005; and the same of the words.
 fn in_turn<H: Origins<A>, A: Allocator, B: Allocator>(
     limited: &Limited<B>,
     lab: &mut Debugger<H, A>,
-) -> [bool; 6] {
+) -> [bool; 7] {
     [
         start(lab),
         told_in_turn(limited, Some(Way::Lines), lab),
         told_in_turn(limited, Some(Way::Data), lab),
         told_in_turn(limited, Some(Way::Signs), lab),
         matches!(lab.run(2), Ok(ran) if ran.orders == 2),
+        matches!(lab.origin(address(1)), Some(origin) if origin.lost.get() == 0x000a_0014),
         told_in_turn(limited, None, lab),
     ]
 }
@@ -203,9 +204,9 @@ fn each_growth_refused(rt: HostRuntime) {
     let limited = Limited::new(rt.alloc());
     let seen = match debugger(rt.alloc()) {
         Some(mut lab) => in_turn(&limited, &mut lab),
-        None => [false; 6],
+        None => [false; 7],
     };
-    expect_eq(&rt, (seen, limited.blocks_out()), ([true; 6], 0));
+    expect_eq(&rt, (seen, limited.blocks_out()), ([true; 7], 0));
 }
 
 #[test]

@@ -92,21 +92,10 @@ not to be moved, since a changed order named them, or one in the register alone
   0103              sector  3, best 24        64    2 %
 ";
 
-const NO_ORDER: &[u8] = b"no order was performed, so no word was named\n";
-
 /// Of an order in the register alone nothing is reported here; of a word that no order named, that it may be anywhere.
 const NAMED_BY_NONE: &[u8] = b"orders 42, word times 2910, turns of the drum 45.4
 0008
   no order named it: wherever it stands, they take as long
-";
-
-/// How what is reported of a run begins and ends, with a line for each sector between them.
-const BEGINS: &[u8] = b"orders 42, word times 2910, turns of the drum 45.4
-0020
-  sector  0         ";
-
-const ENDS: &[u8] = b"
-  it may be moved, and saves 64 word times at sector 19
 ";
 
 /// What is reported of a run, or of one of its words.
@@ -116,102 +105,53 @@ enum Part {
     Word(u16),
 }
 
+/// Appends what is reported of a part of 42 orders; false where it is refused.
 fn push_part<A: Allocator + Copy, B: Allocator>(
     alloc: A,
     text: &mut Vec<u8, A>,
-    (part, orders): (Part, u64),
+    part: Part,
     optimum: &Optimum<B>,
 ) -> bool {
     let reported = match part {
-        Part::Words => push_optimum(alloc, text, orders, optimum, &NoLabels),
-        Part::Word(word) => push_word_optimum(text, orders, optimum, address(word), &NoLabels),
+        Part::Words => push_optimum(alloc, text, 42, optimum, &NoLabels),
+        Part::Word(word) => push_word_optimum(text, 42, optimum, address(word), &NoLabels),
     };
     reported.is_ok()
 }
 
-/// How many lines a text has.
-fn lines_in(text: &[u8]) -> usize {
-    let mut lines: usize = 0;
-    for byte in text {
-        if *byte == b'\n' {
-            lines = lines.saturating_add(1);
-        }
-    }
-    lines
-}
-
-/// How many lines are reported, and whether they begin and end so.
-fn lines_reported<A: Allocator + Copy, B: Allocator>(
-    alloc: A,
-    optimum: &Optimum<B>,
-    word: u16,
-) -> (usize, bool, bool) {
-    let mut text = Vec::new(alloc);
-    push_part(alloc, &mut text, (Part::Word(word), 42), optimum);
-    let text = text.as_slice();
-    (
-        lines_in(text),
-        text.starts_with(BEGINS),
-        text.ends_with(ENDS),
-    )
-}
-
-/// Whether this is reported.
-fn is_reported<A: Allocator + Copy, B: Allocator>(
-    alloc: A,
-    optimum: &Optimum<B>,
-    part: (Part, u64),
-    wanted: &[u8],
-) -> bool {
-    let mut text = Vec::new(alloc);
-    push_part(alloc, &mut text, part, optimum) && text.as_slice() == wanted
-}
-
-/// Which texts are as above.
-fn texts<A: Allocator + Copy, B: Allocator>(alloc: A, optimum: &Optimum<B>) -> [bool; 4] {
-    [
-        is_reported(alloc, optimum, (Part::Words, 42), REPORTED),
-        is_reported(alloc, optimum, (Part::Words, 0), NO_ORDER),
-        is_reported(alloc, optimum, (Part::Word(20), 0), NO_ORDER),
-        is_reported(alloc, optimum, (Part::Word(8), 42), NAMED_BY_NONE),
-    ]
-}
-
 #[test]
-fn words_and_lines_of_a_sum(rt: HostRuntime) {
+fn the_words_with_most_to_gain(rt: HostRuntime) {
     let seen = match optimum_of(rt.alloc(), SUM_OF_A_TABLE, 100) {
         Some(optimum) => (
             rankings(rt.alloc(), &optimum),
             optimum.together(Freedom::Free),
-            texts(rt.alloc(), &optimum),
-            lines_reported(rt.alloc(), &optimum, 20),
         ),
-        None => ([false; 5], 0, [false; 4], (0, false, false)),
+        None => ([false; 5], 0),
     };
-    let lines = (67, true, true);
-    expect_eq(&rt, seen, ([true; 5], 960, [true; 4], lines));
+    expect_eq(&rt, seen, ([true; 5], 960));
 }
 
-/// The words of a run reported with the nth growth refused.
+/// A part reported with the nth growth refused.
 fn reported_refused<A: Allocator, B: Allocator>(
     limited: &Limited<A>,
     nth: u64,
+    (part, wanted): (Part, &[u8]),
     optimum: &Optimum<B>,
 ) -> Attempt {
     let mut text = Vec::new(limited);
     limited.refuse(nth);
-    let reported = push_part(limited, &mut text, (Part::Words, 42), optimum);
-    ended(
-        limited.was_refused(),
-        !reported,
-        text.as_slice() == REPORTED,
-    )
+    let reported = push_part(limited, &mut text, part, optimum);
+    ended(limited.was_refused(), !reported, text.as_slice() == wanted)
 }
 
-/// How many growths were refused before the words were reported; 0 where one of them was answered otherwise.
-fn in_turn<A: Allocator, B: Allocator>(limited: &Limited<A>, optimum: &Optimum<B>) -> u64 {
+/// How many growths were refused before a part was reported; 0 where one of them was answered otherwise.
+fn in_turn<A: Allocator, B: Allocator>(
+    limited: &Limited<A>,
+    part: (Part, &[u8]),
+    optimum: &Optimum<B>,
+) -> u64 {
     for nth in 1..MOST {
-        match reported_refused(limited, nth, optimum) {
+        match reported_refused(limited, nth, part, optimum) {
             Attempt::Reported => return nth - 1,
             Attempt::Refused => {}
             Attempt::Otherwise => return 0,
@@ -225,8 +165,11 @@ fn in_turn<A: Allocator, B: Allocator>(limited: &Limited<A>, optimum: &Optimum<B
 fn each_growth_refused(rt: HostRuntime) {
     let limited = Limited::new(rt.alloc());
     let growths = match optimum_of(rt.alloc(), SUM_OF_A_TABLE, 100) {
-        Some(optimum) => in_turn(&limited, &optimum),
-        None => 0,
+        Some(optimum) => [
+            in_turn(&limited, (Part::Words, REPORTED), &optimum) > 6,
+            in_turn(&limited, (Part::Word(8), NAMED_BY_NONE), &optimum) > 0,
+        ],
+        None => [false; 2],
     };
-    expect_eq(&rt, (growths > 6, limited.blocks_out()), (true, 0));
+    expect_eq(&rt, (growths, limited.blocks_out()), ([true; 2], 0));
 }
