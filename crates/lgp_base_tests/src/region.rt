@@ -159,10 +159,14 @@ fn vectors_keep_their_numbers<A: Allocator>(alloc: &A) -> bool {
     }
 }
 
-/// How many of three requests for 16 bytes a region meets that lasts and lies in a given number of bytes; `None` where there is none.
+/// A region that lasts and lies in a given number of bytes of another allocator.
+fn lasting_of<A: Allocator>(alloc: &A, size: usize) -> Result<&'static Region, AllocError> {
+    Region::lasting(Memory::taken_for_good(alloc, size)?)
+}
+
+/// How many of three requests for 16 bytes such a region meets; `None` where there is none.
 fn met_by_lasting<A: Allocator>(alloc: &A, size: usize) -> Option<usize> {
-    let memory = Memory::taken_for_good(alloc, size).ok()?;
-    match Region::lasting(memory) {
+    match lasting_of(alloc, size) {
         Ok(region) => Some(met_of_three(region, 16)),
         Err(_) => None,
     }
