@@ -182,9 +182,9 @@ fn copied<B: Allocator>(limited: &Limited<B>, drum: &mut Drum<&Limited<B>>, nth:
 /// What is seen of drums and copies in turn, two facts each.
 type Seen = [[bool; 2]; 5];
 
-/// Looks at a new drum, puts 6 at 0050, copies the drum with the first growth refused and then with none: whether the drum is blank
-/// there and a growth was refused, the copies, and whether the word stays without a copy and one block is out beside the drum's
-/// own word at last.
+/// Looks at a new drum, puts 6 at 0050, and copies the drum with the first growth refused and then with none: whether the drum is
+/// blank there at first and a growth was refused; the two copies; whether the word was put and stays where there is no copy; and
+/// whether it is 8 at last, with one block out.
 fn copied_twice<B: Allocator>(limited: &Limited<B>, drum: &mut Drum<&Limited<B>>) -> Seen {
     let new = [are_there(drum, &[(b"0050", 0)]), limited.was_refused()];
     let put = put(drum, b"0050", 6);

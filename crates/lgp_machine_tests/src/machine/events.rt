@@ -104,7 +104,8 @@ const FOUR: [Event; 4] = [
     Event::WordTime,
 ];
 
-/// Whether a machine goes to two word times before the clock's end, a play stops there, and it comes to no growth.
+/// Whether a machine goes to two word times before the clock's end, a play stops there, and it comes to no growth. The last three
+/// say nothing.
 fn plays_at_the_end<B: Allocator>(
     limited: &Limited<B>,
     machine: &mut Machine<&Limited<B>>,

@@ -107,12 +107,20 @@ fn drum_of_two<A: Allocator + Copy>(alloc: A) -> Option<Drum<A>> {
     Some(drum)
 }
 
-/// Whether a drum has these two words.
-fn is_of_two<A: Allocator>(drum: &Drum<A>) -> bool {
-    drum.word(address(1)).get() == 4 && drum.word(address(4095)).get() == 6
+/// Whether a machine that begins with a drum is made with ample memory, and has what is wanted.
+fn is_made_of<'a, B: Allocator>(
+    limited: &'a Limited<B>,
+    drum: Drum<&'a Limited<B>>,
+    wanted: &Option<Whole>,
+) -> bool {
+    limited.refuse(0);
+    match Machine::with_drum(limited, drum) {
+        Ok(machine) => is_whole(&machine, wanted),
+        Err(_) => false,
+    }
 }
 
-/// Makes a machine that begins with such a drum likewise. A drum that is handed back has its words.
+/// Makes a machine that begins with such a drum likewise. A drum that is handed back is tried again.
 fn try_with_drum<B: Allocator>(limited: &Limited<B>, nth: u64, wanted: &Option<Whole>) -> Tried {
     limited.refuse(0);
     let Some(drum) = drum_of_two(limited) else {
@@ -121,7 +129,13 @@ fn try_with_drum<B: Allocator>(limited: &Limited<B>, nth: u64, wanted: &Option<W
     limited.refuse(nth);
     match Machine::with_drum(limited, drum) {
         Ok(machine) => [true, is_last(limited, &machine, wanted)],
-        Err(refused) => [false, limited.was_refused() && is_of_two(&refused.value)],
+        Err(refused) => {
+            let was_refused = limited.was_refused();
+            [
+                false,
+                was_refused && is_made_of(limited, refused.value, wanted),
+            ]
+        }
     }
 }
 
