@@ -4,7 +4,7 @@ use crate::expect_eq;
 use lgp_drum::Drum;
 use lgp_limited::Limited;
 use lgp_word::{Address, Word};
-use std::alloc::{AllocError, Allocator, Global};
+use std::alloc::{Allocator, Global};
 
 /// The text of an address, and the bits of its word.
 type Cell = (&'static [u8], u32);
@@ -38,14 +38,14 @@ fn bits_at<A: Allocator>(drum: &Drum<A>, text: &[u8]) -> Option<u32> {
     Some(drum.word(address).get())
 }
 
-/// The address of the first of these cells whose word is another one.
-fn first_other<A: Allocator>(drum: &Drum<A>, cells: &[Cell]) -> Option<&'static [u8]> {
+/// Whether each of these cells has its word.
+fn are_there<A: Allocator>(drum: &Drum<A>, cells: &[Cell]) -> bool {
     for (text, bits) in cells {
         if bits_at(drum, text) != Some(*bits) {
-            return Some(*text);
+            return false;
         }
     }
-    None
+    true
 }
 
 /// The bits of the word under a track's head; `None` where there is no such track.
@@ -65,24 +65,13 @@ fn is_blank<A: Allocator>(drum: &Drum<A>, number: u16) -> bool {
 }
 
 /// The first number that is not that of a blank word.
-fn first_not_blank<A: Allocator>(drum: &Drum<A>) -> Option<u16> {
+fn first_not_blank<A: Allocator>(drum: &Drum<A>) -> u16 {
     for number in 0..5000 {
         if !is_blank(drum, number) {
-            return Some(number);
+            return number;
         }
     }
-    None
-}
-
-/// The same of a new drum; `None` also without memory.
-fn first_not_blank_of_new(global: Global) -> Option<u16> {
-    let drum = Drum::new(global).ok()?;
-    first_not_blank(&drum)
-}
-
-#[test]
-fn a_new_drum_is_blank(rt: HostRuntime) {
-    expect_eq(&rt, first_not_blank_of_new(rt.alloc()), Some(4096));
+    5000
 }
 
 /// The first word of track 1 and the last one of all.
@@ -97,27 +86,6 @@ const BESIDE: [Cell; 6] = [
     (b"6362", 0),
     (b"0000", 0),
 ];
-
-/// Puts words on a new drum; whether all are words at addresses, and the address of the first of these cells whose word is
-/// another one.
-fn put_and_read(
-    global: Global,
-    put: &[Cell],
-    read: &[Cell],
-) -> Option<(bool, Option<&'static [u8]>)> {
-    let mut drum = Drum::new(global).ok()?;
-    let are_put = put_all(&mut drum, put);
-    Some((are_put, first_other(&drum, read)))
-}
-
-#[test]
-fn one_word_is_put(rt: HostRuntime) {
-    expect_eq(
-        &rt,
-        put_and_read(rt.alloc(), &TWO, &BESIDE),
-        Some((true, None)),
-    );
-}
 
 /// Sectors of track 5 in the order in which they pass the head, each with another word.
 const PASSING: [Cell; 11] = [
@@ -135,48 +103,15 @@ const PASSING: [Cell; 11] = [
 ];
 
 /// The first clock from 64 on at which the head of track 5 does not read the next of these words.
-fn first_not_passing<A: Allocator>(drum: &Drum<A>, cells: &[Cell]) -> Option<u64> {
+fn first_not_passing<A: Allocator>(drum: &Drum<A>, cells: &[Cell]) -> u64 {
     let mut clock = 64u64;
     for (_, bits) in cells {
         if bits_under_head(drum, clock, 5) != Some(*bits) {
-            return Some(clock);
+            return clock;
         }
         clock = clock.saturating_add(1);
     }
-    None
-}
-
-/// The same of a new drum with these words, and whether all are words at addresses.
-fn put_and_passed(global: Global, cells: &[Cell]) -> Option<(bool, Option<u64>)> {
-    let mut drum = Drum::new(global).ok()?;
-    let are_put = put_all(&mut drum, cells);
-    Some((are_put, first_not_passing(&drum, cells)))
-}
-
-#[test]
-fn the_sectors_pass_the_head_in_their_order(rt: HostRuntime) {
-    expect_eq(
-        &rt,
-        put_and_passed(rt.alloc(), &PASSING),
-        Some((true, None)),
-    );
-}
-
-/// A word of the first track, put, and what the heads of the first two tracks read as it passes.
-fn under_two_heads(global: Global) -> Option<(bool, [Option<u32>; 2])> {
-    let mut drum = Drum::new(global).ok()?;
-    let is_put = put(&mut drum, b"0001", 0x000e_00cc);
-    let read = [bits_under_head(&drum, 73, 0), bits_under_head(&drum, 73, 1)];
-    Some((is_put, read))
-}
-
-#[test]
-fn the_head_reads_the_sector_below_it(rt: HostRuntime) {
-    expect_eq(
-        &rt,
-        under_two_heads(rt.alloc()),
-        Some((true, [Some(0x000e_00cc), Some(0)])),
-    );
+    clock
 }
 
 /// Two words of the first track and one of the second.
@@ -191,115 +126,110 @@ fn wanted_at(place: usize) -> u32 {
     }
 }
 
-/// The place of the first of these words that is not as wanted.
-fn first_unwanted(track: &[Word]) -> Option<usize> {
+/// How many of these words, from the first on, are as wanted.
+fn wanted_in(track: &[Word]) -> usize {
     let mut place = 0usize;
     for word in track {
         if word.get() != wanted_at(place) {
-            return Some(place);
+            return place;
         }
         place = place.saturating_add(1);
     }
-    None
+    place
 }
 
-/// Whether words are put on a new drum, how many words its first track has then, and the first of those that is not as wanted.
-fn put_and_laid(global: Global, cells: &[Cell]) -> Option<(bool, usize, Option<usize>)> {
+/// Whether a new drum is blank; whether two words are put and none beside them; whether the words of a track pass its head in
+/// their order; whether the heads of the first two tracks read the sector below them; and whether the first track lies as it
+/// passes its head.
+fn put_and_read<A: Allocator>(drum: &mut Drum<A>) -> [bool; 9] {
+    [
+        first_not_blank(drum) == 4096,
+        put_all(drum, &TWO),
+        are_there(drum, &BESIDE),
+        put_all(drum, &PASSING),
+        first_not_passing(drum, &PASSING) == 75,
+        put_all(drum, &THREE),
+        bits_under_head(drum, 73, 0) == Some(0x000e_00cc),
+        bits_under_head(drum, 73, 1) == Some(0),
+        wanted_in(drum.track(0)) == 64,
+    ]
+}
+
+fn put_and_read_of_new(global: Global) -> Option<[bool; 9]> {
     let mut drum = Drum::new(global).ok()?;
-    let are_put = put_all(&mut drum, cells);
-    let track = drum.track(0);
-    Some((are_put, track.len(), first_unwanted(track)))
+    Some(put_and_read(&mut drum))
 }
 
 #[test]
-fn a_track_lies_as_it_passes_the_head(rt: HostRuntime) {
-    expect_eq(
-        &rt,
-        put_and_laid(rt.alloc(), &THREE),
-        Some((true, 64, None)),
-    );
+fn words_are_put_and_pass_the_heads(rt: HostRuntime) {
+    expect_eq(&rt, put_and_read_of_new(rt.alloc()), Some([true; 9]));
 }
 
-/// Two words of a copy and one of the drum, which has another one since; `None` without a copy.
-fn copy_and_change(global: Global) -> Option<[Option<u32>; 3]> {
-    let mut drum = Drum::new(global).ok()?;
-    put(&mut drum, b"0100", 4);
-    let copy = drum.copy().ok()?;
-    put(&mut drum, b"0100", 6);
-    Some([
-        bits_at(&copy, b"0100"),
-        bits_at(&copy, b"0101"),
-        bits_at(&drum, b"0100"),
-    ])
+/// Copies a drum with the nth growth refused, and puts 8 at 0050: whether there is a copy that has the 6 of before there and a
+/// blank word after it, and whether a growth was refused.
+fn copied<B: Allocator>(limited: &Limited<B>, drum: &mut Drum<&Limited<B>>, nth: u64) -> [bool; 2] {
+    limited.refuse(nth);
+    let Ok(copy) = drum.copy() else {
+        return [false, limited.was_refused()];
+    };
+    put(drum, b"0050", 8);
+    [
+        are_there(&copy, &[(b"0050", 6), (b"0051", 0)]),
+        limited.was_refused(),
+    ]
 }
 
-#[test]
-fn a_copy_has_the_same_words(rt: HostRuntime) {
-    expect_eq(
-        &rt,
-        copy_and_change(rt.alloc()),
-        Some([Some(4), Some(0), Some(6)]),
-    );
+/// What is seen of drums and copies in turn, two facts each.
+type Seen = [[bool; 2]; 5];
+
+/// Looks at a new drum, puts 6 at 0050, and copies the drum with the first growth refused and then with none: whether the drum is
+/// blank there at first and a growth was refused; the two copies; whether the word was put and stays where there is no copy; and
+/// whether it is 8 at last, with one block out.
+fn copied_twice<B: Allocator>(limited: &Limited<B>, drum: &mut Drum<&Limited<B>>) -> Seen {
+    let new = [are_there(drum, &[(b"0050", 0)]), limited.was_refused()];
+    let put = put(drum, b"0050", 6);
+    let refused = copied(limited, drum, 1);
+    let stays = are_there(drum, &[(b"0050", 6)]);
+    let copied = copied(limited, drum, 2);
+    let changed = are_there(drum, &[(b"0050", 8)]);
+    [
+        new,
+        refused,
+        copied,
+        [put, stays],
+        [changed, limited.blocks_out() == 1],
+    ]
 }
 
-/// The word at 0050 of a drum that could be made; `None` where it could not.
-fn word_of<A: Allocator>(drum: Result<Drum<A>, AllocError>) -> Option<u32> {
-    match drum {
-        Ok(drum) => bits_at(&drum, b"0050"),
+/// The same of a drum that is made with the second growth refused, which does not come; `None` where it is not made.
+fn made_and_copied<B: Allocator>(limited: &Limited<B>) -> Option<Seen> {
+    limited.refuse(2);
+    match Drum::new(limited) {
+        Ok(mut drum) => Some(copied_twice(limited, &mut drum)),
         Err(_) => None,
     }
 }
 
-/// Makes a drum with the nth growth refused: its word at 0050, and whether a growth was refused.
-fn made<B: Allocator>(limited: &Limited<B>, nth: u64) -> (Option<u32>, bool) {
-    limited.refuse(nth);
-    (word_of(Drum::new(limited)), limited.was_refused())
+/// Whether a drum is refused with the first growth.
+fn is_refused<B: Allocator>(limited: &Limited<B>) -> bool {
+    limited.refuse(1);
+    Drum::new(limited).is_err() && limited.was_refused()
 }
 
 #[test]
-fn a_drum_without_room_is_refused(rt: HostRuntime) {
+fn drums_and_copies_without_room_are_refused(rt: HostRuntime) {
     let limited = Limited::new(rt.alloc());
-    let made = [made(&limited, 1), made(&limited, 2)];
-    expect_eq(
-        &rt,
-        (made, limited.blocks_out()),
-        ([(None, true), (Some(0), false)], 0),
+    let seen = (
+        is_refused(&limited),
+        made_and_copied(&limited),
+        limited.blocks_out(),
     );
-}
-
-/// Copies a drum with the nth growth refused: the copy's word at 0050, whether a growth was refused, and the drum's own word.
-fn copied<B: Allocator>(
-    limited: &Limited<B>,
-    drum: &Drum<&Limited<B>>,
-    nth: u64,
-) -> (Option<u32>, bool, Option<u32>) {
-    limited.refuse(nth);
-    (
-        word_of(drum.copy()),
-        limited.was_refused(),
-        bits_at(drum, b"0050"),
-    )
-}
-
-/// How many blocks are out beside a new drum, what its copies come to, with the first growth refused and then with none, and how
-/// many blocks are out then.
-type Copies = (u64, [(Option<u32>, bool, Option<u32>); 2], u64);
-
-fn copied_twice<B: Allocator>(limited: &Limited<B>) -> Option<Copies> {
-    let mut drum = Drum::new(limited).ok()?;
-    let before = limited.blocks_out();
-    put(&mut drum, b"0050", 6);
-    let copies = [copied(limited, &drum, 1), copied(limited, &drum, 2)];
-    Some((before, copies, limited.blocks_out()))
-}
-
-#[test]
-fn a_copy_without_room_is_refused(rt: HostRuntime) {
-    let refused = (None, true, Some(6));
-    let copied = (Some(6), false, Some(6));
-    expect_eq(
-        &rt,
-        copied_twice(&Limited::new(rt.alloc())),
-        Some((1, [refused, copied], 1)),
-    );
+    let wanted = [
+        [true, false],
+        [false, true],
+        [true, false],
+        [true; 2],
+        [true; 2],
+    ];
+    expect_eq(&rt, seen, (true, Some(wanted), 0));
 }

@@ -9,62 +9,60 @@ fn word(digits: &[u8]) -> Word {
     read_digits(digits).unwrap_or_default()
 }
 
-/// The digits of what an order leaves in the accumulator, and whether it overflows.
-fn left(arith: Arith) -> ([u8; 8], bool) {
-    (write_bits(arith.accumulator), arith.overflow)
+/// An order of arithmetic.
+#[derive(Clone, Copy)]
+enum By {
+    Add,
+    Sub,
+    MulHigh,
+    MulLow,
+    Div,
 }
 
+/// What an order makes of an accumulator and a word.
+fn made(by: By, accumulator: u32, word: Word) -> Arith {
+    match by {
+        By::Add => add(accumulator, word),
+        By::Sub => sub(accumulator, word),
+        By::MulHigh => mul_high(accumulator, word),
+        By::MulLow => mul_low(accumulator, word),
+        By::Div => div(accumulator, word),
+    }
+}
+
+/// An order, the accumulator before it, the digits of its word and those of the accumulator after it, and whether it overflows.
+type Row = (By, u32, &'static [u8; 8], &'static [u8; 8], bool);
+
 /// Sums wrap; products and quotients are those of fractions.
-#[test]
-fn sums_products_and_quotients(rt: HostRuntime) {
-    let sums = [
-        left(add(6, word(b"0000000f"))),
-        left(add(0x7fff_fffe, word(b"00000002"))),
-        left(add(0x8000_0000, word(b"wwwwwwwq"))),
-        left(sub(6, word(b"0000000f"))),
-        left(sub(0, word(b"80000000"))),
-    ];
-    let products = [
-        left(mul_high(0x8000_0000, word(b"80000000"))),
-        left(mul_low(0x8000_0000, word(b"80000000"))),
-        left(mul_high(6, word(b"0000000f"))),
-        left(mul_low(6, word(b"0000000f"))),
-        left(mul_high(0xffff_fffe, word(b"00000002"))),
-        left(mul_high(0x4000_0000, word(b"j0000000"))),
-    ];
-    let quotients = [
-        left(div(6, word(b"00000000"))),
-        left(div(2, word(b"00000006"))),
-        left(div(6, word(b"00000006"))),
-        left(div(4, word(b"wwwwwwwf"))),
-    ];
-    expect_eq(
-        &rt,
-        (sums, products, quotients),
-        (
-            [
-                (*b"00000010", false),
-                (*b"80000000", true),
-                (*b"7wwwwwwq", true),
-                (*b"wwwwwwwj", false),
-                (*b"80000000", true),
-            ],
-            [
-                (*b"80000000", true),
-                (*b"00000000", false),
-                (*b"00000000", false),
-                (*b"0000003j", false),
-                (*b"wwwwwwwq", false),
-                (*b"q0000000", false),
-            ],
-            [
-                (*b"00000006", true),
-                (*b"2fffffff", false),
-                (*b"00000006", true),
-                (*b"ffffffff", false),
-            ],
-        ),
-    );
+const MADE: [Row; 15] = [
+    (By::Add, 6, b"0000000f", b"00000010", false),
+    (By::Add, 0x7fff_fffe, b"00000002", b"80000000", true),
+    (By::Add, 0x8000_0000, b"wwwwwwwq", b"7wwwwwwq", true),
+    (By::Sub, 6, b"0000000f", b"wwwwwwwj", false),
+    (By::Sub, 0, b"80000000", b"80000000", true),
+    (By::MulHigh, 0x8000_0000, b"80000000", b"80000000", true),
+    (By::MulLow, 0x8000_0000, b"80000000", b"00000000", false),
+    (By::MulHigh, 6, b"0000000f", b"00000000", false),
+    (By::MulLow, 6, b"0000000f", b"0000003j", false),
+    (By::MulHigh, 0xffff_fffe, b"00000002", b"wwwwwwwq", false),
+    (By::MulHigh, 0x4000_0000, b"j0000000", b"q0000000", false),
+    (By::Div, 6, b"00000000", b"00000006", true),
+    (By::Div, 2, b"00000006", b"2fffffff", false),
+    (By::Div, 6, b"00000006", b"00000006", true),
+    (By::Div, 4, b"wwwwwwwf", b"ffffffff", false),
+];
+
+/// The place of the first row whose order makes something else, or how many rows there are.
+fn first_made_otherwise() -> usize {
+    let mut place = 0usize;
+    for (by, accumulator, digits, wanted, overflow) in &MADE {
+        let arith = made(*by, *accumulator, word(*digits));
+        if write_bits(arith.accumulator) != **wanted || arith.overflow != *overflow {
+            return place;
+        }
+        place = place.saturating_add(1);
+    }
+    place
 }
 
 /// The digits of the word of a decimal, or why it is none.
@@ -72,95 +70,78 @@ fn read(text: &[u8]) -> Result<[u8; 8], FractionFault> {
     Ok(write_digits(Fraction::from_decimal(text)?.word()))
 }
 
+/// Decimals, and how each is read.
+const READ: [(&[u8], Result<[u8; 8], FractionFault>); 25] = [
+    (b".1", Ok(*b"0jjjjjjj")),
+    (b"-1.0", Ok(*b"80000000")),
+    (b"0.5", Ok(*b"40000000")),
+    (b" .5", Ok(*b"40000000")),
+    (b"-.25", Ok(*b"q0000000")),
+    (b"-1.0000000001", Ok(*b"80000000")),
+    (b".000000000001", Ok(*b"00000000")),
+    (b" .0999999996", Ok(*b"0jjjjjjj")),
+    (b"1", Err(FractionFault::Form)),
+    (b"", Err(FractionFault::Form)),
+    (b".", Err(FractionFault::Form)),
+    (b"-.", Err(FractionFault::Form)),
+    (b"5", Err(FractionFault::Form)),
+    (b"2.0", Err(FractionFault::Form)),
+    (b"--.1", Err(FractionFault::Form)),
+    (b"  .1", Err(FractionFault::Form)),
+    (b"+.1", Err(FractionFault::Form)),
+    (b"00.1", Err(FractionFault::Form)),
+    (b".1 ", Err(FractionFault::Form)),
+    (b".1a", Err(FractionFault::Form)),
+    (b".1234567890123", Err(FractionFault::Form)),
+    (b"1.0", Err(FractionFault::OutOfRange)),
+    (b".9999999999", Err(FractionFault::OutOfRange)),
+    (b"-1.000000001", Err(FractionFault::OutOfRange)),
+    (b"1.999999999999", Err(FractionFault::OutOfRange)),
+];
+
+/// The place of the first decimal that is read otherwise, or how many there are.
+fn first_read_otherwise() -> usize {
+    let mut place = 0usize;
+    for (text, wanted) in &READ {
+        if read(text) != *wanted {
+            return place;
+        }
+        place = place.saturating_add(1);
+    }
+    place
+}
+
+/// Digits of words, and their decimals.
+const WRITTEN: [([u8; 8], [u8; 12]); 7] = [
+    (*b"0jjjjjjj", *b" .0999999996"),
+    (*b"00100000", *b" .0004882813"),
+    (*b"wwg00000", *b"-.0024414063"),
+    (*b"80000000", *b"-1.000000000"),
+    (*b"80000002", *b"-.9999999991"),
+    (*b"7wwwwwwq", *b" .9999999991"),
+    (*b"00000000", *b" .0000000000"),
+];
+
+/// The place of the first word whose decimal is another or is not read as that word, or how many there are.
+fn first_written_otherwise() -> usize {
+    let mut place = 0usize;
+    for (digits, wanted) in &WRITTEN {
+        let text = Fraction::of_word(word(digits)).to_decimal();
+        if text != *wanted || read(&text) != Ok(*digits) {
+            return place;
+        }
+        place = place.saturating_add(1);
+    }
+    place
+}
+
 #[test]
-fn decimals_are_read(rt: HostRuntime) {
+fn orders_of_arithmetic_and_decimals(rt: HostRuntime) {
     rounding::nearest_is_nearest();
-    expect_eq(
-        &rt,
-        [
-            read(b".1"),
-            read(b"-1.0"),
-            read(b"0.5"),
-            read(b" .5"),
-            read(b"-.25"),
-            read(b"-1.0000000001"),
-            read(b".000000000001"),
-            read(b" .0999999996"),
-        ],
-        [
-            Ok(*b"0jjjjjjj"),
-            Ok(*b"80000000"),
-            Ok(*b"40000000"),
-            Ok(*b"40000000"),
-            Ok(*b"q0000000"),
-            Ok(*b"80000000"),
-            Ok(*b"00000000"),
-            Ok(*b"0jjjjjjj"),
-        ],
-    );
-}
-
-#[test]
-fn other_texts_are_refused(rt: HostRuntime) {
-    expect_eq(
-        &rt,
-        (
-            [
-                read(b"1"),
-                read(b""),
-                read(b"."),
-                read(b"-."),
-                read(b"5"),
-                read(b"2.0"),
-                read(b"--.1"),
-                read(b"  .1"),
-                read(b"+.1"),
-                read(b"00.1"),
-                read(b".1 "),
-                read(b".1a"),
-                read(b".1234567890123"),
-            ],
-            [
-                read(b"1.0"),
-                read(b".9999999999"),
-                read(b"-1.000000001"),
-                read(b"1.999999999999"),
-            ],
-        ),
-        (
-            [Err(FractionFault::Form); 13],
-            [Err(FractionFault::OutOfRange); 4],
-        ),
-    );
-}
-
-/// The decimal of the word of these digits, and how it is read.
-fn written(digits: &[u8]) -> ([u8; 12], Result<[u8; 8], FractionFault>) {
-    let text = Fraction::of_word(word(digits)).to_decimal();
-    (text, read(&text))
-}
-
-#[test]
-fn decimals_are_written(rt: HostRuntime) {
-    expect_eq(
-        &rt,
-        [
-            written(b"0jjjjjjj"),
-            written(b"00100000"),
-            written(b"wwg00000"),
-            written(b"80000000"),
-            written(b"80000002"),
-            written(b"7wwwwwwq"),
-            written(b"00000000"),
-        ],
-        [
-            (*b" .0999999996", Ok(*b"0jjjjjjj")),
-            (*b" .0004882813", Ok(*b"00100000")),
-            (*b"-.0024414063", Ok(*b"wwg00000")),
-            (*b"-1.000000000", Ok(*b"80000000")),
-            (*b"-.9999999991", Ok(*b"80000002")),
-            (*b" .9999999991", Ok(*b"7wwwwwwq")),
-            (*b" .0000000000", Ok(*b"00000000")),
-        ],
-    );
+    let seen = [
+        first_made_otherwise(),
+        first_read_otherwise(),
+        first_written_otherwise(),
+    ];
+    expect_eq(&rt, seen, [MADE.len(), READ.len(), WRITTEN.len()]);
 }

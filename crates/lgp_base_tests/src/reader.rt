@@ -3,301 +3,244 @@
 use crate::expect_eq;
 use lgp_flexo::{Code, TAPE_LIMIT, read_tape_text};
 use lgp_limited::Limited;
-use lgp_reader::{Input, Reader};
-use std::alloc::{Allocator, Global};
+use lgp_reader::Reader;
+use std::alloc::Allocator;
 
 /// Whether a reader is on, how many codes have passed, and how many are left.
 type Shown = (bool, usize, usize);
 
-// The reader's methods without their contracts, which would fill the context of each test.
+/// A number of codes, a number, and whether it was done.
+type Answer = (usize, u32, bool);
+
+/// What is done with a reader.
+#[derive(Clone, Copy)]
+enum Deed {
+    Start,
+    Stop,
+    /// The tape of a text is put in.
+    Mount(&'static [u8]),
+    /// A tape of a given number of conditional stops is put in. The answer has how many codes are handed back.
+    Stops(usize),
+    /// The tape of a text is put in of which a given number of codes have passed.
+    Set(&'static [u8], usize),
+    /// The answer has the number of the code that passes, if one does.
+    Pass,
+    /// The answer has the number of the first code that has passed, if one has.
+    First,
+    /// An input from this accumulator, by six bits or not. The answer has how many codes it would pass before it, what is then in
+    /// the accumulator, and whether it is done.
+    Input(bool, u32),
+    /// The tape moves back by some codes.
+    Back(usize),
+    /// A copy is made with the nth growth refused. The answer has a 1 where a growth was refused, and the number of the code that
+    /// passes in the copy, if that shows what the reader shows.
+    Copy(u64),
+}
+
+const NO: Answer = (0, 0, false);
+
+const DONE: Answer = (0, 0, true);
+
+// The reader's methods without their contracts, which would fill the context of each function.
 
 fn shown<A: Allocator>(reader: &Reader<A>) -> Shown {
     (reader.is_on(), reader.passed().len(), reader.left().len())
 }
 
-/// Puts the tape of a text in; whether it was taken.
-fn mount<A: Allocator + Copy>(reader: &mut Reader<A>, alloc: A, text: &[u8]) -> bool {
+fn mount<A: Allocator + Copy>(reader: &mut Reader<A>, alloc: A, text: &[u8]) -> Answer {
     match read_tape_text(alloc, text) {
-        Ok(codes) => reader.mount(codes).is_ok(),
-        Err(_) => false,
+        Ok(codes) => (0, 0, reader.mount(codes).is_ok()),
+        Err(_) => NO,
     }
 }
 
-/// Puts the tape of a text in of which a given number of codes have passed; whether it has that many.
-fn set<A: Allocator + Copy>(reader: &mut Reader<A>, alloc: A, text: &[u8], passed: usize) -> bool {
+fn mount_stops<A: Allocator + Copy>(reader: &mut Reader<A>, alloc: A, count: usize) -> Answer {
+    let Ok(codes) = vec![in alloc; Code::STOP; count] else {
+        return NO;
+    };
+    match reader.mount(codes) {
+        Ok(()) => DONE,
+        Err(back) => (back.len(), 0, false),
+    }
+}
+
+fn set<A: Allocator + Copy>(
+    reader: &mut Reader<A>,
+    alloc: A,
+    text: &[u8],
+    passed: usize,
+) -> Answer {
     match read_tape_text(alloc, text) {
         Ok(codes) if passed <= codes.len() && codes.len() <= TAPE_LIMIT => {
             reader.set(codes, passed);
-            true
+            DONE
         }
-        _ => false,
+        _ => NO,
     }
 }
 
-/// Puts a tape of a given number of conditional stops in. How many are handed back; `None` where memory is refused.
-fn mount_stops(reader: &mut Reader, global: Global, count: usize) -> Option<usize> {
-    let codes = vec![in global; Code::STOP; count].ok()?;
-    match reader.mount(codes) {
-        Ok(()) => Some(0),
-        Err(back) => Some(back.len()),
+/// The number of a code, if there is one.
+fn number_of(code: Option<Code>) -> Answer {
+    match code {
+        Some(code) => (0, u32::from(code.number()), true),
+        None => NO,
     }
 }
 
-/// The number of the code that passes; `None` at the tape's end.
-fn pass<A: Allocator>(reader: &mut Reader<A>) -> Option<u8> {
-    let code = reader.pass()?;
-    Some(code.number())
-}
-
-fn pass_input<A: Allocator>(reader: &mut Reader<A>, six_bit: bool, accumulator: u32) -> Input {
-    reader.pass_input(six_bit, accumulator)
-}
-
-fn start<A: Allocator>(reader: &mut Reader<A>) -> Shown {
-    reader.start();
-    shown(reader)
-}
-
-fn stop<A: Allocator>(reader: &mut Reader<A>) -> Shown {
-    reader.stop();
-    shown(reader)
-}
-
-fn back_up<A: Allocator>(reader: &mut Reader<A>, count: usize) -> (bool, Shown) {
-    (reader.back_up(count), shown(reader))
-}
-
-/// What shows of a new reader, of it switched on, with a tape of three codes, and switched on and off; and whether the tape is
-/// taken.
-fn switched(global: Global) -> (bool, [Shown; 5]) {
-    let mut reader = Reader::new(global);
-    let (new, on) = (shown(&reader), start(&mut reader));
-    let taken = mount(&mut reader, global, b"12'");
-    let mounted = [shown(&reader), start(&mut reader), stop(&mut reader)];
-    (taken, [new, on, mounted[0], mounted[1], mounted[2]])
-}
-
-#[test]
-fn a_reader_is_on_or_off(rt: HostRuntime) {
-    let shows = [
-        (false, 0, 0),
-        (true, 0, 0),
-        (false, 0, 3),
-        (true, 0, 3),
-        (false, 0, 3),
-    ];
-    expect_eq(&rt, switched(rt.alloc()), (true, shows));
-}
-
-/// The numbers of the codes of a tape of three, and what passes at its end.
-fn passing(global: Global) -> (bool, [Option<u8>; 4]) {
-    let mut reader = Reader::new(global);
-    let taken = mount(&mut reader, global, b"12'");
-    let first = [pass(&mut reader), pass(&mut reader)];
-    let last = [pass(&mut reader), pass(&mut reader)];
-    (taken, [first[0], first[1], last[0], last[1]])
-}
-
-#[test]
-fn codes_pass_in_order(rt: HostRuntime) {
-    expect_eq(
-        &rt,
-        passing(rt.alloc()),
-        (true, [Some(6), Some(10), Some(32), None]),
-    );
-}
-
-/// An input: how many codes it would pass, what it does, and what shows after it.
-fn input(reader: &mut Reader, six_bit: bool, accumulator: u32) -> (usize, Input, Shown) {
+fn input<A: Allocator>(reader: &mut Reader<A>, six_bit: bool, accumulator: u32) -> Answer {
     let passing = reader.passing();
-    let input = pass_input(reader, six_bit, accumulator);
-    (passing, input, shown(reader))
+    let input = reader.pass_input(six_bit, accumulator);
+    (passing, input.accumulator, input.done)
 }
 
-/// Three inputs from one tape, with the reader off and twice with it on; and whether the tape is taken.
-fn three_inputs(global: Global) -> (bool, [(usize, Input, Shown); 3]) {
-    let mut reader = Reader::new(global);
-    let taken = mount(&mut reader, global, b"12[16]3'45");
-    let off = input(&mut reader, false, 7);
-    start(&mut reader);
-    let first = input(&mut reader, false, 0);
-    start(&mut reader);
-    (taken, [off, first, input(&mut reader, false, 0x12)])
+/// The number of the code that passes in a reader that shows this.
+fn pass_if<A: Allocator>(reader: &mut Reader<A>, wanted: Shown) -> Answer {
+    if shown(reader) == wanted {
+        number_of(reader.pass())
+    } else {
+        NO
+    }
 }
 
-/// What an input leaves.
-fn left(accumulator: u32, done: bool) -> Input {
-    Input { accumulator, done }
+fn copied<A: Allocator + Clone>(reader: &Reader<A>) -> Answer {
+    match reader.copy() {
+        Ok(mut copy) => pass_if(&mut copy, shown(reader)),
+        Err(_) => NO,
+    }
 }
 
-#[test]
-fn an_input_ends_at_the_stop(rt: HostRuntime) {
-    let inputs = [
-        (0, left(7, false), (false, 0, 7)),
-        (5, left(0x123, true), (false, 5, 2)),
-        (2, left(0x1245, false), (false, 7, 0)),
-    ];
-    expect_eq(&rt, three_inputs(rt.alloc()), (true, inputs));
-}
-
-/// An input by six bits from a tape of two codes.
-fn six_bits(global: Global) -> (bool, (usize, Input, Shown)) {
-    let mut reader = Reader::new(global);
-    let taken = mount(&mut reader, global, b"a'");
-    start(&mut reader);
-    (taken, input(&mut reader, true, 0))
-}
-
-#[test]
-fn six_bits_of_a_code_enter(rt: HostRuntime) {
-    expect_eq(
-        &rt,
-        six_bits(rt.alloc()),
-        (true, (2, left(0x39, true), (false, 2, 0))),
-    );
-}
-
-/// A tape of as many codes as may be, and one of a code more with the reader on: how many codes are handed back of each.
-fn longest(global: Global) -> ([Option<usize>; 2], Shown) {
-    let mut reader = Reader::new(global);
-    let taken = mount_stops(&mut reader, global, TAPE_LIMIT);
-    start(&mut reader);
-    let back = mount_stops(&mut reader, global, TAPE_LIMIT + 1);
-    ([taken, back], shown(&reader))
-}
-
-#[test]
-fn a_tape_above_the_limit_is_handed_back(rt: HostRuntime) {
-    expect_eq(
-        &rt,
-        longest(rt.alloc()),
-        ([Some(0), Some(1_048_577)], (true, 0, 1_048_576)),
-    );
-}
-
-/// What shows of a copy, and the code that passes next.
-type Copied = Option<(Shown, Option<u8>)>;
-
-/// Copies a reader: what the copy has.
-fn copied<A: Allocator + Clone>(reader: &Reader<A>) -> Copied {
-    let mut copy = reader.copy().ok()?;
-    Some((shown(&copy), pass(&mut copy)))
-}
-
-/// Copies a reader with the nth growth refused: what the copy has, whether a growth was refused, and what shows of the reader.
+/// The same with the nth growth refused.
 fn copied_within_limit<B: Allocator>(
     limited: &Limited<B>,
     reader: &Reader<&Limited<B>>,
     nth: u64,
-) -> (Copied, bool, Shown) {
+) -> Answer {
     limited.refuse(nth);
-    (copied(reader), limited.was_refused(), shown(reader))
+    let (_, number, done) = copied(reader);
+    let refused = limited.was_refused();
+    limited.refuse(0);
+    (usize::from(refused), number, done)
 }
 
-/// Whether the tape was taken, the code that passed first, what became of both copies, and how many blocks are out then.
-type Copies = (bool, Option<u8>, [(Copied, bool, Shown); 2], u64);
+/// Does what is to be done with a reader.
+fn answer<'a, B: Allocator>(
+    limited: &'a Limited<B>,
+    reader: &mut Reader<&'a Limited<B>>,
+    deed: &Deed,
+) -> Answer {
+    match deed {
+        Deed::Start => {
+            reader.start();
+            DONE
+        }
+        Deed::Stop => {
+            reader.stop();
+            DONE
+        }
+        Deed::Mount(text) => mount(reader, limited, text),
+        Deed::Stops(count) => mount_stops(reader, limited, *count),
+        Deed::Set(text, passed) => set(reader, limited, text, *passed),
+        Deed::Pass => number_of(reader.pass()),
+        Deed::First => number_of(reader.passed().first().copied()),
+        Deed::Input(six_bit, accumulator) => input(reader, *six_bit, *accumulator),
+        Deed::Back(count) => (0, 0, reader.back_up(*count)),
+        Deed::Copy(nth) => copied_within_limit(limited, reader, *nth),
+    }
+}
 
-/// Copies a reader that is on and within its tape, with the first growth refused and then with none.
-fn copied_twice<B: Allocator>(limited: &Limited<B>) -> Copies {
+/// What is done, what that answers, and what shows then.
+type Row = (Deed, Answer, Shown);
+
+/// A new reader, with one tape after another.
+const ROWS: [Row; 40] = [
+    (Deed::Pass, NO, (false, 0, 0)),
+    (Deed::Start, DONE, (true, 0, 0)),
+    // It is on or off, and codes pass in order.
+    (Deed::Mount(b"12'"), DONE, (false, 0, 3)),
+    (Deed::Start, DONE, (true, 0, 3)),
+    (Deed::Stop, DONE, (false, 0, 3)),
+    (Deed::Pass, (0, 6, true), (false, 1, 2)),
+    (Deed::Pass, (0, 10, true), (false, 2, 1)),
+    (Deed::Pass, (0, 32, true), (false, 3, 0)),
+    (Deed::Pass, NO, (false, 3, 0)),
+    // An input ends at the stop, and passes nothing where the reader is off.
+    (Deed::Mount(b"12[16]3'45"), DONE, (false, 0, 7)),
+    (Deed::Input(false, 7), (0, 7, false), (false, 0, 7)),
+    (Deed::Start, DONE, (true, 0, 7)),
+    (Deed::Input(false, 0), (5, 0x123, true), (false, 5, 2)),
+    (Deed::Start, DONE, (true, 5, 2)),
+    (Deed::Input(false, 0x12), (2, 0x1245, false), (false, 7, 0)),
+    // Six bits of a code enter.
+    (Deed::Mount(b"a'"), DONE, (false, 0, 2)),
+    (Deed::Start, DONE, (true, 0, 2)),
+    (Deed::Input(true, 0), (2, 0x39, true), (false, 2, 0)),
+    // A tape above the limit is handed back.
+    (Deed::Stops(TAPE_LIMIT), DONE, (false, 0, 1_048_576)),
+    (Deed::Start, DONE, (true, 0, 1_048_576)),
+    (
+        Deed::Stops(TAPE_LIMIT + 1),
+        (1_048_577, 0, false),
+        (true, 0, 1_048_576),
+    ),
+    // A refused copy changes nothing.
+    (Deed::Mount(b"12"), DONE, (false, 0, 2)),
+    (Deed::Start, DONE, (true, 0, 2)),
+    (Deed::Pass, (0, 6, true), (true, 1, 1)),
+    (Deed::Copy(1), (1, 0, false), (true, 1, 1)),
+    (Deed::Copy(2), (0, 10, true), (true, 1, 1)),
+    // A tape goes back, though by no more codes than have passed.
+    (Deed::Mount(b"12'3"), DONE, (false, 0, 4)),
+    (Deed::Start, DONE, (true, 0, 4)),
+    (Deed::Input(false, 0), (3, 0x12, true), (false, 3, 1)),
+    (Deed::First, (0, 6, true), (false, 3, 1)),
+    (Deed::Back(4), NO, (false, 3, 1)),
+    (Deed::Back(2), DONE, (false, 1, 3)),
+    (Deed::Pass, (0, 10, true), (false, 2, 2)),
+    (Deed::Copy(0), (0, 32, true), (false, 2, 2)),
+    // A tape takes another's place.
+    (Deed::Mount(b"ab"), DONE, (false, 0, 2)),
+    // A tape is set within itself.
+    (Deed::Start, DONE, (true, 0, 2)),
+    (Deed::Set(b"12'3", 3), DONE, (true, 3, 1)),
+    (Deed::Pass, (0, 14, true), (true, 4, 0)),
+    (Deed::Pass, NO, (true, 4, 0)),
+    (Deed::Stop, DONE, (false, 4, 0)),
+];
+
+/// Whether a reader shows this, and has one block of memory where there is a tape.
+fn is_shown<B: Allocator>(
+    limited: &Limited<B>,
+    reader: &Reader<&Limited<B>>,
+    shows: &Shown,
+) -> bool {
+    let has_tape = shows.1 > 0 || shows.2 > 0;
+    shown(reader) == *shows && limited.blocks_out() == u64::from(has_tape)
+}
+
+/// The place of the first row that answers or shows something else, or how many rows there are.
+fn first_wrong<'a, B: Allocator>(
+    limited: &'a Limited<B>,
+    reader: &mut Reader<&'a Limited<B>>,
+) -> usize {
+    let mut place = 0usize;
+    for (deed, wanted, shows) in &ROWS {
+        if answer(limited, reader, deed) != *wanted || !is_shown(limited, reader, shows) {
+            return place;
+        }
+        place = place.saturating_add(1);
+    }
+    place
+}
+
+/// The same of a new reader.
+fn first_wrong_of_new<B: Allocator>(limited: &Limited<B>) -> usize {
     let mut reader = Reader::new(limited);
-    let taken = mount(&mut reader, limited, b"12");
-    start(&mut reader);
-    let first = pass(&mut reader);
-    let refused = copied_within_limit(limited, &reader, 1);
-    let copied = copied_within_limit(limited, &reader, 2);
-    (taken, first, [refused, copied], limited.blocks_out())
+    first_wrong(limited, &mut reader)
 }
 
 #[test]
-fn a_refused_copy_changes_nothing(rt: HostRuntime) {
-    let within = (true, 1, 1);
-    let refused = (None, true, within);
-    let copied = (Some((within, Some(10))), false, within);
-    expect_eq(
-        &rt,
-        copied_twice(&Limited::new(rt.alloc())),
-        (true, Some(6), [refused, copied], 1),
-    );
-}
-
-/// The number of the first code that has passed.
-fn first_passed<A: Allocator>(reader: &Reader<A>) -> Option<u8> {
-    let code = reader.passed().first()?;
-    Some(code.number())
-}
-
-/// The first code of a tape that has passed in an input, and what shows after it; and whether the tape is taken.
-type Read = (bool, Shown, Option<u8>, Shown);
-
-fn after_the_input(reader: &mut Reader, global: Global) -> Read {
-    let taken = mount(reader, global, b"12'3");
-    let mounted = shown(reader);
-    start(reader);
-    pass_input(reader, false, 0);
-    (taken, mounted, first_passed(reader), shown(reader))
-}
-
-/// The tape then moved back by more codes than have passed, and by fewer; the code that passes then, and what a copy has.
-fn moved_back(global: Global) -> (Read, [(bool, Shown); 2], Option<u8>, Copied) {
-    let mut reader = Reader::new(global);
-    let read = after_the_input(&mut reader, global);
-    let moved = [back_up(&mut reader, 4), back_up(&mut reader, 2)];
-    (read, moved, pass(&mut reader), copied(&reader))
-}
-
-#[test]
-fn a_tape_goes_back(rt: HostRuntime) {
-    let later = (false, 3, 1);
-    expect_eq(
-        &rt,
-        moved_back(rt.alloc()),
-        (
-            (true, (false, 0, 4), Some(6), later),
-            [(false, later), (true, (false, 1, 3))],
-            Some(10),
-            Some(((false, 2, 2), Some(32))),
-        ),
-    );
-}
-
-/// Another tape in the place of that one; whether it is taken, and what shows then.
-fn replaced(global: Global) -> (bool, Shown) {
-    let mut reader = Reader::new(global);
-    after_the_input(&mut reader, global);
-    (mount(&mut reader, global, b"ab"), shown(&reader))
-}
-
-#[test]
-fn a_tape_takes_anothers_place(rt: HostRuntime) {
-    expect_eq(&rt, replaced(rt.alloc()), (true, (false, 0, 2)));
-}
-
-/// Puts a tape in, another one in its place, and sets a third one: whether each was taken, and how many blocks are out then.
-fn taken_in_turn<B: Allocator>(limited: &Limited<B>) -> [(bool, u64); 3] {
-    let mut reader = Reader::new(limited);
-    [
-        (mount(&mut reader, limited, b"12'"), limited.blocks_out()),
-        (mount(&mut reader, limited, b"ab"), limited.blocks_out()),
-        (set(&mut reader, limited, b"12'3", 3), limited.blocks_out()),
-    ]
-}
-
-#[test]
-fn a_reader_has_the_memory_of_one_tape(rt: HostRuntime) {
-    let taken = taken_in_turn(&Limited::new(rt.alloc()));
-    expect_eq(&rt, taken, [(true, 1); 3]);
-}
-
-/// A tape of four codes of which three have passed, in a reader that is on; the code that passes then; and whether it has
-/// that many codes.
-fn set_within(global: Global) -> (bool, Shown, Option<u8>) {
-    let mut reader = Reader::new(global);
-    start(&mut reader);
-    let is_set = set(&mut reader, global, b"12'3", 3);
-    (is_set, shown(&reader), pass(&mut reader))
-}
-
-#[test]
-fn a_tape_is_set_within_itself(rt: HostRuntime) {
-    expect_eq(&rt, set_within(rt.alloc()), (true, (true, 3, 1), Some(14)));
+fn a_reader_with_its_tapes(rt: HostRuntime) {
+    let limited = Limited::new(rt.alloc());
+    let found = first_wrong_of_new(&limited);
+    expect_eq(&rt, (found, limited.blocks_out()), (ROWS.len(), 0));
 }

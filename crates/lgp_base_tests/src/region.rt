@@ -3,7 +3,6 @@
 use crate::expect_eq;
 use lgp_region::{Memory, Region};
 use std::alloc::{AllocError, Allocator};
-use std::test::Fail;
 
 /// A region over a given number of bytes of another allocator.
 fn region_of<A: Allocator>(alloc: &A, size: usize) -> Result<Region, AllocError> {
@@ -125,50 +124,81 @@ fn first_met_otherwise<A: Allocator>(alloc: &A) -> usize {
     place
 }
 
-#[test]
-fn requests_are_met_by_their_sizes(rt: HostRuntime) {
-    expect_eq(&rt, first_met_otherwise(&rt.alloc()), ASKED.len());
-}
-
-/// Two vectors that grow in turn to 100 numbers each: whether each has its own numbers then.
-fn grow_side_by_side(region: &Region) -> Result<bool, AllocError> {
-    let (mut rising, mut falling) = (Vec::new(region), Vec::new(region));
+/// Appends the numbers from 0 to 99 to one vector and those from 100 to 1 to another, in turn; whether there is memory.
+fn push_both(rising: &mut Vec<u16, &Region>, falling: &mut Vec<u16, &Region>) -> bool {
     for number in 0..100_u16 {
-        rising.push(number)?;
-        falling.push(100 - number)?;
+        if rising.push(number).is_err() || falling.push(100 - number).is_err() {
+            return false;
+        }
     }
-    Ok(rising.iter().copied().eq(0..100) && falling.iter().copied().eq((1..101).rev()))
+    true
+}
+
+/// Whether these are those numbers.
+fn are_both(rising: &[u16], falling: &[u16]) -> bool {
+    for number in 0..100_u16 {
+        let place = usize::from(number);
+        if rising.get(place) != Some(&number) || falling.get(place) != Some(&(100 - number)) {
+            return false;
+        }
+    }
+    rising.len() == 100 && falling.len() == 100
+}
+
+/// Two vectors that grow so in turn: whether each has its own numbers then.
+fn grow_side_by_side(region: &Region) -> bool {
+    let (mut rising, mut falling) = (Vec::new(region), Vec::new(region));
+    push_both(&mut rising, &mut falling) && are_both(rising.as_slice(), falling.as_slice())
+}
+
+/// The same over a new region; false without memory for it.
+fn vectors_keep_their_numbers<A: Allocator>(alloc: &A) -> bool {
+    match region_of(alloc, 1 << 11) {
+        Ok(region) => grow_side_by_side(&region),
+        Err(_) => false,
+    }
+}
+
+/// A region that lasts and lies in a given number of bytes of another allocator.
+fn lasting_of<A: Allocator>(alloc: &A, size: usize) -> Result<&'static Region, AllocError> {
+    Region::lasting(Memory::taken_for_good(alloc, size)?)
+}
+
+/// How many of three requests for 16 bytes such a region meets; `None` where there is none.
+fn met_by_lasting<A: Allocator>(alloc: &A, size: usize) -> Option<usize> {
+    match lasting_of(alloc, size) {
+        Ok(region) => Some(met_of_three(region, 16)),
+        Err(_) => None,
+    }
+}
+
+/// Sizes around the 4,096 bytes that it takes for itself, and how many are met.
+const LASTING: [(usize, Option<usize>); 4] = [
+    (4_080, None),
+    (4_096, Some(0)),
+    (4_144, Some(1)),
+    (4_240, Some(3)),
+];
+
+/// The place of the first of these sizes of which another number is met, or how many there are.
+fn first_lasting_otherwise<A: Allocator>(alloc: &A) -> usize {
+    let mut place = 0usize;
+    for (size, wanted) in &LASTING {
+        if met_by_lasting(alloc, *size) != *wanted {
+            return place;
+        }
+        place = place.saturating_add(1);
+    }
+    place
 }
 
 #[test]
-fn vectors_side_by_side_keep_their_numbers(rt: HostRuntime) -> Result<(), Fail> {
-    let region = region_of(&rt.alloc(), 1 << 11)?;
-    let kept = grow_side_by_side(&region)?;
-    expect_eq(&rt, kept, true);
-    Ok(())
-}
-
-/// How many of three requests for 16 bytes a region meets that lasts and lies in a given number of bytes; `None` where there is none.
-fn met_by_lasting<A: Allocator>(alloc: &A, size: usize) -> Result<Option<usize>, AllocError> {
-    match Region::lasting(Memory::taken_for_good(alloc, size)?) {
-        Ok(region) => Ok(Some(met_of_three(region, 16))),
-        Err(_) => Ok(None),
-    }
-}
-
-/// The same for sizes around the 4,096 bytes that it takes for itself.
-fn around_its_own<A: Allocator>(alloc: &A) -> Result<[Option<usize>; 4], AllocError> {
-    Ok([
-        met_by_lasting(alloc, 4_080)?,
-        met_by_lasting(alloc, 4_096)?,
-        met_by_lasting(alloc, 4_144)?,
-        met_by_lasting(alloc, 4_240)?,
-    ])
-}
-
-#[test]
-fn a_region_that_lasts_takes_4096_bytes_for_itself(rt: HostRuntime) -> Result<(), Fail> {
-    let met = around_its_own(&rt.alloc())?;
-    expect_eq(&rt, met, [None, Some(0), Some(1), Some(3)]);
-    Ok(())
+fn requests_are_met_by_their_sizes_and_vectors_keep_their_numbers(rt: HostRuntime) {
+    let alloc = rt.alloc();
+    let seen = (
+        first_met_otherwise(&alloc),
+        first_lasting_otherwise(&alloc),
+        vectors_keep_their_numbers(&alloc),
+    );
+    expect_eq(&rt, seen, (ASKED.len(), LASTING.len(), true));
 }

@@ -3,150 +3,116 @@
 use crate::expect_eq;
 use lgp_source::{Line, Lines, Token, tokens_are_longest_runs};
 
-/// The next line, if it has this number and this text.
-fn next_line<'a>(lines: &mut Lines<'a>, number: u64, text: &[u8]) -> Option<Line<'a>> {
-    match lines.next() {
-        Some(line) if line.number == number && line.text == text => Some(line),
-        _ => None,
-    }
-}
+/// The first place of a token in its line, and the place past it.
+type Span = (usize, usize);
 
-/// Whether no line is left.
-fn is_at_end(lines: &mut Lines) -> bool {
-    lines.next().is_none()
-}
+/// Where there is no token.
+const NONE: Span = (0, 0);
 
-/// Whether there is a token of this text, from its first place to the one past it.
-fn reads(token: Option<Token>, text: &[u8], first: usize, past: usize) -> bool {
+/// A line: its text, its label, its operation and its two operands, whether it has a token more, and its first bad byte.
+type Wanted = (&'static [u8], [Span; 4], bool, Option<usize>);
+
+/// Whether a token of a line lies there and has the text from there; whether there is none, where it should not be.
+fn is_token(line: &[u8], token: &Option<Token>, (first, past): Span) -> bool {
     match token {
-        Some(token) => token.text == text && token.first == first && token.past == past,
-        None => false,
+        Some(token) => {
+            first < past
+                && token.first == first
+                && token.past == past
+                && line.get(first..past) == Some(token.text)
+        }
+        None => first == past,
     }
 }
 
-/// The tokens of a line, the second operand last.
-fn tokens<'a>(line: &Line<'a>) -> [Option<Token<'a>>; 4] {
-    let [first, second] = line.operands;
-    [line.label, line.operation, first, second]
+/// Whether a line has these tokens.
+fn has_tokens(line: &Line, spans: &[Span; 4]) -> bool {
+    let [first, second] = &line.operands;
+    let tokens = [
+        is_token(line.text, &line.label, spans[0]),
+        is_token(line.text, &line.operation, spans[1]),
+        is_token(line.text, first, spans[2]),
+        is_token(line.text, second, spans[3]),
+    ];
+    tokens == [true; 4]
 }
 
-/// Whether the first line has a label, an operation and one operand.
-fn has_one_operand(lines: &mut Lines) -> bool {
-    let Some(line) = next_line(lines, 1, b"start b one ; take") else {
-        return false;
-    };
-    let [label, operation, operand, second] = tokens(&line);
-    reads(label, b"start", 0, 5)
-        && reads(operation, b"b", 6, 7)
-        && reads(operand, b"one", 8, 11)
-        && second.is_none()
-        && !line.extra
-        && line.bad_byte.is_none()
+/// Whether a line is as wanted.
+fn is_line(line: &Line, number: u64, (text, spans, extra, bad_byte): &Wanted) -> bool {
+    line.number == number
+        && line.text == *text
+        && line.extra == *extra
+        && line.bad_byte == *bad_byte
+        && has_tokens(line, spans)
 }
 
-/// Whether the second line has an operation and no label.
-fn has_no_label(lines: &mut Lines) -> bool {
-    match next_line(lines, 2, b" h 0050") {
-        Some(line) => line.label.is_none() && reads(line.operation, b"h", 1, 2),
-        None => false,
+/// The number of the first line of a source that is not as wanted; 0 where all are, and no line comes after them.
+fn first_wrong(source: &[u8], wanted: &[Wanted]) -> u64 {
+    let mut lines = Lines::new(source);
+    let mut number = 1u64;
+    for row in wanted {
+        match lines.next() {
+            Some(line) if is_line(&line, number, row) => {}
+            _ => return number,
+        }
+        number = number.saturating_add(1);
     }
+    if lines.next().is_none() { 0 } else { number }
 }
 
-/// Whether the third line has two operands.
-fn has_two_operands(lines: &mut Lines) -> bool {
-    let Some(line) = next_line(lines, 3, b"\tint\t-1 0 ;x") else {
-        return false;
-    };
-    let [_, _, number, point] = tokens(&line);
-    reads(number, b"-1", 5, 7) && reads(point, b"0", 8, 9) && !line.extra
-}
+/// Tokens by their use, a comment after them, one token too many, and a semicolon within a token.
+const TOKENS: [Wanted; 5] = [
+    (
+        b"start b one ; take",
+        [(0, 5), (6, 7), (8, 11), NONE],
+        false,
+        None,
+    ),
+    (b" h 0050", [NONE, (1, 2), (3, 7), NONE], false, None),
+    (
+        b"\tint\t-1 0 ;x",
+        [NONE, (1, 4), (5, 7), (8, 9)],
+        false,
+        None,
+    ),
+    (
+        b"one frac .1 2 3",
+        [(0, 3), (4, 8), (9, 11), (12, 13)],
+        true,
+        None,
+    ),
+    (b"z;a b", [(0, 3), (4, 5), NONE, NONE], false, None),
+];
 
-/// Whether the fourth line has a token more than there can be.
-fn has_extra(lines: &mut Lines) -> bool {
-    match next_line(lines, 4, b"one frac .1 2 3") {
-        Some(line) => line.extra,
-        None => false,
-    }
-}
+/// Lines that end at line feeds.
+const ENDS: [Wanted; 3] = [
+    (b"", [NONE; 4], false, None),
+    (b";only a comment", [NONE; 4], false, None),
+    (b" \r", [NONE; 4], false, Some(1)),
+];
 
-/// Whether the fifth line has a semicolon within a token.
-fn has_semicolon(lines: &mut Lines) -> bool {
-    match next_line(lines, 5, b"z;a b") {
-        Some(line) => reads(line.label, b"z;a", 0, 3) && reads(line.operation, b"b", 4, 5),
-        None => false,
-    }
-}
+/// Bad bytes by their place. A line with one has no tokens.
+const BAD: [Wanted; 3] = [
+    (b" end\x80\x1f", [NONE; 4], false, Some(4)),
+    (b"~\t ", [(0, 1), NONE, NONE, NONE], false, None),
+    (b"\x7f", [NONE; 4], false, Some(0)),
+];
+
+/// A line without a text.
+const EMPTY: [Wanted; 1] = [(b"", [NONE; 4], false, None)];
 
 #[test]
-fn tokens_by_their_use(rt: HostRuntime) {
-    let mut lines = Lines::new(
-        b"start b one ; take\r\n h 0050\n\tint\t-1 0 ;x\none frac .1 2 3\nz;a b",
-    );
-    let seen = [
-        has_one_operand(&mut lines),
-        has_no_label(&mut lines),
-        has_two_operands(&mut lines),
-        has_extra(&mut lines),
-        has_semicolon(&mut lines),
-        is_at_end(&mut lines),
+fn sources_are_cut_into_lines_and_tokens(rt: HostRuntime) {
+    let wrong = [
+        first_wrong(
+            b"start b one ; take\r\n h 0050\n\tint\t-1 0 ;x\none frac .1 2 3\nz;a b",
+            &TOKENS,
+        ),
+        first_wrong(b"\n;only a comment\n \r\r\n", &ENDS),
+        first_wrong(b" end\x80\x1f\n~\t \n\x7f", &BAD),
+        first_wrong(b"\r", &EMPTY),
+        first_wrong(b"", &[]),
     ];
-    expect_eq(&rt, seen, [true; 6]);
+    expect_eq(&rt, wrong, [0; 5]);
     tokens_are_longest_runs(b"z;a b");
-}
-
-/// Whether the next line has this number, this text, this first bad byte, and no token.
-fn has_nothing(lines: &mut Lines, number: u64, text: &[u8], bad_byte: Option<usize>) -> bool {
-    let Some(line) = next_line(lines, number, text) else {
-        return false;
-    };
-    let [label, operation, first, second] = tokens(&line);
-    label.is_none()
-        && operation.is_none()
-        && first.is_none()
-        && second.is_none()
-        && line.bad_byte == bad_byte
-        && !line.extra
-}
-
-#[test]
-fn lines_end_at_line_feeds(rt: HostRuntime) {
-    let mut lines = Lines::new(b"\n;only a comment\n \r\r\n");
-    let seen = [
-        has_nothing(&mut lines, 1, b"", None),
-        has_nothing(&mut lines, 2, b";only a comment", None),
-        has_nothing(&mut lines, 3, b" \r", Some(1)),
-        is_at_end(&mut lines),
-    ];
-    expect_eq(&rt, seen, [true; 4]);
-}
-
-#[test]
-fn a_source_may_be_empty(rt: HostRuntime) {
-    let mut only = Lines::new(b"\r");
-    let seen = [
-        is_at_end(&mut Lines::new(b"")),
-        has_nothing(&mut only, 1, b"", None),
-        is_at_end(&mut only),
-    ];
-    expect_eq(&rt, seen, [true; 3]);
-}
-
-/// Whether the next line has this number, this text and this first bad byte.
-fn has_bad_byte(lines: &mut Lines, number: u64, text: &[u8], bad_byte: Option<usize>) -> bool {
-    match next_line(lines, number, text) {
-        Some(line) => line.bad_byte == bad_byte,
-        None => false,
-    }
-}
-
-#[test]
-fn bad_bytes_by_their_place(rt: HostRuntime) {
-    let mut lines = Lines::new(b" end\x80\x1f\n~\t \n\x7f");
-    let seen = [
-        has_bad_byte(&mut lines, 1, b" end\x80\x1f", Some(4)),
-        has_bad_byte(&mut lines, 2, b"~\t ", None),
-        has_bad_byte(&mut lines, 3, b"\x7f", Some(0)),
-        is_at_end(&mut lines),
-    ];
-    expect_eq(&rt, seen, [true; 4]);
 }

@@ -21,20 +21,6 @@ fn at(text: &[u8; 4]) -> Address {
     Address::parse(text.as_slice()).unwrap_or_default()
 }
 
-/// What a Look shows in One Operation, at 0000 and with this status, when keys have been pressed.
-fn shown(accumulator: &[u8; 8], register: &[u8; 8], status: Status, clock: u64) -> Option<Look> {
-    Some(Look {
-        counter: Address::default(),
-        accumulator: word(accumulator).get(),
-        register: word(register),
-        status,
-        mode: Mode::OneOperation,
-        switches: Switches::default(),
-        reader_on: false,
-        clock,
-    })
-}
-
 /// What a letter stands for in the texts below: a capital one for the mode or the button that it begins, any other sign for its
 /// key, or the stop key where none has it.
 fn action_of(sign: u8) -> Action {
@@ -67,18 +53,29 @@ fn key<A: Allocator>(
     key_in(machine, base, words)
 }
 
-fn look<A: Allocator>(machine: &Machine<A>) -> Option<Look> {
+/// Whether a machine shows One Operation, 0000 and this status when keys have been pressed.
+fn shows<A: Allocator>(
+    machine: &Machine<A>,
+    (accumulator, register): (&[u8; 8], &[u8; 8]),
+    status: Status,
+    clock: u64,
+) -> bool {
     machine.look()
+        == Some(Look {
+            counter: Address::default(),
+            accumulator: word(accumulator).get(),
+            register: word(register),
+            status,
+            mode: Mode::OneOperation,
+            switches: Switches::default(),
+            reader_on: false,
+            clock,
+        })
 }
 
-/// The word there and the two after it.
-fn words_from<A: Allocator>(machine: &Machine<A>, address: Address) -> [Word; 3] {
-    let second = address.next();
-    [
-        machine.word(address),
-        machine.word(second),
-        machine.word(second.next()),
-    ]
+/// Whether a machine has this word at the address of this text.
+fn has_word<A: Allocator>(machine: &Machine<A>, place: &[u8; 4], digits: &[u8; 8]) -> bool {
+    machine.word(at(place)) == word(digits)
 }
 
 #[test]
@@ -95,85 +92,96 @@ fn what_is_pressed_to_start_a_program(rt: HostRuntime) {
     expect_eq(&rt, to_start(at(b"6300")), b"M000f3w00FOENS".map(action_of));
 }
 
-/// What keying in answers, what shows afterwards, and three words from its first address on.
-type Keyed = (Result<(), KeyFault>, Option<Look>, [Word; 3]);
-
-/// Keys words in from an address on.
-fn keyed<A: Allocator>(machine: &mut Machine<A>, base: Address, words: &[Word]) -> Keyed {
-    let answer = key(machine, base, words);
-    (answer, look(machine), words_from(machine, base))
-}
-
-/// Keys two words in with the first growth refused, and tells whether it was.
-fn keyed_without_memory<B: Allocator>(limited: &Limited<B>) -> Option<(Keyed, bool)> {
-    let words = [word(b"00000004"), word(b"80000000")];
-    let mut machine = Machine::new(limited).ok()?;
+/// Keys two words in at 0100 with the first growth refused. No memory is asked for. The first store waits 64 word times for sector
+/// 00, the second 8 for sector 01; each acts for one.
+fn keys_two_in<B: Allocator>(
+    limited: &Limited<B>,
+    machine: &mut Machine<&Limited<B>>,
+) -> [bool; 6] {
     limited.refuse(1);
-    let keyed = keyed(&mut machine, at(b"0100"), &words);
-    Some((keyed, limited.was_refused()))
-}
-
-/// No memory is asked for. The first store waits 64 word times for sector 00, the second 8 for sector 01; each acts for one.
-#[test]
-fn words_are_keyed_in(rt: HostRuntime) {
+    let answer = key(
+        machine,
+        at(b"0100"),
+        &[word(b"00000004"), word(b"80000000")],
+    );
     let stepped = Status::Halted(Cause::Step);
-    let after = shown(b"80000000", b"000j0104", stepped, 74);
-    let stored = [
-        Word::of_bits(4),
-        Word::of_bits(0x8000_0000),
-        Word::default(),
-    ];
-    let keyed = keyed_without_memory(&Limited::new(rt.alloc()));
-    expect_eq(&rt, keyed, Some(((Ok(()), after, stored), false)));
+    [
+        answer.is_ok(),
+        limited.was_refused(),
+        shows(machine, (b"80000000", b"000j0104"), stepped, 74),
+        has_word(machine, b"0100", b"00000004"),
+        has_word(machine, b"0101", b"80000000"),
+        has_word(machine, b"0102", b"00000000"),
+    ]
 }
 
-/// Keys two words in at the last address: the answer, and whether the same shows as before.
-fn keyed_past_the_drum(global: Global) -> Option<(Result<(), KeyFault>, bool)> {
-    let mut machine = Machine::new(global).ok()?;
-    let before = look(&machine);
-    let answer = key(&mut machine, at(b"6363"), &[Word::default(); 2]);
-    Some((answer, look(&machine) == before))
+/// Keys two words in at the last address: whether that is refused as too many, and the same shows as before.
+fn keys_past_the_drum<A: Allocator>(machine: &mut Machine<A>) -> [bool; 2] {
+    let before = machine.look();
+    let answer = key(machine, at(b"6363"), &[Word::default(); 2]);
+    [answer == Err(KeyFault::PastEnd), machine.look() == before]
+}
+
+/// Starts, lets a word time pass and keys nothing in: whether the first two go well, the third is refused, and nothing shows then.
+fn keys_within<A: Allocator>(machine: &mut Machine<A>) -> [bool; 4] {
+    [
+        machine.press(Action::Start) == Ok(Pressed::Live),
+        machine.turn() == Ok(false),
+        key(machine, Address::default(), &[]) == Err(KeyFault::Moving),
+        machine.look().is_none(),
+    ]
+}
+
+/// The three of them one after another on a new machine.
+type Three = ([bool; 6], [bool; 2], [bool; 4]);
+
+fn keyed_on_one<B: Allocator>(limited: &Limited<B>) -> Option<Three> {
+    match Machine::new(limited) {
+        Ok(mut machine) => {
+            let two = keys_two_in(limited, &mut machine);
+            Some((
+                two,
+                keys_past_the_drum(&mut machine),
+                keys_within(&mut machine),
+            ))
+        }
+        Err(_) => None,
+    }
+}
+
+/// Rests up to a clock, and keys a word in at 0000: whether a machine can rest, the clock's end is reported, the machine is before
+/// the order that stores the word, and the drum is blank there.
+fn keys_at_the_end<A: Allocator>(machine: &mut Machine<A>, clock: u64) -> [bool; 6] {
+    [
+        machine.rest(clock).is_ok(),
+        key(machine, Address::default(), &[word(b"00000004")]) == Err(KeyFault::ClockEnd),
+        shows(
+            machine,
+            (b"00000004", b"000j0000"),
+            Status::Executing,
+            clock,
+        ),
+        has_word(machine, b"0000", b"00000000"),
+        has_word(machine, b"0001", b"00000000"),
+        has_word(machine, b"0002", b"00000000"),
+    ]
+}
+
+/// The same on a new machine, one word time before the clock's end.
+fn keyed_at_the_end(global: Global) -> Option<[bool; 6]> {
+    match Machine::new(global) {
+        Ok(mut machine) => Some(keys_at_the_end(&mut machine, CLOCK_END - 1)),
+        Err(_) => None,
+    }
 }
 
 #[test]
-fn words_past_the_drum_are_refused(rt: HostRuntime) {
+fn words_are_keyed_in_or_refused(rt: HostRuntime) {
+    let keyed = keyed_on_one(&Limited::new(rt.alloc()));
+    let two = [true, false, true, true, true, true];
     expect_eq(
         &rt,
-        keyed_past_the_drum(rt.alloc()),
-        Some((Err(KeyFault::PastEnd), true)),
+        (keyed, keyed_at_the_end(rt.alloc())),
+        (Some((two, [true; 2], [true; 4])), Some([true; 6])),
     );
-}
-
-/// Starts, lets a word time pass and keys nothing in: whether the first two go well, what the third answers, and what shows then.
-fn keyed_within(global: Global) -> Option<([bool; 2], Result<(), KeyFault>, Option<Look>)> {
-    let mut machine = Machine::new(global).ok()?;
-    let started = machine.press(Action::Start) == Ok(Pressed::Live);
-    let turned = machine.turn() == Ok(false);
-    let answer = key(&mut machine, Address::default(), &[]);
-    Some(([started, turned], answer, look(&machine)))
-}
-
-#[test]
-fn nothing_is_keyed_in_within_an_order(rt: HostRuntime) {
-    expect_eq(
-        &rt,
-        keyed_within(rt.alloc()),
-        Some(([true; 2], Err(KeyFault::Moving), None)),
-    );
-}
-
-/// Whether a machine can rest up to a clock, and what keying a word in comes to then.
-fn keyed_after(global: Global, clock: u64) -> Option<(bool, Keyed)> {
-    let mut machine = Machine::new(global).ok()?;
-    let rested = machine.rest(clock).is_ok();
-    let words = [word(b"00000004")];
-    Some((rested, keyed(&mut machine, Address::default(), &words)))
-}
-
-#[test]
-fn key_in_stops_before_the_store_that_passes_the_clocks_end(rt: HostRuntime) {
-    let last = CLOCK_END - 1;
-    let before_store = shown(b"00000004", b"000j0000", Status::Executing, last);
-    let stopped = (Err(KeyFault::ClockEnd), before_store, [Word::default(); 3]);
-    expect_eq(&rt, keyed_after(rt.alloc(), last), Some((true, stopped)));
 }

@@ -54,49 +54,28 @@ fn leaves(global: Global, before: &Panel, action: Action, wanted: &Panel) -> boo
 }
 
 /// Where an action is live: where the machine has halted in the three modes, where it waits, and at work.
-#[derive(Clone, Copy)]
-struct Living {
-    halted: [bool; 3],
-    waiting: bool,
-    at_work: bool,
-}
+type Living = [bool; 5];
 
-const ALWAYS: Living = Living {
-    halted: [true; 3],
-    waiting: true,
-    at_work: true,
-};
+const ALWAYS: Living = [true; 5];
 
-const HALTED: Living = Living {
-    halted: [true; 3],
-    waiting: false,
-    at_work: false,
-};
+const HALTED: Living = [true, true, true, false, false];
 
-const TAKING_CODES: Living = Living {
-    halted: [false, false, true],
-    waiting: true,
-    at_work: false,
-};
+const TAKING_CODES: Living = [false, false, true, true, false];
 
-const WAITING: Living = Living {
-    halted: [false; 3],
-    waiting: true,
-    at_work: false,
-};
+const WAITING: Living = [false, false, false, true, false];
 
-const NEVER: Living = Living {
-    halted: [false; 3],
-    waiting: false,
-    at_work: false,
-};
+const NEVER: Living = [false; 5];
+
+const START: Living = [true, true, false, false, false];
+
+const EXECUTE: Living = [false, true, false, false, false];
 
 /// Whether an action is live at a status and in a mode.
 fn reported(living: &Living, status: Status, mode: Mode) -> bool {
     match status {
-        Status::Halted(_) => living.halted[mode as usize % 3],
-        Status::Waiting => living.waiting,
-        Status::Going | Status::Executing | Status::Reading => living.at_work,
+        Status::Halted(_) => living[mode as usize % 3],
+        Status::Waiting => living[3],
+        Status::Going | Status::Executing | Status::Reading => living[4],
     }
 }
 
@@ -121,22 +100,14 @@ fn first_unreported(global: Global, action: &Action, living: &Living) -> Option<
 
 /// Each action, and where it is live.
 fn table() -> [(Action, Living); 15] {
-    let start = Living {
-        halted: [true, true, false],
-        ..NEVER
-    };
-    let execute = Living {
-        halted: [false, true, false],
-        ..NEVER
-    };
     [
         (Action::Mode(Mode::Normal), ALWAYS),
         (Action::Mode(Mode::OneOperation), ALWAYS),
         (Action::Mode(Mode::Manual), ALWAYS),
-        (Action::Start, start),
+        (Action::Start, START),
         (Action::ClearCounter, HALTED),
         (Action::Fill, HALTED),
-        (Action::Execute, execute),
+        (Action::Execute, EXECUTE),
         (key(6), TAKING_CODES),
         (key(32), WAITING),
         (key(16), NEVER),

@@ -8,11 +8,9 @@ use super::{
 use crate::console::key;
 use crate::expect_eq;
 use lgp_flexo::{Code, TAPE_LIMIT};
-use lgp_machine::{
-    Look, Machine, MountFault, OrderFault, PressFault, Pressed, PutFault, RestFault, TurnFault,
-};
+use lgp_machine::{Machine, MountFault, OrderFault, Pressed, PutFault, RestFault, TurnFault};
 use lgp_table::{Action, Cause, Mode, Status};
-use lgp_word::{Address, Op};
+use lgp_word::Op;
 use std::alloc::{Allocator, Global};
 
 const OPERATOR: Status = Status::Halted(Cause::Operator);
@@ -25,56 +23,28 @@ fn accumulator_and_clock<A: Allocator>(machine: &Machine<A>) -> Option<(u32, u64
     Some((look.accumulator, look.clock))
 }
 
-/// The parts of a word.
-type Parts = (bool, Op, Address);
-
-/// The parts of a transfer to itself before it is kept decoded and after, and the status after it.
-fn parts_shown(global: Global) -> Option<([Parts; 2], Result<Status, OrderFault>)> {
+/// Whether a transfer shows its parts before it is kept decoded and after.
+fn shows_parts(global: Global) -> Option<bool> {
     let mut machine = started(global, &[(0, TRANSFER)])?;
-    let before = parts_at(&machine, 0);
-    let status = status_after(&mut machine);
-    Some(([before, parts_at(&machine, 0)], status))
-}
-
-/// A transfer shows its parts before it is kept decoded and after.
-#[test]
-fn a_word_shows_its_parts(rt: HostRuntime) {
     let parts = (false, Op::U, address(0));
-    expect_eq(
-        &rt,
-        parts_shown(rt.alloc()),
-        Some(([parts; 2], Ok(Status::Going))),
-    );
+    Some(
+        parts_at(&machine, 0) == parts
+            && status_after(&mut machine) == Ok(Status::Going)
+            && parts_at(&machine, 0) == parts,
+    )
 }
 
-/// What shows of a new machine, its last word, what it has printed, what is left on its tape, and what lies ahead.
-type Opening = (
-    Option<Look>,
-    u32,
-    (usize, Option<Code>),
-    Option<usize>,
-    Option<(u64, Option<Code>)>,
-);
-
-fn opening(global: Global) -> Option<Opening> {
+/// Whether a new machine shows its opening state: its last word is blank, nothing is printed, no tape is there, and a word time at
+/// rest lies ahead.
+fn opens(global: Global) -> Option<bool> {
     let machine = Machine::new(global).ok()?;
-    Some((
-        look(&machine),
-        word_at(&machine, 4095),
-        printed(&machine),
-        tape_left(&machine),
-        ahead(&machine),
-    ))
-}
-
-#[test]
-fn the_opening_state(rt: HostRuntime) {
-    let look = shown(0, 0, 0, OPERATOR, 0);
-    expect_eq(
-        &rt,
-        opening(rt.alloc()),
-        Some((look, 0, (0, None), Some(0), Some((1, None)))),
-    );
+    Some(
+        look(&machine) == shown(0, 0, 0, OPERATOR, 0)
+            && word_at(&machine, 4095) == 0
+            && printed(&machine) == (0, None)
+            && tape_left(&machine) == Some(0)
+            && ahead(&machine) == Some((1, None)),
+    )
 }
 
 /// Whether a new machine performs no order at rest, and its clock goes on by five word times and by one.
@@ -113,86 +83,53 @@ fn enters_six_bits(global: Global) -> Option<bool> {
     )
 }
 
-/// What striking a key would be, what becomes of it, and the accumulator and the clock after it.
-type Struck = (
-    Option<bool>,
-    Result<Pressed, PressFault>,
-    Option<(u32, u64)>,
-);
+/// Keys by the numbers of their codes, whether they are live, and the accumulator after each.
+const KEYS: [(u8, Pressed, u32); 5] = [
+    (2, Pressed::Live, 0),
+    (2, Pressed::Live, 0),
+    (18, Pressed::Live, 4),
+    (32, Pressed::Dead, 4),
+    (16, Pressed::Dead, 4),
+];
 
-/// Strikes the key of a code.
-fn strike<A: Allocator>(machine: &mut Machine<A>, number: u8) -> Struck {
-    let predicted = live(machine, key(number));
-    let answer = press(machine, key(number));
-    (predicted, answer, accumulator_and_clock(machine))
+/// Whether a key is predicted to be live or dead, is so, and leaves this accumulator.
+fn strikes<A: Allocator>(
+    machine: &mut Machine<A>,
+    (number, pressed, accumulator): &(u8, Pressed, u32),
+) -> bool {
+    live(machine, key(*number)) == Some(*pressed == Pressed::Live)
+        && press(machine, key(*number)) == Ok(*pressed)
+        && accumulator_and_clock(machine) == Some((*accumulator, 0))
 }
 
-/// Five keys struck in Manual one after another.
-fn struck_in_manual(global: Global) -> Option<(Result<Pressed, PressFault>, [Struck; 5])> {
+/// Whether these keys do so one after another.
+fn strikes_all<A: Allocator>(machine: &mut Machine<A>) -> bool {
+    for row in &KEYS {
+        if !strikes(machine, row) {
+            return false;
+        }
+    }
+    true
+}
+
+/// The same in Manual.
+fn enters_in_manual(global: Global) -> Option<bool> {
     let mut machine = Machine::new(global).ok()?;
-    let manual = press(&mut machine, Action::Mode(Mode::Manual));
-    let struck = [
-        strike(&mut machine, 2),
-        strike(&mut machine, 2),
-        strike(&mut machine, 18),
-        strike(&mut machine, 32),
-        strike(&mut machine, 16),
-    ];
-    Some((manual, struck))
+    let manual = press(&mut machine, Action::Mode(Mode::Manual)) == Ok(Pressed::Live);
+    Some(manual && strikes_all(&mut machine))
 }
 
-/// A key that was live or dead, with this accumulator after it.
-fn struck(pressed: Pressed, accumulator: u32) -> Struck {
-    let live = pressed == Pressed::Live;
-    (Some(live), Ok(pressed), Some((accumulator, 0)))
-}
-
-#[test]
-fn keys_enter_in_manual(rt: HostRuntime) {
-    let struck = [
-        struck(Pressed::Live, 0),
-        struck(Pressed::Live, 0),
-        struck(Pressed::Live, 4),
-        struck(Pressed::Dead, 4),
-        struck(Pressed::Dead, 4),
-    ];
-    expect_eq(
-        &rt,
-        struck_in_manual(rt.alloc()),
-        Some((Ok(Pressed::Live), struck)),
-    );
-}
-
-/// What lies ahead of a print, what it answers, what is printed and shows then, and what becomes of a rest.
-type Print = (
-    Option<(u64, Option<Code>)>,
-    Result<(u64, Status, Option<Code>), OrderFault>,
-    (usize, Option<Code>),
-    Option<Look>,
-    Result<(), RestFault>,
-);
-
-fn print(global: Global) -> Option<Print> {
+/// Whether a print is foretold, prints, shows what it leaves, and leaves the machine at work.
+fn prints(global: Global) -> Option<bool> {
     let mut machine = started(global, &[(0, PRINT)])?;
-    let ahead = ahead(&machine);
-    let answer = next_order(&mut machine);
-    let (printed, look) = (printed(&machine), look(&machine));
-    Some((ahead, answer, printed, look, rest(&mut machine, 1)))
-}
-
-#[test]
-fn a_code_is_printed(rt: HostRuntime) {
-    expect_eq(
-        &rt,
-        print(rt.alloc()),
-        Some((
-            Some((451, Code::new(57))),
-            Ok((451, Status::Going, Code::new(57))),
-            (1, Code::new(57)),
-            shown(1, 0, PRINT, Status::Going, 451),
-            Err(RestFault::AtWork),
-        )),
-    );
+    let code = Code::new(57);
+    Some(
+        ahead(&machine) == Some((451, code))
+            && next_order(&mut machine) == Ok((451, Status::Going, code))
+            && printed(&machine) == (1, code)
+            && look(&machine) == shown(1, 0, PRINT, Status::Going, 451)
+            && rest(&mut machine, 1) == Err(RestFault::AtWork),
+    )
 }
 
 /// Whether the calls that need a boundary are refused, a tape handed back, and the word put is not there.
@@ -247,42 +184,36 @@ fn ends_at_rest(global: Global) -> Option<bool> {
     )
 }
 
+/// Whether a tape of a given number of codes is answered so, and this many codes are left then.
+fn mounts(
+    global: Global,
+    count: usize,
+    wanted: Result<(), (MountFault, usize)>,
+    left: usize,
+) -> Option<bool> {
+    let mut machine = Machine::new(global).ok()?;
+    let mounted = mount_codes(&mut machine, global, count);
+    Some(mounted == Some(wanted) && tape_left(&machine) == Some(left))
+}
+
 #[test]
 fn calls_are_answered_at_rest_within_an_order_and_at_the_clocks_end(rt: HostRuntime) {
     let alloc = rt.alloc();
+    let back = Err((MountFault::TooLong, 1_048_577));
     let answered = [
+        shows_parts(alloc),
+        opens(alloc),
         goes_on_at_rest(alloc),
         waits_for_a_stop(alloc),
         enters_six_bits(alloc),
+        enters_in_manual(alloc),
+        prints(alloc),
         refuses_all(alloc),
         is_hidden(alloc),
         ends_within(alloc),
         ends_at_rest(alloc),
+        mounts(alloc, TAPE_LIMIT + 1, back, 0),
+        mounts(alloc, 1_048_576, Ok(()), 1_048_576),
     ];
-    expect_eq(&rt, answered, [Some(true); 7]);
-}
-
-/// What becomes of a tape of a given number of codes, and how many are left then.
-type Mounted = (Option<Result<(), (MountFault, usize)>>, Option<usize>);
-
-fn mounted(global: Global, count: usize) -> Option<Mounted> {
-    let mut machine = Machine::new(global).ok()?;
-    let mounted = mount_codes(&mut machine, global, count);
-    Some((mounted, tape_left(&machine)))
-}
-
-#[test]
-fn a_tape_has_at_most_1048576_codes(rt: HostRuntime) {
-    let back = Err((MountFault::TooLong, 1_048_577));
-    expect_eq(
-        &rt,
-        [
-            mounted(rt.alloc(), TAPE_LIMIT + 1),
-            mounted(rt.alloc(), 1_048_576),
-        ],
-        [
-            Some((Some(back), Some(0))),
-            Some((Some(Ok(())), Some(1_048_576))),
-        ],
-    );
+    expect_eq(&rt, answered, [Some(true); 13]);
 }

@@ -104,84 +104,77 @@ const FOUR: [Event; 4] = [
     Event::WordTime,
 ];
 
-/// Whether a machine goes to two word times before the clock's end, what becomes of a play with the first growth refused, and
-/// whether it came to one.
-type Ended = (bool, Result<(), PlayFault>, bool);
-
-/// Plays a print there.
-fn play_at_the_end<B: Allocator>(
+/// Whether a machine goes to two word times before the clock's end, a play stops there, and it comes to no growth. The last three
+/// say nothing.
+fn plays_at_the_end<B: Allocator>(
     limited: &Limited<B>,
     machine: &mut Machine<&Limited<B>>,
-) -> Ended {
-    let rested = rest(machine, CLOCK_END - 2).is_ok();
-    limited.refuse(1);
-    let played = play(machine, &FOUR);
-    (rested, played, limited.was_refused())
-}
-
-/// The same of a new machine.
-fn played_at_the_end<B: Allocator>(limited: &Limited<B>) -> Option<Ended> {
-    match with_words(limited, &[(0, PRINT)]) {
-        Some(mut machine) => Some(play_at_the_end(limited, &mut machine)),
-        None => None,
-    }
-}
-
-#[test]
-fn a_play_stops_at_the_clocks_end(rt: HostRuntime) {
+) -> [bool; 6] {
     let stopped = PlayFault {
         done: 3,
         fault: TurnFault::ClockEnd,
     };
-    let played = played_at_the_end(&Limited::new(rt.alloc()));
-    expect_eq(&rt, played, Some((true, Err(stopped), false)));
+    let rested = rest(machine, CLOCK_END - 2).is_ok();
+    limited.refuse(1);
+    let played = play(machine, &FOUR) == Err(stopped);
+    [rested, played, !limited.was_refused(), true, true, true]
 }
 
-/// What a play without room for a code comes to and whether a growth was refused, what is printed and shows then, what becomes of a
-/// word time more, and what is printed after it.
-type Unprinted = (
-    (Result<(), PlayFault>, bool),
-    ((usize, Option<Code>), Option<Look>),
-    Result<(), PlayFault>,
-    (usize, Option<Code>),
-);
+/// A start, and 451 word times.
+fn events_of_a_print() -> [Event; 452] {
+    let mut events = [Event::WordTime; 452];
+    events[0] = Event::Press(Action::Start);
+    events
+}
 
-/// Plays a start and 451 word times of a print so, and a word time more.
-fn play_without_room<B: Allocator>(
+/// Plays these with the first growth refused, and a word time more: whether the last word time of the print is refused and nothing
+/// is printed then nor shows, and the word time more prints.
+fn plays_without_room<B: Allocator>(
     limited: &Limited<B>,
     machine: &mut Machine<&Limited<B>>,
-    events: &[Event],
-) -> Unprinted {
+) -> [bool; 6] {
+    let stopped = PlayFault {
+        done: 451,
+        fault: TurnFault::Memory,
+    };
     limited.refuse(1);
-    let first = (play(machine, events), limited.was_refused());
-    let before = (printed(machine), look(machine));
-    let second = play(machine, &[Event::WordTime]);
-    (first, before, second, printed(machine))
+    [
+        play(machine, &events_of_a_print()) == Err(stopped),
+        limited.was_refused(),
+        printed(machine) == (0, None),
+        look(machine).is_none(),
+        play(machine, &[Event::WordTime]) == Ok(()),
+        printed(machine) == (1, Code::new(57)),
+    ]
 }
 
-/// The same of a new machine.
-fn played_without_room<B: Allocator>(limited: &Limited<B>, events: &[Event]) -> Option<Unprinted> {
+fn plays<B: Allocator>(
+    limited: &Limited<B>,
+    machine: &mut Machine<&Limited<B>>,
+    at_the_end: bool,
+) -> [bool; 6] {
+    if at_the_end {
+        return plays_at_the_end(limited, machine);
+    }
+    plays_without_room(limited, machine)
+}
+
+/// The one or the other on a new machine.
+fn played<B: Allocator>(limited: &Limited<B>, at_the_end: bool) -> Option<[bool; 6]> {
+    limited.refuse(0);
     match with_words(limited, &[(0, PRINT)]) {
-        Some(mut machine) => Some(play_without_room(limited, &mut machine, events)),
+        Some(mut machine) => Some(plays(limited, &mut machine, at_the_end)),
         None => None,
     }
 }
 
 #[test]
-fn a_play_stops_where_there_is_no_room(rt: HostRuntime) {
+fn a_play_stops_at_the_clocks_end_and_where_there_is_no_room(rt: HostRuntime) {
     let limited = Limited::new(rt.alloc());
-    let mut events = [Event::WordTime; 452];
-    events[0] = Event::Press(Action::Start);
-    let unprinted = played_without_room(&limited, &events);
-    let stopped = PlayFault {
-        done: 451,
-        fault: TurnFault::Memory,
-    };
-    let wanted = (
-        (Err(stopped), true),
-        ((0, None), None),
-        Ok(()),
-        (1, Code::new(57)),
+    let played = [played(&limited, true), played(&limited, false)];
+    expect_eq(
+        &rt,
+        (played, limited.blocks_out()),
+        ([Some([true; 6]); 2], 0),
     );
-    expect_eq(&rt, (unprinted, limited.blocks_out()), (Some(wanted), 0));
 }

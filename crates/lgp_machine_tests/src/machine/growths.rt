@@ -11,8 +11,7 @@ use lgp_machine::{Look, Machine, OrderFault, TurnFault};
 use lgp_table::{Cause, Status};
 use lgp_word::Word;
 use linked_list_allocator::LocalHeap;
-use std::alloc::Allocator;
-use std::test::Fail;
+use std::alloc::{Allocator, Global};
 
 /// More growths than any call has.
 const MOST: u64 = 100;
@@ -73,36 +72,31 @@ fn opening(words: (u16, [u32; 3])) -> Option<Whole> {
     Some((look, words, (0, [0; 3]), (0, [0; 3]), (0, [0; 3])))
 }
 
-/// What a machine has that was made with the nth growth refused; `None` where that is the first one, and where a growth was
-/// refused.
-fn whole_if_last<A: Allocator>(machine: &Machine<A>, nth: u64, refused: bool) -> Option<Whole> {
-    if nth == 1 || refused {
-        return None;
-    }
-    whole(machine)
+/// Whether a machine has all that is wanted.
+fn is_whole<A: Allocator>(machine: &Machine<A>, wanted: &Option<Whole>) -> bool {
+    wanted.is_some() && whole(machine) == *wanted
 }
 
-/// Makes a machine with each growth refused in turn. What it has; `None` where a growth is refused and it is made, or where none
-/// is and it is not.
-fn made<B: Allocator>(limited: &Limited<B>) -> Option<Whole> {
-    for nth in 1..MOST {
-        limited.refuse(nth);
-        if let Ok(machine) = Machine::new(limited) {
-            return whole_if_last(&machine, nth, limited.was_refused());
-        }
-        if !limited.was_refused() {
-            return None;
-        }
-    }
-    None
+/// The same of one that was made last, with no growth refused.
+fn is_last<B: Allocator>(
+    limited: &Limited<B>,
+    machine: &Machine<&Limited<B>>,
+    wanted: &Option<Whole>,
+) -> bool {
+    !limited.was_refused() && is_whole(machine, wanted)
 }
 
-#[test]
-fn each_growth_of_a_new_machine_is_refused(rt: HostRuntime) -> Result<(), Fail> {
-    let heap = LocalHeap::new(rt.alloc(), 262144)?;
-    let made = made(&Limited::new(&heap));
-    expect_eq(&rt, (made, heap.used()), (opening((0, [0; 3])), 0));
-    Ok(())
+/// Whether a machine is made, and whether all is then as it should be: a machine that is made has what is wanted and no growth was
+/// refused, and one was refused where none is made.
+type Tried = [bool; 2];
+
+/// Makes a machine with the nth growth refused.
+fn try_new<B: Allocator>(limited: &Limited<B>, nth: u64, wanted: &Option<Whole>) -> Tried {
+    limited.refuse(nth);
+    match Machine::new(limited) {
+        Ok(machine) => [true, is_last(limited, &machine, wanted)],
+        Err(_) => [false, limited.was_refused()],
+    }
 }
 
 /// A drum with two words.
@@ -113,31 +107,81 @@ fn drum_of_two<A: Allocator + Copy>(alloc: A) -> Option<Drum<A>> {
     Some(drum)
 }
 
-/// Makes a machine that begins with a drum, with each growth refused in turn; a drum that is handed back is tried again. What it
-/// has; `None` as above, and without a drum.
-fn made_with<B: Allocator>(limited: &Limited<B>) -> Option<Whole> {
-    let mut drum = drum_of_two(limited)?;
-    for nth in 1..MOST {
-        limited.refuse(nth);
-        match Machine::with_drum(limited, drum) {
-            Ok(machine) => return whole_if_last(&machine, nth, limited.was_refused()),
-            Err(refused) => drum = refused.value,
-        }
-        if !limited.was_refused() {
-            return None;
+/// Whether a machine that begins with a drum is made with ample memory, and has what is wanted.
+fn is_made_of<'a, B: Allocator>(
+    limited: &'a Limited<B>,
+    drum: Drum<&'a Limited<B>>,
+    wanted: &Option<Whole>,
+) -> bool {
+    limited.refuse(0);
+    match Machine::with_drum(limited, drum) {
+        Ok(machine) => is_whole(&machine, wanted),
+        Err(_) => false,
+    }
+}
+
+/// Makes a machine that begins with such a drum likewise. A drum that is handed back is tried again.
+fn try_with_drum<B: Allocator>(limited: &Limited<B>, nth: u64, wanted: &Option<Whole>) -> Tried {
+    limited.refuse(0);
+    let Some(drum) = drum_of_two(limited) else {
+        return [true, false];
+    };
+    limited.refuse(nth);
+    match Machine::with_drum(limited, drum) {
+        Ok(machine) => [true, is_last(limited, &machine, wanted)],
+        Err(refused) => {
+            let was_refused = limited.was_refused();
+            [
+                false,
+                was_refused && is_made_of(limited, refused.value, wanted),
+            ]
         }
     }
-    None
+}
+
+/// Makes a machine with a drum or without one.
+fn try_made<B: Allocator>(
+    limited: &Limited<B>,
+    nth: u64,
+    with_drum: bool,
+    wanted: &Option<Whole>,
+) -> Tried {
+    if with_drum {
+        return try_with_drum(limited, nth, wanted);
+    }
+    try_new(limited, nth, wanted)
+}
+
+/// Makes a machine with each growth refused in turn: how many growths are refused before it is made; 0 where anything is not as it
+/// should be.
+fn made<B: Allocator>(limited: &Limited<B>, with_drum: bool, wanted: &Option<Whole>) -> u64 {
+    for nth in 1..MOST {
+        let [is_made, is_right] = try_made(limited, nth, with_drum, wanted);
+        if !is_right {
+            return 0;
+        }
+        if is_made {
+            return nth - 1;
+        }
+    }
+    0
+}
+
+/// Whether a growth of a new machine over a heap is refused, and how many bytes are used there at last.
+fn made_over_heap(global: Global) -> Option<(bool, usize)> {
+    let heap = LocalHeap::new(global, 262144).ok()?;
+    let made = made(&Limited::new(&heap), false, &opening((0, [0; 3])));
+    Some((made > 0, heap.used()))
 }
 
 #[test]
-fn each_growth_beside_a_drum_is_refused(rt: HostRuntime) {
+fn each_growth_of_a_new_machine_is_refused(rt: HostRuntime) {
     let limited = Limited::new(rt.alloc());
-    let made = made_with(&limited);
+    let made = made(&limited, true, &opening((2, [0, 4, 0])));
     expect_eq(
         &rt,
-        (made, limited.blocks_out()),
-        (opening((2, [0, 4, 0])), 0),
+        (made_over_heap(rt.alloc()), made > 0, limited.blocks_out()),
+        (Some((true, 0)), true, 0),
     );
 }
 
@@ -154,7 +198,7 @@ fn perform_three<A: Allocator>(machine: &mut Machine<A>) -> bool {
     true
 }
 
-/// What it has. The print ends at 451, the order that switches the reader on at 460, and the input at 468 and three codes later.
+/// What it has then. The print ends at 451, the order that switches the reader on at 460, and the input at 468 and three codes later.
 fn shown_within_a_tape() -> Option<Whole> {
     let look = shown(3, 0x12, 0x0004_0000, Status::Going, 1621)?;
     let words = (3, [PRINT, 0x0008_0000, 0x0004_0000]);
@@ -167,82 +211,87 @@ fn shown_within_a_tape() -> Option<Whole> {
     ))
 }
 
-/// Copies a machine with each growth refused in turn. What the copy has; `None` as above, and where the machine is another one
-/// after a refusal.
-fn copied<B: Allocator>(limited: &Limited<B>, machine: &Machine<&Limited<B>>) -> Option<Whole> {
-    for nth in 1..MOST {
-        limited.refuse(nth);
-        if let Ok(copy) = machine.copy() {
-            return whole_if_last(&copy, nth, limited.was_refused());
-        }
-        if !limited.was_refused() || whole(machine) != shown_within_a_tape() {
-            return None;
-        }
+/// Copies a machine with the nth growth refused: as above, and the machine is the same where there is no copy.
+fn try_copy<B: Allocator>(
+    limited: &Limited<B>,
+    machine: &Machine<&Limited<B>>,
+    nth: u64,
+    wanted: &Option<Whole>,
+) -> Tried {
+    limited.refuse(nth);
+    match machine.copy() {
+        Ok(copy) => [true, is_last(limited, &copy, wanted)],
+        Err(_) => [false, limited.was_refused() && is_whole(machine, wanted)],
     }
-    None
 }
 
-/// Whether a machine has printed, and has read the first three of the five codes on its tape; what its copy has, and then it
-/// itself; and whether as many blocks are out after the copies as before them.
-type Copies = (bool, [Option<Whole>; 2], bool);
+/// Copies a machine with each growth refused in turn: how many growths are refused, or 0, as above.
+fn copied<B: Allocator>(
+    limited: &Limited<B>,
+    machine: &Machine<&Limited<B>>,
+    wanted: &Option<Whole>,
+) -> u64 {
+    for nth in 1..MOST {
+        let [is_made, is_right] = try_copy(limited, machine, nth, wanted);
+        if !is_right {
+            return 0;
+        }
+        if is_made {
+            return nth - 1;
+        }
+    }
+    0
+}
 
-fn copied_within_a_tape<B: Allocator>(limited: &Limited<B>) -> Option<Copies> {
-    let mut machine = with_tape(limited, &PRINT_AND_INPUT, b"12'3'")?;
-    let performed = perform_three(&mut machine);
+/// Whether a machine prints, and reads the first three of the five codes on its tape; whether a growth of its copy is refused;
+/// whether the machine is the same then; and whether as many blocks are out after the copies as before them.
+fn copies<B: Allocator>(limited: &Limited<B>, machine: &mut Machine<&Limited<B>>) -> [bool; 4] {
+    let wanted = shown_within_a_tape();
+    let performed = perform_three(machine);
     let before = limited.blocks_out();
-    let copied = copied(limited, &machine);
-    let wholes = [copied, whole(&machine)];
-    Some((performed, wholes, limited.blocks_out() == before))
+    [
+        performed,
+        copied(limited, machine, &wanted) > 0,
+        is_whole(machine, &wanted),
+        limited.blocks_out() == before,
+    ]
+}
+
+fn copied_within_a_tape<B: Allocator>(limited: &Limited<B>) -> Option<[bool; 4]> {
+    match with_tape(limited, &PRINT_AND_INPUT, b"12'3'") {
+        Some(mut machine) => Some(copies(limited, &mut machine)),
+        None => None,
+    }
 }
 
 #[test]
 fn each_growth_of_a_copy_is_refused(rt: HostRuntime) {
     let copies = copied_within_a_tape(&Limited::new(rt.alloc()));
-    expect_eq(&rt, copies, Some((true, [shown_within_a_tape(); 2], true)));
+    expect_eq(&rt, copies, Some([true; 4]));
 }
 
-/// What the next order answers: its word times, the status after it and what it prints.
-type Answer = Result<(u64, Status, Option<Code>), OrderFault>;
-
-/// A print whose growth is refused: the answer, and what the machine has then; and the same by word times.
-type Refused = (Answer, Option<Whole>, (u64, Result<bool, TurnFault>), bool);
-
-/// What becomes of a print without room as above; what is printed and shows then; and the last word time of the print with the
-/// second growth refused, which does not come, and what the machine has then.
-type Prints = (
-    Refused,
-    ((usize, Option<Code>), Option<Look>),
-    (Result<bool, TurnFault>, bool, Option<Whole>),
-);
-
-/// Prints in one call and then by its word times, with the first growth refused.
-fn print_refused<B: Allocator>(
+/// Whether the next order is refused with the first growth.
+fn order_is_refused<B: Allocator>(
     limited: &Limited<B>,
     machine: &mut Machine<&Limited<B>>,
-) -> Refused {
+) -> bool {
     limited.refuse(1);
-    let answer = next_order(machine);
-    let after = whole(machine);
-    limited.refuse(1);
-    let turned = turns(machine, 500);
-    (answer, after, turned, limited.was_refused())
+    matches!(next_order(machine), Err(OrderFault::Memory)) && limited.was_refused()
 }
 
-fn prints<B: Allocator>(limited: &Limited<B>, machine: &mut Machine<&Limited<B>>) -> Prints {
-    let refused = print_refused(limited, machine);
-    let still = (printed(machine), look(machine));
+/// Whether the 451st word time is refused with the first growth.
+fn turns_are_refused<B: Allocator>(
+    limited: &Limited<B>,
+    machine: &mut Machine<&Limited<B>>,
+) -> bool {
+    limited.refuse(1);
+    turns(machine, 500) == (451, Err(TurnFault::Memory)) && limited.was_refused()
+}
+
+/// Whether a word time ends at a boundary with the second growth refused, which does not come.
+fn turn_is_done<B: Allocator>(limited: &Limited<B>, machine: &mut Machine<&Limited<B>>) -> bool {
     limited.refuse(2);
-    let answer = turn(machine);
-    let ended = (answer, limited.was_refused(), whole(machine));
-    (refused, still, ended)
-}
-
-/// That of a machine that is started on a print.
-fn print_without_room<B: Allocator>(limited: &Limited<B>) -> Option<Prints> {
-    match started(limited, &[(0, PRINT)]) {
-        Some(mut machine) => Some(prints(limited, &mut machine)),
-        None => None,
-    }
+    turn(machine) == Ok(true) && !limited.was_refused()
 }
 
 /// A machine that is started on a print, and has printed a given number of codes.
@@ -251,17 +300,33 @@ fn shown_at_print(printed: usize, look: Option<Look>) -> Option<Whole> {
     Some((look?, (1, [PRINT, 0, 0]), codes, (0, [0; 3]), (0, [0; 3])))
 }
 
+/// Whether a print without room in one call is refused and changes nothing; whether it is refused at its last word time and nothing
+/// is printed then nor shows; and whether that word time prints when there is room.
+fn prints<B: Allocator>(limited: &Limited<B>, machine: &mut Machine<&Limited<B>>) -> [bool; 7] {
+    let before = shown_at_print(0, shown(0, 0, 0, Status::Going, 0));
+    let after = shown_at_print(1, shown(1, 0, PRINT, Status::Going, 451));
+    [
+        order_is_refused(limited, machine),
+        is_whole(machine, &before),
+        turns_are_refused(limited, machine),
+        printed(machine) == (0, None),
+        look(machine).is_none(),
+        turn_is_done(limited, machine),
+        is_whole(machine, &after),
+    ]
+}
+
+/// That of a machine that is started on a print.
+fn print_without_room<B: Allocator>(limited: &Limited<B>) -> Option<[bool; 7]> {
+    match started(limited, &[(0, PRINT)]) {
+        Some(mut machine) => Some(prints(limited, &mut machine)),
+        None => None,
+    }
+}
+
 #[test]
 fn a_code_without_room_is_not_printed(rt: HostRuntime) {
     let limited = Limited::new(rt.alloc());
     let prints = print_without_room(&limited);
-    let before = shown_at_print(0, shown(0, 0, 0, Status::Going, 0));
-    let after = shown_at_print(1, shown(1, 0, PRINT, Status::Going, 451));
-    let by_turns = (451, Err(TurnFault::Memory));
-    let wanted = (
-        (Err(OrderFault::Memory), before, by_turns, true),
-        ((0, None), None),
-        (Ok(true), false, after),
-    );
-    expect_eq(&rt, (prints, limited.blocks_out()), (Some(wanted), 0));
+    expect_eq(&rt, (prints, limited.blocks_out()), (Some([true; 7]), 0));
 }
