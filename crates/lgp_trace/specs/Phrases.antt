@@ -12,7 +12,7 @@ use Rattle.lgp_trace.specs.declared.phrases.DataLine.TheVariants.{Keyed, Whole}
 use Rattle.lgp_trace.specs.declared.phrases.Phrase.{Phrase}
 use Rattle.lgp_trace.specs.declared.phrases.Phrase.TheVariants as phrases
 
-abbrev pub phrase_text : (ℕ → List ℕ) → Phrase → List ℕ
+unfoldable pub phrase_text : (ℕ → List ℕ) → Phrase → List ℕ
 phrase_text label (phrases.Text text) = text.now
 phrase_text label (phrases.Byte byte) = byte ∷ []
 phrase_text label (phrases.Number number) = decimal number
@@ -35,7 +35,7 @@ abbrev pub phrases_text : (ℕ → List ℕ) → List Phrase → List ℕ
 phrases_text label phrases = concat (map (phrase_text label) phrases)
 
 -- a line as it is, or one of a key and a value
-abbrev pub data_line : (ℕ → List ℕ) → DataLine → List ℕ
+unfoldable pub data_line : (ℕ → List ℕ) → DataLine → List ℕ
 data_line label (Whole line) = line.now
 data_line label (Keyed key value) = key.now ++ (phrase_text label value ++ codes "\n")
 

@@ -51,6 +51,7 @@ pub(crate) enum Phrase<'a> {
 }
 
 /// Appends a piece.
+#[tactic(auto, unfolding(crate::specs::Phrases::phrase_text))]
 fn push_phrase<L: Labels, A: Allocator>(
     text: &mut Vec<u8, A>,
     phrase: &Phrase,
@@ -135,6 +136,7 @@ fn push_keyed<L: Labels, A: Allocator>(
 }
 
 /// Appends a line for programs.
+#[tactic(auto, unfolding(crate::specs::Phrases::data_line))]
 fn push_data_line<L: Labels, A: Allocator>(
     text: &mut Vec<u8, A>,
     line: &DataLine,
