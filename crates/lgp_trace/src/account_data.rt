@@ -3,7 +3,7 @@
 ghost use Rattle.std.specs.Prelude.{◌≡◌, ◌++◌, ℕ, List, OnOk, []};
 ghost use Rattle.std.specs.Option.{option_map_or};
 ghost use Rattle.lgp_trace.specs.AccountData.{account_data, accumulator_data, activity_data, at_data, begun_data, changer_data, effect_data, found_data, hand_data, left_data, operand_data, order_data, origin_data, passed_data, phases_data, place_data, printed_data, putter_data, sign_data, stood_data, stored_data};
-ghost use Rattle.lgp_trace.specs.Phrases.{data_line};
+ghost use Rattle.lgp_trace.specs.PhrasesInside.{data_line};
 
 use crate::account::{Account, Operand};
 use crate::account_lines::sign_byte;
@@ -18,7 +18,7 @@ use lgp_word::{Address, Word, decode, parts};
 use std::alloc::{AllocError, Allocator};
 
 /// Where the order was, if it was anywhere.
-#[tactic(auto, unfolding(crate::specs::AccountData::place_data, crate::specs::Phrases::phrase_text, crate::specs::Phrases::data_line))]
+#[tactic(auto, unfolding(crate::specs::AccountData::place_data, crate::specs::PhrasesInside::phrase_text, crate::specs::PhrasesInside::data_line))]
 fn at_line(place: Option<Address>, status: Status) -> DataLine<'static>
     ensures { (label : ℕ → List ℕ) → data_line label result ≡ at_data label place status }
 {
@@ -30,7 +30,7 @@ fn at_line(place: Option<Address>, status: Status) -> DataLine<'static>
 }
 
 /// The order; where there is none, the status in which the activity begins.
-#[tactic(auto, unfolding(crate::specs::AccountData::order_data, crate::specs::AccountData::status_data, crate::specs::Phrases::phrase_text, crate::specs::Phrases::data_line))]
+#[tactic(auto, unfolding(crate::specs::AccountData::order_data, crate::specs::AccountData::status_data, crate::specs::PhrasesInside::phrase_text, crate::specs::PhrasesInside::data_line))]
 fn activity_line(order: Option<Word>, status: Status) -> DataLine<'static>
     ensures { (label : ℕ → List ℕ) → data_line label result
         ≡ activity_data label order status }
@@ -42,7 +42,7 @@ fn activity_line(order: Option<Word>, status: Status) -> DataLine<'static>
 }
 
 /// Appends what shows when the activity begins.
-#[tactic(auto, unfolding(crate::specs::AccountData::begun_data, crate::specs::AccountData::number_data, crate::specs::Phrases::phrase_text, crate::specs::Phrases::data_line))]
+#[tactic(auto, unfolding(crate::specs::AccountData::begun_data, crate::specs::AccountData::number_data, crate::specs::PhrasesInside::phrase_text, crate::specs::PhrasesInside::data_line))]
 fn push_begun<L: Labels, A: Allocator>(
     text: &mut Vec<u8, A>,
     account: &Account,
@@ -66,7 +66,7 @@ fn push_begun<L: Labels, A: Allocator>(
 }
 
 /// Appends the word times of the phases.
-#[tactic(auto, unfolding(crate::specs::AccountData::phases_data, crate::specs::AccountData::number_data, crate::specs::Phrases::phrase_text, crate::specs::Phrases::data_line))]
+#[tactic(auto, unfolding(crate::specs::AccountData::phases_data, crate::specs::AccountData::number_data, crate::specs::PhrasesInside::phrase_text, crate::specs::PhrasesInside::data_line))]
 pub(crate) fn push_phases_data<A: Allocator>(
     text: &mut Vec<u8, A>,
     phases: Phases,
@@ -86,7 +86,7 @@ pub(crate) fn push_phases_data<A: Allocator>(
 }
 
 /// Appends the accumulator before and after.
-#[tactic(auto, unfolding(crate::specs::AccountData::accumulator_data, crate::specs::AccountData::digits_data, crate::specs::Phrases::phrase_text, crate::specs::Phrases::data_line))]
+#[tactic(auto, unfolding(crate::specs::AccountData::accumulator_data, crate::specs::AccountData::digits_data, crate::specs::PhrasesInside::phrase_text, crate::specs::PhrasesInside::data_line))]
 fn push_accumulator<A: Allocator>(
     text: &mut Vec<u8, A>,
     account: &Account,
@@ -104,7 +104,7 @@ fn push_accumulator<A: Allocator>(
 }
 
 /// Where an order was.
-#[tactic(auto, unfolding(crate::specs::AccountData::place_data, crate::specs::Phrases::phrase_text, crate::specs::Phrases::data_line))]
+#[tactic(auto, unfolding(crate::specs::AccountData::place_data, crate::specs::PhrasesInside::phrase_text, crate::specs::PhrasesInside::data_line))]
 fn stood_line(place: Option<Address>) -> DataLine<'static>
     ensures { (label : ℕ → List ℕ) → data_line label result ≡ stood_data label place }
 {
@@ -115,7 +115,7 @@ fn stood_line(place: Option<Address>) -> DataLine<'static>
 }
 
 /// Appends the order that put a word where it is.
-#[tactic(auto, unfolding(crate::specs::AccountData::putter_data, crate::specs::AccountData::order_data, crate::specs::AccountData::number_data, crate::specs::Phrases::phrase_text, crate::specs::Phrases::data_line))]
+#[tactic(auto, unfolding(crate::specs::AccountData::putter_data, crate::specs::AccountData::order_data, crate::specs::AccountData::number_data, crate::specs::PhrasesInside::phrase_text, crate::specs::PhrasesInside::data_line))]
 fn push_putter<L: Labels, A: Allocator>(
     text: &mut Vec<u8, A>,
     order: PastOrder,
@@ -138,7 +138,7 @@ fn push_putter<L: Labels, A: Allocator>(
 }
 
 /// Appends that a word was put where it is by hand.
-#[tactic(auto, unfolding(crate::specs::AccountData::hand_data, crate::specs::AccountData::number_data, crate::specs::Phrases::phrase_text, crate::specs::Phrases::data_line))]
+#[tactic(auto, unfolding(crate::specs::AccountData::hand_data, crate::specs::AccountData::number_data, crate::specs::PhrasesInside::phrase_text, crate::specs::PhrasesInside::data_line))]
 fn push_hand<A: Allocator>(text: &mut Vec<u8, A>, clock: u64) -> Result<(), AllocError>
     ensures { OnOk result (text.new.items ≡ text.old.items ++ hand_data clock) }
 {
@@ -168,7 +168,7 @@ fn push_changer<L: Labels, A: Allocator>(
 }
 
 /// Appends where the order came from, if a kept step changed it.
-#[tactic(auto, unfolding(crate::specs::AccountData::lost_data, crate::specs::Phrases::phrase_text, crate::specs::Phrases::data_line))]
+#[tactic(auto, unfolding(crate::specs::AccountData::lost_data, crate::specs::PhrasesInside::phrase_text, crate::specs::PhrasesInside::data_line))]
 fn push_origin<L: Labels, A: Allocator>(
     text: &mut Vec<u8, A>,
     origin: Option<Origin>,
@@ -189,7 +189,7 @@ fn push_origin<L: Labels, A: Allocator>(
 }
 
 /// Appends the word that an order found.
-#[tactic(auto, unfolding(crate::specs::AccountData::found_data, crate::specs::AccountData::order_data, crate::specs::AccountData::digits_data, crate::specs::AccountData::value_data, crate::specs::Phrases::phrase_text, crate::specs::Phrases::data_line))]
+#[tactic(auto, unfolding(crate::specs::AccountData::found_data, crate::specs::AccountData::order_data, crate::specs::AccountData::digits_data, crate::specs::AccountData::value_data, crate::specs::PhrasesInside::phrase_text, crate::specs::PhrasesInside::data_line))]
 fn push_found<L: Labels, A: Allocator>(
     text: &mut Vec<u8, A>,
     found: Word,
@@ -208,7 +208,7 @@ fn push_found<L: Labels, A: Allocator>(
 }
 
 /// Appends the word that an order left.
-#[tactic(auto, unfolding(crate::specs::AccountData::left_data, crate::specs::AccountData::order_data, crate::specs::AccountData::digits_data, crate::specs::AccountData::value_data, crate::specs::Phrases::phrase_text, crate::specs::Phrases::data_line))]
+#[tactic(auto, unfolding(crate::specs::AccountData::left_data, crate::specs::AccountData::order_data, crate::specs::AccountData::digits_data, crate::specs::AccountData::value_data, crate::specs::PhrasesInside::phrase_text, crate::specs::PhrasesInside::data_line))]
 fn push_left<L: Labels, A: Allocator>(
     text: &mut Vec<u8, A>,
     left: Word,
@@ -227,7 +227,7 @@ fn push_left<L: Labels, A: Allocator>(
 }
 
 /// Appends where an order has stored, the word that it found there, and the one that it left.
-#[tactic(auto, unfolding(crate::specs::AccountData::operand_data, crate::specs::AccountData::place_data, crate::specs::Phrases::phrase_text, crate::specs::Phrases::data_line))]
+#[tactic(auto, unfolding(crate::specs::AccountData::operand_data, crate::specs::AccountData::place_data, crate::specs::PhrasesInside::phrase_text, crate::specs::PhrasesInside::data_line))]
 fn push_operand<L: Labels, A: Allocator>(
     text: &mut Vec<u8, A>,
     operand: Operand,
@@ -265,7 +265,7 @@ fn push_stored<L: Labels, A: Allocator>(
 }
 
 /// The sign of a code, where it has one.
-#[tactic(auto, unfolding(crate::specs::Phrases::phrase_text, crate::specs::Phrases::data_line))]
+#[tactic(auto, unfolding(crate::specs::PhrasesInside::phrase_text, crate::specs::PhrasesInside::data_line))]
 fn sign_line(sign: Option<u8>) -> DataLine<'static>
     ensures { (label : ℕ → List ℕ) → data_line label result ≡ sign_data sign }
 {
@@ -276,7 +276,7 @@ fn sign_line(sign: Option<u8>) -> DataLine<'static>
 }
 
 /// Appends a code that was printed.
-#[tactic(auto, unfolding(crate::specs::AccountData::printed_data, crate::specs::AccountData::number_data, crate::specs::Phrases::phrase_text, crate::specs::Phrases::data_line))]
+#[tactic(auto, unfolding(crate::specs::AccountData::printed_data, crate::specs::AccountData::number_data, crate::specs::PhrasesInside::phrase_text, crate::specs::PhrasesInside::data_line))]
 fn push_printed_code<A: Allocator>(text: &mut Vec<u8, A>, code: Code) -> Result<(), AllocError>
     ensures { OnOk result (text.new.items ≡ text.old.items ++ printed_data code) }
 {
@@ -306,7 +306,7 @@ fn push_printed<A: Allocator>(
 }
 
 /// Appends how many codes have passed, if some have.
-#[tactic(auto, unfolding(crate::specs::AccountData::number_data, crate::specs::Phrases::phrase_text, crate::specs::Phrases::data_line))]
+#[tactic(auto, unfolding(crate::specs::AccountData::number_data, crate::specs::PhrasesInside::phrase_text, crate::specs::PhrasesInside::data_line))]
 fn push_passed<A: Allocator>(text: &mut Vec<u8, A>, count: usize) -> Result<(), AllocError>
     ensures { OnOk result (text.new.items ≡ text.old.items ++ passed_data count) }
 {

@@ -6,7 +6,7 @@ ghost use Rattle.std.specs.Option.{option_map_or};
 ghost use Rattle.lgp_text.specs.PanelWords.{status_text};
 ghost use Rattle.lgp_trace.specs.AccountLines.{account_details, account_line, account_text, accumulator_text, heading_text, minus_text, number_text, order_after, order_columns, passed_lines, performed_text, phases_text, place_text, printed_line, reference_text, register_line, result_columns, stored_line, stored_lines, word_text};
 ghost use Rattle.lgp_trace.specs.Phases.{all_phases};
-ghost use Rattle.lgp_trace.specs.Phrases.{phrase_text};
+ghost use Rattle.lgp_trace.specs.PhrasesInside.{phrase_text};
 ghost use Rattle.lgp_flexo.specs.Code.{sign_at};
 
 use crate::account::{Account, Operand};
@@ -141,7 +141,7 @@ pub(crate) fn push_word<L: Labels, A: Allocator>(
 }
 
 /// Where an order is, if it is on the drum.
-#[tactic(auto, unfolding(crate::specs::Phrases::phrase_text))]
+#[tactic(auto, unfolding(crate::specs::PhrasesInside::phrase_text))]
 fn place_shown(place: Option<Address>) -> Phrase<'static>
     ensures { (label : ℕ → List ℕ) → phrase_text label result
         ≡ option_map_or (place_text label) place [] }
@@ -153,7 +153,7 @@ fn place_shown(place: Option<Address>) -> Phrase<'static>
 }
 
 /// The order; where there is none, the status in which the activity begins.
-#[tactic(auto, unfolding(crate::specs::Phrases::phrase_text))]
+#[tactic(auto, unfolding(crate::specs::PhrasesInside::phrase_text))]
 fn order_shown(order: Option<Word>, status: Status) -> Phrase<'static>
     ensures { (label : ℕ → List ℕ) → phrase_text label result
         ≡ option_map_or (performed_text label) order (status_text status) }
@@ -165,7 +165,7 @@ fn order_shown(order: Option<Word>, status: Status) -> Phrase<'static>
 }
 
 /// Appends the word times of the phases and their sum.
-#[tactic(auto, unfolding(crate::specs::AccountLines::phases_text, crate::specs::Phrases::phrase_text))]
+#[tactic(auto, unfolding(crate::specs::AccountLines::phases_text, crate::specs::PhrasesInside::phrase_text))]
 fn push_phases<A: Allocator>(text: &mut Vec<u8, A>, phases: Phases) -> Result<(), AllocError>
     requires { all_phases phases < 2 ^ 64 }
     ensures { OnOk result (text.new.items ≡ text.old.items ++ phases_text phases) }
@@ -249,7 +249,7 @@ fn push_result_columns<A: Allocator>(
 }
 
 /// Appends the line with columns.
-#[tactic(auto, unfolding(crate::specs::AccountLines::account_line, crate::specs::Phrases::phrase_text))]
+#[tactic(auto, unfolding(crate::specs::AccountLines::account_line, crate::specs::PhrasesInside::phrase_text))]
 pub fn push_account_line<L: Labels, A: Allocator>(
     text: &mut Vec<u8, A>,
     account: &Account,
@@ -279,7 +279,7 @@ fn register_line(status: Status) -> &'static [u8]
 }
 
 /// Appends what an order has stored: the word that was there and the one that took its place.
-#[tactic(auto, unfolding(crate::specs::AccountLines::stored_line, crate::specs::AccountLines::change_text, crate::specs::Phrases::phrase_text))]
+#[tactic(auto, unfolding(crate::specs::AccountLines::stored_line, crate::specs::AccountLines::change_text, crate::specs::PhrasesInside::phrase_text))]
 fn push_stored<L: Labels, A: Allocator>(
     text: &mut Vec<u8, A>,
     operand: Operand,
@@ -333,7 +333,7 @@ pub(crate) fn sign_byte(code: Code) -> Option<u8>
 }
 
 /// Appends a code that was printed.
-#[tactic(auto, unfolding(crate::specs::AccountLines::printed_line, crate::specs::AccountLines::sign_text, crate::specs::Phrases::phrase_text))]
+#[tactic(auto, unfolding(crate::specs::AccountLines::printed_line, crate::specs::AccountLines::sign_text, crate::specs::PhrasesInside::phrase_text))]
 fn push_printed_line<A: Allocator>(text: &mut Vec<u8, A>, code: Code) -> Result<(), AllocError>
     ensures { OnOk result (text.new.items ≡ text.old.items ++ printed_line code) }
 {

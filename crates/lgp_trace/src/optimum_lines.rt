@@ -20,7 +20,7 @@ use std::alloc::{AllocError, Allocator};
 const SHOWN_WORDS: u64 = 10;
 
 /// Appends the line of a word.
-#[tactic(auto, unfolding(crate::specs::OptimumLines::gain_line, crate::specs::OptimumLines::sectors_text, crate::specs::Phrases::phrase_text))]
+#[tactic(auto, unfolding(crate::specs::OptimumLines::gain_line, crate::specs::OptimumLines::sectors_text, crate::specs::PhrasesInside::phrase_text))]
 fn push_gain<L: Labels, A: Allocator>(
     text: &mut Vec<u8, A>,
     gain: &Gain,
@@ -211,7 +211,7 @@ fn mark(track: &Track, sector: u16) -> &'static [u8]
 }
 
 /// Appends the line of a sector.
-#[tactic(auto, unfolding(crate::specs::OptimumLines::sector_line, crate::specs::Phrases::phrase_text))]
+#[tactic(auto, unfolding(crate::specs::OptimumLines::sector_line, crate::specs::PhrasesInside::phrase_text))]
 fn push_sector<A: Allocator>(
     text: &mut Vec<u8, A>,
     track: &Track,
@@ -312,7 +312,7 @@ fn push_freedom<A: Allocator>(
 }
 
 /// Appends what a word has to gain by a given number of orders.
-#[tactic(auto, unfolding(crate::specs::OptimumLines::word_text, crate::specs::Phrases::phrase_text))]
+#[tactic(auto, unfolding(crate::specs::OptimumLines::word_text, crate::specs::PhrasesInside::phrase_text))]
 fn push_word_moves<L: Labels, A: Allocator, B: Allocator>(
     text: &mut Vec<u8, A>,
     orders: u64,

@@ -4,7 +4,7 @@ ghost use Rattle.std.specs.Prelude.{◌≡◌, ◌++◌, ◌^◌, ◌<◌, ◌==
 ghost use Rattle.lgp_debugger.specs.Debugging.{order_origin};
 ghost use Rattle.lgp_trace.specs.OriginLines.{changer_text, lost_text, origin_lines, origin_text, past_order_text, reason_text, stood_text, this_order_was, reported_account, why_line, why_text};
 ghost use Rattle.lgp_trace.specs.Phases.{all_phases};
-ghost use Rattle.lgp_trace.specs.Phrases.{phrase_text};
+ghost use Rattle.lgp_trace.specs.PhrasesInside.{phrase_text};
 
 use crate::account::Account;
 use crate::account_lines::{push_account_details, push_account_line, push_number, push_performed};
@@ -30,7 +30,7 @@ pub fn order_origin<H: Origins<A>, A: Allocator>(debugger: &Debugger<H, A>) -> O
 }
 
 /// Where an order was: the words, and the place after them.
-#[tactic(auto, unfolding(crate::specs::Phrases::phrase_text))]
+#[tactic(auto, unfolding(crate::specs::PhrasesInside::phrase_text))]
 fn stood_at(place: Option<Address>) -> (&'static [u8], Phrase<'static>)
     ensures { (label : ℕ → List ℕ) → result.0.now ++ phrase_text label result.1
         ≡ stood_text label place }
@@ -54,7 +54,7 @@ fn ago_text(orders: u64) -> &'static [u8]
 }
 
 /// Appends an order, where it was and when.
-#[tactic(auto, unfolding(crate::specs::OriginLines::past_order_text, crate::specs::Phrases::phrase_text))]
+#[tactic(auto, unfolding(crate::specs::OriginLines::past_order_text, crate::specs::PhrasesInside::phrase_text))]
 fn push_past_order<L: Labels, A: Allocator>(
     text: &mut Vec<u8, A>,
     order: PastOrder,
@@ -124,7 +124,7 @@ fn push_put_there<A: Allocator>(text: &mut Vec<u8, A>) -> Result<(), AllocError>
 }
 
 /// Appends what put a word where it is, and what was there before.
-#[tactic(auto, unfolding(crate::specs::OriginLines::origin_text, crate::specs::Phrases::phrase_text))]
+#[tactic(auto, unfolding(crate::specs::OriginLines::origin_text, crate::specs::PhrasesInside::phrase_text))]
 fn push_origin<L: Labels, A: Allocator>(
     text: &mut Vec<u8, A>,
     origin: Origin,
@@ -205,7 +205,7 @@ fn push_reason<L: Labels, A: Allocator>(
 }
 
 /// Appends a line that says what is at an address, and where it came from.
-#[tactic(auto, unfolding(crate::specs::OriginLines::why_line, crate::specs::Phrases::phrase_text))]
+#[tactic(auto, unfolding(crate::specs::OriginLines::why_line, crate::specs::PhrasesInside::phrase_text))]
 pub fn push_why_line<L: Labels, A: Allocator>(
     text: &mut Vec<u8, A>,
     address: Address,

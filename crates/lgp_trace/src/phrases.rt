@@ -2,7 +2,7 @@
 
 ghost use Rattle.std.specs.Prelude.{◌≡◌, ◌++◌, OnOk, codes};
 ghost use Rattle.lgp_trace.specs.Columns.{left_aligned};
-ghost use Rattle.lgp_trace.specs.Phrases.{data_line, data_lines, phrase_text, phrases_text};
+ghost use Rattle.lgp_trace.specs.PhrasesInside.{data_line, data_lines, phrase_text, phrases_text};
 
 use crate::account_lines::{push_number, push_performed, push_place, push_word};
 use crate::columns::{push_blanks_after, push_copies, push_right, push_spaced, push_wide};
@@ -51,7 +51,7 @@ pub(crate) enum Phrase<'a> {
 }
 
 /// Appends a piece.
-#[tactic(auto, unfolding(crate::specs::Phrases::phrase_text))]
+#[tactic(auto, unfolding(crate::specs::PhrasesInside::phrase_text))]
 fn push_phrase<L: Labels, A: Allocator>(
     text: &mut Vec<u8, A>,
     phrase: &Phrase,
@@ -136,7 +136,7 @@ fn push_keyed<L: Labels, A: Allocator>(
 }
 
 /// Appends a line for programs.
-#[tactic(auto, unfolding(crate::specs::Phrases::data_line))]
+#[tactic(auto, unfolding(crate::specs::PhrasesInside::data_line))]
 fn push_data_line<L: Labels, A: Allocator>(
     text: &mut Vec<u8, A>,
     line: &DataLine,

@@ -13,7 +13,7 @@ use lgp_word::Address;
 use std::alloc::{AllocError, Allocator};
 
 /// Appends how many orders, word times and turns there were.
-#[tactic(auto, unfolding(crate::specs::ProfileData::totals_data, crate::specs::AccountData::number_data, crate::specs::Phrases::phrase_text, crate::specs::Phrases::data_line))]
+#[tactic(auto, unfolding(crate::specs::ProfileData::totals_data, crate::specs::AccountData::number_data, crate::specs::PhrasesInside::phrase_text, crate::specs::PhrasesInside::data_line))]
 fn push_totals<A: Allocator>(
     text: &mut Vec<u8, A>,
     orders: u64,
@@ -33,7 +33,7 @@ fn push_totals<A: Allocator>(
 }
 
 /// Appends the lines of the whole.
-#[tactic(auto, unfolding(crate::specs::ProfileData::summary_data, crate::specs::AccountData::number_data, crate::specs::Phrases::phrase_text, crate::specs::Phrases::data_line))]
+#[tactic(auto, unfolding(crate::specs::ProfileData::summary_data, crate::specs::AccountData::number_data, crate::specs::PhrasesInside::phrase_text, crate::specs::PhrasesInside::data_line))]
 fn push_summary<A: Allocator, B: Allocator>(
     text: &mut Vec<u8, A>,
     orders: u64,
@@ -53,7 +53,7 @@ fn push_summary<A: Allocator, B: Allocator>(
 }
 
 /// Appends a place and its word times.
-#[tactic(auto, unfolding(crate::specs::ProfileData::dear_data, crate::specs::AccountData::place_data, crate::specs::AccountData::number_data, crate::specs::Phrases::phrase_text, crate::specs::Phrases::data_line))]
+#[tactic(auto, unfolding(crate::specs::ProfileData::dear_data, crate::specs::AccountData::place_data, crate::specs::AccountData::number_data, crate::specs::PhrasesInside::phrase_text, crate::specs::PhrasesInside::data_line))]
 pub(crate) fn push_dear_data<L: Labels, A: Allocator>(
     text: &mut Vec<u8, A>,
     here: Dear,

@@ -1,5 +1,5 @@
 use Rattle.std.proofs.Common.{◌≡◌, ◌++◌, drop}
-use Rattle.lgp_trace.specs.Phrases.{data_lines}
+use Rattle.lgp_trace.specs.PhrasesInside.{data_lines}
 use Rattle.lgp_trace.proofs.phrases.push_data_lines.Given as goal
 
 abbrev pub invariant-loop-line : goal.invariant-loop-line

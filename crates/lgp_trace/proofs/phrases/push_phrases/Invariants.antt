@@ -1,5 +1,5 @@
 use Rattle.std.proofs.Common.{◌≡◌, ◌++◌, drop}
-use Rattle.lgp_trace.specs.Phrases.{phrases_text}
+use Rattle.lgp_trace.specs.PhrasesInside.{phrases_text}
 use Rattle.lgp_trace.proofs.phrases.push_phrases.Given as goal
 
 abbrev pub invariant-loop-phrase : goal.invariant-loop-phrase
