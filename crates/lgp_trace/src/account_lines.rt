@@ -1,6 +1,6 @@
 //! The lines of an account.
 
-ghost use Rattle.std.specs.Prelude.{◌≡◌, ◌++◌, ◌^◌, ◌<◌, ◌&&◌, ℕ, List, OnOk, [], codes};
+ghost use Rattle.std.specs.Prelude.{◌≡◌, ◌++◌, ◌^◌, ◌<◌, ◌&&◌, ℕ, List, OnOk, []};
 ghost use Rattle.lgp_word.specs.Order.{op_at, sign_of, takes_minus};
 ghost use Rattle.std.specs.Option.{option_map_or};
 ghost use Rattle.lgp_text.specs.PanelWords.{status_text};
@@ -184,34 +184,24 @@ fn push_phases<A: Allocator>(text: &mut Vec<u8, A>, phases: Phases) -> Result<()
     )
 }
 
-/// Appends the accumulator, or before and after it has changed, and ends the line.
+/// Appends the accumulator, or before and after it has changed.
 #[tactic(auto, unfolding(crate::specs::AccountLines::accumulator_text))]
 fn push_accumulator<A: Allocator>(
     text: &mut Vec<u8, A>,
     before: u32,
     after: u32,
 ) -> Result<(), AllocError>
-    ensures { OnOk result (text.new.items ≡ text.old.items
-        ++ (codes "  " ++ (accumulator_text before after ++ codes "\n"))) }
+    ensures { OnOk result (text.new.items ≡ text.old.items ++ accumulator_text before after) }
 {
     if before == after {
-        return push_pieces(
-            text,
-            &[
-                Piece::Text(b"  "),
-                Piece::Digits(before),
-                Piece::Text(b"\n"),
-            ],
-        );
+        return push_pieces(text, &[Piece::Digits(before)]);
     }
     push_pieces(
         text,
         &[
-            Piece::Text(b"  "),
             Piece::Digits(before),
             Piece::Text(b" -> "),
             Piece::Digits(after),
-            Piece::Text(b"\n"),
         ],
     )
 }
@@ -245,7 +235,9 @@ fn push_result_columns<A: Allocator>(
     let before = account.before.accumulator;
     let after = account.after.accumulator;
     push_phases(text, account.phases)?;
-    push_accumulator(text, before, after)
+    text.extend_from_slice(b"  ")?;
+    push_accumulator(text, before, after)?;
+    text.extend_from_slice(b"\n")
 }
 
 /// Appends the line with columns.
