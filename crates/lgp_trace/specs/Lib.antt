@@ -4,6 +4,7 @@ pub mod Profile
 pub mod Columns
 pub mod AccountLines
 pub mod OriginLines
+pub mod PhrasesInside
 pub mod AccountData
 pub mod DrumRows
 pub mod ProfileLines

@@ -1,140 +1,48 @@
 //! The lines of an account for programs, each a key and a value.
 
-ghost use Rattle.std.specs.Prelude.{◌≡◌, ◌++◌, OnOk, [], if◌then◌else◌, is_some};
+ghost use Rattle.std.specs.Prelude.{◌≡◌, ◌++◌, ℕ, List, OnOk, []};
 ghost use Rattle.std.specs.Option.{option_map_or};
-ghost use Rattle.lgp_word.specs.Order.{decoded};
-ghost use Rattle.lgp_trace.specs.AccountData.{account_data, accumulator_data, activity_data, begun_data, changer_data, digits_data, effect_data, found_data, hand_data, left_data, lost_data, number_data, operand_data, order_data, origin_data, passed_data, phases_data, place_data, printed_data, putter_data, sign_data, at_data, status_data, stood_data, stored_data, value_data};
+ghost use Rattle.lgp_trace.specs.AccountData.{account_data, accumulator_data, activity_data, at_data, begun_data, changer_data, effect_data, found_data, hand_data, left_data, operand_data, order_data, origin_data, passed_data, phases_data, place_data, printed_data, putter_data, sign_data, stood_data, stored_data};
+ghost use Rattle.lgp_trace.specs.PhrasesInside.{data_line};
 
 use crate::account::{Account, Operand};
-use crate::account_lines::{push_number, push_performed, push_place, sign_byte};
-use crate::labels::Labels;
-use crate::origin_lines::push_lost;
+use crate::account_lines::sign_byte;
+use crate::labels::{Labels, NoLabels};
 use crate::phases::Phases;
+use crate::phrases::{DataLine, Phrase, push_data_lines};
 use lgp_flexo::Code;
 use lgp_history::{Changer, Origin, PastOrder};
 use lgp_table::{Status, stores};
-use lgp_text::{Piece, push_pieces, status_text};
+use lgp_text::status_text;
 use lgp_word::{Address, Word, decode, parts};
 use std::alloc::{AllocError, Allocator};
 
-/// Appends the line of a number.
-#[tactic(auto, unfolding(crate::specs::AccountData::number_data))]
-pub(crate) fn push_number_data<A: Allocator>(
-    text: &mut Vec<u8, A>,
-    key: &[u8],
-    number: u64,
-) -> Result<(), AllocError>
-    ensures { OnOk result (text.new.items ≡ text.old.items ++ number_data key.now number) }
-{
-    text.extend_from_slice(key)?;
-    push_pieces(text, &[Piece::Number(number), Piece::Text(b"\n")])
-}
-
-/// Appends the line of 32 bits by their digits.
-#[tactic(auto, unfolding(crate::specs::AccountData::digits_data))]
-fn push_digits_data<A: Allocator>(
-    text: &mut Vec<u8, A>,
-    key: &[u8],
-    bits: u32,
-) -> Result<(), AllocError>
-    ensures { OnOk result (text.new.items ≡ text.old.items ++ digits_data key.now bits) }
-{
-    text.extend_from_slice(key)?;
-    push_pieces(text, &[Piece::Digits(bits), Piece::Text(b"\n")])
-}
-
-/// Appends the line of an address with its label.
-#[tactic(auto, unfolding(crate::specs::AccountData::place_data))]
-pub(crate) fn push_place_data<L: Labels, A: Allocator>(
-    text: &mut Vec<u8, A>,
-    key: &[u8],
-    place: Address,
-    labels: &L,
-) -> Result<(), AllocError>
-    ensures { OnOk result (text.new.items
-        ≡ text.old.items ++ place_data (L.label labels.now) key.now place) }
-{
-    text.extend_from_slice(key)?;
-    push_place(text, place, labels)?;
-    text.extend_from_slice(b"\n")
-}
-
-/// Appends the line of a word as the order that is performed.
-#[tactic(auto, unfolding(crate::specs::AccountData::order_data))]
-fn push_order_data<L: Labels, A: Allocator>(
-    text: &mut Vec<u8, A>,
-    key: &[u8],
-    word: Word,
-    labels: &L,
-) -> Result<(), AllocError>
-    ensures { OnOk result (text.new.items
-        ≡ text.old.items ++ order_data (L.label labels.now) key.now word) }
-{
-    text.extend_from_slice(key)?;
-    push_performed(text, word, labels)?;
-    text.extend_from_slice(b"\n")
-}
-
-/// Appends the line of a word as a number.
-#[tactic(auto, unfolding(crate::specs::AccountData::value_data))]
-fn push_value<A: Allocator>(text: &mut Vec<u8, A>, key: &[u8], word: Word) -> Result<(), AllocError>
-    ensures { OnOk result (text.new.items ≡ text.old.items ++ value_data key.now word) }
-{
-    text.extend_from_slice(key)?;
-    push_number(text, word)?;
-    text.extend_from_slice(b"\n")
-}
-
-/// Appends where the order was, if it was anywhere.
-fn push_begun_at<L: Labels, A: Allocator>(
-    text: &mut Vec<u8, A>,
-    place: Option<Address>,
-    status: Status,
-    labels: &L,
-) -> Result<(), AllocError>
-    ensures { OnOk result (text.new.items
-        ≡ text.old.items ++ at_data (L.label labels.now) place status) }
+/// Where the order was, if it was anywhere.
+#[tactic(auto, unfolding(crate::specs::AccountData::place_data, crate::specs::PhrasesInside::phrase_text, crate::specs::PhrasesInside::data_line))]
+fn at_line(place: Option<Address>, status: Status) -> DataLine<'static>
+    ensures { (label : ℕ → List ℕ) → data_line label result ≡ at_data label place status }
 {
     match (place, status) {
-        (Some(place), _) => push_place_data(text, b"at ", place, labels),
-        (None, Status::Executing) => text.extend_from_slice(b"at register\n"),
-        (None, _) => Ok(()),
+        (Some(place), _) => DataLine::Keyed(b"at ", Phrase::Place(place)),
+        (None, Status::Executing) => DataLine::Whole(b"at register\n"),
+        (None, _) => DataLine::Whole(b""),
     }
 }
 
-/// Appends the status in which an activity without an order begins.
-#[tactic(auto, unfolding(crate::specs::AccountData::status_data))]
-fn push_status<A: Allocator>(text: &mut Vec<u8, A>, status: Status) -> Result<(), AllocError>
-    ensures { OnOk result (text.new.items ≡ text.old.items ++ status_data status) }
-{
-    push_pieces(
-        text,
-        &[
-            Piece::Text(b"status "),
-            Piece::Text(status_text(status)),
-            Piece::Text(b"\n"),
-        ],
-    )
-}
-
-/// Appends the order; where there is none, the status in which the activity begins.
-fn push_activity<L: Labels, A: Allocator>(
-    text: &mut Vec<u8, A>,
-    order: Option<Word>,
-    status: Status,
-    labels: &L,
-) -> Result<(), AllocError>
-    ensures { OnOk result (text.new.items
-        ≡ text.old.items ++ activity_data (L.label labels.now) order status) }
+/// The order; where there is none, the status in which the activity begins.
+#[tactic(auto, unfolding(crate::specs::AccountData::order_data, crate::specs::AccountData::status_data, crate::specs::PhrasesInside::phrase_text, crate::specs::PhrasesInside::data_line))]
+fn activity_line(order: Option<Word>, status: Status) -> DataLine<'static>
+    ensures { (label : ℕ → List ℕ) → data_line label result
+        ≡ activity_data label order status }
 {
     match order {
-        Some(order) => push_order_data(text, b"order ", order, labels),
-        None => push_status(text, status),
+        Some(order) => DataLine::Keyed(b"order ", Phrase::Order(order)),
+        None => DataLine::Keyed(b"status ", Phrase::Text(status_text(status))),
     }
 }
 
 /// Appends what shows when the activity begins.
-#[tactic(auto, unfolding(crate::specs::AccountData::begun_data))]
+#[tactic(auto, unfolding(crate::specs::AccountData::begun_data, crate::specs::AccountData::number_data, crate::specs::PhrasesInside::phrase_text, crate::specs::PhrasesInside::data_line))]
 fn push_begun<L: Labels, A: Allocator>(
     text: &mut Vec<u8, A>,
     account: &Account,
@@ -144,54 +52,70 @@ fn push_begun<L: Labels, A: Allocator>(
         ≡ text.old.items ++ begun_data (L.label labels.now) account.now) }
 {
     let status = account.before.status;
-    push_number_data(text, b"clock ", account.before.clock)?;
-    push_begun_at(text, account.place, status, labels)?;
-    push_activity(text, account.order, status, labels)
+    let at = at_line(account.place, status);
+    let activity = activity_line(account.order, status);
+    push_data_lines(
+        text,
+        &[
+            DataLine::Keyed(b"clock ", Phrase::Number(account.before.clock)),
+            at,
+            activity,
+        ],
+        labels,
+    )
 }
 
 /// Appends the word times of the phases.
-#[tactic(auto, unfolding(crate::specs::AccountData::phases_data))]
+#[tactic(auto, unfolding(crate::specs::AccountData::phases_data, crate::specs::AccountData::number_data, crate::specs::PhrasesInside::phrase_text, crate::specs::PhrasesInside::data_line))]
 pub(crate) fn push_phases_data<A: Allocator>(
     text: &mut Vec<u8, A>,
     phases: Phases,
 ) -> Result<(), AllocError>
     ensures { OnOk result (text.new.items ≡ text.old.items ++ phases_data phases) }
 {
-    push_number_data(text, b"find ", phases.find)?;
-    push_number_data(text, b"take ", phases.take)?;
-    push_number_data(text, b"seek ", phases.seek)?;
-    push_number_data(text, b"act ", phases.act)
+    push_data_lines(
+        text,
+        &[
+            DataLine::Keyed(b"find ", Phrase::Number(phases.find)),
+            DataLine::Keyed(b"take ", Phrase::Number(phases.take)),
+            DataLine::Keyed(b"seek ", Phrase::Number(phases.seek)),
+            DataLine::Keyed(b"act ", Phrase::Number(phases.act)),
+        ],
+        &NoLabels,
+    )
 }
 
 /// Appends the accumulator before and after.
-#[tactic(auto, unfolding(crate::specs::AccountData::accumulator_data))]
+#[tactic(auto, unfolding(crate::specs::AccountData::accumulator_data, crate::specs::AccountData::digits_data, crate::specs::PhrasesInside::phrase_text, crate::specs::PhrasesInside::data_line))]
 fn push_accumulator<A: Allocator>(
     text: &mut Vec<u8, A>,
     account: &Account,
 ) -> Result<(), AllocError>
     ensures { OnOk result (text.new.items ≡ text.old.items ++ accumulator_data account.now) }
 {
-    push_digits_data(text, b"before ", account.before.accumulator)?;
-    push_digits_data(text, b"after ", account.after.accumulator)
+    push_data_lines(
+        text,
+        &[
+            DataLine::Keyed(b"before ", Phrase::Digits(account.before.accumulator)),
+            DataLine::Keyed(b"after ", Phrase::Digits(account.after.accumulator)),
+        ],
+        &NoLabels,
+    )
 }
 
-/// Appends where an order was.
-fn push_stood<L: Labels, A: Allocator>(
-    text: &mut Vec<u8, A>,
-    place: Option<Address>,
-    labels: &L,
-) -> Result<(), AllocError>
-    ensures { OnOk result (text.new.items
-        ≡ text.old.items ++ stood_data (L.label labels.now) place) }
+/// Where an order was.
+#[tactic(auto, unfolding(crate::specs::AccountData::place_data, crate::specs::PhrasesInside::phrase_text, crate::specs::PhrasesInside::data_line))]
+fn stood_line(place: Option<Address>) -> DataLine<'static>
+    ensures { (label : ℕ → List ℕ) → data_line label result ≡ stood_data label place }
 {
     match place {
-        Some(place) => push_place_data(text, b"put-at ", place, labels),
-        None => text.extend_from_slice(b"put-at register\n"),
+        Some(place) => DataLine::Keyed(b"put-at ", Phrase::Place(place)),
+        None => DataLine::Whole(b"put-at register\n"),
     }
 }
 
 /// Appends the order that put a word where it is.
-#[tactic(auto, unfolding(crate::specs::AccountData::putter_data))]
+#[tactic(auto, unfolding(crate::specs::AccountData::putter_data, crate::specs::AccountData::order_data, crate::specs::AccountData::number_data, crate::specs::PhrasesInside::phrase_text, crate::specs::PhrasesInside::data_line))]
 fn push_putter<L: Labels, A: Allocator>(
     text: &mut Vec<u8, A>,
     order: PastOrder,
@@ -200,20 +124,32 @@ fn push_putter<L: Labels, A: Allocator>(
     ensures { OnOk result (text.new.items
         ≡ text.old.items ++ putter_data (L.label labels.now) order) }
 {
-    push_order_data(text, b"put-by ", order.word, labels)?;
-    push_stood(text, order.place, labels)?;
-    push_number_data(text, b"put-clock ", order.clock)?;
-    push_number_data(text, b"put-ago ", order.orders_back)
+    let stood = stood_line(order.place);
+    push_data_lines(
+        text,
+        &[
+            DataLine::Keyed(b"put-by ", Phrase::Order(order.word)),
+            stood,
+            DataLine::Keyed(b"put-clock ", Phrase::Number(order.clock)),
+            DataLine::Keyed(b"put-ago ", Phrase::Number(order.orders_back)),
+        ],
+        labels,
+    )
 }
 
 /// Appends that a word was put where it is by hand.
-#[tactic(auto, unfolding(crate::specs::AccountData::hand_data))]
+#[tactic(auto, unfolding(crate::specs::AccountData::hand_data, crate::specs::AccountData::number_data, crate::specs::PhrasesInside::phrase_text, crate::specs::PhrasesInside::data_line))]
 fn push_hand<A: Allocator>(text: &mut Vec<u8, A>, clock: u64) -> Result<(), AllocError>
     ensures { OnOk result (text.new.items ≡ text.old.items ++ hand_data clock) }
 {
-    text.extend_from_slice(b"put-by hand\n")?;
-    push_number_data(text, b"put-clock ", clock)?;
-    Ok(())
+    push_data_lines(
+        text,
+        &[
+            DataLine::Whole(b"put-by hand\n"),
+            DataLine::Keyed(b"put-clock ", Phrase::Number(clock)),
+        ],
+        &NoLabels,
+    )
 }
 
 /// Appends what put a word where it is.
@@ -231,22 +167,8 @@ fn push_changer<L: Labels, A: Allocator>(
     }
 }
 
-/// Appends what was there before.
-#[tactic(auto, unfolding(crate::specs::AccountData::lost_data))]
-fn push_lost_data<L: Labels, A: Allocator>(
-    text: &mut Vec<u8, A>,
-    word: Word,
-    labels: &L,
-) -> Result<(), AllocError>
-    ensures { OnOk result (text.new.items
-        ≡ text.old.items ++ lost_data (L.label labels.now) word) }
-{
-    text.extend_from_slice(b"put-over ")?;
-    push_lost(text, word, labels)?;
-    text.extend_from_slice(b"\n")
-}
-
 /// Appends where the order came from, if a kept step changed it.
+#[tactic(auto, unfolding(crate::specs::AccountData::lost_data, crate::specs::PhrasesInside::phrase_text, crate::specs::PhrasesInside::data_line))]
 fn push_origin<L: Labels, A: Allocator>(
     text: &mut Vec<u8, A>,
     origin: Option<Origin>,
@@ -259,60 +181,53 @@ fn push_origin<L: Labels, A: Allocator>(
         return Ok(());
     };
     push_changer(text, origin.changer, labels)?;
-    push_lost_data(text, origin.lost, labels)
-}
-
-/// Appends a word as the order that it is, if it is one.
-fn push_if_order<L: Labels, A: Allocator>(
-    text: &mut Vec<u8, A>,
-    key: &[u8],
-    word: Word,
-    labels: &L,
-) -> Result<(), AllocError>
-    ensures { OnOk result (text.new.items ≡ text.old.items
-        ++ (if is_some (decoded word)
-        then order_data (L.label labels.now) key.now word else [])) }
-{
-    if decode(word).is_none() {
-        return Ok(());
-    }
-    push_order_data(text, key, word, labels)
+    push_data_lines(
+        text,
+        &[DataLine::Keyed(b"put-over ", Phrase::Lost(origin.lost))],
+        labels,
+    )
 }
 
 /// Appends the word that an order found.
-#[tactic(auto, unfolding(crate::specs::AccountData::found_data))]
+#[tactic(auto, unfolding(crate::specs::AccountData::found_data, crate::specs::AccountData::order_data, crate::specs::AccountData::digits_data, crate::specs::AccountData::value_data, crate::specs::PhrasesInside::phrase_text, crate::specs::PhrasesInside::data_line))]
 fn push_found<L: Labels, A: Allocator>(
     text: &mut Vec<u8, A>,
-    word: Word,
+    found: Word,
     labels: &L,
 ) -> Result<(), AllocError>
     ensures { OnOk result (text.new.items
-        ≡ text.old.items ++ found_data (L.label labels.now) word) }
+        ≡ text.old.items ++ found_data (L.label labels.now) found) }
 {
-    push_digits_data(text, b"found ", word.get())?;
-    push_if_order(text, b"found-order ", word, labels)?;
-    push_value(text, b"found-number ", word)?;
-    Ok(())
+    let digits = DataLine::Keyed(b"found ", Phrase::Digits(found.get()));
+    let number = DataLine::Keyed(b"found-number ", Phrase::Value(found));
+    if decode(found).is_none() {
+        return push_data_lines(text, &[digits, number], labels);
+    }
+    let order = DataLine::Keyed(b"found-order ", Phrase::Order(found));
+    push_data_lines(text, &[digits, order, number], labels)
 }
 
 /// Appends the word that an order left.
-#[tactic(auto, unfolding(crate::specs::AccountData::left_data))]
+#[tactic(auto, unfolding(crate::specs::AccountData::left_data, crate::specs::AccountData::order_data, crate::specs::AccountData::digits_data, crate::specs::AccountData::value_data, crate::specs::PhrasesInside::phrase_text, crate::specs::PhrasesInside::data_line))]
 fn push_left<L: Labels, A: Allocator>(
     text: &mut Vec<u8, A>,
-    word: Word,
+    left: Word,
     labels: &L,
 ) -> Result<(), AllocError>
     ensures { OnOk result (text.new.items
-        ≡ text.old.items ++ left_data (L.label labels.now) word) }
+        ≡ text.old.items ++ left_data (L.label labels.now) left) }
 {
-    push_digits_data(text, b"left ", word.get())?;
-    push_if_order(text, b"left-order ", word, labels)?;
-    push_value(text, b"left-number ", word)?;
-    Ok(())
+    let digits = DataLine::Keyed(b"left ", Phrase::Digits(left.get()));
+    let number = DataLine::Keyed(b"left-number ", Phrase::Value(left));
+    if decode(left).is_none() {
+        return push_data_lines(text, &[digits, number], labels);
+    }
+    let order = DataLine::Keyed(b"left-order ", Phrase::Order(left));
+    push_data_lines(text, &[digits, order, number], labels)
 }
 
 /// Appends where an order has stored, the word that it found there, and the one that it left.
-#[tactic(auto, unfolding(crate::specs::AccountData::operand_data))]
+#[tactic(auto, unfolding(crate::specs::AccountData::operand_data, crate::specs::AccountData::place_data, crate::specs::PhrasesInside::phrase_text, crate::specs::PhrasesInside::data_line))]
 fn push_operand<L: Labels, A: Allocator>(
     text: &mut Vec<u8, A>,
     operand: Operand,
@@ -321,7 +236,11 @@ fn push_operand<L: Labels, A: Allocator>(
     ensures { OnOk result (text.new.items
         ≡ text.old.items ++ operand_data (L.label labels.now) operand) }
 {
-    push_place_data(text, b"stored ", operand.address, labels)?;
+    push_data_lines(
+        text,
+        &[DataLine::Keyed(b"stored ", Phrase::Place(operand.address))],
+        labels,
+    )?;
     push_found(text, operand.found, labels)?;
     push_left(text, operand.left, labels)
 }
@@ -345,25 +264,31 @@ fn push_stored<L: Labels, A: Allocator>(
     push_operand(text, operand, labels)
 }
 
-/// Appends the sign of a code, where it has one.
-fn push_sign<A: Allocator>(text: &mut Vec<u8, A>, sign: Option<u8>) -> Result<(), AllocError>
-    ensures { OnOk result (text.new.items ≡ text.old.items ++ sign_data sign) }
+/// The sign of a code, where it has one.
+#[tactic(auto, unfolding(crate::specs::PhrasesInside::phrase_text, crate::specs::PhrasesInside::data_line))]
+fn sign_line(sign: Option<u8>) -> DataLine<'static>
+    ensures { (label : ℕ → List ℕ) → data_line label result ≡ sign_data sign }
 {
-    let Some(sign) = sign else {
-        return Ok(());
-    };
-    text.extend_from_slice(b"sign ")?;
-    text.push(sign)?;
-    text.extend_from_slice(b"\n")
+    match sign {
+        Some(sign) => DataLine::Keyed(b"sign ", Phrase::Byte(sign)),
+        None => DataLine::Whole(b""),
+    }
 }
 
 /// Appends a code that was printed.
-#[tactic(auto, unfolding(crate::specs::AccountData::printed_data))]
+#[tactic(auto, unfolding(crate::specs::AccountData::printed_data, crate::specs::AccountData::number_data, crate::specs::PhrasesInside::phrase_text, crate::specs::PhrasesInside::data_line))]
 fn push_printed_code<A: Allocator>(text: &mut Vec<u8, A>, code: Code) -> Result<(), AllocError>
     ensures { OnOk result (text.new.items ≡ text.old.items ++ printed_data code) }
 {
-    push_number_data(text, b"printed ", u64::from(code.number()))?;
-    push_sign(text, sign_byte(code))
+    let sign = sign_line(sign_byte(code));
+    push_data_lines(
+        text,
+        &[
+            DataLine::Keyed(b"printed ", Phrase::Number(u64::from(code.number()))),
+            sign,
+        ],
+        &NoLabels,
+    )
 }
 
 /// Appends what the activity has printed, if it has.
@@ -381,13 +306,18 @@ fn push_printed<A: Allocator>(
 }
 
 /// Appends how many codes have passed, if some have.
+#[tactic(auto, unfolding(crate::specs::AccountData::number_data, crate::specs::PhrasesInside::phrase_text, crate::specs::PhrasesInside::data_line))]
 fn push_passed<A: Allocator>(text: &mut Vec<u8, A>, count: usize) -> Result<(), AllocError>
     ensures { OnOk result (text.new.items ≡ text.old.items ++ passed_data count) }
 {
     if count == 0 {
         return Ok(());
     }
-    push_number_data(text, b"passed ", count as u64)
+    push_data_lines(
+        text,
+        &[DataLine::Keyed(b"passed ", Phrase::Number(count as u64))],
+        &NoLabels,
+    )
 }
 
 /// Appends what the activity has stored, printed and passed.

@@ -1,18 +1,18 @@
 //! The lines of an account.
 
-ghost use Rattle.std.specs.Prelude.{◌≡◌, ◌++◌, ◌^◌, ◌<◌, ◌&&◌, OnOk, [], codes, decimal};
+ghost use Rattle.std.specs.Prelude.{◌≡◌, ◌++◌, ◌^◌, ◌<◌, ◌&&◌, ℕ, List, OnOk, []};
 ghost use Rattle.lgp_word.specs.Order.{op_at, sign_of, takes_minus};
 ghost use Rattle.std.specs.Option.{option_map_or};
 ghost use Rattle.lgp_text.specs.PanelWords.{status_text};
-ghost use Rattle.lgp_trace.specs.AccountLines.{account_details, account_line, account_text, accumulator_text, change_text, heading_text, minus_text, number_text, order_after, order_columns, passed_lines, performed_text, phases_text, place_text, printed_line, reference_text, register_line, result_columns, sign_text, stored_line, stored_lines, word_text};
-ghost use Rattle.lgp_trace.specs.Columns.{left_aligned};
+ghost use Rattle.lgp_trace.specs.AccountLines.{account_details, account_line, account_text, accumulator_text, heading_text, minus_text, number_text, order_after, order_columns, passed_lines, performed_text, phases_text, place_text, printed_line, reference_text, register_line, result_columns, stored_line, stored_lines, word_text};
 ghost use Rattle.lgp_trace.specs.Phases.{all_phases};
+ghost use Rattle.lgp_trace.specs.PhrasesInside.{phrase_text};
 ghost use Rattle.lgp_flexo.specs.Code.{sign_at};
 
 use crate::account::{Account, Operand};
-use crate::columns::{push_blanks_after, push_right, push_spaced};
-use crate::labels::Labels;
+use crate::labels::{Labels, NoLabels};
 use crate::phases::Phases;
+use crate::phrases::{Phrase, push_column, push_phrases};
 use lgp_flexo::{Code, sign_of};
 use lgp_table::{Status, stores};
 use lgp_text::{Piece, push_pieces, status_text};
@@ -59,16 +59,15 @@ fn push_reference<L: Labels, A: Allocator>(
     labels.push_label(text, address)
 }
 
-/// Appends the minus sign of an order, if it has one.
-fn push_minus<A: Allocator>(text: &mut Vec<u8, A>, word: Word) -> Result<(), AllocError>
-    ensures { OnOk result (text.new.items
-        ≡ text.old.items ++ minus_text (takes_minus (op_at word) && sign_of word)) }
+/// The minus sign of an order, if it has one.
+fn minus_text(word: Word) -> &'static [u8]
+    ensures { result.now ≡ minus_text (takes_minus (op_at word) && sign_of word) }
 {
     let (minus, op, _) = parts(word);
     if minus && matches!(op, Op::T) {
-        text.extend_from_slice(b"-")
+        b"-"
     } else {
-        Ok(())
+        b""
     }
 }
 
@@ -83,7 +82,7 @@ pub(crate) fn push_performed<L: Labels, A: Allocator>(
         ≡ text.old.items ++ performed_text (L.label labels.now) word) }
 {
     let (_, op, address) = parts(word);
-    push_minus(text, word)?;
+    text.extend_from_slice(minus_text(word))?;
     let letter = [op.letter()];
     push_pieces(
         text,
@@ -141,85 +140,47 @@ pub(crate) fn push_word<L: Labels, A: Allocator>(
     push_number(text, word)
 }
 
-/// Appends where an order is, if it is on the drum.
-fn push_at<L: Labels, A: Allocator>(
-    text: &mut Vec<u8, A>,
-    place: Option<Address>,
-    labels: &L,
-) -> Result<(), AllocError>
-    ensures { OnOk result (text.new.items
-        ≡ text.old.items ++ option_map_or (place_text (L.label labels.now)) place []) }
+/// Where an order is, if it is on the drum.
+#[tactic(auto, unfolding(crate::specs::PhrasesInside::phrase_text))]
+fn place_shown(place: Option<Address>) -> Phrase<'static>
+    ensures { (label : ℕ → List ℕ) → phrase_text label result
+        ≡ option_map_or (place_text label) place [] }
 {
     match place {
-        Some(place) => push_place(text, place, labels),
-        None => Ok(()),
+        Some(place) => Phrase::Place(place),
+        None => Phrase::Text(b""),
     }
 }
 
-/// Appends that in its column.
-#[tactic(auto, using(crate::proofs::TextLemmas::columns))]
-fn push_at_column<L: Labels, A: Allocator>(
-    text: &mut Vec<u8, A>,
-    place: Option<Address>,
-    labels: &L,
-) -> Result<(), AllocError>
-    ensures { OnOk result (text.new.items
-        ≡ text.old.items
-        ++ left_aligned 12 (option_map_or (place_text (L.label labels.now)) place [])) }
-{
-    let begins = text.len();
-    push_at(text, place, labels)?;
-    push_blanks_after(text, 12, begins)
-}
-
-/// Appends the order; where there is none, the status in which the activity begins.
-fn push_activity<L: Labels, A: Allocator>(
-    text: &mut Vec<u8, A>,
-    order: Option<Word>,
-    status: Status,
-    labels: &L,
-) -> Result<(), AllocError>
-    ensures { OnOk result (text.new.items
-        ≡ text.old.items
-        ++ option_map_or (performed_text (L.label labels.now)) order (status_text status)) }
+/// The order; where there is none, the status in which the activity begins.
+#[tactic(auto, unfolding(crate::specs::PhrasesInside::phrase_text))]
+fn order_shown(order: Option<Word>, status: Status) -> Phrase<'static>
+    ensures { (label : ℕ → List ℕ) → phrase_text label result
+        ≡ option_map_or (performed_text label) order (status_text status) }
 {
     match order {
-        Some(order) => push_performed(text, order, labels),
-        None => text.extend_from_slice(status_text(status)),
+        Some(order) => Phrase::Order(order),
+        None => Phrase::Text(status_text(status)),
     }
-}
-
-/// Appends that in its column.
-#[tactic(auto, using(crate::proofs::TextLemmas::columns))]
-fn push_activity_column<L: Labels, A: Allocator>(
-    text: &mut Vec<u8, A>,
-    order: Option<Word>,
-    status: Status,
-    labels: &L,
-) -> Result<(), AllocError>
-    ensures { OnOk result (text.new.items
-        ≡ text.old.items ++ left_aligned 14
-        (option_map_or (performed_text (L.label labels.now)) order (status_text status))) }
-{
-    let begins = text.len();
-    push_activity(text, order, status, labels)?;
-    push_blanks_after(text, 14, begins)
 }
 
 /// Appends the word times of the phases and their sum.
-#[tactic(auto, unfolding(crate::specs::AccountLines::phases_text))]
+#[tactic(auto, unfolding(crate::specs::AccountLines::phases_text, crate::specs::PhrasesInside::phrase_text))]
 fn push_phases<A: Allocator>(text: &mut Vec<u8, A>, phases: Phases) -> Result<(), AllocError>
     requires { all_phases phases < 2 ^ 64 }
     ensures { OnOk result (text.new.items ≡ text.old.items ++ phases_text phases) }
 {
-    push_spaced(text, 5, phases.find)?;
-    push_spaced(text, 4, phases.take)?;
-    push_spaced(text, 4, phases.seek)?;
-    push_spaced(text, 4, phases.act)?;
-    push_spaced(
+    let sum = phases.find + phases.take + phases.seek + phases.act;
+    push_phrases(
         text,
-        5,
-        phases.find + phases.take + phases.seek + phases.act,
+        &[
+            Phrase::Spaced(5, phases.find),
+            Phrase::Spaced(4, phases.take),
+            Phrase::Spaced(4, phases.seek),
+            Phrase::Spaced(4, phases.act),
+            Phrase::Spaced(5, sum),
+        ],
+        &NoLabels,
     )
 }
 
@@ -255,9 +216,11 @@ fn push_order_columns<L: Labels, A: Allocator>(
     ensures { OnOk result (text.new.items
         ≡ text.old.items ++ order_columns (L.label labels.now) account.now) }
 {
-    push_at_column(text, account.place, labels)?;
+    let place = place_shown(account.place);
+    let order = order_shown(account.order, account.before.status);
+    push_column(text, 12, &place, labels)?;
     text.push(b' ')?;
-    push_activity_column(text, account.order, account.before.status, labels)
+    push_column(text, 14, &order, labels)
 }
 
 /// Appends how long the phases took, and the accumulator.
@@ -278,7 +241,7 @@ fn push_result_columns<A: Allocator>(
 }
 
 /// Appends the line with columns.
-#[tactic(auto, unfolding(crate::specs::AccountLines::account_line))]
+#[tactic(auto, unfolding(crate::specs::AccountLines::account_line, crate::specs::PhrasesInside::phrase_text))]
 pub fn push_account_line<L: Labels, A: Allocator>(
     text: &mut Vec<u8, A>,
     account: &Account,
@@ -288,44 +251,27 @@ pub fn push_account_line<L: Labels, A: Allocator>(
     ensures { OnOk result (text.new.items
         ≡ text.old.items ++ account_line (L.label labels.now) account.now) }
 {
-    push_right(text, 7, account.before.clock)?;
-    text.extend_from_slice(b"  ")?;
+    push_phrases(
+        text,
+        &[Phrase::Right(7, account.before.clock), Phrase::Text(b"  ")],
+        &NoLabels,
+    )?;
     push_order_columns(text, account, labels)?;
     push_result_columns(text, account)
 }
 
-/// Appends that the order was in the register, if it did.
-fn push_register_line<A: Allocator>(text: &mut Vec<u8, A>, status: Status) -> Result<(), AllocError>
-    ensures { OnOk result (text.new.items ≡ text.old.items ++ register_line status) }
+/// That the order was in the register, if it was.
+fn register_line(status: Status) -> &'static [u8]
+    ensures { result.now ≡ register_line status }
 {
     match status {
-        Status::Executing => {
-            text.extend_from_slice(b"        the order stood in the instruction register\n")
-        }
-        _ => Ok(()),
+        Status::Executing => b"        the order stood in the instruction register\n",
+        _ => b"",
     }
 }
 
-/// Appends a word and the one that took its place.
-#[tactic(auto, unfolding(crate::specs::AccountLines::change_text))]
-fn push_change<L: Labels, A: Allocator>(
-    text: &mut Vec<u8, A>,
-    before: Word,
-    after: Word,
-    labels: &L,
-) -> Result<(), AllocError>
-    ensures { OnOk result (text.new.items
-        ≡ text.old.items ++ change_text (L.label labels.now) before after) }
-{
-    text.extend_from_slice(b": ")?;
-    push_word(text, before, labels)?;
-    text.extend_from_slice(b" -> ")?;
-    push_word(text, after, labels)?;
-    text.extend_from_slice(b"\n")
-}
-
-/// Appends what an order has stored.
-#[tactic(auto, unfolding(crate::specs::AccountLines::stored_line))]
+/// Appends what an order has stored: the word that was there and the one that took its place.
+#[tactic(auto, unfolding(crate::specs::AccountLines::stored_line, crate::specs::AccountLines::change_text, crate::specs::PhrasesInside::phrase_text))]
 fn push_stored<L: Labels, A: Allocator>(
     text: &mut Vec<u8, A>,
     operand: Operand,
@@ -334,9 +280,19 @@ fn push_stored<L: Labels, A: Allocator>(
     ensures { OnOk result (text.new.items
         ≡ text.old.items ++ stored_line (L.label labels.now) operand) }
 {
-    text.extend_from_slice(b"        ")?;
-    push_place(text, operand.address, labels)?;
-    push_change(text, operand.found, operand.left, labels)
+    push_phrases(
+        text,
+        &[
+            Phrase::Text(b"        "),
+            Phrase::Place(operand.address),
+            Phrase::Text(b": "),
+            Phrase::Word(operand.found),
+            Phrase::Text(b" -> "),
+            Phrase::Word(operand.left),
+            Phrase::Text(b"\n"),
+        ],
+        labels,
+    )
 }
 
 /// Appends what the activity has stored, if it has.
@@ -368,39 +324,34 @@ pub(crate) fn sign_byte(code: Code) -> Option<u8>
     Some(sign as u32 as u8)
 }
 
-/// Appends the sign of a code, where it has one.
-#[tactic(auto, unfolding(crate::specs::AccountLines::sign_text))]
-fn push_sign<A: Allocator>(text: &mut Vec<u8, A>, sign: Option<u8>) -> Result<(), AllocError>
-    ensures { OnOk result (text.new.items ≡ text.old.items ++ sign_text sign) }
-{
-    let Some(sign) = sign else {
-        return Ok(());
-    };
-    text.extend_from_slice(b", sign \"")?;
-    text.push(sign)?;
-    text.extend_from_slice(b"\"")
-}
-
 /// Appends a code that was printed.
-#[tactic(auto, unfolding(crate::specs::AccountLines::printed_line))]
+#[tactic(auto, unfolding(crate::specs::AccountLines::printed_line, crate::specs::AccountLines::sign_text, crate::specs::PhrasesInside::phrase_text))]
 fn push_printed_line<A: Allocator>(text: &mut Vec<u8, A>, code: Code) -> Result<(), AllocError>
     ensures { OnOk result (text.new.items ≡ text.old.items ++ printed_line code) }
 {
-    push_printed_number(text, code)?;
-    push_sign(text, sign_byte(code))?;
-    text.extend_from_slice(b"\n")
-}
-
-/// Appends the number of a code that was printed.
-fn push_printed_number<A: Allocator>(text: &mut Vec<u8, A>, code: Code) -> Result<(), AllocError>
-    ensures { OnOk result (text.new.items
-        ≡ text.old.items ++ (codes "        printed code " ++ decimal code)) }
-{
     let number = u64::from(code.number());
-    push_pieces(
-        text,
-        &[Piece::Text(b"        printed code "), Piece::Number(number)],
-    )
+    match sign_byte(code) {
+        Some(sign) => push_phrases(
+            text,
+            &[
+                Phrase::Text(b"        printed code "),
+                Phrase::Number(number),
+                Phrase::Text(b", sign \""),
+                Phrase::Byte(sign),
+                Phrase::Text(b"\"\n"),
+            ],
+            &NoLabels,
+        ),
+        None => push_phrases(
+            text,
+            &[
+                Phrase::Text(b"        printed code "),
+                Phrase::Number(number),
+                Phrase::Text(b"\n"),
+            ],
+            &NoLabels,
+        ),
+    }
 }
 
 /// Appends what the activity has printed, if it has.
@@ -444,7 +395,7 @@ pub fn push_account_details<L: Labels, A: Allocator>(
     ensures { OnOk result (text.new.items
         ≡ text.old.items ++ account_details (L.label labels.now) account.now) }
 {
-    push_register_line(text, account.before.status)?;
+    text.extend_from_slice(register_line(account.before.status))?;
     push_stored_lines(text, account.order, account.operand, labels)?;
     push_printed(text, account.printed)?;
     push_passed(text, account.passed)

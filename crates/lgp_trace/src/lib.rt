@@ -16,6 +16,7 @@ mod optimum_lines;
 mod optimum_runs;
 mod origin_lines;
 mod phases;
+mod phrases;
 mod profile;
 mod profile_data;
 mod profile_lines;

@@ -33,7 +33,7 @@ pub struct Best {
 }
 
 /// An order that waited for a word: the clock at which its wait began, and how long it acted after it.
-#[derive(Clone, Copy, Debug, PartialEq, Eq)]
+#[derive(Clone, Copy)]
 pub struct Seek {
     pub word: Address,
     pub begun: u64,

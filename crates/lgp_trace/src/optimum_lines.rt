@@ -4,13 +4,12 @@ ghost use Rattle.std.specs.Prelude.{◌≡◌, ◌++◌, ◌<◌, ℕ, OnOk, fla
 ghost use Rattle.lgp_table.specs.State.{State};
 ghost use Rattle.lgp_trace.specs.Gains.{moves_in, moves_of};
 ghost use Rattle.lgp_trace.specs.OptimumKept.{IsOptimumOf};
-ghost use Rattle.lgp_trace.specs.OptimumLines.{bar_length, drawing_of, freedom_text, gain_line, greatest, mark_text, no_order_text, optimum_text, saved_text, section_heading, section_text, sector_line, sectors_text, together_line, track_of, track_text, word_text};
+ghost use Rattle.lgp_trace.specs.OptimumLines.{bar_length, drawing_of, freedom_text, gain_line, greatest, mark_text, no_order_text, optimum_text, saved_text, section_heading, section_text, sector_line, together_line, track_of, track_text, word_text};
 
-use crate::account_lines::push_place;
-use crate::columns::{push_copies, push_spaced, push_wide};
-use crate::labels::Labels;
+use crate::labels::{Labels, NoLabels};
 use crate::optimum::{Best, Optimum};
-use crate::profile_lines::{push_place_column, push_share, push_totals};
+use crate::phrases::{Phrase, push_column, push_phrases};
+use crate::profile_lines::{push_share, push_totals};
 use crate::ranking::Gain;
 use crate::uses::Freedom;
 use lgp_text::{Piece, push_pieces};
@@ -20,19 +19,8 @@ use std::alloc::{AllocError, Allocator};
 /// How many words of a freedom are shown.
 const SHOWN_WORDS: u64 = 10;
 
-/// Appends a sector and the best one.
-#[tactic(auto, unfolding(crate::specs::OptimumLines::sectors_text))]
-fn push_sectors<A: Allocator>(text: &mut Vec<u8, A>, own: u16, best: u16) -> Result<(), AllocError>
-    ensures { OnOk result (text.new.items ≡ text.old.items ++ sectors_text own best) }
-{
-    text.extend_from_slice(b"sector")?;
-    push_spaced(text, 2, u64::from(own))?;
-    text.extend_from_slice(b", best")?;
-    push_spaced(text, 2, u64::from(best))
-}
-
 /// Appends the line of a word.
-#[tactic(auto, unfolding(crate::specs::OptimumLines::gain_line))]
+#[tactic(auto, unfolding(crate::specs::OptimumLines::gain_line, crate::specs::OptimumLines::sectors_text, crate::specs::PhrasesInside::phrase_text))]
 fn push_gain<L: Labels, A: Allocator>(
     text: &mut Vec<u8, A>,
     gain: &Gain,
@@ -43,9 +31,18 @@ fn push_gain<L: Labels, A: Allocator>(
         ≡ text.old.items ++ gain_line (L.label labels.now) whole gain.now) }
 {
     text.extend_from_slice(b"  ")?;
-    push_place_column(text, gain.word, labels)?;
-    push_sectors(text, gain.word.sector(), gain.best.sector)?;
-    push_share(text, u128::from(gain.best.saved), whole)
+    push_column(text, 18, &Phrase::Place(gain.word), labels)?;
+    push_phrases(
+        text,
+        &[
+            Phrase::Text(b"sector"),
+            Phrase::Spaced(2, u64::from(gain.word.sector())),
+            Phrase::Text(b", best"),
+            Phrase::Spaced(2, u64::from(gain.best.sector)),
+            Phrase::Share(gain.best.saved, whole),
+        ],
+        &NoLabels,
+    )
 }
 
 /// Appends the lines of words.
@@ -160,7 +157,7 @@ pub fn push_optimum<L: Labels, A: Allocator + Copy, B: Allocator>(
 }
 
 /// What the line of a sector is drawn by: a word's own sector and its best one, and the least and the greatest of its numbers.
-#[derive(Clone, Copy, Debug, PartialEq, Eq)]
+#[derive(Clone, Copy)]
 pub struct Track {
     pub own: u16,
     pub best: u16,
@@ -214,7 +211,7 @@ fn mark(track: &Track, sector: u16) -> &'static [u8]
 }
 
 /// Appends the line of a sector.
-#[tactic(auto, unfolding(crate::specs::OptimumLines::sector_line))]
+#[tactic(auto, unfolding(crate::specs::OptimumLines::sector_line, crate::specs::PhrasesInside::phrase_text))]
 fn push_sector<A: Allocator>(
     text: &mut Vec<u8, A>,
     track: &Track,
@@ -224,11 +221,17 @@ fn push_sector<A: Allocator>(
     ensures { OnOk result (text.new.items
         ≡ text.old.items ++ sector_line track.now sector times) }
 {
-    text.extend_from_slice(b"  sector")?;
-    push_spaced(text, 2, u64::from(sector))?;
-    push_wide(text, 12, times)?;
-    text.extend_from_slice(b"  ")?;
-    push_copies(text, b'#', bar_length(track, times))?;
+    push_phrases(
+        text,
+        &[
+            Phrase::Text(b"  sector"),
+            Phrase::Spaced(2, u64::from(sector)),
+            Phrase::Wide(12, &times),
+            Phrase::Text(b"  "),
+            Phrase::Copies(b'#', bar_length(track, times)),
+        ],
+        &NoLabels,
+    )?;
     text.extend_from_slice(mark(track, sector))
 }
 
@@ -309,7 +312,7 @@ fn push_freedom<A: Allocator>(
 }
 
 /// Appends what a word has to gain by a given number of orders.
-#[tactic(auto, unfolding(crate::specs::OptimumLines::word_text))]
+#[tactic(auto, unfolding(crate::specs::OptimumLines::word_text, crate::specs::PhrasesInside::phrase_text))]
 fn push_word_moves<L: Labels, A: Allocator, B: Allocator>(
     text: &mut Vec<u8, A>,
     orders: u64,
@@ -325,8 +328,7 @@ fn push_word_moves<L: Labels, A: Allocator, B: Allocator>(
     }
     let free = optimum.freedom(word);
     push_totals(text, orders, optimum.took())?;
-    push_place(text, word, labels)?;
-    text.extend_from_slice(b"\n")?;
+    push_phrases(text, &[Phrase::Place(word), Phrase::Text(b"\n")], labels)?;
     push_drawing(text, optimum, word, free)?;
     push_freedom(text, free, optimum.best(word))
 }

@@ -1,15 +1,15 @@
 //! Where words came from, in words.
 
-ghost use Rattle.std.specs.Prelude.{◌≡◌, ◌++◌, ◌^◌, ◌<◌, OnOk, codes, decimal};
+ghost use Rattle.std.specs.Prelude.{◌≡◌, ◌++◌, ◌^◌, ◌<◌, ◌==◌, ℕ, List, OnOk, codes, if◌then◌else◌};
 ghost use Rattle.lgp_debugger.specs.Debugging.{order_origin};
-ghost use Rattle.lgp_trace.specs.OriginLines.{ago_text, changer_text, lost_text, origin_lines, origin_text, past_order_text, reason_text, stood_text, this_order_was, reported_account, why_line, why_text};
+ghost use Rattle.lgp_trace.specs.OriginLines.{changer_text, lost_text, origin_lines, origin_text, past_order_text, reason_text, stood_text, this_order_was, reported_account, why_line, why_text};
 ghost use Rattle.lgp_trace.specs.Phases.{all_phases};
+ghost use Rattle.lgp_trace.specs.PhrasesInside.{phrase_text};
 
 use crate::account::Account;
-use crate::account_lines::{
-    push_account_details, push_account_line, push_number, push_performed, push_place, push_word,
-};
+use crate::account_lines::{push_account_details, push_account_line, push_number, push_performed};
 use crate::labels::Labels;
+use crate::phrases::{Phrase, push_phrases};
 use lgp_debugger::Debugger;
 use lgp_history::{Changer, Origin, Origins, PastOrder};
 use lgp_table::Status;
@@ -29,42 +29,32 @@ pub fn order_origin<H: Origins<A>, A: Allocator>(debugger: &Debugger<H, A>) -> O
     }
 }
 
-/// Appends where an order was.
-fn push_stood<L: Labels, A: Allocator>(
-    text: &mut Vec<u8, A>,
-    place: Option<Address>,
-    labels: &L,
-) -> Result<(), AllocError>
-    ensures { OnOk result (text.new.items
-        ≡ text.old.items ++ stood_text (L.label labels.now) place) }
+/// Where an order was: the words, and the place after them.
+#[tactic(auto, unfolding(crate::specs::PhrasesInside::phrase_text))]
+fn stood_at(place: Option<Address>) -> (&'static [u8], Phrase<'static>)
+    ensures { (label : ℕ → List ℕ) → result.0.now ++ phrase_text label result.1
+        ≡ stood_text label place }
 {
-    let Some(place) = place else {
-        return text.extend_from_slice(b" in the instruction register");
-    };
-    text.extend_from_slice(b" at ")?;
-    push_place(text, place, labels)
-}
-
-/// Appends how many orders ago.
-fn push_ago<A: Allocator>(text: &mut Vec<u8, A>, orders: u64) -> Result<(), AllocError>
-    ensures { OnOk result (text.new.items ≡ text.old.items ++ ago_text orders) }
-{
-    push_pieces(text, &[Piece::Number(orders)])?;
-    if orders == 1 {
-        return text.extend_from_slice(b" order ago");
+    match place {
+        Some(place) => (b" at ", Phrase::Place(place)),
+        None => (b" in the instruction register", Phrase::Text(b"")),
     }
-    text.extend_from_slice(b" orders ago")
 }
 
-/// Appends a clock.
-fn push_clock<A: Allocator>(text: &mut Vec<u8, A>, clock: u64) -> Result<(), AllocError>
-    ensures { OnOk result (text.new.items ≡ text.old.items ++ decimal clock) }
+/// What comes after how many orders ago.
+fn ago_text(orders: u64) -> &'static [u8]
+    ensures { result.now
+        ≡ (if orders == 1 then codes " order ago" else codes " orders ago") }
 {
-    push_pieces(text, &[Piece::Number(clock)])
+    if orders == 1 {
+        b" order ago"
+    } else {
+        b" orders ago"
+    }
 }
 
 /// Appends an order, where it was and when.
-#[tactic(auto, unfolding(crate::specs::OriginLines::past_order_text))]
+#[tactic(auto, unfolding(crate::specs::OriginLines::past_order_text, crate::specs::PhrasesInside::phrase_text))]
 fn push_past_order<L: Labels, A: Allocator>(
     text: &mut Vec<u8, A>,
     order: PastOrder,
@@ -73,12 +63,22 @@ fn push_past_order<L: Labels, A: Allocator>(
     ensures { OnOk result (text.new.items
         ≡ text.old.items ++ past_order_text (L.label labels.now) order) }
 {
-    push_performed(text, order.word, labels)?;
-    push_stood(text, order.place, labels)?;
-    text.extend_from_slice(b", clock ")?;
-    push_clock(text, order.clock)?;
-    text.extend_from_slice(b", ")?;
-    push_ago(text, order.orders_back)
+    let (stood, place) = stood_at(order.place);
+    let ago = ago_text(order.orders_back);
+    push_phrases(
+        text,
+        &[
+            Phrase::Order(order.word),
+            Phrase::Text(stood),
+            place,
+            Phrase::Text(b", clock "),
+            Phrase::Number(order.clock),
+            Phrase::Text(b", "),
+            Phrase::Number(order.orders_back),
+            Phrase::Text(ago),
+        ],
+        labels,
+    )
 }
 
 /// Appends what changed a word, and when.
@@ -123,15 +123,8 @@ fn push_put_there<A: Allocator>(text: &mut Vec<u8, A>) -> Result<(), AllocError>
     text.extend_from_slice(b"put there by ")
 }
 
-/// Appends the words before a lost word.
-fn push_before_it_was<A: Allocator>(text: &mut Vec<u8, A>) -> Result<(), AllocError>
-    ensures { OnOk result (text.new.items ≡ text.old.items ++ codes "; before it was ") }
-{
-    text.extend_from_slice(b"; before it was ")
-}
-
 /// Appends what put a word where it is, and what was there before.
-#[tactic(auto, unfolding(crate::specs::OriginLines::origin_text))]
+#[tactic(auto, unfolding(crate::specs::OriginLines::origin_text, crate::specs::PhrasesInside::phrase_text))]
 fn push_origin<L: Labels, A: Allocator>(
     text: &mut Vec<u8, A>,
     origin: Origin,
@@ -142,9 +135,15 @@ fn push_origin<L: Labels, A: Allocator>(
 {
     push_put_there(text)?;
     push_changer(text, origin.changer, labels)?;
-    push_before_it_was(text)?;
-    push_lost(text, origin.lost, labels)?;
-    text.extend_from_slice(b"\n")
+    push_phrases(
+        text,
+        &[
+            Phrase::Text(b"; before it was "),
+            Phrase::Lost(origin.lost),
+            Phrase::Text(b"\n"),
+        ],
+        labels,
+    )
 }
 
 /// Appends the words before an order's origin.
@@ -206,7 +205,7 @@ fn push_reason<L: Labels, A: Allocator>(
 }
 
 /// Appends a line that says what is at an address, and where it came from.
-#[tactic(auto, unfolding(crate::specs::OriginLines::why_line))]
+#[tactic(auto, unfolding(crate::specs::OriginLines::why_line, crate::specs::PhrasesInside::phrase_text))]
 pub fn push_why_line<L: Labels, A: Allocator>(
     text: &mut Vec<u8, A>,
     address: Address,
@@ -217,10 +216,16 @@ pub fn push_why_line<L: Labels, A: Allocator>(
     ensures { OnOk result (text.new.items
         ≡ text.old.items ++ why_line (L.label labels.now) address word origin) }
 {
-    push_place(text, address, labels)?;
-    text.extend_from_slice(b": ")?;
-    push_word(text, word, labels)?;
-    text.extend_from_slice(b", ")?;
+    push_phrases(
+        text,
+        &[
+            Phrase::Place(address),
+            Phrase::Text(b": "),
+            Phrase::Word(word),
+            Phrase::Text(b", "),
+        ],
+        labels,
+    )?;
     push_reason(text, origin, labels)
 }
 

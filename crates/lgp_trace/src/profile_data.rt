@@ -3,16 +3,17 @@
 ghost use Rattle.std.specs.Prelude.{◌≡◌, ◌++◌, ◌<◌, OnOk};
 ghost use Rattle.lgp_trace.specs.ProfileData.{dear_data, profile_data, profile_in, summary_data, totals_data};
 
-use crate::account_data::{push_number_data, push_phases_data, push_place_data};
+use crate::account_data::push_phases_data;
 use crate::form::Form;
-use crate::labels::Labels;
+use crate::labels::{Labels, NoLabels};
+use crate::phrases::{DataLine, Phrase, push_data_lines};
 use crate::profile::Profile;
-use crate::profile_lines::{Dear, push_places, push_profile, push_turns};
+use crate::profile_lines::{Dear, push_places, push_profile};
 use lgp_word::Address;
 use std::alloc::{AllocError, Allocator};
 
 /// Appends how many orders, word times and turns there were.
-#[tactic(auto, unfolding(crate::specs::ProfileData::totals_data))]
+#[tactic(auto, unfolding(crate::specs::ProfileData::totals_data, crate::specs::AccountData::number_data, crate::specs::PhrasesInside::phrase_text, crate::specs::PhrasesInside::data_line))]
 fn push_totals<A: Allocator>(
     text: &mut Vec<u8, A>,
     orders: u64,
@@ -20,15 +21,19 @@ fn push_totals<A: Allocator>(
 ) -> Result<(), AllocError>
     ensures { OnOk result (text.new.items ≡ text.old.items ++ totals_data orders times) }
 {
-    push_number_data(text, b"orders ", orders)?;
-    push_number_data(text, b"times ", times)?;
-    text.extend_from_slice(b"turns ")?;
-    push_turns(text, times)?;
-    text.extend_from_slice(b"\n")
+    push_data_lines(
+        text,
+        &[
+            DataLine::Keyed(b"orders ", Phrase::Number(orders)),
+            DataLine::Keyed(b"times ", Phrase::Number(times)),
+            DataLine::Keyed(b"turns ", Phrase::Turns(times)),
+        ],
+        &NoLabels,
+    )
 }
 
 /// Appends the lines of the whole.
-#[tactic(auto, unfolding(crate::specs::ProfileData::summary_data))]
+#[tactic(auto, unfolding(crate::specs::ProfileData::summary_data, crate::specs::AccountData::number_data, crate::specs::PhrasesInside::phrase_text, crate::specs::PhrasesInside::data_line))]
 fn push_summary<A: Allocator, B: Allocator>(
     text: &mut Vec<u8, A>,
     orders: u64,
@@ -40,11 +45,15 @@ fn push_summary<A: Allocator, B: Allocator>(
     let phases = profile.phases();
     push_totals(text, orders, profile.times())?;
     push_phases_data(text, phases)?;
-    push_number_data(text, b"elsewhere ", profile.elsewhere())
+    push_data_lines(
+        text,
+        &[DataLine::Keyed(b"elsewhere ", Phrase::Number(profile.elsewhere()))],
+        &NoLabels,
+    )
 }
 
 /// Appends a place and its word times.
-#[tactic(auto, unfolding(crate::specs::ProfileData::dear_data))]
+#[tactic(auto, unfolding(crate::specs::ProfileData::dear_data, crate::specs::AccountData::place_data, crate::specs::AccountData::number_data, crate::specs::PhrasesInside::phrase_text, crate::specs::PhrasesInside::data_line))]
 pub(crate) fn push_dear_data<L: Labels, A: Allocator>(
     text: &mut Vec<u8, A>,
     here: Dear,
@@ -57,8 +66,14 @@ pub(crate) fn push_dear_data<L: Labels, A: Allocator>(
     let Some(place) = Address::new(here.0) else {
         unreachable!()
     };
-    push_place_data(text, b"place ", place, labels)?;
-    push_number_data(text, b"times ", here.1)
+    push_data_lines(
+        text,
+        &[
+            DataLine::Keyed(b"place ", Phrase::Place(place)),
+            DataLine::Keyed(b"times ", Phrase::Number(here.1)),
+        ],
+        labels,
+    )
 }
 
 /// Appends the profile of a given number of orders as lines of a key and a value.

@@ -86,8 +86,8 @@ impl<A: Allocator> Turns<A> {
         ensures one { (at : ℕ) → slice_index self.new.counts at
             ≤ slice_index self.old.counts at + 1 }
     {
-        let row = self.rows[usize::from(word.number())];
-        add_turns(&mut self.counts, SECTORS * row, begun, room);
+        let first = self.first_of(word);
+        add_turns(&mut self.counts, first, begun, room);
     }
 
     /// The turns of a word at a sector.
@@ -95,8 +95,16 @@ impl<A: Allocator> Turns<A> {
         requires { sector < 64 }
         ensures { result ≡ turns_at self.now word sector }
     {
-        let row = self.rows[usize::from(word.number())];
-        self.counts[SECTORS * row + usize::from(sector)]
+        self.counts[self.first_of(word) + usize::from(sector)]
+    }
+
+    /// Where the counts of a word begin.
+    #[inline(always)]
+    fn first_of(&self, word: Address) -> usize
+        ensures first { result ≡ 64 * slice_index self.now.rows word }
+        ensures within { result + 64 ≤ length self.now.counts }
+    {
+        SECTORS * self.rows[usize::from(word.number())]
     }
 }
 

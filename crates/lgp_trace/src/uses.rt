@@ -29,7 +29,7 @@ pub enum Freedom {
 }
 
 /// What orders made of a word.
-#[derive(Clone, Copy, Debug, PartialEq, Eq)]
+#[derive(Clone, Copy)]
 pub struct Use {
     /// One waited for it.
     pub named: bool,

@@ -1,0 +1,167 @@
+//! The pieces of the lines that tell of activities.
+
+ghost use Rattle.std.specs.Prelude.{◌≡◌, ◌++◌, OnOk, codes};
+ghost use Rattle.lgp_trace.specs.Columns.{left_aligned};
+ghost use Rattle.lgp_trace.specs.PhrasesInside.{data_line, data_lines, phrase_text, phrases_text};
+
+use crate::account_lines::{push_number, push_performed, push_place, push_word};
+use crate::columns::{push_blanks_after, push_copies, push_right, push_spaced, push_wide};
+use crate::labels::Labels;
+use crate::origin_lines::push_lost;
+use crate::profile_lines::{Part, push_part, push_share, push_turns};
+use lgp_text::{Piece, push_pieces};
+use lgp_word::{Address, Word};
+use std::alloc::{AllocError, Allocator};
+
+/// A piece of a line.
+#[derive(Clone, Copy)]
+pub(crate) enum Phrase<'a> {
+    /// The bytes as they are.
+    Text(&'a [u8]),
+    /// One byte.
+    Byte(u8),
+    /// A number in decimal.
+    Number(u64),
+    /// 32 bits as eight digits.
+    Digits(u32),
+    /// An address with its label.
+    Place(Address),
+    /// A word as the order that is performed.
+    Order(Word),
+    /// A word as a whole number.
+    Value(Word),
+    /// A word by its digits, as the order that it is, if it is one, and as a number.
+    Word(Word),
+    /// A lost word.
+    Lost(Word),
+    /// A number at the right of a column of this width.
+    Right(u64, u64),
+    /// The same after a blank.
+    Spaced(u64, u64),
+    /// The same of a number of up to 128 bits.
+    Wide(u64, &'a u128),
+    /// A byte a given number of times.
+    Copies(u8, u64),
+    /// Word times in turns of the drum.
+    Turns(u64),
+    /// A part of all word times, and what it is in per cent.
+    Share(u64, u64),
+    /// A part with its name.
+    Part(Part, u64, u64),
+}
+
+/// Appends a piece.
+#[tactic(auto, unfolding(crate::specs::PhrasesInside::phrase_text))]
+fn push_phrase<L: Labels, A: Allocator>(
+    text: &mut Vec<u8, A>,
+    phrase: &Phrase,
+    labels: &L,
+) -> Result<(), AllocError>
+    ensures { OnOk result (text.new.items
+        ≡ text.old.items ++ phrase_text (L.label labels.now) phrase.now) }
+{
+    match *phrase {
+        Phrase::Text(bytes) => text.extend_from_slice(bytes),
+        Phrase::Byte(byte) => text.extend_from_slice(&[byte]),
+        Phrase::Number(number) => push_pieces(text, &[Piece::Number(number)]),
+        Phrase::Digits(bits) => push_pieces(text, &[Piece::Digits(bits)]),
+        Phrase::Place(address) => push_place(text, address, labels),
+        Phrase::Order(word) => push_performed(text, word, labels),
+        Phrase::Value(word) => push_number(text, word),
+        Phrase::Word(word) => push_word(text, word, labels),
+        Phrase::Lost(word) => push_lost(text, word, labels),
+        Phrase::Right(width, number) => push_right(text, width, number),
+        Phrase::Spaced(width, number) => push_spaced(text, width, number),
+        Phrase::Wide(width, number) => push_wide(text, width, *number),
+        Phrase::Copies(byte, count) => push_copies(text, byte, count),
+        Phrase::Turns(times) => push_turns(text, times),
+        Phrase::Share(part, whole) => push_share(text, u128::from(part), whole),
+        Phrase::Part(part, times, whole) => push_part(text, part, times, whole),
+    }
+}
+
+/// Appends pieces one after another.
+pub(crate) fn push_phrases<L: Labels, A: Allocator>(
+    text: &mut Vec<u8, A>,
+    phrases: &[Phrase],
+    labels: &L,
+) -> Result<(), AllocError>
+    ensures { OnOk result (text.new.items
+        ≡ text.old.items ++ phrases_text (L.label labels.now) phrases.now) }
+{
+    for phrase in phrases {
+        push_phrase(text, phrase, labels)?;
+    }
+    Ok(())
+}
+
+/// Appends a piece at the left of a column.
+#[tactic(auto, using(crate::proofs::TextLemmas::columns))]
+pub(crate) fn push_column<L: Labels, A: Allocator>(
+    text: &mut Vec<u8, A>,
+    width: u64,
+    phrase: &Phrase,
+    labels: &L,
+) -> Result<(), AllocError>
+    ensures { OnOk result (text.new.items ≡ text.old.items
+        ++ left_aligned width (phrase_text (L.label labels.now) phrase.now)) }
+{
+    let begins = text.len();
+    push_phrase(text, phrase, labels)?;
+    push_blanks_after(text, width, begins)
+}
+
+/// A line for programs.
+#[derive(Clone, Copy)]
+pub(crate) enum DataLine<'a> {
+    /// The bytes as they are: a whole line, or nothing.
+    Whole(&'a [u8]),
+    /// A key with its blank, and a value.
+    Keyed(&'a [u8], Phrase<'a>),
+}
+
+/// Appends a line of a key and a value.
+fn push_keyed<L: Labels, A: Allocator>(
+    text: &mut Vec<u8, A>,
+    key: &[u8],
+    value: &Phrase,
+    labels: &L,
+) -> Result<(), AllocError>
+    ensures { OnOk result (text.new.items ≡ text.old.items
+        ++ (key.now ++ (phrase_text (L.label labels.now) value.now ++ codes "\n"))) }
+{
+    text.extend_from_slice(key)?;
+    push_phrase(text, value, labels)?;
+    text.extend_from_slice(b"\n")
+}
+
+/// Appends a line for programs.
+#[tactic(auto, unfolding(crate::specs::PhrasesInside::data_line))]
+fn push_data_line<L: Labels, A: Allocator>(
+    text: &mut Vec<u8, A>,
+    line: &DataLine,
+    labels: &L,
+) -> Result<(), AllocError>
+    ensures { OnOk result (text.new.items
+        ≡ text.old.items ++ data_line (L.label labels.now) line.now) }
+{
+    match line {
+        DataLine::Whole(line) => text.extend_from_slice(line),
+        DataLine::Keyed(key, value) => push_keyed(text, key, value, labels),
+    }
+}
+
+/// Appends lines for programs one after another.
+pub(crate) fn push_data_lines<L: Labels, A: Allocator>(
+    text: &mut Vec<u8, A>,
+    lines: &[DataLine],
+    labels: &L,
+) -> Result<(), AllocError>
+    ensures { OnOk result (text.new.items
+        ≡ text.old.items ++ data_lines (L.label labels.now) lines.now) }
+{
+    for line in lines {
+        push_data_line(text, line, labels)?;
+    }
+    Ok(())
+}
