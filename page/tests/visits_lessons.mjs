@@ -192,6 +192,9 @@ async function partsOfLessons(browser, calls) {
     await lessonAtWidths(browser, calls);
 }
 
+/** What a system shows that has none of the page's faces for labels: a wider one. */
+const WIDE_FACE = '"DejaVu Sans", Verdana, sans-serif';
+
 /** A tablet and a telephone show the steps above the machine, and nothing is scrolled sideways; narrow and wide screens show them beside it. */
 async function lessonAtWidths(browser, { sideways }) {
     const isWide = () => browser.value("document.documentElement.scrollWidth <= innerWidth");
@@ -200,9 +203,12 @@ async function lessonAtWidths(browser, { sideways }) {
         assert.deepEqual([await sideways(browser), await isWide()], [[], true], `at ${width}`);
         assert.equal(await browser.value(`document.querySelector("${NOW}").getBoundingClientRect().bottom < document.querySelector(".drum-box").getBoundingClientRect().top`), true, `at ${width}`);
     }
-    for (const [width, height] of [[1280, 720], [1920, 1080]]) {
-        await browser.size(width, height);
-        assert.deepEqual([await unseen(browser, [`${NOW} .what`, "#step", drum, scope, clock, ".listing form", paper]), await isWide()], [[], true], `at ${width}`);
+    for (const labels of [WIDE_FACE, ""]) {
+        await browser.value(`document.documentElement.style.setProperty("--labels", ${JSON.stringify(labels)})`);
+        for (const [width, height] of [[1280, 720], [1920, 1080]]) {
+            await browser.size(width, height);
+            assert.deepEqual([await unseen(browser, [`${NOW} .what`, "#step", drum, scope, clock, ".listing form", paper]), await isWide()], [[], true], `at ${width} ${labels}`);
+        }
     }
     await browser.size(1500, 1250);
 }
