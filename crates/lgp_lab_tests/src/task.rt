@@ -57,7 +57,7 @@ fn session<A: Allocator + Copy>(
     }
 }
 
-/// What words are read as: the task of a command with its file and limit, a batch of two files, or a session of so many files, with the
+/// What words are read as: the task of a command with its file and limit, a batch of two files, or a session of several files, with the
 /// name of the first, with lines above their replies or not, and with replies in JSON or not. Or what is reported of them: a mistake or
 /// help, with a part of the text, or an answer that is the text whole.
 #[derive(Clone, Copy)]
