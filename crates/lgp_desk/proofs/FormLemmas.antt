@@ -1,12 +1,11 @@
 -- Texts of files, taken line by line, and names without the spaces at their end.
-use Rattle.std.proofs.Common.{◌≡◌, ℕ, ◌+◌, ◌-◌, ◌<◌, ◌≤◌, ◌||◌, ◌&&◌, Bool, true, false, cond, List, [], ◌∷◌, ◌++◌, length, take, get_or, count_by, nat_lt, Option, Some, None, IfSome, IfNone, IfErr, IsErrOf, Result, Ok, Err, refl, sym, ap, subst, ◌∙◌, append_assoc, arith}
-use Rattle.std.specs.List.{list_all, list_any}
+use Rattle.std.proofs.Common.{◌≡◌, ℕ, ◌+◌, ◌-◌, ◌<◌, ◌≤◌, ◌&&◌, Bool, true, false, cond, List, [], ◌∷◌, ◌++◌, length, take, get_or, count_by, nat_lt, Option, Some, None, IfSome, IfNone, IfErr, IsErrOf, Result, Ok, Err, refl, sym, ap, subst, ◌∙◌, append_assoc, arith}
+use Rattle.std.specs.List.{list_all}
 use Rattle.std.specs.Option.{option_map_or}
 use Rattle.std.specs.Result.{IsOkAnd, result_map_both}
 use Rattle.std.specs.Str.Lines.{lines}
 use Rattle.std.proofs.lemmas.Bool.Decides.{nat_tests}
 use Rattle.std.proofs.lemmas.List.{append-nil, take_more}
-use Rattle.std.proofs.lemmas.List.Sums.{sum_by-append}
 use Rattle.lgp_flexo.specs.TapeText.{tape_limit, written_tape}
 use Rattle.lgp_exchange.specs.Examined.{first_fault, words_of}
 use Rattle.lgp_exchange.specs.TapeBytes.{first_no_code}
@@ -20,13 +19,6 @@ use Rattle.lgp_desk.specs.FileForms.{coded, dump_line, dump_lines, examined_trou
 use Rattle.lgp_desk.specs.Requests.{trimmed}
 use Rattle.lgp_desk.specs.declared.files.FileTrouble.{FileTrouble}
 use Rattle.lgp_desk.specs.declared.files.FileTrouble.TheVariants as troubles
-
--- ---- line feeds
-
-pub feeds-more : (text : List ℕ) (i : ℕ) → i < length text → count_by is_line_feed (take (i + 1) text) ≡ count_by is_line_feed (take i text) + cond (is_line_feed (get_or text i 0)) 1 0
-feeds-more text i within =
-    ap (count_by is_line_feed) (take_more text i 0 within)
-    ∙ (sum_by-append (λ byte. cond (is_line_feed byte) 1 0) (take i text) (get_or text i 0 ∷ []) ∙ (omega arith))
 
 -- ---- spaces at the end
 
@@ -78,14 +70,6 @@ unfolding trimmed
 trimmed-none = refl
 
 -- ---- lines
-
-pub any-more : (p : List ℕ → Bool) (text rest : List ℕ) (kept : Kept) (b : Bool) → (first : IsFirstLine text kept rest) → p first.first ≡ false → list_any p (lines text) ≡ b → list_any p (lines rest) ≡ b
-any-more p text rest kept b first none so =
-    sym (ap (list_any p) first.lines_are ∙ ap (λ (it : Bool). it || list_any p (lines rest)) none) ∙ so
-
-pub any-found : (p : List ℕ → Bool) (text rest : List ℕ) (kept : Kept) (b : Bool) → (first : IsFirstLine text kept rest) → p first.first ≡ true → list_any p (lines text) ≡ b → true ≡ b
-any-found p text rest kept b first found so =
-    sym (ap (list_any p) first.lines_are ∙ ap (λ (it : Bool). it || list_any p (lines rest)) found) ∙ so
 
 pub dump-more : (text rest : List ℕ) (kept : Kept) (so_far all : List ℕ) → IsFirstLine text kept rest → so_far ++ dump_lines (lines text) ≡ all → (so_far ++ dump_line kept) ++ dump_lines (lines rest) ≡ all
 unfolding dump_lines

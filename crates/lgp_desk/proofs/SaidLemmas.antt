@@ -1,8 +1,8 @@
 -- What the desk says, one part after another.
-use Rattle.std.proofs.Common.{◌≡◌, ℕ, zero, suc, ◌+◌, ◌<◌, ◌-◌, Bool, true, false, cond, is_none, is_some, Option, Some, None, IsTrue, OnOk, Result, Ok, Err, List, [], ◌∷◌, ◌++◌, codes, drop, get_or, length, ◌≤◌, refl, sym, ap, subst, ◌∙◌, append_assoc, arith}
+use Rattle.std.proofs.Common.{◌≡◌, ℕ, zero, suc, ◌+◌, ◌<◌, ◌-◌, Bool, true, false, cond, is_none, is_some, Option, Some, None, IsTrue, OnOk, Result, Ok, Err, List, [], ◌∷◌, ◌++◌, codes, drop, get_or, length, refl, sym, ap, subst, ◌∙◌, append_assoc, arith}
 use Rattle.std.specs.Option.{option_map_or}
 use Rattle.std.specs.Str.Lines.{lines}
-use Rattle.std.proofs.lemmas.List.{append-nil, drop_all, drop_more}
+use Rattle.std.proofs.lemmas.List.{append-nil, drop_more}
 use Rattle.lgp_stream.specs.KeptLine.{IsFirstLine, Kept, kept_of}
 use Rattle.lgp_stream.specs.Speech.{IsSaying}
 use Rattle.lgp_stream.specs.declared.stream.StreamFault.{StreamFault}
@@ -118,12 +118,6 @@ pub left-broken : {T U : Type 0} (w₁ w₂ w₃ : Option (List ℕ)) (t₁ t₂
     → IsLeft w₁ w₂ t₁ t₂ now (and_then first more) whole → HasSaid {T = T} next w₂ w₃ t₂ t₃ (Err fault) first → HasSaid {T = U} after w₁ w₃ t₁ t₃ (Err fault) whole
 left-broken {T} {U} w₁ w₂ w₃ t₁ t₂ t₃ now next after first whole more fault left one =
     left-last w₁ w₂ w₃ t₁ t₂ t₃ now after (and_then first more) whole (Err fault) left (said-broken {T = T} {U = U} next after w₂ w₃ t₂ t₃ fault first more one)
-
--- nothing is left
-pub left-none : (w₁ w₂ : Option (List ℕ)) (t₁ t₂ : Tally) (now : Seat) (rest whole : Said) (value : Unit {0})
-    → IsLeft w₁ w₂ t₁ t₂ now rest whole → rest ≡ nothing now → HasSaid now w₁ w₂ t₁ t₂ (Ok value) whole
-left-none w₁ w₂ t₁ t₂ now rest whole value left none =
-    left-last w₁ w₂ w₂ t₁ t₂ t₂ now now rest whole (Ok value) left (rw none (said-none now w₂ t₂ value left.is_said.known))
 
 -- ---- the lines of a text that the monitor answers
 
@@ -327,11 +321,6 @@ pub first-stopped : (names : List (List ℕ)) (i : ℕ) (d name : List ℕ) (w�
 first-stopped names i d name w₁ w₂ w₃ t₁ t₂ t₃ now next whole fault within is left one =
     first-broken (get_or names i d) (drop (i + 1) names) w₁ w₂ w₃ t₁ t₂ t₃ now next whole fault (first-next names i d w₁ w₂ t₁ t₂ now whole within left)
     (subst (λ (it : List ℕ). HasSaid {T = Unit {0}} next w₂ w₃ t₂ t₃ (Err fault) (file_said (said 15) (codes "named on the command line") now it (text_at now it))) is one)
-
-pub first-all : (names : List (List ℕ)) (i : ℕ) (w₁ w₂ : Option (List ℕ)) (t₁ t₂ : Tally) (now : Seat) (whole : Said) (value : Unit {0}) → length names ≤ i
-    → IsLeft w₁ w₂ t₁ t₂ now (first_said now (drop i names)) whole → HasSaid now w₁ w₂ t₁ t₂ (Ok value) whole
-first-all names i w₁ w₂ t₁ t₂ now whole value past left =
-    left-none w₁ w₂ t₁ t₂ now (first_said now (drop i names)) whole value left (ap (first_said now) (drop_all i names past))
 
 -- ---- the beginning: those files and the prompt
 

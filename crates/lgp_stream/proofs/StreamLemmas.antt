@@ -123,7 +123,3 @@ StandsWritten-heading language s fault heading (Some text) r w₀ w stop = Stand
 pub StandsWritten-unnamed : {S : Type 0} (language : Language S) (s : S) (heading : List ℕ) (r₀ r w : Option (List ℕ)) → IfSome r₀ (λ text. StandsWritten (heading ∷ []) language s Memory text r w w)
 StandsWritten-unnamed language s heading None r w = tt
 StandsWritten-unnamed language s heading (Some text) r w = record { first = []; lacking = heading; rest = text_replies language s text; joined = refl; sent = Appends-none w }
-
-pub Appends-part : (heading : List ℕ) (texts : List ℕ → List ℕ) (r₀ w₀ w₁ w : Option (List ℕ)) → Appends w₀ w₁ heading → IfSome r₀ (λ text. Appends w₁ w (texts text)) → IfSome r₀ (λ text. Appends w₀ w (heading ++ texts text))
-Appends-part heading texts r₀ w₀ w₁ w written sent =
-    IfSome-weaker r₀ (λ text. Appends w₁ w (texts text)) (λ text. Appends w₀ w (heading ++ texts text)) (λ text more. Appends-trans w₀ w₁ w heading (texts text) written more) sent

@@ -9,12 +9,11 @@ use Rattle.lgp_table.specs.State.{Core, State}
 use Rattle.lgp_trace.specs.Account.{operand_in, place_of}
 use Rattle.lgp_trace.specs.Optimum.{clock_with, freedom, freedom_of, moved, took_with}
 use Rattle.lgp_trace.specs.OptimumInside.{ShowsSame, seek_with}
-use Rattle.lgp_trace.specs.OptimumKept.{AreUsesOf, IsBest, IsLeast, IsOptimumOf, Kept, last_seek, seek_after, seek_of, Turned, times_at, turns_at, use_at, wait_of}
+use Rattle.lgp_trace.specs.OptimumKept.{AreUsesOf, IsOptimumOf, Kept, last_seek, seek_after, seek_of, Turned, times_at, turns_at, use_at, wait_of}
 use Rattle.lgp_trace.specs.Phases.{all_phases, phases_of}
 use Rattle.lgp_trace.specs.TurnsInside.{is_last_late, no_turns, one_turn_if}
 use Rattle.lgp_trace.specs.UsesInside.{no_uses}
 use Rattle.lgp_trace.specs.declared.account.Found.{Found}
-use Rattle.lgp_trace.specs.declared.optimum.Best.{Best}
 use Rattle.lgp_trace.specs.declared.optimum.Seek.{Seek}
 use Rattle.lgp_trace.specs.declared.phases.Phases.{Phases}
 use Rattle.lgp_trace.specs.declared.uses.Use.{Use}
@@ -93,26 +92,6 @@ pub times_took : (kept : Kept) (s : State) (count : ℕ) → IsOptimumOf kept s 
     → times_at kept word sector ≡ took_with s count word sector
 times_took kept s count h word sector on_drum on_track =
     omega (arith, h.shares word sector on_drum on_track, h.took, clock_goes_on (moved word sector) s count)
-
-pub least_as : (one other : ℕ → ℕ) (own least : ℕ) → own < 64 → ((sector : ℕ) → sector < 64 → one sector ≡ other sector) → IsLeast one own least → IsLeast other own least
-least_as one other own least on_track same h =
-    let here = same least h.sector in
-    record {
-      sector = h.sector;
-      none_less = λ sector below. omega (arith, h.none_less sector below, here, same sector below);
-      first = λ sector before moves. omega (arith, h.first sector before moves, here, h.sector, same sector (omega (arith, h.sector, before)));
-      stays = λ as_good. h.stays (here ∙ as_good ∙ sym (same own on_track));
-    }
-
-pub best_as : (one other : ℕ → ℕ) (own : ℕ) (best : Best) → own < 64 → ((sector : ℕ) → sector < 64 → one sector ≡ other sector) → IsBest one own best → IsBest other own best
-best_as one other own best on_track same h = record {
-  least = least_as one other own best.sector on_track same h.least;
-  saved = omega (arith, h.saved, same best.sector h.least.sector, same own on_track);
-}
-
-pub best_of_run : (kept : Kept) (s : State) (count word : ℕ) (best : Best) → IsOptimumOf kept s count → word < 4096 → IsBest (times_at kept word) (sector_of word) best → IsBest (took_with s count word) (sector_of word) best
-best_of_run kept s count word best h on_drum =
-    best_as (times_at kept word) (took_with s count word) (sector_of word) best (omega arith) (λ (sector : ℕ) (on_track : sector < 64). times_took kept s count h word sector on_drum on_track)
 
 pub freedom_reported : (kept : Kept) (s : State) (count word : ℕ) → IsOptimumOf kept s count → word < 4096
     → (let used = use_at kept.uses word in freedom used.named used.performed used.by_other) ≡ freedom_of s count word

@@ -1,7 +1,7 @@
 -- The rows of counts: one row more, and one turn more at some sectors of a row.
-use Rattle.std.proofs.Common.{◌≡◌, ◌≢◌, ◌∙◌, ℕ, ◌+◌, ◌-◌, ◌*◌, ◌/◌, ◌<◌, ◌≤◌, ◌==◌, ◌&&◌, inl, inr, ◌++◌, Bool, true, false, List, length, replicate, take, slice_index, slice_set, leb, ltb, ap, refl, sym, arith, add-zero, length-append, length-set, length-take}
+use Rattle.std.proofs.Common.{◌≡◌, ◌≢◌, ◌∙◌, ℕ, ◌+◌, ◌-◌, ◌*◌, ◌/◌, ◌<◌, ◌≤◌, ◌==◌, ◌&&◌, inl, inr, ◌++◌, Bool, true, false, List, length, replicate, take, slice_index, slice_set, leb, ltb, ap, refl, sym, arith, length-take}
 use Rattle.std.proofs.lemmas.Bool.Decides.{nat_tests}
-use Rattle.std.proofs.lemmas.Bool.{and_right, cases_eq, cases_lt, eq-eqb, le-leb, lt-ltb, le-ltb, ne_eqb}
+use Rattle.std.proofs.lemmas.Bool.{cases_eq, cases_lt, eq-eqb, le-leb, lt-ltb, ne_eqb}
 use Rattle.std.proofs.lemmas.List.{get_or-append_right, get_or-replicate, get_or-take, get_or_default, get_or_past, same_lists, get_or-set_other, get_or-set_same, get_or_append_left, length-replicate}
 use Rattle.lgp_trace.specs.OptimumKept.{IsTurned, Turned}
 use Rattle.lgp_trace.specs.TurnsInside.{SameTurns, no_turns, one_turn_if}
@@ -32,42 +32,6 @@ module _ (rows counts zeros : List ℕ) (word row : ℕ) (h : IsTurned rows coun
 
   there : (other : ℕ) → other ≢ word → slice_index (slice_set rows word row) other ≡ slice_index rows other
   there other different = get_or-set_other rows word other row 0 different
-
-  grown : length (counts ++ zeros) ≡ length counts + 64
-  grown = omega (arith, length-append counts zeros)
-
-  has_row : 64 ≤ length counts
-  has_row = omega (arith, h.whole word below, none)
-
-  row_within : (other : ℕ) → other < 4096 → 64 * slice_index (slice_set rows word row) other + 64 ≤ length (counts ++ zeros)
-  row_within other other_below = elim (cases_eq other word) [
-    | inl same ↦ omega (arith, ap (slice_index (slice_set rows word row)) same, here, grown)
-    | inr different ↦ omega (arith, there other different, grown, h.whole other other_below)
-  ]
-
-  rows_apart : (one other : ℕ) → one < 4096 → other < 4096 → 0 < slice_index (slice_set rows word row) one → slice_index (slice_set rows word row) one ≡ slice_index (slice_set rows word row) other → one ≡ other
-  rows_apart one other one_below other_below some same = elim (cases_eq one word) [
-    | inl one_here ↦ elim (cases_eq other word) [
-      | inl other_here ↦ one_here ∙ sym other_here
-      | inr other_there ↦ absurd (omega (arith, ap (slice_index (slice_set rows word row)) one_here, here, there other other_there, h.whole other other_below))
-    ]
-    | inr one_there ↦ elim (cases_eq other word) [
-      | inl other_here ↦ absurd (omega (arith, ap (slice_index (slice_set rows word row)) other_here, here, there one one_there, h.whole one one_below))
-      | inr other_there ↦ h.apart one other one_below other_below (omega (arith, there one one_there)) (omega (arith, there one one_there, there other other_there))
-    ]
-  ]
-
-  first_counts : (sector : ℕ) → sector < 64 → slice_index (counts ++ zeros) sector ≡ 0
-  first_counts sector on_track = get_or_append_left counts zeros 0 sector (omega (arith, has_row)) ∙ h.none sector on_track
-
-  pub row_more : IsTurned (slice_set rows word row) (counts ++ zeros)
-  row_more = record {
-    words = length-set rows word row ∙ h.words;
-    whole = row_within;
-    full = omega (arith, grown, h.full);
-    none = first_counts;
-    apart = rows_apart;
-  }
 
   old_turns : (other sector : ℕ) → other < 4096 → sector < 64 → slice_index (counts ++ zeros) (64 * slice_index rows other + sector) ≡ slice_index counts (64 * slice_index rows other + sector)
   old_turns other sector other_below on_track = get_or_append_left counts zeros 0 (64 * slice_index rows other + sector) (omega (arith, h.whole other other_below))
@@ -105,14 +69,6 @@ module _ (rows counts zeros : List ℕ) (word row : ℕ) (h : IsTurned rows coun
       | inr past ↦ get_or_past zeros k 0 (omega (arith, long))
     ]
 
-  pub rows_stay : (other : ℕ) → 0 < slice_index rows other → 0 < slice_index (slice_set rows word row) other
-  rows_stay other some =
-      let different : other ≢ word = λ (same : other ≡ word). absurd (omega (arith, ap (slice_index rows) same, none)) in
-      omega (arith, there other different)
-
-pub unchanged_turns : (turned : Turned) → SameTurns turned turned
-unchanged_turns turned = record { each = λ word sector below on_track. refl }
-
 -- ---- turns added
 
 abbrev in_row : ℕ → ℕ → Bool
@@ -145,32 +101,6 @@ word_turns rows counts more word late h below some adds other sector other_below
 ] where
   out_of_row : (row other sector : ℕ) → sector < 64 → row ≢ other → in_row (64 * row) (64 * other + sector) ≡ false
   out_of_row row other sector on_track differ = grind (arith, nat_tests)
-
--- a loop over a row: one more count is done
-pub turns_step : (before counts : List ℕ) (first done at : ℕ) (late : ℕ → Bool) (more : ℕ) → first + 64 ≤ length before → done < 64 → length counts ≡ length before
-    → more ≡ slice_index counts (first + done) + one_turn_if (late done)
-    → ((at : ℕ) → slice_index counts at ≡ slice_index before at + one_turn_if (leb first at && ltb at (first + done) && late (at - first)))
-    → slice_index (slice_set counts (first + done) more) at ≡ slice_index before at + one_turn_if (leb first at && ltb at (first + (done + 1)) && late (at - first))
-turns_step before counts first done at late more room left long is so_far = elim (cases_eq at (first + done)) [
-  | inl same ↦
-      let written : slice_index (slice_set counts (first + done) more) (first + done) ≡ more = get_or-set_same counts (first + done) more 0 (omega arith) in
-      let back : first + done - first ≡ done = omega arith in
-      let from : leb first (first + done) ≡ true = le-leb first (first + done) (omega arith) in
-      let not_yet : ltb (first + done) (first + done) ≡ false = le-ltb (first + done) (first + done) (omega arith) in
-      let now : ltb (first + done) (first + (done + 1)) ≡ true = lt-ltb (first + done) (first + (done + 1)) (omega arith) in
-      let old : slice_index counts (first + done) ≡ slice_index before (first + done) =
-      so_far (first + done) ∙ ap (λ (b : Bool). slice_index before (first + done) + one_turn_if (b && late (first + done - first))) (and_right (leb first (first + done)) (ltb (first + done) (first + done)) not_yet)
-      ∙ add-zero _ in
-      rw same (written ∙ is ∙ ap (λ (n : ℕ). n + one_turn_if (late done)) old
-      ∙ ap (λ (b : Bool). slice_index before (first + done) + one_turn_if b)
-      (sym (ap (λ (b : Bool). b && ltb (first + done) (first + (done + 1)) && late (first + done - first)) from ∙ ap (λ (b : Bool). b && late (first + done - first)) now ∙ ap late back)))
-  | inr different ↦
-      let next : first + done + 1 ≡ first + (done + 1) = omega arith in
-      get_or-set_other counts (first + done) at more 0 different ∙ so_far at
-      ∙ ap (λ (b : Bool). slice_index before at + one_turn_if (leb first at && b && late (at - first))) (same_bound at (first + done) different ∙ ap (ltb at) next)
-] where
-  same_bound : (at done : ℕ) → at ≢ done → ltb at done ≡ ltb at (done + 1)
-  same_bound at done differ = grind (arith, nat_tests)
 
 -- no turn, by its lists
 pub none_turned_as : (rows counts : List ℕ) → rows ≡ replicate 4096 0 → counts ≡ replicate 64 0 → IsTurned rows counts

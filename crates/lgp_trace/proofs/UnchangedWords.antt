@@ -19,10 +19,6 @@ use Rattle.lgp_trace.proofs.WordLaws.{other_words}
 
 -- ---- the kept steps with one more, of which the oldest may go
 
-no_step : (address : ℕ) → latest_change address [] ≡ None
-unfolding latest_change
-no_step address = refl
-
 not_taken : {Y : Type 0} (b : Bool) (y : Y) → cond b (Some y) None ≡ None → b ≡ false
 not_taken true y e = cc
 not_taken false y e = refl
