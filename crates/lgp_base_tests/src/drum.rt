@@ -78,7 +78,7 @@ fn first_not_blank<A: Allocator>(drum: &Drum<A>) -> u16 {
 const TWO: [Cell; 2] = [(b"0100", 4), (b"6363", 0x8000_0000)];
 
 /// Those two, and words beside them.
-const BESIDE: [Cell; 6] = [
+static BESIDE: [Cell; 6] = [
     (b"0100", 4),
     (b"6363", 0x8000_0000),
     (b"0063", 0),
@@ -88,7 +88,7 @@ const BESIDE: [Cell; 6] = [
 ];
 
 /// Sectors of track 5 in the order in which they pass the head, each with another word.
-const PASSING: [Cell; 11] = [
+static PASSING: [Cell; 11] = [
     (b"0500", 100),
     (b"0557", 214),
     (b"0550", 200),
@@ -115,7 +115,7 @@ fn first_not_passing<A: Allocator>(drum: &Drum<A>, cells: &[Cell]) -> u64 {
 }
 
 /// Two words of the first track and one of the second.
-const THREE: [Cell; 3] = [(b"0001", 0x000e_00cc), (b"0050", 6), (b"0150", 8)];
+static THREE: [Cell; 3] = [(b"0001", 0x000e_00cc), (b"0050", 6), (b"0150", 8)];
 
 /// The bits of the word at a place of the first track.
 fn wanted_at(place: usize) -> u32 {

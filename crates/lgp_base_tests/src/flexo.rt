@@ -13,7 +13,7 @@ use std::test::Fail;
 mod archives;
 
 /// The numbers and signs of the table.
-const SIGNS: [(u8, char); 43] = [
+static SIGNS: [(u8, char); 43] = [
     (2, '0'),
     (6, '1'),
     (10, '2'),
@@ -325,7 +325,7 @@ fn tapes_are_written(rt: HostRuntime) {
 }
 
 /// Bad texts, and the places of their first bad signs.
-const BAD_TEXTS: [(&[u8], usize); 8] = [
+static BAD_TEXTS: [(&[u8], usize); 8] = [
     (b"[6", 0),
     (b"[64]", 0),
     (b"[0a]", 0),

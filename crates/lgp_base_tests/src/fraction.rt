@@ -34,7 +34,7 @@ fn made(by: By, accumulator: u32, word: Word) -> Arith {
 type Row = (By, u32, &'static [u8; 8], &'static [u8; 8], bool);
 
 /// Sums wrap; products and quotients are those of fractions.
-const MADE: [Row; 15] = [
+static MADE: [Row; 15] = [
     (By::Add, 6, b"0000000f", b"00000010", false),
     (By::Add, 0x7fff_fffe, b"00000002", b"80000000", true),
     (By::Add, 0x8000_0000, b"wwwwwwwq", b"7wwwwwwq", true),
@@ -71,7 +71,7 @@ fn read(text: &[u8]) -> Result<[u8; 8], FractionFault> {
 }
 
 /// Decimals, and how each is read.
-const READ: [(&[u8], Result<[u8; 8], FractionFault>); 25] = [
+static READ: [(&[u8], Result<[u8; 8], FractionFault>); 25] = [
     (b".1", Ok(*b"0jjjjjjj")),
     (b"-1.0", Ok(*b"80000000")),
     (b"0.5", Ok(*b"40000000")),
@@ -112,7 +112,7 @@ fn first_read_otherwise() -> usize {
 }
 
 /// Digits of words, and their decimals.
-const WRITTEN: [([u8; 8], [u8; 12]); 7] = [
+static WRITTEN: [([u8; 8], [u8; 12]); 7] = [
     (*b"0jjjjjjj", *b" .0999999996"),
     (*b"00100000", *b" .0004882813"),
     (*b"wwg00000", *b"-.0024414063"),

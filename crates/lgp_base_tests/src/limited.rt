@@ -24,7 +24,7 @@ fn four_growths<B: Allocator>(limited: &Limited<B>, nth: u64) -> [bool; 8] {
 }
 
 /// None is refused, then each one of the four, and then the fifth, which does not come.
-const IN_TURN: [(u64, [bool; 8]); 6] = [
+static IN_TURN: [(u64, [bool; 8]); 6] = [
     (0, [false; 8]),
     (1, [true, false, false, false, true, true, true, true]),
     (2, [false, true, false, false, false, true, true, true]),

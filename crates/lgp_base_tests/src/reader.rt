@@ -152,7 +152,7 @@ fn answer<'a, B: Allocator>(
 type Row = (Deed, Answer, Shown);
 
 /// A new reader, with one tape after another.
-const ROWS: [Row; 40] = [
+static ROWS: [Row; 40] = [
     (Deed::Pass, NO, (false, 0, 0)),
     (Deed::Start, DONE, (true, 0, 0)),
     // It is on or off, and codes pass in order.

@@ -96,7 +96,7 @@ fn met<A: Allocator>(alloc: &A, size: usize, asked: &Asked) -> Option<usize> {
 /// 32 bytes beside them: so three requests of a size differ around 16 and 32. What is freed serves the next request of its size, and of
 /// no other. A region that has memory for a thousand blocks gives a thousand out; bytes beyond a multiple of 16 are not used; of no
 /// memory nothing is given.
-const ASKED: [(usize, Asked, usize); 13] = [
+static ASKED: [(usize, Asked, usize); 13] = [
     (144, Asked::Three(1), 3),
     (144, Asked::Three(16), 3),
     (144, Asked::Three(17), 2),
@@ -173,7 +173,7 @@ fn met_by_lasting<A: Allocator>(alloc: &A, size: usize) -> Option<usize> {
 }
 
 /// Sizes around the 4,096 bytes that it takes for itself, and how many are met.
-const LASTING: [(usize, Option<usize>); 4] = [
+static LASTING: [(usize, Option<usize>); 4] = [
     (4_080, None),
     (4_096, Some(0)),
     (4_144, Some(1)),

@@ -61,7 +61,7 @@ fn first_wrong(source: &[u8], wanted: &[Wanted]) -> u64 {
 }
 
 /// Tokens by their use, a comment after them, one token too many, and a semicolon within a token.
-const TOKENS: [Wanted; 5] = [
+static TOKENS: [Wanted; 5] = [
     (
         b"start b one ; take",
         [(0, 5), (6, 7), (8, 11), NONE],
@@ -85,14 +85,14 @@ const TOKENS: [Wanted; 5] = [
 ];
 
 /// Lines that end at line feeds.
-const ENDS: [Wanted; 3] = [
+static ENDS: [Wanted; 3] = [
     (b"", [NONE; 4], false, None),
     (b";only a comment", [NONE; 4], false, None),
     (b" \r", [NONE; 4], false, Some(1)),
 ];
 
 /// Bad bytes by their place. A line with one has no tokens.
-const BAD: [Wanted; 3] = [
+static BAD: [Wanted; 3] = [
     (b" end\x80\x1f", [NONE; 4], false, Some(4)),
     (b"~\t ", [(0, 1), NONE, NONE, NONE], false, None),
     (b"\x7f", [NONE; 4], false, Some(0)),

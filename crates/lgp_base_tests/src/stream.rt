@@ -37,7 +37,7 @@ fn echoed(alloc: Global, text: &[u8], replies: &mut Vec<u8>) -> Result<u64, Stre
 }
 
 /// A text, its replies, and how many of those begin with a question mark.
-const TEXTS: [(&[u8], &[u8], u64); 5] = [
+static TEXTS: [(&[u8], &[u8], u64); 5] = [
     (b"", b".\n", 0),
     (b"ab\n?\r\n\n?c", b"ab\n?\n\n?c\n.\n", 2),
     (b"one\n", b"one\n.\n", 0),

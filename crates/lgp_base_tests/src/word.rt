@@ -215,7 +215,7 @@ fn plain_word(op: Op, number: u16) -> Option<u32> {
 }
 
 /// The orders by their letters.
-const BY_LETTER: [(u8, Op); 16] = [
+static BY_LETTER: [(u8, Op); 16] = [
     (b'z', Op::Z),
     (b'b', Op::B),
     (b'y', Op::Y),

@@ -37,7 +37,7 @@ const FIVE_LINES: &[u8] = b"start b one ; take\n h 0050\n z\none frac .1\n end s
 const NO_WORDS: &[u8] = b" end\n";
 
 /// Numbers that do not cut two words at 0100 and 0101 into blocks.
-const NO_CUTS: [&[usize]; 6] = [&[2, 0], &[0, 2], &[1], &[3], &[1, 1, 1], &[]];
+static NO_CUTS: [&[usize]; 6] = [&[2, 0], &[0, 2], &[1], &[3], &[1, 1, 1], &[]];
 
 /// How a program is loaded: in the longest blocks, in blocks of these lengths, or cell by cell.
 #[derive(Clone, Copy)]
@@ -201,7 +201,7 @@ fn tape_length<A: Allocator + Copy>(alloc: A, image: &Image, way: Way) -> Result
     }
 }
 
-const BLOCK_LOADER: [&[u8]; 22] = [
+static BLOCK_LOADER: [&[u8]; 22] = [
     b"00080000",
     b"00040000",
     b"000g3w48",
@@ -226,7 +226,7 @@ const BLOCK_LOADER: [&[u8]; 22] = [
     b"00000000",
 ];
 
-const SINGLE_LOADER: [&[u8]; 10] = [
+static SINGLE_LOADER: [&[u8]; 10] = [
     b"00080000",
     b"00040000",
     b"000g3w20",

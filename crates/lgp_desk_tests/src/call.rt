@@ -10,7 +10,7 @@ use std::alloc::{Allocator, Global};
 type Row = (&'static [u8], u32, &'static [u8]);
 
 /// Lines of one session. A word at 30 is twice its number.
-const ROWS: [Row; 12] = [
+static ROWS: [Row; 12] = [
     (b"put 0050 = 3", 0, b"ok\n"),
     (
         b"; a\nput 0050 00000004",

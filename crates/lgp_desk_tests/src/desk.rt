@@ -187,7 +187,7 @@ pub(crate) fn rows_answered(alloc: Global, rows: &[Row]) -> usize {
 }
 
 /// Lines without prompts are in `texts/` and `examples/`, and the proved program answers those.
-const LINES: [Row; 7] = [
+static LINES: [Row; 7] = [
     // Counter and status come before each line but those of a source, in which quit is a line as others.
     (
         Manner::Prompting,
@@ -230,7 +230,7 @@ fn lines_at_a_desk_are_answered(rt: HostRuntime) {
     expect_eq(&rt, rows_answered(rt.alloc(), &LINES), 7);
 }
 
-const NAMING: [Row; 20] = [
+static NAMING: [Row; 20] = [
     (
         Manner::Bare,
         b"do two lines\ntranscript\n",

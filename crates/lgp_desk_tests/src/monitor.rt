@@ -12,7 +12,7 @@ use std::alloc::{Allocator, Global};
 type Row = (&'static [u8], &'static [u8], u64);
 
 /// Others are in `texts/` and `examples/`, and the monitor's proved program answers those.
-const ROWS: [Row; 4] = [
+static ROWS: [Row; 4] = [
     // Words by order, number and fraction: the machine's word of n at 30 is 2n, and -.5 is -2^30 of 2^31 steps.
     (
         b"put 0050 = 385\nput 0051 = -1\nput 0052 -.5\nput 0053 h 6363\nwords 0050 4\n",

@@ -224,7 +224,7 @@ fn rows_read(global: Global, rows: &[Row], of_session: bool) -> (usize, u64) {
     }
 }
 
-const ROWS: [Row; 26] = [
+static ROWS: [Row; 26] = [
     (&[], Wanted::Command("", "", 0)),
     (&["asm", "sum.src"], Wanted::Command("asm", "sum.src", 0)),
     (&["tape", "sum.src"], Wanted::Command("tape", "sum.src", 0)),
@@ -280,7 +280,7 @@ const ROWS: [Row; 26] = [
     ),
 ];
 
-const SESSIONS: [Row; 11] = [
+static SESSIONS: [Row; 11] = [
     (&[], Wanted::Session(0, "", false, false)),
     (&["a b"], Wanted::Session(1, "a b", false, false)),
     (

@@ -100,7 +100,7 @@ fn is_next<A: Allocator>(machine: &mut Machine<A>, row: Row) -> bool {
 }
 
 /// The sum of a table by a program that changes three of its own orders.
-const SUM_OF_A_TABLE: &[(u16, u32)] = &[
+static SUM_OF_A_TABLE: &[(u16, u32)] = &[
     (0, 0x00030044),
     (1, 0x000a0010),
     (2, 0x000c0064),
@@ -131,7 +131,7 @@ const SUM_OF_A_TABLE: &[(u16, u32)] = &[
 
 /// Its 42 orders. A wait counts from the clock on to the sector's place on the track, which is 9 times its number, and the word time
 /// of the reading.
-const ORDERS: &[Row] = &[
+static ORDERS: &[Row] = &[
     (0, 64, 24, 1, 0xa0008),
     (1, 47, 1, 1, 0),
     (4, 24, 15, 1, 0x100),

@@ -162,7 +162,7 @@ const BEHIND_LOADER: Wanted = Wanted {
     symbols: &[],
 };
 
-const SOURCES: &[(&[u8], Wanted)] = &[
+static SOURCES: &[(&[u8], Wanted)] = &[
     (FIRST_PROGRAM, FIRST_IMAGE),
     (OPERATIONS, OPERATION_IMAGE),
     (b" end", EMPTY_IMAGE),
@@ -190,7 +190,7 @@ fn sources_without_faults(rt: HostRuntime) {
     expect_eq(&rt, first_wrong(rt.alloc(), SOURCES), None);
 }
 
-const FAULTS_IN_ORDER: &[(u64, FaultKind)] = &[
+static FAULTS_IN_ORDER: &[(u64, FaultKind)] = &[
     (2, FaultKind::InLoader),
     (6, FaultKind::PlaceTaken),
     (7, FaultKind::UnknownOrder),
@@ -211,7 +211,7 @@ fn faults_in_order_of_lines(rt: HostRuntime) {
 }
 
 /// Sources with one fault each, its line and its kind.
-const ONE_FAULT: &[(&[u8], u64, FaultKind)] = &[
+static ONE_FAULT: &[(&[u8], u64, FaultKind)] = &[
     (b"", 1, FaultKind::NoEnd),
     (b" z\n z", 3, FaultKind::NoEnd),
     (b" org 6363\n z\n z\n end", 3, FaultKind::PastEnd),

@@ -206,7 +206,7 @@ fn growths_of<B: Allocator>(
 /// names of the lines, the words, the names of the image, the faults and the text of a listing take memory, each where there is one of
 /// them; the last source's only fault is reported after its lines. The fourth source has words and names before its fault, which are
 /// of no use then.
-const SOURCES: [(bool, &[u8], u64); 10] = [
+static SOURCES: [(bool, &[u8], u64); 10] = [
     (false, FIRST_PROGRAM, 4),
     (false, OPERATIONS, 4),
     (false, FAULTY_SOURCE, 5),

@@ -37,7 +37,7 @@ fn first_written_otherwise(rows: &[(&[u8], &[u8])]) -> usize {
     place
 }
 
-const WORDS: &[(&[u8], &[u8])] = &[
+static WORDS: &[(&[u8], &[u8])] = &[
     (b"800g3w20", b"-t 6308"),
     (b"000g3w20", b"t 6308"),
     (b"00100000", b"word 00100000"),

@@ -66,7 +66,7 @@ fn a_sum_is_stored_over_a_small_heap(rt: HostRuntime) {
 }
 
 /// Two loads that wait long.
-const WAITS: [Case; 2] = [
+static WAITS: [Case; 2] = [
     Case {
         cells: &[(*b"0000", *b"000100j8")],
         ends: &[End {
@@ -235,7 +235,7 @@ const REPLACED: Case = Case {
 };
 
 /// Return addresses, the last one after the last word of the drum.
-const RETURNS: [Case; 2] = [
+static RETURNS: [Case; 2] = [
     Case {
         cells: &[
             (*b"0100", *b"00030128"),
@@ -281,7 +281,7 @@ const RETURNS: [Case; 2] = [
 ];
 
 /// A break point at track 32, with the switch down and up.
-const BREAK_POINTS: [Case; 2] = [
+static BREAK_POINTS: [Case; 2] = [
     Case {
         switches: Switches { b32: true, ..UP },
         ends: &[AT_BREAK_POINT],
@@ -308,7 +308,7 @@ const AT_BREAK_POINT: End = End {
 };
 
 /// Orders with a word at 0050, of which the first four take a revolution more.
-const SUMS: [Case; 6] = [
+static SUMS: [Case; 6] = [
     Case {
         cells: &[(*b"0000", *b"000500j8"), (*b"0050", *b"00000006")],
         accumulator: 2,
@@ -378,7 +378,7 @@ const SUMS: [Case; 6] = [
 ];
 
 /// Tests, which transfer by the accumulator's sign or by TRANSFER CONTROL.
-const TESTS: [Case; 4] = [
+static TESTS: [Case; 4] = [
     Case {
         cells: &[(*b"0000", *b"800g0100")],
         ends: &[End {
@@ -474,7 +474,7 @@ const INPUT: Case = Case {
 };
 
 /// Tapes that are read up to their stops or to their ends, the last one by six bits.
-const INPUTS: [Case; 3] = [
+static INPUTS: [Case; 3] = [
     Case {
         tape: b"12[16]3'",
         ends: &[
@@ -533,7 +533,7 @@ const STARTED: End = End {
 };
 
 /// Tapes that are read from the console in each mode, the last two without a stop.
-const READ: [Case; 5] = [
+static READ: [Case; 5] = [
     Case {
         tape: b"12'3",
         status: Status::Reading,
@@ -619,7 +619,7 @@ const EXECUTED: Case = Case {
 };
 
 /// A word time where the machine has halted, and one where it waits.
-const RESTS: [Case; 2] = [
+static RESTS: [Case; 2] = [
     Case {
         status: Status::Halted(Cause::Operator),
         ends: &[End {
@@ -643,46 +643,23 @@ const RESTS: [Case; 2] = [
 ];
 
 /// The other cases.
-const OTHERS: [Case; 6] = [SUM, OVERFLOW, ADDRESS, REPLACED, PRINT, EXECUTED];
-
-// Each table is named in one function, in which it is written out.
-
-fn perform_others(global: Global) -> Performed {
-    perform_each(global, &OTHERS)
-}
-
-fn perform_in_order(global: Global) -> [Performed; 3] {
-    [
-        perform_each(global, &WAITS),
-        perform_each(global, &RETURNS),
-        perform_each(global, &BREAK_POINTS),
-    ]
-}
-
-fn perform_sums(global: Global) -> Performed {
-    perform_each(global, &SUMS)
-}
-
-fn perform_tests(global: Global) -> [Performed; 2] {
-    [perform_each(global, &TESTS), perform_each(global, &RESTS)]
-}
-
-fn perform_tapes(global: Global) -> [Performed; 2] {
-    [perform_each(global, &INPUTS), perform_each(global, &READ)]
-}
+static OTHERS: [Case; 6] = [SUM, OVERFLOW, ADDRESS, REPLACED, PRINT, EXECUTED];
 
 #[test]
 fn worked_orders(rt: HostRuntime) {
     let alloc = rt.alloc();
-    let performed = (
-        perform_others(alloc),
-        perform_in_order(alloc),
-        perform_sums(alloc),
-        perform_tests(alloc),
-        perform_tapes(alloc),
-    );
-    let wanted = (Ok(()), [Ok(()); 3], Ok(()), [Ok(()); 2], [Ok(()); 2]);
-    expect_eq(&rt, performed, wanted);
+    let performed = [
+        perform_each(alloc, &OTHERS),
+        perform_each(alloc, &WAITS),
+        perform_each(alloc, &RETURNS),
+        perform_each(alloc, &BREAK_POINTS),
+        perform_each(alloc, &SUMS),
+        perform_each(alloc, &TESTS),
+        perform_each(alloc, &RESTS),
+        perform_each(alloc, &INPUTS),
+        perform_each(alloc, &READ),
+    ];
+    expect_eq(&rt, performed, [Ok(()); 9]);
 }
 
 /// What is decoded at 0000 and at 0001.

@@ -6,7 +6,7 @@ use lgp_flexo::read_archive_text;
 use std::alloc::Global;
 
 /// The bytes that stand for a code, and its number.
-const CODES: [(u8, u8); 88] = [
+static CODES: [(u8, u8); 88] = [
     (8, 20),
     (b'\t', 24),
     (b'\r', 16),
@@ -140,7 +140,7 @@ fn each_group_of_a_text(rt: HostRuntime) {
 }
 
 /// Bad texts, and the places of their first bad bytes.
-pub const BAD_TEXTS: [(&[u8], usize); 8] = [
+pub static BAD_TEXTS: [(&[u8], usize); 8] = [
     (b"!", 0),
     (b"!1", 0),
     (b"a!6", 1),

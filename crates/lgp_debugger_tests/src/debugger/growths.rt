@@ -202,7 +202,7 @@ type Row = (Call, bool, bool);
 
 /// The steps before the first order. Over records all of them take memory, over checkpoints the tape and the step of which the
 /// machine is copied.
-const OPENING: [Row; 6] = [
+static OPENING: [Row; 6] = [
     (Call::Put(1, HOLD), true, true),
     (Call::Put(2, TRANSFER), true, false),
     (Call::Idle(5), true, false),
@@ -212,7 +212,7 @@ const OPENING: [Row; 6] = [
 ];
 
 /// The steps within the orders, likewise.
-const PAUSE: [Row; 6] = [
+static PAUSE: [Row; 6] = [
     (Call::Press(Button::Manual), true, false),
     (Call::Mount(b"34'5"), true, true),
     (Call::Put(100, 8), true, false),

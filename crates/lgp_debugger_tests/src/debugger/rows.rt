@@ -378,7 +378,7 @@ const MANY_RULES: Example = Example {
 };
 
 /// Over each history.
-const EXAMPLES: [Example; 13] = [
+static EXAMPLES: [Example; 13] = [
     PRINT_GOES_BACK,
     LATEST_STEPS,
     RULES,

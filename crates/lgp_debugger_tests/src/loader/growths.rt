@@ -11,7 +11,7 @@ const MOST: u64 = 200;
 
 /// Programs, and how they are taped and loaded; and how many orders that takes, ten for each word, eight for each block and five, or
 /// cell by cell eight for each word and five.
-const PROGRAMS: [(&[u8], Way<'static>, u64); 5] = [
+static PROGRAMS: [(&[u8], Way<'static>, u64); 5] = [
     (TWO_PLACES, Way::Longest, 69),
     (TWO_PLACES, Way::Cut(&[1, 1, 1, 1]), 77),
     (TWO_PLACES, Way::Single, 37),
@@ -131,7 +131,7 @@ fn are_same<A: Allocator, B: Allocator>(machine: &Machine<A>, other: &Machine<B>
 }
 
 /// A print, an order that switches the reader on, and an input.
-const READING: [(u16, u32); 3] = [(0, 0x0008_3900), (1, 0x0008_0000), (2, 0x0004_0000)];
+static READING: [(u16, u32); 3] = [(0, 0x0008_3900), (1, 0x0008_0000), (2, 0x0004_0000)];
 
 /// Puts these orders on the drum, and mounts a tape of five codes; false where anything is refused.
 fn is_ready<A: Allocator + Copy>(alloc: A, machine: &mut Machine<A>) -> bool {
@@ -318,7 +318,7 @@ const AT_REST: Stand = (7, false);
 const AT_END: Stand = (CLOCK_END - 1, false);
 
 /// What loads of two words answer with the first growth refused, and whether that growth is asked for.
-const ANSWERS: [(Stand, Way<'static>, LoadFault, bool); 12] = [
+static ANSWERS: [(Stand, Way<'static>, LoadFault, bool); 12] = [
     (WITHIN, Way::Longest, LoadFault::Moving, false),
     (WITHIN, Way::Cut(&[1]), LoadFault::Moving, false),
     (WITHIN, Way::Single, LoadFault::Moving, false),

@@ -23,7 +23,7 @@ fn has_ended(alloc: Global, load: &Load) -> bool {
     answer == Ok(load.orders) && look.is_some() && look == wanted && has_words
 }
 
-const LOADS: &[Load<'static>] = &[
+static LOADS: &[Load<'static>] = &[
     Load {
         source: ONE_WORD,
         way: Way::Longest,
@@ -84,7 +84,7 @@ fn programs_are_loaded(rt: HostRuntime) {
     expect_eq(&rt, first_ended_otherwise(rt.alloc(), LOADS), LOADS.len());
 }
 
-const WORDS_OF_TWO_BLOCKS: &[(&[u8], &[u8])] = &[
+static WORDS_OF_TWO_BLOCKS: &[(&[u8], &[u8])] = &[
     (b"0100", b"00000004"),
     (b"0101", b"00000008"),
     (b"6309", b"000k0108"),

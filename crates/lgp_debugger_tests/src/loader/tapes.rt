@@ -19,7 +19,7 @@ fn has_tape(alloc: Global, image: &Image, way: Way, wanted: &[u8]) -> bool {
 }
 
 /// Programs, how they are taped, and the texts of their tapes.
-const TAPES: &[(&[u8], Way<'static>, &[u8])] = &[
+static TAPES: &[(&[u8], Way<'static>, &[u8])] = &[
     (
         ONE_WORD,
         Way::Longest,
@@ -74,7 +74,7 @@ fn cut_length(alloc: Global, source: &[u8], counts: &[usize]) -> Option<Result<u
     Some(tape_length(alloc, &image, Way::Cut(counts)))
 }
 
-const LENGTHS: &[(&[u8], &[usize], Result<usize, CutFault>)] = &[
+static LENGTHS: &[(&[u8], &[usize], Result<usize, CutFault>)] = &[
     (TWO_WORDS, &[1, 1], Ok(65)),
     (TWO_WORDS, &[2], Ok(46)),
     (NO_WORDS, &[], Ok(9)),

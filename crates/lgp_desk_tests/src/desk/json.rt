@@ -6,7 +6,7 @@ use lgp_desk::Manner;
 use std::alloc::Global;
 
 /// Lines, and what is written for each of them.
-const ANSWERED: [Row; 9] = [
+static ANSWERED: [Row; 9] = [
     (
         Manner::Json,
         b"put 0000 = 1\n",

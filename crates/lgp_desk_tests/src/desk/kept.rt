@@ -32,7 +32,7 @@ impl Filing for Wanting<'_> {
 type Row = (&'static [u8], &'static [u8]);
 
 /// Upper case, a one and a carriage return printed; then two codes of a tape read.
-const ROWS: [Row; 10] = [
+static ROWS: [Row; 10] = [
     (b"put 0100 = 5\nsave kept\n", b"0100 0000000f\n"),
     (b"put 0100 = 5\nsave-simh kept\n", b"d -lt 0100 0000000f\n"),
     (b"save-simh kept\n", b""),

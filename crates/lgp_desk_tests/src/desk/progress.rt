@@ -62,7 +62,7 @@ const LOOP_REPLIES: &[u8] = b"ok\nok\nok\nok\nok\n";
 /// have ended.
 type Row = (u64, &'static [u8], &'static [u8], &'static [u64], u64);
 
-const ROWS: [Row; 10] = [
+static ROWS: [Row; 10] = [
     // After each portion but the last.
     (
         20,

@@ -151,7 +151,7 @@ const ECHOED: &[u8] =
     b"> put 0000 = 1\nok\n? bar\n? 1 Form: there is no such command, help lists them\n";
 
 /// What is written where no prompt is asked for.
-const HELD_BARE: [Row; 5] = [
+static HELD_BARE: [Row; 5] = [
     (&["lgp_monitor"], HELD, 1),
     (&["lgp_monitor", "lesson.txt"], TAUGHT, 1),
     (&["lgp_monitor", "none.txt"], LACKING, 1),
@@ -167,7 +167,7 @@ fn a_session_is_held(rt: HostRuntime) {
 
 /// What is written with prompts: for the lines on standard input alone, after those of a file, after a file that is not there, and
 /// after three files.
-const PROMPTED: [Row; 5] = [
+static PROMPTED: [Row; 5] = [
     (
         &["lgp_monitor"],
         b"0000 halted operator> ok\n0000 halted operator> ? 1 Form: there is no such command, help lists them\n0000 halted operator> \n",

@@ -39,7 +39,7 @@ pub type FileRow<'a> = (FileCall, &'a [u8], &'a [u8], u64);
 const SOURCE: &[u8] = b"start b one ; take\n h 0050\n z\none frac .1\n end start\n";
 
 /// Calls and sources. Each is made with each of its growths refused, and last of all with none.
-pub const FILES: [FileRow<'static>; 8] = [
+pub static FILES: [FileRow<'static>; 8] = [
     (
         FileCall::Listing,
         SOURCE,

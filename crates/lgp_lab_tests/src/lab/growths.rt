@@ -13,7 +13,7 @@ const MOST: u64 = 5000;
 
 /// Commands, each of those that there are, with the reply to each. Loading begins with the clock at 0, as in the worked example of a
 /// file that is run. Typed digits are shifted into the accumulator, which the second order stores.
-const COMMANDS: [(&[u8], &[u8]); 27] = [
+static COMMANDS: [(&[u8], &[u8]); 27] = [
     (b"put 0007 00000004\n", b"ok\n"),
     (b"dump\n", b"dump 1\n0007 00000004\n"),
     (

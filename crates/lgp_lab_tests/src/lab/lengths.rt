@@ -30,7 +30,7 @@ fn rows_answered(alloc: Global, rows: &[LongRow]) -> usize {
 /// A comment of 64 bytes with its line feed. A source has room for 16,384 of them.
 const COMMENT: &[u8] = b";;;;;;;;;;;;;;;;;;;;;;;;;;;;;;;;;;;;;;;;;;;;;;;;;;;;;;;;;;;;;;;\n";
 
-const ROWS: [LongRow; 13] = [
+static ROWS: [LongRow; 13] = [
     // The line `turn 5` with spaces after it, up to a given number of bytes, how it ends, and a line after it.
     (
         &[(b"turn 5", 1), (b" ", 4090), (b"\n", 1), (b"turn 1\n", 1)],

@@ -6,7 +6,7 @@ use crate::expect_eq;
 use std::alloc::Global;
 
 /// Scripts that come in pieces. Others are in `texts/` and `examples/`, and the proved program answers those.
-const ROWS: [Row<'static>; 7] = [
+static ROWS: [Row<'static>; 7] = [
     (
         b"dump\nput 6308 800g3w20\nshow 6308 1\ndump\nput 6363 80000000\nput 0100 00000004\nshow 6362 2\ndump\nput 6308 00000000\ndump\n",
         b"dump 0\nok\n6308 -t 6308\ndump 1\n6308 800g3w20\nok\nok\n6362 z 0000\n6363 word 80000000\ndump 3\n0100 00000004\n6308 800g3w20\n6363 80000000\nok\ndump 2\n0100 00000004\n6363 80000000\n",

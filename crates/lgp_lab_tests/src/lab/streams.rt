@@ -140,7 +140,7 @@ impl Write for Busy {
 }
 
 /// A text, whether a read fails after it, the replies, and the answer; none where it is that a read has failed.
-const OPEN_LINES: [(&[u8], bool, &[u8], Option<u64>); 4] = [
+static OPEN_LINES: [(&[u8], bool, &[u8], Option<u64>); 4] = [
     (b"put 0000 000100j8\npan", true, b"ok\n", None),
     (b"put 0000 000100j8\npan", false, b"ok\n? 1 Form\n", Some(1)),
     (b"source\n z", true, b"", None),

@@ -116,7 +116,7 @@ fn is_performed(alloc: Global, row: &Row) -> bool {
 const AT_REST: &[u8] =
     b"printed 0\ncounter 0005 accumulator wwwwwwwq register 00000000 status halted stop ";
 
-const ROWS: [Row; 25] = [
+static ROWS: [Row; 25] = [
     (&[], Wanted::Text(b"? 1 Form\n"), 1),
     (&["script", "one"], Wanted::Text(b"clock 5\n"), 0),
     (&["script", "two"], Wanted::Text(b"? 1 Form\n"), 1),

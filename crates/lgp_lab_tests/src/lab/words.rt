@@ -54,7 +54,7 @@ fn is_obeyed(alloc: Global, typed: CommandWords, text: &[u8], status: u8) -> boo
 }
 
 /// Words, each with what is written and the status. A script of a batch has a line that names it, and one alone has none.
-const DONE: [(CommandWords, &[u8], u8); 6] = [
+static DONE: [(CommandWords, &[u8], u8); 6] = [
     (&[], b"? 1 Form\n", 1),
     (&["script", "one"], b"clock 5\n", 0),
     (&["batch", "one"], b"file one\nclock 5\n", 0),

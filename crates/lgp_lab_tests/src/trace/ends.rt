@@ -9,7 +9,7 @@ use lgp_trace::{Form, NoLabels, Profile, draw_run, profile_run, trace_run};
 use std::alloc::Allocator;
 
 /// At 0000 y 0001, and after it u 0005, whose address becomes 0000.
-const PROGRAM: &[(u16, u32)] = &[(0, 0x0002_0004), (1, 0x000a_0014)];
+static PROGRAM: &[(u16, u32)] = &[(0, 0x0002_0004), (1, 0x000a_0014)];
 
 /// The clock at which the program is started, 100 word times before the end. There 0000, at position 0, is read at the 36th word
 /// time from there; taken in one; 0001, at position 9, is read at the 8th from there; and the order acts in one. The order at 0001

@@ -58,7 +58,7 @@ fn is_told<A: Allocator>(optimum: &Optimum<A>, number: u16, wanted: Reported) ->
 type Row = (u16, Reported, u128);
 
 /// The words that its orders name, and two that none does.
-const NAMED: &[Row] = &[
+static NAMED: &[Row] = &[
     (9, (Freedom::Performed, 26, 256), 182784),
     (17, (Freedom::Performed, 15, 64), 185856),
     (20, (Freedom::Free, 19, 64), 185856),

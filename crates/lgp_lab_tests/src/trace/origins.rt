@@ -7,7 +7,7 @@ use lgp_trace::{NoLabels, push_why};
 use std::alloc::{AllocError, Allocator};
 
 /// At 0000 y 0001, which puts the accumulator's address, 0000, into the order after it: at 0001 u 0005.
-pub const PROGRAM: &[(u16, u32)] = &[(0, 0x0002_0004), (1, 0x000a_0014)];
+pub static PROGRAM: &[(u16, u32)] = &[(0, 0x0002_0004), (1, 0x000a_0014)];
 
 /// Why the words at 0000, 0001 and 0002 are as they are; or a refused growth.
 pub fn push_words<H: Origins<A>, A: Allocator, B: Allocator>(

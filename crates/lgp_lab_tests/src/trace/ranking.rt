@@ -42,7 +42,7 @@ fn are_ranked<A: Allocator + Copy, B: Allocator>(
 }
 
 /// Those that save most first, and of those that save as much the one at the lower address.
-const FREE: &[Row] = &[
+static FREE: &[Row] = &[
     (21, 0, 256),
     (22, 27, 256),
     (24, 23, 256),
@@ -51,10 +51,10 @@ const FREE: &[Row] = &[
     (25, 17, 64),
 ];
 
-const PERFORMED: &[Row] = &[(9, 26, 256), (17, 15, 64)];
+static PERFORMED: &[Row] = &[(9, 26, 256), (17, 15, 64)];
 
 /// The first two of four words of the table.
-const NAMED_BY_CHANGED: &[Row] = &[(64, 24, 64), (65, 24, 64)];
+static NAMED_BY_CHANGED: &[Row] = &[(64, 24, 64), (65, 24, 64)];
 
 /// Which rankings are as made by hand.
 fn rankings<A: Allocator + Copy, B: Allocator>(alloc: A, optimum: &Optimum<B>) -> [bool; 5] {

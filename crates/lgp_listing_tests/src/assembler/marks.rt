@@ -7,7 +7,7 @@ use std::alloc::{Allocator, Global};
 /// A line, the kind of its fault, and what is shown.
 type Row = (&'static [u8], FaultKind, &'static [u8]);
 
-const ROWS: [Row; 16] = [
+static ROWS: [Row; 16] = [
     (
         b" b none",
         FaultKind::UnknownName,

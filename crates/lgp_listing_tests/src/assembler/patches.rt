@@ -14,7 +14,7 @@ type Patch = (
 );
 
 /// In the place 0102, which is 66; `start` is 0 and `one` is 3.
-const PATCHES: &[Patch] = &[
+static PATCHES: &[Patch] = &[
     (b"b", Some(b"one"), None, Ok(0x0001_000c)),
     (b"h", Some(b"one+2"), None, Ok(0x000c_0014)),
     (b"u", Some(b"*-1"), None, Ok(0x000a_0104)),
@@ -49,7 +49,7 @@ const PATCHES: &[Patch] = &[
 ];
 
 /// What addresses of operands are, in the same place.
-const ADDRESSES: &[(&[u8], Result<u16, OperandFault>)] = &[
+static ADDRESSES: &[(&[u8], Result<u16, OperandFault>)] = &[
     (b"one", Ok(3)),
     (b"one+0010", Ok(13)),
     (b"*", Ok(66)),

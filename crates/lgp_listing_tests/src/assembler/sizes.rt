@@ -5,7 +5,7 @@ use crate::text_of;
 
 /// A source of 4,074 words, each of which is four times its place: all places before the loader's
 /// and all after it.
-pub const FULL_SOURCE: [(&[u8], u32); 4] = [
+pub static FULL_SOURCE: [(&[u8], u32); 4] = [
     (b" z *\n", 4032),
     (b" org 6322\n", 1),
     (b" z *\n", 42),

@@ -100,7 +100,7 @@ fn is_read_as(global: Global, text: &[u8], cells: &[Cell]) -> bool {
 }
 
 /// Texts, and the words of the drums that are read from them.
-const READ: [(&[u8], &[Cell]); 7] = [
+static READ: [(&[u8], &[Cell]); 7] = [
     (DEPOSITS, &CELLS),
     (
         b"0000:\t01234566\n0001:\t00000002\n0150:\t89FGJKQQ\n6363:\tWWWWWWWQ\n",
@@ -137,7 +137,7 @@ fn deposits_and_shown_words_are_read(rt: HostRuntime) {
 }
 
 /// Texts with a fault, and that fault.
-pub const FAULTY: [(&[u8], ExaminedFault); 23] = [
+pub static FAULTY: [(&[u8], ExaminedFault); 23] = [
     (b"\n", ExaminedFault::Form(1)),
     (b"0000:\t0000000\n", ExaminedFault::Form(1)),
     (b"0000:\t000000000\n", ExaminedFault::Form(1)),

@@ -16,7 +16,7 @@ fn is_shown_as(global: Global, numbers: &[u8], text: &[u8]) -> bool {
 }
 
 /// Numbers of codes, and the text of the paper.
-const PAPERS: [(&[u8], &[u8]); 24] = [
+static PAPERS: [(&[u8], &[u8]); 24] = [
     (&[], b""),
     (&[57, 5, 53], b"abc"),
     (&[57, 16, 5, 16], b"a\nb\n"),

@@ -4,7 +4,7 @@ use super::*;
 use crate::text_of;
 
 /// The bytes that stand for codes by themselves, by the number of the code.
-const SIGNS: [(u8, u8); 46] = [
+static SIGNS: [(u8, u8); 46] = [
     (1, b'z'),
     (2, b'0'),
     (3, b' '),

@@ -34,7 +34,7 @@ fn is_dumped(alloc: Global, cells: &[Cell], text: &[u8]) -> Option<(bool, bool)>
 const DUMP: &[u8] = b"0100 00000004\n6363 80000000\n";
 
 /// Those two words, and one of zeros.
-const CELLS: [Cell; 3] = [(64, 4), (4095, 0x8000_0000), (65, 0)];
+static CELLS: [Cell; 3] = [(64, 4), (4095, 0x8000_0000), (65, 0)];
 
 #[test]
 fn dumps_are_read_back(rt: HostRuntime) {
@@ -98,7 +98,7 @@ fn fault_of<A: Allocator + Copy>(alloc: A, text: &[u8]) -> Option<DumpFault> {
     read_dump(alloc, text).err()
 }
 
-pub const NO_DUMPS: &[(&[u8], DumpFault)] = &[
+pub static NO_DUMPS: &[(&[u8], DumpFault)] = &[
     (b"0100 00000000\n", DumpFault::Form(1)),
     (b"6364 00000004\n", DumpFault::Form(1)),
     (b"0100 00000003\n", DumpFault::Form(1)),
@@ -130,7 +130,7 @@ fn texts_that_are_no_dump(rt: HostRuntime) {
 
 /// Places in the line `0100 00000004` and its line feed, each with the bytes that may be there
 /// in a dump.
-const TAKEN: [(usize, &[u8]); 5] = [
+static TAKEN: [(usize, &[u8]); 5] = [
     (0, b"0123456"),
     (4, b" "),
     (8, b"0123456789fgjkqw"),

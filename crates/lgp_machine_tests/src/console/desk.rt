@@ -14,9 +14,9 @@ const STOPPED: Status = Status::Halted(Cause::Stop);
 
 const STEPPED: Status = Status::Halted(Cause::Step);
 
-const MODES: [Mode; 3] = [Mode::Normal, Mode::OneOperation, Mode::Manual];
+static MODES: [Mode; 3] = [Mode::Normal, Mode::OneOperation, Mode::Manual];
 
-const STATUSES: [Status; 8] = [
+static STATUSES: [Status; 8] = [
     OPERATOR,
     STOPPED,
     Status::Halted(Cause::Overflow),

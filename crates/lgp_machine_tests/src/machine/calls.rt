@@ -84,7 +84,7 @@ fn enters_six_bits(global: Global) -> Option<bool> {
 }
 
 /// Keys by the numbers of their codes, whether they are live, and the accumulator after each.
-const KEYS: [(u8, Pressed, u32); 5] = [
+static KEYS: [(u8, Pressed, u32); 5] = [
     (2, Pressed::Live, 0),
     (2, Pressed::Live, 0),
     (18, Pressed::Live, 4),

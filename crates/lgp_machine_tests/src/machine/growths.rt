@@ -186,7 +186,7 @@ fn each_growth_of_a_new_machine_is_refused(rt: HostRuntime) {
 }
 
 /// A print, and then an input.
-const PRINT_AND_INPUT: [(u16, u32); 3] = [(0, PRINT), (1, 0x0008_0000), (2, 0x0004_0000)];
+static PRINT_AND_INPUT: [(u16, u32); 3] = [(0, PRINT), (1, 0x0008_0000), (2, 0x0004_0000)];
 
 /// Performs three orders; whether none was refused.
 fn perform_three<A: Allocator>(machine: &mut Machine<A>) -> bool {

@@ -13,7 +13,7 @@ use lgp_word::{Address, Word};
 use std::alloc::{Allocator, Global};
 
 /// A load, an address stored into the order after it, and that order.
-const ADDRESS: [(u16, u32); 5] = [
+static ADDRESS: [(u16, u32); 5] = [
     (0, 0x0001_00c8),
     (1, 0x0002_0008),
     (2, 0x0001_0000),
@@ -22,7 +22,7 @@ const ADDRESS: [(u16, u32); 5] = [
 ];
 
 /// A load, an order that stores the loaded word over itself, and a transfer back to it.
-const REPLACED: [(u16, u32); 4] = [
+static REPLACED: [(u16, u32); 4] = [
     (0, 0x0001_00c8),
     (1, 0x000d_0004),
     (2, 0x000a_0004),
