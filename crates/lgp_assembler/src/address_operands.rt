@@ -10,7 +10,7 @@ use crate::output::{DRUM_SIZE, NAME_LIMIT};
 use lgp_word::{Address, read_decimal};
 
 /// What comes after the base of an address operand.
-#[derive(Clone, Copy, Debug)]
+#[derive(Clone, Copy)]
 pub struct Offset {
     pub minus: bool,
     pub number: u64,

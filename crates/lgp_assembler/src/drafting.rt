@@ -27,12 +27,18 @@ use std::alloc::{AllocError, Allocator};
 
 /// What the lines so far have given: their faults, and while there are none their words, their
 /// start and their names.
-#[derive(Drop)]
 pub struct Draft<A: Allocator> {
     /// For each place of the drum whether a word lies there.
     pub taken: Vec<bool, A>,
     pub faults: Vec<Fault, A>,
     pub parts: Parts<A>,
+}
+
+// Written out: a derived drop is copied to each place where one is dropped.
+impl<A: Allocator> Drop for Draft<A> {
+    fn drop(self) {
+        let Draft { taken: _, faults: _, parts: _ } = self;
+    }
 }
 
 /// Adds the fault of a line, if it has one.
@@ -182,6 +188,18 @@ impl<A: Allocator> Draft<A> {
         }
         self.parts.add(fields, place, &meaning)?;
         Ok(())
+    }
+
+    /// The faults and the parts, handed out.
+    pub fn into_faults_and_parts(self) -> (Vec<Fault, A>, Parts<A>)
+        ensures { (result.0 ≡ self.faults) × (result.1 ≡ self.parts) }
+    {
+        let Draft {
+            taken: _,
+            faults,
+            parts,
+        } = self;
+        (faults, parts)
     }
 }
 

@@ -78,11 +78,7 @@ fn image_or_faults<A: Allocator>(
         IfFaults error (λ faults. faults ≡ draft.faults.items ++ end_fault ended lines)) }
     ensures faulty { IfErr result (λ error. IfFaults error (λ faults. faults ≢ [])) }
 {
-    let Draft {
-        mut faults,
-        parts,
-        ..
-    } = draft;
+    let (mut faults, parts) = draft.into_faults_and_parts();
     add_missing_end(&mut faults, ended, lines)?;
     if !faults.is_empty() {
         return Err(AssembleError::Faults(FaultList::new(faults)));

@@ -12,7 +12,7 @@ use crate::operations::{Operation, operation_of};
 use lgp_source::{Line, Token};
 
 /// A line as the assembler sees it.
-#[derive(Clone, Copy, Debug)]
+#[derive(Clone, Copy)]
 pub struct Fields<'a> {
     pub number: u64,
     /// Whether a byte of it is bad; it has no tokens then.

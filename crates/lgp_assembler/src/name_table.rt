@@ -20,9 +20,15 @@ pub trait NameValues {
 }
 
 /// The names of some lines in order, each with its value. Clauses see the list of both.
-#[derive(Drop)]
 pub struct Names<'a, A: Allocator> {
     entries: IndexMap<&'a [u8], u64, BuildHasherDefault<FoldHasher>, A>,
+}
+
+// Written out: a derived drop is copied to each place where one is dropped.
+impl<'a, A: Allocator> Drop for Names<'a, A> {
+    fn drop(self) {
+        let Names { entries: _ } = self;
+    }
 }
 
 impl<'a, A: Allocator> Model for Names<'a, A> {

@@ -23,7 +23,7 @@ pub enum OperandFault {
 }
 
 /// What the operands of a line stand for.
-#[derive(Clone, Copy, Debug)]
+#[derive(Clone, Copy)]
 pub enum Meaning {
     /// The line's word.
     Cell(Word),

@@ -6,7 +6,7 @@ ghost use Rattle.lgp_assembler.specs.Operations as spec;
 use lgp_word::Op;
 
 /// What a line does.
-#[derive(Clone, Copy, Debug, PartialEq, Eq)]
+#[derive(Clone, Copy)]
 pub enum Operation {
     /// An order.
     Order(Op),

@@ -55,11 +55,17 @@ impl Name {
 }
 
 /// The parts of an image, to which lines are added.
-#[derive(Drop)]
 pub struct Parts<A: Allocator> {
     pub cells: Vec<(Address, Word), A>,
     pub start: Option<Address>,
     pub symbols: Vec<(Name, u16), A>,
+}
+
+// Written out: a derived drop is copied to each place where one is dropped.
+impl<A: Allocator> Drop for Parts<A> {
+    fn drop(self) {
+        let Parts { cells: _, start: _, symbols: _ } = self;
+    }
 }
 
 impl<A: Allocator + Copy> Parts<A> {

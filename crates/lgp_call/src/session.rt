@@ -24,10 +24,16 @@ fn has_line_feed(line: &[u8]) -> bool
 }
 
 /// A monitor that answers one line after another, and its last reply.
-#[derive(Drop)]
 pub struct Session<A: Allocator + Copy> {
     monitor: Monitor<Laboratory<A>, A>,
     reply: Vec<u8, A>,
+}
+
+// Written out: a derived drop is copied to each place where one is dropped.
+impl<A: Allocator + Copy> Drop for Session<A> {
+    fn drop(self) {
+        let Session { monitor: _, reply: _ } = self;
+    }
 }
 
 impl<A: Allocator + Copy> Model for Session<A> {

@@ -56,11 +56,17 @@ fn passes_end(clock: u64, times: u64) -> bool
 
 /// A machine that is always at a boundary, with its latest steps and with rules. Clauses see its state, the kept steps, how many
 /// are kept at most, and the rules.
-#[derive(Drop)]
 pub struct Debugger<H: History<A>, A: Allocator = Global> {
     machine: Machine<A>,
     history: H,
     rules: ArrayVec<Rule, RULE_LIMIT>,
+}
+
+// Written out: a derived drop is copied to each place where one is dropped.
+impl<H: History<A>, A: Allocator> Drop for Debugger<H, A> {
+    fn drop(self) {
+        let Debugger { machine: _, history: _, rules: _ } = self;
+    }
 }
 
 impl<H: History<A>, A: Allocator> Model for Debugger<H, A> {

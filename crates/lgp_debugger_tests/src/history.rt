@@ -46,10 +46,16 @@ pub enum Kind {
 }
 
 /// A machine at a boundary and a history of it. Nothing is said of it but that its calls can be made.
-#[derive(Drop)]
 struct Session<A: Allocator, H: History<A>> {
     machine: Machine<A>,
     history: H,
+}
+
+// Written out: a derived drop is copied to each place where one is dropped.
+impl<A: Allocator, H: History<A>> Drop for Session<A, H> {
+    fn drop(self) {
+        let Session { machine: _, history: _ } = self;
+    }
 }
 
 impl<A: Allocator, H: History<A>> Model for Session<A, H> {

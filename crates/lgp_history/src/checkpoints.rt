@@ -26,10 +26,16 @@ use std::marker::Model;
 const SPACING: usize = 64;
 
 /// A step, with a copy of the machine before it at every 64th step.
-#[derive(Drop)]
 pub struct Checkpoint<A: Allocator> {
     step: Step<A>,
     copy: Option<Box<Machine<A>, A>>,
+}
+
+// Written out: a derived drop is copied to each place where one is dropped.
+impl<A: Allocator> Drop for Checkpoint<A> {
+    fn drop(self) {
+        let Checkpoint { step: _, copy: _ } = self;
+    }
 }
 
 impl<A: Allocator> Model for Checkpoint<A> {

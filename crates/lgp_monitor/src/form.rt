@@ -19,7 +19,7 @@ use lgp_word::{Address, Op, read_decimal};
 use std::alloc::{AllocError, Allocator};
 
 /// What is wrong with a word of a line.
-#[derive(Clone, Copy, Debug, PartialEq, Eq)]
+#[derive(Clone, Copy)]
 pub enum Mistake {
     /// It has a capital letter.
     Capital,

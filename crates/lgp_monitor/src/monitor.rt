@@ -34,11 +34,17 @@ use std::marker::Model;
 
 /// What answers typed lines: a laboratory that keeps the script lines which they stood for, and reports how far long runs are. Clauses
 /// see its state, and that script.
-#[derive(Drop)]
 pub struct Monitor<L, A: Allocator, P: Progress = Silence> {
     alloc: A,
     recorder: Recorder<L, A>,
     progress: P,
+}
+
+// Written out: a derived drop is copied to each place where one is dropped.
+impl<L: Drop, A: Allocator, P: Progress> Drop for Monitor<L, A, P> {
+    fn drop(self) {
+        let Monitor { alloc: _, recorder: _, progress: _ } = self;
+    }
 }
 
 impl<L, A: Allocator, P: Progress> Model for Monitor<L, A, P> {

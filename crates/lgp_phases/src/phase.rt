@@ -15,7 +15,7 @@ use lgp_word::{Word, parts, position_of};
 use std::alloc::Allocator;
 
 /// The phase that an activity is in.
-#[derive(Clone, Copy, Debug, PartialEq, Eq)]
+#[derive(Clone, Copy)]
 pub enum Phase {
     /// Nothing has been begun.
     Idle,

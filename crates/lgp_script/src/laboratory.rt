@@ -55,12 +55,18 @@ pub fn new_debugger<A: Allocator + Copy>(
 
 /// A machine with its history and its rules, on which a script's commands are performed, with the last source that assembled and
 /// the one that is open. It is seen as its state.
-#[derive(Drop)]
 pub struct Laboratory<A: Allocator + Clone> {
     alloc: A,
     debugger: Debugger<Records<A>, A>,
     program: Option<Program<A>>,
     opened: Option<SourceText<A>>,
+}
+
+// Written out: a derived drop is copied to each place where one is dropped.
+impl<A: Allocator + Clone> Drop for Laboratory<A> {
+    fn drop(self) {
+        let Laboratory { alloc: _, debugger: _, program: _, opened: _ } = self;
+    }
 }
 
 impl<A: Allocator + Clone> Model for Laboratory<A> {

@@ -11,10 +11,16 @@ use std::alloc::{AllocError, Allocator};
 use std::marker::Model;
 
 /// A source without faults, and what it has made. Clauses see the source.
-#[derive(Drop)]
 pub struct Program<A: Allocator> {
     source: Vec<u8, A>,
     image: Image<A>,
+}
+
+// Written out: a derived drop is copied to each place where one is dropped.
+impl<A: Allocator> Drop for Program<A> {
+    fn drop(self) {
+        let Program { source: _, image: _ } = self;
+    }
 }
 
 impl<A: Allocator> Model for Program<A> {

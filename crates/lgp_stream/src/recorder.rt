@@ -12,10 +12,16 @@ use std::alloc::{AllocError, Allocator};
 use std::marker::Model;
 
 /// What answers lines, with the text of all lines that it has answered. Clauses see its state and the text.
-#[derive(Drop)]
 pub struct Recorder<L, A: Allocator> {
     answers: L,
     transcript: Vec<u8, A>,
+}
+
+// Written out: a derived drop is copied to each place where one is dropped.
+impl<L: Drop, A: Allocator> Drop for Recorder<L, A> {
+    fn drop(self) {
+        let Recorder { answers: _, transcript: _ } = self;
+    }
 }
 
 impl<L, A: Allocator> Model for Recorder<L, A> {

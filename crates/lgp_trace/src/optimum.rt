@@ -42,13 +42,19 @@ pub struct Seek {
 
 /// What orders one after another would have taken, had one of the words that they name been at another sector. Memory grows with the
 /// number of these words, and not with that of the orders.
-#[derive(Drop)]
 pub struct Optimum<A: Allocator = Global> {
     took: u64,
     turns: Turns<A>,
     /// The last order, if it waited for a word: how long the next one is waited for is not yet known.
     last: Option<Seek>,
     uses: Uses<A>,
+}
+
+// Written out: a derived drop is copied to each place where one is dropped.
+impl<A: Allocator> Drop for Optimum<A> {
+    fn drop(self) {
+        let Optimum { took: _, turns: _, last: _, uses: _ } = self;
+    }
 }
 
 impl<A: Allocator> Model for Optimum<A> {

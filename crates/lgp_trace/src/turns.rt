@@ -15,12 +15,18 @@ const SECTORS: usize = Address::SECTORS as usize;
 
 /// How many turns more than they need the orders take that waited for a word, had it been at each of the sectors. Only a word with a row
 /// takes memory for its counts.
-#[derive(Drop)]
 pub(crate) struct Turns<A: Allocator = Global> {
     /// By address the number of the word's row.
     rows: Vec<usize, A>,
     /// Row after row, a count for each sector. The first row is of no word, and shows for all that have none.
     counts: Vec<u64, A>,
+}
+
+// Written out: a derived drop is copied to each place where one is dropped.
+impl<A: Allocator> Drop for Turns<A> {
+    fn drop(self) {
+        let Turns { rows: _, counts: _ } = self;
+    }
 }
 
 impl<A: Allocator> Model for Turns<A> {

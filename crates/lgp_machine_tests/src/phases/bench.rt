@@ -140,13 +140,25 @@ fn panel_of(case: &Case) -> Panel {
 }
 
 /// A processor with its registers, drum, reader and clock.
-#[derive(Drop)]
 pub struct Bench<A: Allocator> {
     panel: Panel,
     drum: Drum<A>,
     reader: Reader<A>,
     processor: Processor<A>,
     clock: u64,
+}
+
+// Written out: a derived drop is copied to each place where one is dropped.
+impl<A: Allocator> Drop for Bench<A> {
+    fn drop(self) {
+        let Bench {
+            panel: _,
+            drum: _,
+            reader: _,
+            processor: _,
+            clock: _,
+        } = self;
+    }
 }
 
 impl<A: Allocator> Model for Bench<A> {
