@@ -65,36 +65,36 @@ fn are_counted(numbers: &[u8]) -> bool {
     true
 }
 
-/// Fills a vector up and once more: whether all numbers are there each time, those that are there are as they should be, and a
-/// growth was refused the first time.
-fn fill_twice<B: Allocator>(limited: &Limited<B>, numbers: &mut Vec<u8, &Limited<B>>) -> [bool; 5] {
-    [
-        fill_up(numbers),
-        are_counted(numbers.as_slice()),
-        limited.was_refused(),
-        fill_up(numbers),
-        are_counted(numbers.as_slice()),
-    ]
+/// Fills a vector up: whether all numbers are there, and those that are there are as they should be.
+fn filled<A: Allocator>(numbers: &mut Vec<u8, A>) -> [bool; 2] {
+    let is_full = fill_up(numbers);
+    [is_full, are_counted(numbers.as_slice())]
 }
 
-/// The same of a vector whose nth growth is refused.
-fn grows<B: Allocator>(limited: &Limited<B>, nth: u64) -> [bool; 5] {
+/// That of a vector whose nth growth is refused, whether a growth was refused, and that of the vector filled up once more.
+fn grows<B: Allocator>(limited: &Limited<B>, nth: u64) -> ([bool; 2], bool, [bool; 2]) {
     limited.refuse(nth);
     let mut numbers = Vec::new(limited);
-    fill_twice(limited, &mut numbers)
+    let first = filled(&mut numbers);
+    (first, limited.was_refused(), filled(&mut numbers))
 }
 
-/// The capacity of a vector that is to let go of what it does not need: where that is refused, and where not.
+/// The capacity of a vector after it was to let go of what it does not need.
+fn shrunk<A: Allocator>(numbers: &mut Vec<u8, A>) -> usize {
+    numbers.shrink_to_fit();
+    numbers.capacity()
+}
+
+/// That of a vector with one number: where it is refused, and where not.
 fn shrink<B: Allocator>(
     limited: &Limited<B>,
     numbers: &mut Vec<u8, &Limited<B>>,
 ) -> Option<[usize; 2]> {
-    numbers.push(7).ok()?;
+    if numbers.push(7).is_err() {
+        return None;
+    }
     limited.refuse(1);
-    numbers.shrink_to_fit();
-    let kept = numbers.capacity();
-    numbers.shrink_to_fit();
-    Some([kept, numbers.capacity()])
+    Some([shrunk(numbers), shrunk(numbers)])
 }
 
 /// The same of a vector with room for 64 bytes.
@@ -107,7 +107,7 @@ fn capacities<B: Allocator>(limited: &Limited<B>) -> Option<[usize; 2]> {
 
 /// Where another growth is refused, how vectors grow whose first, second and hundredth growth is refused, and the capacities of
 /// another one.
-type Seen = (u64, [[bool; 5]; 3], Option<[usize; 2]>);
+type Seen = (u64, [([bool; 2], bool, [bool; 2]); 3], Option<[usize; 2]>);
 
 fn seen<B: Allocator>(limited: &Limited<B>) -> Seen {
     let otherwise = first_otherwise(limited);
@@ -129,9 +129,9 @@ fn the_named_growth_is_refused_and_no_other(rt: HostRuntime) {
     let wanted = (
         6,
         [
-            [false, true, true, true, true],
-            [false, true, true, true, true],
-            [true, true, false, true, true],
+            ([false, true], true, [true; 2]),
+            ([false, true], true, [true; 2]),
+            ([true; 2], false, [true; 2]),
         ],
         Some([64, 1]),
     );
@@ -149,7 +149,9 @@ fn grow<B: Allocator>(
     numbers: &mut Vec<u8, &Limited<B>>,
 ) -> Option<[u64; 3]> {
     let made = limited.blocks_out();
-    numbers.extend_from_slice(&[7; 100]).ok()?;
+    if numbers.extend_from_slice(&[7; 100]).is_err() {
+        return None;
+    }
     let grown = limited.blocks_out();
     limited.refuse(1);
     is_refused(limited).then_some([made, grown, limited.blocks_out()])

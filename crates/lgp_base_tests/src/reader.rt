@@ -122,12 +122,8 @@ fn copied_within_limit<B: Allocator>(
     (usize::from(refused), number, done)
 }
 
-/// Does what is to be done with a reader.
-fn answer<'a, B: Allocator>(
-    limited: &'a Limited<B>,
-    reader: &mut Reader<&'a Limited<B>>,
-    deed: &Deed,
-) -> Answer {
+/// Does with a reader and its tape what takes no memory, and nothing else.
+fn move_tape<A: Allocator>(reader: &mut Reader<A>, deed: &Deed) -> Answer {
     match deed {
         Deed::Start => {
             reader.start();
@@ -137,14 +133,33 @@ fn answer<'a, B: Allocator>(
             reader.stop();
             DONE
         }
-        Deed::Mount(text) => mount(reader, limited, text),
-        Deed::Stops(count) => mount_stops(reader, limited, *count),
-        Deed::Set(text, passed) => set(reader, limited, text, *passed),
         Deed::Pass => number_of(reader.pass()),
         Deed::First => number_of(reader.passed().first().copied()),
         Deed::Input(six_bit, accumulator) => input(reader, *six_bit, *accumulator),
         Deed::Back(count) => (0, 0, reader.back_up(*count)),
+        _ => NO,
+    }
+}
+
+/// Puts a tape in, or does what takes no memory.
+fn put_in<A: Allocator + Copy>(reader: &mut Reader<A>, alloc: A, deed: &Deed) -> Answer {
+    match deed {
+        Deed::Mount(text) => mount(reader, alloc, text),
+        Deed::Stops(count) => mount_stops(reader, alloc, *count),
+        Deed::Set(text, passed) => set(reader, alloc, text, *passed),
+        _ => move_tape(reader, deed),
+    }
+}
+
+/// Does what is to be done with a reader.
+fn answer<'a, B: Allocator>(
+    limited: &'a Limited<B>,
+    reader: &mut Reader<&'a Limited<B>>,
+    deed: &Deed,
+) -> Answer {
+    match deed {
         Deed::Copy(nth) => copied_within_limit(limited, reader, *nth),
+        _ => put_in(reader, limited, deed),
     }
 }
 

@@ -81,15 +81,22 @@ enum Asked {
     AtOnce(usize),
 }
 
+/// How many of these a region meets.
+fn met_by(region: &Region, asked: &Asked) -> usize {
+    match asked {
+        Asked::Three(bytes) => met_of_three(region, *bytes),
+        Asked::OneByOne(bytes) => met_one_by_one(region, *bytes),
+        Asked::After(first, second) => met_after(region, *first, *second),
+        Asked::AtOnce(most) => at_once_again(region, *most),
+    }
+}
+
 /// How many of these a new region of a given size meets; `None` without memory for it.
 fn met<A: Allocator>(alloc: &A, size: usize, asked: &Asked) -> Option<usize> {
-    let region = region_of(alloc, size).ok()?;
-    Some(match asked {
-        Asked::Three(bytes) => met_of_three(&region, *bytes),
-        Asked::OneByOne(bytes) => met_one_by_one(&region, *bytes),
-        Asked::After(first, second) => met_after(&region, *first, *second),
-        Asked::AtOnce(most) => at_once_again(&region, *most),
-    })
+    match region_of(alloc, size) {
+        Ok(region) => Some(met_by(&region, asked)),
+        Err(_) => None,
+    }
 }
 
 /// Sizes of regions, what is asked of each, and how many are met. A block has 16 bytes, or twice or four times as many, and so on, and
@@ -134,11 +141,18 @@ fn push_both(rising: &mut Vec<u16, &Region>, falling: &mut Vec<u16, &Region>) ->
     true
 }
 
+/// Whether a number is at a place.
+fn is_at(numbers: &[u16], place: u16, number: u16) -> bool {
+    match numbers.get(usize::from(place)) {
+        Some(there) => *there == number,
+        None => false,
+    }
+}
+
 /// Whether these are those numbers.
 fn are_both(rising: &[u16], falling: &[u16]) -> bool {
     for number in 0..100_u16 {
-        let place = usize::from(number);
-        if rising.get(place) != Some(&number) || falling.get(place) != Some(&(100 - number)) {
+        if !is_at(rising, number, number) || !is_at(falling, number, 100 - number) {
             return false;
         }
     }

@@ -8,6 +8,7 @@ use lgp_stream::{
     Answers, FeedOf, LINE_LIMIT, LineBytes, SinkOf, StreamFault, run_text, write_whole,
 };
 use std::alloc::{AllocError, Allocator, Global};
+use std::io::{Read, Write};
 
 /// Answers a line by its front, and the text's end by a point.
 #[derive(Drop)]
@@ -31,9 +32,14 @@ impl<A: Allocator> Answers<A> for Echo {
 }
 
 /// What is answered to a text: how many replies begin with a question mark.
-fn echoed(alloc: Global, text: &[u8], replies: &mut Vec<u8>) -> Result<u64, StreamFault> {
+fn echoed<A: Allocator + Copy, R: Read + Drop, W: Write + Drop>(
+    alloc: A,
+    text: R,
+    replies: W,
+) -> Result<u64, StreamFault> {
     let mut feed = FeedOf::new(text, 1000);
-    run_text(alloc, Echo, &mut feed, &mut SinkOf::new(replies))
+    let mut sink = SinkOf::new(replies);
+    run_text(alloc, Echo, &mut feed, &mut sink)
 }
 
 /// A text, its replies, and how many of those begin with a question mark.
@@ -66,25 +72,32 @@ fn each_line_has_its_reply(rt: HostRuntime) {
     expect_eq(&rt, first_not_echoed(rt.alloc()), None);
 }
 
-/// A text of a given number of lines of fifteen bytes, after a line of a given length.
-fn long_text(alloc: Global, first: usize, lines: usize) -> Result<Vec<u8>, AllocError> {
-    let mut text = Vec::new(alloc);
-    for _ in 0..first {
-        text.push(b'x')?;
+/// Appends a part a given number of times; false where memory is refused.
+fn push_times(text: &mut Vec<u8>, part: &[u8], times: usize) -> bool {
+    for _ in 0..times {
+        if text.extend_from_slice(part).is_err() {
+            return false;
+        }
     }
-    text.push(b'\n')?;
-    for _ in 0..lines {
-        text.extend_from_slice(b"0123456789abcde\n")?;
-    }
-    Ok(text)
+    true
 }
 
-/// How many replies to such a text begin with a question mark, and how many bytes the replies have; `None` without memory.
-fn long_echoed(alloc: Global, first: usize, lines: usize) -> Option<(u64, usize)> {
-    let text = long_text(alloc, first, lines).ok()?;
+/// How many replies to a text begin with a question mark, and how many bytes the replies have; `None` where it is not read whole.
+fn counted(alloc: Global, text: &[u8]) -> Option<(u64, usize)> {
     let mut replies = Vec::new(alloc);
-    let questions = echoed(alloc, &text, &mut replies).ok()?;
-    Some((questions, replies.len()))
+    match echoed(alloc, text, &mut replies) {
+        Ok(questions) => Some((questions, replies.len())),
+        Err(_) => None,
+    }
+}
+
+/// The same of a text of a given number of lines of fifteen bytes, after a line of a given length; `None` without memory.
+fn long_echoed(alloc: Global, first: usize, lines: usize) -> Option<(u64, usize)> {
+    let mut text = Vec::new(alloc);
+    let is_long = push_times(&mut text, b"x", first)
+        && push_times(&mut text, b"\n", 1)
+        && push_times(&mut text, b"0123456789abcde\n", lines);
+    if is_long { counted(alloc, &text) } else { None }
 }
 
 #[test]
@@ -136,10 +149,16 @@ fn bytes_are_kept_in_their_order(rt: HostRuntime) {
     expect_eq(&rt, rows, wanted);
 }
 
+/// Writes a text whole; false where that fails.
+fn write_into<W: Write + Drop>(writer: W, text: &[u8]) -> bool {
+    let mut sink = SinkOf::new(writer);
+    write_whole(&mut sink, text).is_ok()
+}
+
 /// Whether a text is written whole.
 fn is_written(alloc: Global, text: &[u8]) -> bool {
     let mut written = Vec::new(alloc);
-    write_whole(&mut SinkOf::new(&mut written), text).is_ok() && written.as_slice() == text
+    write_into(&mut written, text) && written.as_slice() == text
 }
 
 #[test]

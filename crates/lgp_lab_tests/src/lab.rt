@@ -76,27 +76,16 @@ fn is_cut_off(answer: Result<u64, LabFault>, taken: u64) -> bool {
     }
 }
 
-/// Parts of a text, each with how many times it stands there.
-type Parts<'a> = &'a [(&'a [u8], usize)];
+/// A text: its front, a part with how many times it stands there, and the rest.
+type Parts<'a> = (&'a [u8], &'a [u8], usize, &'a [u8]);
 
-/// A text of parts, each as many times as its number says; none where memory is refused.
-fn built(alloc: Global, parts: Parts<'_>) -> Option<Vec<u8>> {
+/// A text of these parts; none where memory is refused.
+fn built(alloc: Global, (front, part, times, rest): Parts<'_>) -> Option<Vec<u8>> {
     let mut text = Vec::new(alloc);
-    if push_parts(&mut text, parts) {
-        Some(text)
-    } else {
-        None
-    }
-}
-
-/// Appends parts, each as many times as its number says; false where memory is refused.
-fn push_parts(text: &mut Vec<u8>, parts: Parts<'_>) -> bool {
-    for (part, times) in parts {
-        if !push_times(text, part, *times) {
-            return false;
-        }
-    }
-    true
+    let is_built = push_times(&mut text, front, 1)
+        && push_times(&mut text, part, times)
+        && push_times(&mut text, rest, 1);
+    if is_built { Some(text) } else { None }
 }
 
 /// Appends a part a given number of times; false where memory is refused.

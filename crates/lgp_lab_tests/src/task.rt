@@ -2,11 +2,11 @@
 
 use crate::expect_eq;
 use lgp_limited::Limited;
-use lgp_task::{SessionTask, Task, TaskFault, ask_for_session, task_of};
+use lgp_task::{FileName, SessionTask, Task, TaskFault, ask_for_session, task_of};
 use std::alloc::{Allocator, Global};
 
-/// The words after the program's name, with a path for the latter; none where memory is refused.
-pub fn words(global: Global, typed: &[&str]) -> Option<Vec<String>> {
+/// The words after the program's name, each after a bar, with a path for the latter; none where memory is refused.
+pub fn words(global: Global, typed: &str) -> Option<Vec<String>> {
     let mut all = Vec::new(global);
     if push_word(global, &mut all, "/usr/local/bin/lab") && push_words(global, &mut all, typed) {
         Some(all)
@@ -15,9 +15,9 @@ pub fn words(global: Global, typed: &[&str]) -> Option<Vec<String>> {
     }
 }
 
-/// Appends words; false where memory is refused.
-fn push_words(global: Global, all: &mut Vec<String>, typed: &[&str]) -> bool {
-    for word in typed {
+/// Appends words, each of which comes after a bar; false where memory is refused.
+fn push_words(global: Global, all: &mut Vec<String>, typed: &str) -> bool {
+    for word in typed.split('|').skip(1) {
         if !push_word(global, all, word) {
             return false;
         }
@@ -37,7 +37,7 @@ fn push_word(global: Global, all: &mut Vec<String>, word: &str) -> bool {
 pub fn read<A: Allocator + Copy>(
     global: Global,
     alloc: A,
-    typed: &[&str],
+    typed: &str,
 ) -> Result<Task<A>, TaskFault<A>> {
     match words(global, typed) {
         Some(all) => task_of(global, alloc, all.as_slice()),
@@ -49,7 +49,7 @@ pub fn read<A: Allocator + Copy>(
 fn session<A: Allocator + Copy>(
     global: Global,
     alloc: A,
-    typed: &[&str],
+    typed: &str,
 ) -> Result<SessionTask<A>, TaskFault<A>> {
     match words(global, typed) {
         Some(all) => ask_for_session(global, alloc, all.as_slice()),
@@ -82,13 +82,18 @@ fn parts_of<A: Allocator>(task: &Task<A>) -> (&'static str, &str, u64) {
     }
 }
 
+/// Whether these are two files of these names.
+fn are_two<A: Allocator>(files: &[FileName<A>], first: &str, last: &str) -> bool {
+    match files {
+        [one, two] => one.text() == first && two.text() == last,
+        _ => false,
+    }
+}
+
 /// Whether a task is a batch of these two files.
 fn is_batch<A: Allocator>(task: &Task<A>, first: &str, last: &str) -> bool {
     match task {
-        Task::Batch(files) => match files.names() {
-            [one, two] => one.text() == first && two.text() == last,
-            _ => false,
-        },
+        Task::Batch(files) => are_two(files.names(), first, last),
         _ => false,
     }
 }
@@ -102,21 +107,21 @@ fn is_task<A: Allocator>(task: &Task<A>, wanted: Wanted) -> bool {
     }
 }
 
-/// The name of the first file of a session, or nothing.
-fn first_file<A: Allocator>(task: &SessionTask<A>) -> &str {
-    match task.files().names() {
-        [one, ..] => one.text(),
-        [] => "",
+/// Whether these are a given number of files, of which the first has this name.
+fn are_files<A: Allocator>(files: &[FileName<A>], count: usize, first: &str) -> bool {
+    match files {
+        [one, ..] => files.len() == count && one.text() == first,
+        [] => count == 0,
     }
 }
 
 /// Whether a session is as wanted.
 fn is_session<A: Allocator>(task: &SessionTask<A>, wanted: Wanted) -> bool {
     match wanted {
-        Wanted::Session(files, first, is_echoing, is_json) => {
-            let ways = (task.is_echoing(), task.is_json());
-            let count = task.files().names().len();
-            count == files && ways == (is_echoing, is_json) && first_file(task) == first
+        Wanted::Session(count, first, is_echoing, is_json) => {
+            task.is_echoing() == is_echoing
+                && task.is_json() == is_json
+                && are_files(task.files().names(), count, first)
         }
         _ => false,
     }
@@ -161,23 +166,33 @@ fn fault_end<A: Allocator>(fault: &TaskFault<A>, wanted: Wanted) -> End {
     }
 }
 
+/// How the reading of words for a task ended.
+fn task_end<A: Allocator>(read: Result<Task<A>, TaskFault<A>>, wanted: Wanted) -> End {
+    match read {
+        Ok(task) => done(is_task(&task, wanted)),
+        Err(fault) => fault_end(&fault, wanted),
+    }
+}
+
+/// How the reading of words for a session ended.
+fn session_end<A: Allocator>(read: Result<SessionTask<A>, TaskFault<A>>, wanted: Wanted) -> End {
+    match read {
+        Ok(task) => done(is_session(&task, wanted)),
+        Err(fault) => fault_end(&fault, wanted),
+    }
+}
+
 /// How words are read that are typed for a task, or for a session.
-fn end_of(
-    limited: &Limited<Global>,
+fn end_of<A: Allocator + Copy>(
     global: Global,
+    alloc: A,
     (typed, wanted): Row,
     of_session: bool,
 ) -> End {
     if of_session {
-        match session(global, limited, typed) {
-            Ok(task) => done(is_session(&task, wanted)),
-            Err(fault) => fault_end(&fault, wanted),
-        }
+        session_end(session(global, alloc, typed), wanted)
     } else {
-        match read(global, limited, typed) {
-            Ok(task) => done(is_task(&task, wanted)),
-            Err(fault) => fault_end(&fault, wanted),
-        }
+        task_end(read(global, alloc, typed), wanted)
     }
 }
 
@@ -191,7 +206,7 @@ fn growths_of(
     for nth in 1..40 {
         limited.refuse(nth);
         match (
-            end_of(limited, global, row, of_session),
+            end_of(global, limited, row, of_session),
             limited.was_refused(),
         ) {
             (End::Refused, true) => {}
@@ -203,7 +218,7 @@ fn growths_of(
 }
 
 /// Words, and what they are read as.
-type Row = (&'static [&'static str], Wanted);
+type Row = (&'static str, Wanted);
 
 /// How many rows come before the first that is read otherwise, and how many growths they have in all.
 fn rows_read(global: Global, rows: &[Row], of_session: bool) -> (usize, u64) {
@@ -225,79 +240,58 @@ fn rows_read(global: Global, rows: &[Row], of_session: bool) -> (usize, u64) {
 }
 
 static ROWS: [Row; 26] = [
-    (&[], Wanted::Command("", "", 0)),
-    (&["asm", "sum.src"], Wanted::Command("asm", "sum.src", 0)),
-    (&["tape", "sum.src"], Wanted::Command("tape", "sum.src", 0)),
-    (&["script", "a b"], Wanted::Command("script", "a b", 0)),
+    ("", Wanted::Command("", "", 0)),
+    ("|asm|sum.src", Wanted::Command("asm", "sum.src", 0)),
+    ("|tape|sum.src", Wanted::Command("tape", "sum.src", 0)),
+    ("|script|a b", Wanted::Command("script", "a b", 0)),
+    ("|run|sum.src|0", Wanted::Command("run", "sum.src", 0)),
     (
-        &["run", "sum.src", "0"],
-        Wanted::Command("run", "sum.src", 0),
-    ),
-    (
-        &["run", "sum.src", "4294967295"],
+        "|run|sum.src|4294967295",
         Wanted::Command("run", "sum.src", 4_294_967_295),
     ),
+    ("|batch|b.txt|a.txt", Wanted::Batch("b.txt", "a.txt")),
+    ("|assemble", Wanted::Usage("Usage: lgp_lab")),
+    ("|--fast", Wanted::Usage("Usage: lgp_lab")),
+    ("|asm", Wanted::Usage("Usage: lgp_lab asm <FILE>")),
+    ("|asm|a|b", Wanted::Usage("Usage: lgp_lab")),
+    ("|batch", Wanted::Usage("Usage: lgp_lab")),
+    ("|run|a", Wanted::Usage("Usage: lgp_lab")),
     (
-        &["batch", "b.txt", "a.txt"],
-        Wanted::Batch("b.txt", "a.txt"),
-    ),
-    (&["assemble"], Wanted::Usage("Usage: lgp_lab")),
-    (&["--fast"], Wanted::Usage("Usage: lgp_lab")),
-    (&["asm"], Wanted::Usage("Usage: lgp_lab asm <FILE>")),
-    (&["asm", "a", "b"], Wanted::Usage("Usage: lgp_lab")),
-    (&["batch"], Wanted::Usage("Usage: lgp_lab")),
-    (&["run", "a"], Wanted::Usage("Usage: lgp_lab")),
-    (
-        &["run", "a", "4294967296"],
+        "|run|a|4294967296",
         Wanted::Usage("is not in 0..=4294967295"),
     ),
     (
-        &["run", "a", "99999999999999999"],
+        "|run|a|99999999999999999",
         Wanted::Usage("is not in 0..=4294967295"),
     ),
-    (&["run", "a", "ten"], Wanted::Usage("invalid")),
-    (&["run", "a", ""], Wanted::Usage("invalid")),
-    (&["--help"], Wanted::Help("Usage: lgp_lab [COMMAND]")),
-    (&["-h"], Wanted::Help("Usage: lgp_lab [COMMAND]")),
+    ("|run|a|ten", Wanted::Usage("invalid")),
+    ("|run|a|", Wanted::Usage("invalid")),
+    ("|--help", Wanted::Help("Usage: lgp_lab [COMMAND]")),
+    ("|-h", Wanted::Help("Usage: lgp_lab [COMMAND]")),
     (
-        &["run", "--help"],
+        "|run|--help",
         Wanted::Help("Usage: lgp_lab run <FILE> <LIMIT>"),
     ),
-    (
-        &["batch", "-h"],
-        Wanted::Help("Usage: lgp_lab batch <FILE>..."),
-    ),
-    (&["asm", "--help"], Wanted::Help("Example")),
-    (
-        &["help", "tape"],
-        Wanted::Help("Usage: lgp_lab tape <FILE>"),
-    ),
-    (&["--version"], Wanted::Answer("lgp_lab 0.1.0\n")),
-    (&["-V"], Wanted::Answer("lgp_lab 0.1.0\n")),
-    (
-        &["asm", "--version"],
-        Wanted::Usage("Usage: lgp_lab asm <FILE>"),
-    ),
+    ("|batch|-h", Wanted::Help("Usage: lgp_lab batch <FILE>...")),
+    ("|asm|--help", Wanted::Help("Example")),
+    ("|help|tape", Wanted::Help("Usage: lgp_lab tape <FILE>")),
+    ("|--version", Wanted::Answer("lgp_lab 0.1.0\n")),
+    ("|-V", Wanted::Answer("lgp_lab 0.1.0\n")),
+    ("|asm|--version", Wanted::Usage("Usage: lgp_lab asm <FILE>")),
 ];
 
 static SESSIONS: [Row; 11] = [
-    (&[], Wanted::Session(0, "", false, false)),
-    (&["a b"], Wanted::Session(1, "a b", false, false)),
-    (
-        &["--echo", "one", "two"],
-        Wanted::Session(2, "one", true, false),
-    ),
-    (&["one", "--echo"], Wanted::Session(1, "one", true, false)),
-    (&["--json"], Wanted::Session(0, "", false, true)),
-    (
-        &["--echo", "one", "--json"],
-        Wanted::Session(1, "one", true, true),
-    ),
-    (&["--loud"], Wanted::Usage("")),
-    (&["--echo=no"], Wanted::Usage("")),
-    (&["--json=2"], Wanted::Usage("")),
-    (&["--help"], Wanted::Help("")),
-    (&["--version"], Wanted::Help("")),
+    ("", Wanted::Session(0, "", false, false)),
+    ("|a b", Wanted::Session(1, "a b", false, false)),
+    ("|--echo|one|two", Wanted::Session(2, "one", true, false)),
+    ("|one|--echo", Wanted::Session(1, "one", true, false)),
+    ("|--json", Wanted::Session(0, "", false, true)),
+    ("|--echo|one|--json", Wanted::Session(1, "one", true, true)),
+    ("|--loud", Wanted::Usage("")),
+    ("|--echo=no", Wanted::Usage("")),
+    ("|--json=2", Wanted::Usage("")),
+    ("|--help", Wanted::Help("")),
+    ("|--version", Wanted::Help("")),
 ];
 
 #[test]

@@ -89,7 +89,7 @@ fn is_long_refused(alloc: Global, source: &[u8]) -> bool {
 
 #[test]
 fn a_source_file_has_at_most_1048576_bytes(rt: HostRuntime) {
-    let is_refused = match built(rt.alloc(), &[(b";", 1_048_577)]) {
+    let is_refused = match built(rt.alloc(), (b"", b";", 1_048_577, b"")) {
         Some(long) => is_long_refused(rt.alloc(), &long),
         None => false,
     };

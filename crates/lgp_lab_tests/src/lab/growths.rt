@@ -11,62 +11,77 @@ use std::alloc::Global;
 /// More growths than any call has.
 const MOST: u64 = 5000;
 
-/// Commands, each of those that there are, with the reply to each. Loading begins with the clock at 0, as in the worked example of a
-/// file that is run. Typed digits are shifted into the accumulator, which the second order stores.
-static COMMANDS: [(&[u8], &[u8]); 27] = [
-    (b"put 0007 00000004\n", b"ok\n"),
-    (b"dump\n", b"dump 1\n0007 00000004\n"),
-    (
-        b"source\n org 0100\n word 00000004\n end\n.\n",
-        b"cells 1 start none\n",
-    ),
-    (
-        b"list\n",
-        b"               org 0100\n0100 00000004  word 00000004\n               end\n",
-    ),
-    (b"load\n", b"loaded 23\n"),
-    (
-        b"panel\n",
-        b"counter 6320 accumulator 80000000 register 80000000 status halted stop mode normal switches uuuuuu reader off tape 0 clock 15342\n",
-    ),
-    (b"turn 5\n", b"clock 15347\n"),
-    (b"mount 12'\n", b"ok 3\n"),
-    (b"put 0000 00083900\n", b"ok\n"),
-    (b"put 0001 000j00j8\n", b"ok\n"),
-    (b"press manual\n", b"live\n"),
-    (b"type 12\n", b"live 2 dead 0\n"),
-    (b"press normal\n", b"live\n"),
-    (b"press clear\n", b"live\n"),
-    (b"press bp32 up\n", b"live\n"),
-    (b"press start\n", b"live\n"),
-    (b"break 0001\n", b"rule 0\n"),
-    (b"watch 0050\n", b"rule 1\n"),
-    (b"run 9\n", b"ran 1 rule 0\n"),
-    (b"drop 0\n", b"ok\n"),
-    (b"run 9\n", b"ran 1 rule 0\n"),
-    (b"orders 9\n", b"orders 1 halted stop\n"),
-    (b"words 0050 1\n", b"0050 00000012\n"),
-    (b"show 0000 2\n", b"0000 p 5700\n0001 h 0050\n"),
-    (b"printed\n", b"printed 1 a\n"),
-    (b"last\n", b"back 2 rule 0\n"),
-    (b"back 1\n", b"clock 15347\n"),
-];
+/// Commands, each of those that there are. Loading begins with the clock at 0, as in the worked example of a file that is run. Typed
+/// digits are shifted into the accumulator, which the second order stores.
+const COMMANDS: &[u8] = b"put 0007 00000004
+dump
+source
+ org 0100
+ word 00000004
+ end
+.
+list
+load
+panel
+turn 5
+mount 12'
+put 0000 00083900
+put 0001 000j00j8
+press manual
+type 12
+press normal
+press clear
+press bp32 up
+press start
+break 0001
+watch 0050
+run 9
+drop 0
+run 9
+orders 9
+words 0050 1
+show 0000 2
+printed
+last
+back 1
+";
 
-/// Appends all of these commands; false where memory is refused.
-fn push_commands(script: &mut Vec<u8>) -> bool {
-    for (command, _) in &COMMANDS {
-        if script.extend_from_slice(command).is_err() {
-            return false;
-        }
-    }
-    true
-}
+/// The reply to each of them.
+static REPLIES: [&[u8]; 27] = [
+    b"ok\n",
+    b"dump 1\n0007 00000004\n",
+    b"cells 1 start none\n",
+    b"               org 0100\n0100 00000004  word 00000004\n               end\n",
+    b"loaded 23\n",
+    b"counter 6320 accumulator 80000000 register 80000000 status halted stop mode normal switches uuuuuu reader off tape 0 clock 15342\n",
+    b"clock 15347\n",
+    b"ok 3\n",
+    b"ok\n",
+    b"ok\n",
+    b"live\n",
+    b"live 2 dead 0\n",
+    b"live\n",
+    b"live\n",
+    b"live\n",
+    b"live\n",
+    b"rule 0\n",
+    b"rule 1\n",
+    b"ran 1 rule 0\n",
+    b"ok\n",
+    b"ran 1 rule 0\n",
+    b"orders 1 halted stop\n",
+    b"0050 00000012\n",
+    b"0000 p 5700\n0001 h 0050\n",
+    b"printed 1 a\n",
+    b"back 2 rule 0\n",
+    b"clock 15347\n",
+];
 
 /// How many whole replies a text is; `None` where there is anything else.
 fn replies_in(text: &[u8]) -> Option<usize> {
     let mut left = text;
     let mut replies: usize = 0;
-    for (_, reply) in &COMMANDS {
+    for reply in &REPLIES {
         match left.strip_prefix(*reply) {
             Some(rest) => left = rest,
             None => break,
@@ -98,16 +113,16 @@ fn ended(
     }
 }
 
-/// How a script ends, and after how many whole replies.
-fn end_of(limited: &Limited<Global>, global: Global, script: &[u8], nth: u64) -> (End, usize) {
+/// How the script of all commands ends, and after how many whole replies.
+fn end_of(limited: &Limited<Global>, global: Global, nth: u64) -> (End, usize) {
     let mut written = Vec::new(global);
     limited.refuse(nth);
-    let (answer, has_read_failed, has_write_failed) = run_between(limited, script, &mut written);
+    let (answer, has_read_failed, has_write_failed) = run_between(limited, COMMANDS, &mut written);
     let (is_front, replies) = match replies_in(&written) {
         Some(replies) => (!has_read_failed && !has_write_failed, replies),
         None => (false, 0),
     };
-    let whole = is_front && replies == COMMANDS.len();
+    let whole = is_front && replies == 27;
     (
         ended(limited.was_refused(), answer, 0, (is_front, whole)),
         replies,
@@ -115,10 +130,10 @@ fn end_of(limited: &Limited<Global>, global: Global, script: &[u8], nth: u64) ->
 }
 
 /// Which commands are refused at least once before the script is done; `None` where it ends otherwise.
-fn refusals(limited: &Limited<Global>, global: Global, script: &[u8]) -> Option<[bool; 27]> {
+fn refusals(limited: &Limited<Global>, global: Global) -> Option<[bool; 27]> {
     let mut refused = [false; 27];
     for nth in 1..MOST {
-        match end_of(limited, global, script, nth) {
+        match end_of(limited, global, nth) {
             (End::Refused, replies) => *refused.get_mut(replies)? = true,
             (End::Done, _) => return Some(refused),
             (End::Otherwise, _) => return None,
@@ -130,12 +145,7 @@ fn refusals(limited: &Limited<Global>, global: Global, script: &[u8]) -> Option<
 #[test]
 fn each_growth_of_each_command_is_refused(rt: HostRuntime) {
     let limited = Limited::new(rt.alloc());
-    let mut script = Vec::new(rt.alloc());
-    let refused = if push_commands(&mut script) {
-        refusals(&limited, rt.alloc(), &script)
-    } else {
-        None
-    };
+    let refused = refusals(&limited, rt.alloc());
     expect_eq(&rt, (refused, limited.blocks_out()), (Some([true; 27]), 0));
 }
 

@@ -187,14 +187,17 @@ fn a_read_that_fails_drops_the_open_line(rt: HostRuntime) {
     expect_eq(&rt, open_lines_answered(rt.alloc()), 4);
 }
 
-/// How many bytes two reads give, each with whether a read has failed by then and how many are left; none where it fails.
-fn two_reads<R: Read + Drop>(reader: R, reads: u64) -> [(Option<usize>, bool, u64); 2] {
+/// How many bytes a read gives, with whether a read has failed by then and how many are left; none where it fails.
+fn next_read<R: Read + Drop>(feed: &mut FeedOf<R>) -> (Option<usize>, bool, u64) {
     let mut buffer = [0; 4];
+    let count = feed.read(&mut buffer).ok();
+    (count, feed.has_failed(), feed.reads_left())
+}
+
+/// That of two reads.
+fn two_reads<R: Read + Drop>(reader: R, reads: u64) -> [(Option<usize>, bool, u64); 2] {
     let mut feed = FeedOf::new(reader, reads);
-    let first = feed.read(&mut buffer).ok();
-    let first = (first, feed.has_failed(), feed.reads_left());
-    let second = feed.read(&mut buffer).ok();
-    [first, (second, feed.has_failed(), feed.reads_left())]
+    [next_read(&mut feed), next_read(&mut feed)]
 }
 
 /// A feed reads again after a failed read, and fails with no read left.
@@ -211,6 +214,14 @@ fn a_feed_counts_its_reads(rt: HostRuntime) {
     expect_eq(&rt, reads, wanted);
 }
 
+/// Appends the first bytes of a buffer, and tells how many; `None` where that is refused.
+fn take_front(buffer: &[u8], count: usize, taken: &mut Vec<u8>) -> Option<usize> {
+    match buffer.get(..count) {
+        Some(bytes) if taken.extend_from_slice(bytes).is_ok() => Some(count),
+        _ => None,
+    }
+}
+
 /// How many bytes a read into a buffer of such a length, 5,000 at most, gives, which go to the end of `taken`; `None` where it fails.
 fn read_into<R: Read + Drop>(
     feed: &mut FeedOf<R>,
@@ -218,23 +229,24 @@ fn read_into<R: Read + Drop>(
     taken: &mut Vec<u8>,
 ) -> Option<usize> {
     let mut buffer = [0; 5000];
-    let count = feed.read(&mut buffer[..length.min(5000)]).ok()?;
-    taken.extend_from_slice(buffer.get(..count)?).ok()?;
-    Some(count)
+    match feed.read(&mut buffer[..length.min(5000)]) {
+        Ok(count) => take_front(&buffer, count, taken),
+        Err(_) => None,
+    }
 }
 
 /// That of four reads one after another.
 fn four_reads<R: Read + Drop>(
     reader: R,
-    lengths: [usize; 4],
+    [first, second, third, fourth]: [usize; 4],
     taken: &mut Vec<u8>,
 ) -> [Option<usize>; 4] {
     let mut feed = FeedOf::new(reader, READS);
     [
-        read_into(&mut feed, lengths[0], taken),
-        read_into(&mut feed, lengths[1], taken),
-        read_into(&mut feed, lengths[2], taken),
-        read_into(&mut feed, lengths[3], taken),
+        read_into(&mut feed, first, taken),
+        read_into(&mut feed, second, taken),
+        read_into(&mut feed, third, taken),
+        read_into(&mut feed, fourth, taken),
     ]
 }
 
@@ -254,7 +266,7 @@ fn four_reads_of<R: Read + Drop>(
 /// bytes at once.
 #[test]
 fn a_feed_fills_a_buffer_of_any_length(rt: HostRuntime) {
-    let seen = match built(rt.alloc(), &[(b"0123456789a", 500)]) {
+    let seen = match built(rt.alloc(), (b"", b"0123456789a", 500, b"")) {
         Some(text) => four_reads_of(rt.alloc(), text.as_slice(), [0, 1, 5000, 5000], &text),
         None => ([None; 4], false),
     };
@@ -272,15 +284,22 @@ fn a_feed_goes_on_after_an_error_in_its_midst(rt: HostRuntime) {
     expect_eq(&rt, seen, ([Some(3), None, Some(3), Some(0)], true));
 }
 
-/// How many bytes three writes take, each with whether a write has failed by then; none where it fails.
-fn three_writes<W: Write + Drop>(writer: W, texts: [&[u8]; 3]) -> [(Option<usize>, bool); 3] {
+/// How many bytes a write takes, with whether a write has failed by then; none where it fails.
+fn next_write<W: Write + Drop>(sink: &mut SinkOf<W>, text: &[u8]) -> (Option<usize>, bool) {
+    let count = sink.write(text).ok();
+    (count, sink.has_failed())
+}
+
+/// That of three writes.
+fn three_writes<W: Write + Drop>(
+    writer: W,
+    [first, second, third]: [&[u8]; 3],
+) -> [(Option<usize>, bool); 3] {
     let mut sink = SinkOf::new(writer);
-    let first = (sink.write(texts[0]).ok(), sink.has_failed());
-    let second = (sink.write(texts[1]).ok(), sink.has_failed());
     [
-        first,
-        second,
-        (sink.write(texts[2]).ok(), sink.has_failed()),
+        next_write(&mut sink, first),
+        next_write(&mut sink, second),
+        next_write(&mut sink, third),
     ]
 }
 
@@ -329,7 +348,7 @@ fn written_twice(alloc: Global, text: &[u8]) -> ([(Option<usize>, bool); 3], boo
 /// It fails on a body that hands on no more than 65,536 bytes at once, and that refuses more.
 #[test]
 fn a_sink_takes_more_than_65536_bytes_at_once(rt: HostRuntime) {
-    let seen = match built(rt.alloc(), &[(b"0123456789a", 10_000)]) {
+    let seen = match built(rt.alloc(), (b"", b"0123456789a", 10_000, b"")) {
         Some(text) => written_twice(rt.alloc(), &text),
         None => ([(None, false); 3], false),
     };

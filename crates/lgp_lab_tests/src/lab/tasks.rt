@@ -9,7 +9,7 @@ use lgp_lab::{
     FeedOf, FileFault, FileNames, Folder, LabFault, NotOpened, READS, SinkOf, Task, TaskFault,
     perform, refuse, status_of,
 };
-use std::alloc::{AllocError, Global};
+use std::alloc::Global;
 use std::io::Write;
 
 /// A file is read at most 4,294,967,296 times.
@@ -28,33 +28,34 @@ fn what_became_of_a_file_gives_the_status(rt: HostRuntime) {
     expect_eq(&rt, (statuses, READS), wanted);
 }
 
-/// Four files, and none else. Of `fails` two lines are read, and then a read fails.
+/// Five files, and none else. Of `fails` two lines are read, and then a read fails.
 #[derive(Clone, Copy, Drop)]
 pub struct Made;
 
+/// The files by their names. The long one takes 2 from 128 until the rest is negative, in 196 orders.
+static FILES: [(&str, &[u8]); 5] = [
+    ("one", b"turn 5\n"),
+    ("two", b"foo\n"),
+    (
+        "tenth",
+        b"start b one ; take\n h 0050\n z\none frac .1\n end start\n",
+    ),
+    (
+        "long",
+        b"start b many\nloop s two\n t done\n u loop\ndone z\nmany word 00000080\ntwo word 00000002\n end start\n",
+    ),
+    ("fails", b"turn 5\nturn"),
+];
+
 /// The bytes of a file.
 fn text_of(name: &str) -> Option<&'static [u8]> {
-    if name == "one" {
-        return Some(b"turn 5\n");
-    }
-    if name == "two" {
-        return Some(b"foo\n");
-    }
-    if name == "tenth" {
-        return Some(b"start b one ; take\n h 0050\n z\none frac .1\n end start\n");
-    }
-    if name == "long" {
-        return Some(LONG);
-    }
-    if name == "fails" {
-        return Some(b"turn 5\nturn");
+    for (known, text) in &FILES {
+        if *known == name {
+            return Some(text);
+        }
     }
     None
 }
-
-/// A source that takes 2 from 128 until the rest is negative, in 196 orders.
-const LONG: &[u8] =
-    b"start b many\nloop s two\n t done\n u loop\ndone z\nmany word 00000080\ntwo word 00000002\n end start\n";
 
 impl Folder for Made {
     type Reader = FeedOf<Pieces>;
@@ -72,16 +73,20 @@ impl Folder for Made {
 }
 
 /// The status of a task where standard input is a line that is no command. What is written goes to `writer`.
-fn status_into<W: Write + Drop>(alloc: Global, task: &Task, writer: W) -> u8 {
+fn status_into<W: Write + Drop>(alloc: Global, task: Task, writer: W) -> u8 {
     let mut input = FeedOf::new(b"bar".as_slice(), READS);
     let mut output = SinkOf::new(writer);
-    perform(alloc, task, &Made, &mut input, &mut output)
+    perform(alloc, &task, &Made, &mut input, &mut output)
 }
 
 /// The same of the task that words ask for; none where they ask for no task.
-fn status_asked<W: Write + Drop>(alloc: Global, typed: &[&str], writer: W) -> Option<u8> {
-    match read(alloc, alloc, typed) {
-        Ok(task) => Some(status_into(alloc, &task, writer)),
+fn status_asked<W: Write + Drop>(
+    alloc: Global,
+    asked: Result<Task, TaskFault>,
+    writer: W,
+) -> Option<u8> {
+    match asked {
+        Ok(task) => Some(status_into(alloc, task, writer)),
         Err(_) => None,
     }
 }
@@ -102,100 +107,111 @@ fn is_written(written: &[u8], wanted: Wanted) -> bool {
 }
 
 /// Words, what is written for them, and the status.
-type Row = (&'static [&'static str], Wanted, u8);
+type Row = (&'static str, Wanted, u8);
 
-/// Whether words are performed as their row says.
-fn is_performed(alloc: Global, row: &Row) -> bool {
-    let (typed, wanted, status) = *row;
+/// Whether this is written for what is asked, and this is the status.
+fn is_performed(alloc: Global, asked: Result<Task, TaskFault>, wanted: Wanted, status: u8) -> bool {
     let mut written = Vec::new(alloc);
-    let ended = status_asked(alloc, typed, &mut written);
+    let ended = status_asked(alloc, asked, &mut written);
     ended == Some(status) && is_written(&written, wanted)
+}
+
+/// Whether the status is 2 where the first write fails. It is so too where nothing is written.
+fn fails_unwritten(alloc: Global, asked: Result<Task, TaskFault>) -> bool {
+    status_asked(alloc, asked, Failing::after(alloc, 0, 1)) == Some(2)
+}
+
+/// Whether words are performed as their row says, and also where the first write fails.
+fn are_performed(alloc: Global, (typed, wanted, status): Row) -> bool {
+    is_performed(alloc, read(alloc, alloc, typed), wanted, status)
+        && fails_unwritten(alloc, read(alloc, alloc, typed))
 }
 
 /// How what is written begins where the source of 196 orders has come to rest.
 const AT_REST: &[u8] =
     b"printed 0\ncounter 0005 accumulator wwwwwwwq register 00000000 status halted stop ";
 
-static ROWS: [Row; 25] = [
-    (&[], Wanted::Text(b"? 1 Form\n"), 1),
-    (&["script", "one"], Wanted::Text(b"clock 5\n"), 0),
-    (&["script", "two"], Wanted::Text(b"? 1 Form\n"), 1),
-    (&["script", "none"], Wanted::Text(b""), 2),
-    (&["script", "fails"], Wanted::Text(b"clock 5\n"), 2),
+static ROWS: [Row; 26] = [
+    ("", Wanted::Text(b"? 1 Form\n"), 1),
+    ("|script|one", Wanted::Text(b"clock 5\n"), 0),
+    ("|script|two", Wanted::Text(b"? 1 Form\n"), 1),
+    ("|script|none", Wanted::Text(b""), 2),
+    ("|script|fails", Wanted::Text(b"clock 5\n"), 2),
     (
-        &["tape", "tenth"],
+        "|tape|tenth",
         Wanted::Text(b"000k0000'wwwwwww0'0001000j'000j00j8'00000000'0jjjjjjj'[16]800f0000'\n"),
         0,
     ),
-    (&["tape", "fails"], Wanted::Text(b""), 2),
+    ("|tape|fails", Wanted::Text(b""), 2),
     (
-        &["asm", "tenth"],
+        "|asm|tenth",
         Wanted::Text(
             b"0000 0001000j start b one ; take\n0001 000j00j8  h 0050\n0002 00000000  z\n0003 0jjjjjjj one frac .1\n               end start\n",
         ),
         0,
     ),
-    (&["asm", "fails"], Wanted::Text(b""), 2),
-    (&["asm", ""], Wanted::Text(b""), 2),
+    ("|asm|fails", Wanted::Text(b""), 2),
+    ("|asm|", Wanted::Text(b""), 2),
     (
-        &["run", "tenth", "10"],
+        "|run|tenth|10",
         Wanted::Text(
             b"printed 0\ncounter 0003 accumulator 0jjjjjjj register 00000000 status halted stop mode normal switches uuuuuu reader off tape 0 clock 27605\n",
         ),
         0,
     ),
-    (&["run", "fails", "10"], Wanted::Text(b""), 2),
-    // The source of 196 orders, performed up to a limit.
     (
-        &["run", "long", "0"],
-        Wanted::Front(b"printed 0\ncounter 0000 "),
+        "|run|tenth|1",
+        Wanted::Front(b"printed 0\ncounter 0001 accumulator 0jjjjjjj "),
         0,
     ),
+    ("|run|fails|10", Wanted::Text(b""), 2),
+    // The source of 196 orders, performed up to a limit.
+    ("|run|long|0", Wanted::Front(b"printed 0\ncounter 0000 "), 0),
     (
-        &["run", "long", "1"],
+        "|run|long|1",
         Wanted::Front(b"printed 0\ncounter 0001 accumulator 00000080 "),
         0,
     ),
     (
-        &["run", "long", "2"],
+        "|run|long|2",
         Wanted::Front(b"printed 0\ncounter 0002 accumulator 0000007q "),
         0,
     ),
     (
-        &["run", "long", "195"],
+        "|run|long|195",
         Wanted::Front(b"printed 0\ncounter 0004 accumulator wwwwwwwq "),
         0,
     ),
-    (&["run", "long", "196"], Wanted::Front(AT_REST), 0),
-    (&["run", "long", "4294967295"], Wanted::Front(AT_REST), 0),
+    ("|run|long|196", Wanted::Front(AT_REST), 0),
+    ("|run|long|4294967295", Wanted::Front(AT_REST), 0),
     (
-        &["batch", "one", "one"],
+        "|batch|one|one",
         Wanted::Text(b"file one\nclock 5\nfile one\nclock 5\n"),
         0,
     ),
     (
-        &["batch", "one", "two"],
+        "|batch|one|two",
         Wanted::Text(b"file one\nclock 5\nfile two\n? 1 Form\n"),
         1,
     ),
     (
-        &["batch", "two", "one"],
+        "|batch|two|one",
         Wanted::Text(b"file two\n? 1 Form\nfile one\nclock 5\n"),
         1,
     ),
-    (&["batch", "none", "one"], Wanted::Text(b""), 2),
+    ("|batch|none|one", Wanted::Text(b""), 2),
     (
-        &["batch", "two", "none", "one"],
+        "|batch|two|none|one",
         Wanted::Text(b"file two\n? 1 Form\n"),
         2,
     ),
     (
-        &["batch", "fails", "one"],
+        "|batch|fails|one",
         Wanted::Text(b"file fails\nclock 5\n"),
         2,
     ),
     (
-        &["batch", "one", "fails", "two"],
+        "|batch|one|fails|two",
         Wanted::Text(b"file one\nclock 5\nfile fails\nclock 5\n"),
         2,
     ),
@@ -205,7 +221,7 @@ static ROWS: [Row; 25] = [
 fn rows_performed(alloc: Global) -> usize {
     let mut performed: usize = 0;
     for row in &ROWS {
-        if !is_performed(alloc, row) {
+        if !are_performed(alloc, *row) {
             return performed;
         }
         performed = performed.saturating_add(1);
@@ -213,60 +229,48 @@ fn rows_performed(alloc: Global) -> usize {
     performed
 }
 
-/// The status of a batch without files, and how much is written.
-fn empty_batch(alloc: Global) -> (u8, usize) {
-    let mut written = Vec::new(alloc);
-    let task = Task::Batch(FileNames::new(alloc));
-    let status = status_into(alloc, &task, &mut written);
-    (status, written.len())
+/// Whether nothing is written for a batch without files, and the status is 0.
+fn is_empty_batch_performed(alloc: Global) -> bool {
+    let batch = Task::Batch(FileNames::new(alloc));
+    is_performed(alloc, Ok(batch), Wanted::Text(b""), 0)
 }
 
 #[test]
 fn commands_runs_and_batches_write_what_is_defined(rt: HostRuntime) {
-    let performed = (rows_performed(rt.alloc()), empty_batch(rt.alloc()));
-    expect_eq(&rt, performed, (25, (0, 0)));
+    let performed = (
+        rows_performed(rt.alloc()),
+        is_empty_batch_performed(rt.alloc()),
+    );
+    expect_eq(&rt, performed, (26, true));
 }
 
-/// The status of words where the first write fails.
-fn unwritten(alloc: Global, typed: &[&str]) -> Option<u8> {
-    status_asked(alloc, typed, Failing::after(alloc, 0, 1))
-}
-
-/// A fault of the words on the command line, with this text.
-fn fault_of(alloc: Global, is_mistake: bool, text: &str) -> Result<TaskFault, AllocError> {
-    let text = String::from_str(alloc, text)?;
-    Ok(if is_mistake {
-        TaskFault::Usage(text)
-    } else {
-        TaskFault::Help(text)
-    })
+/// A mistake in the words on the command line, or help, with this text; or that memory is refused.
+fn fault_of(alloc: Global, is_mistake: bool, text: &str) -> TaskFault {
+    match String::from_str(alloc, text) {
+        Ok(text) if is_mistake => TaskFault::Usage(text),
+        Ok(text) => TaskFault::Help(text),
+        Err(_) => TaskFault::Memory,
+    }
 }
 
 /// The status where the words hold no task. What is written goes to `output` and `messages`.
-fn refusal_into<W: Write + Drop, M: Write + Drop>(
-    fault: Result<TaskFault, AllocError>,
-    output: W,
-    messages: M,
-) -> Option<u8> {
+fn refusal_into<W: Write + Drop, M: Write + Drop>(fault: &TaskFault, output: W, messages: M) -> u8 {
     let mut output = SinkOf::new(output);
     let mut messages = SinkOf::new(messages);
-    match fault {
-        Ok(fault) => Some(refuse(&fault, &mut output, &mut messages)),
-        Err(_) => None,
-    }
+    refuse(fault, &mut output, &mut messages)
 }
 
 /// Whether the status is this where the words hold no task, and this is written to each of the two.
 fn is_refused(
     alloc: Global,
-    fault: Result<TaskFault, AllocError>,
+    fault: TaskFault,
     (help, message): (&[u8], &[u8]),
     status: u8,
 ) -> bool {
     let mut output = Vec::new(alloc);
     let mut messages = Vec::new(alloc);
-    let ended = refusal_into(fault, &mut output, &mut messages);
-    ended == Some(status) && output.as_slice() == help && messages.as_slice() == message
+    let ended = refusal_into(&fault, &mut output, &mut messages);
+    ended == status && output.as_slice() == help && messages.as_slice() == message
 }
 
 #[test]
@@ -277,38 +281,28 @@ fn help_goes_to_the_output_and_a_mistake_to_the_messages(rt: HostRuntime) {
     let refused = [
         is_refused(alloc, help, (b"help\n", b""), 0),
         is_refused(alloc, mistake, (b"", b"wrong\n"), 64),
-        is_refused(alloc, Ok(TaskFault::Memory), (b"", b""), 3),
+        is_refused(alloc, TaskFault::Memory, (b"", b""), 3),
     ];
     expect_eq(&rt, refused, [true; 3]);
 }
 
 /// The status of help or a mistake where the output and the messages take as many bytes as that, one a call, and then fail.
-fn unwritten_refusal(
-    fault: Result<TaskFault, AllocError>,
-    alloc: Global,
-    (output, messages): (usize, usize),
-) -> Option<u8> {
+fn unwritten_refusal(alloc: Global, fault: TaskFault, (output, messages): (usize, usize)) -> u8 {
     refusal_into(
-        fault,
+        &fault,
         Failing::after(alloc, output, 1),
         Failing::after(alloc, messages, 1),
     )
 }
 
 #[test]
-fn a_write_that_fails_gives_status_2(rt: HostRuntime) {
+fn help_or_a_mistake_that_is_not_written_gives_status_2(rt: HostRuntime) {
     let alloc = rt.alloc();
     let help = fault_of(alloc, false, "help\n");
     let mistake = fault_of(alloc, true, "wrong\n");
     let statuses = [
-        unwritten(alloc, &[]),
-        unwritten(alloc, &["script", "one"]),
-        unwritten(alloc, &["asm", "tenth"]),
-        unwritten(alloc, &["tape", "tenth"]),
-        unwritten(alloc, &["run", "tenth", "1"]),
-        unwritten(alloc, &["batch", "one", "two"]),
-        unwritten_refusal(help, alloc, (2, usize::MAX)),
-        unwritten_refusal(mistake, alloc, (usize::MAX, 2)),
+        unwritten_refusal(alloc, help, (2, usize::MAX)),
+        unwritten_refusal(alloc, mistake, (usize::MAX, 2)),
     ];
-    expect_eq(&rt, statuses, [Some(2); 8]);
+    expect_eq(&rt, statuses, [2; 2]);
 }

@@ -8,9 +8,6 @@ use lgp_lab::{FeedOf, READS, SinkOf, WordFault, obey, refuse_unread};
 use std::alloc::Global;
 use std::io::Write;
 
-/// Words after the program's name.
-type CommandWords = &'static [&'static str];
-
 /// The status for words, where standard input is a line that is no command.
 fn status_for<W: Write + Drop, M: Write + Drop>(
     alloc: Global,
@@ -32,46 +29,46 @@ fn status_for<W: Write + Drop, M: Write + Drop>(
     )
 }
 
-/// The status for words that are typed.
-fn status_typed<W: Write + Drop, M: Write + Drop>(
+/// Whether this text and this message are written for words, and this is the status.
+fn is_obeyed(
     alloc: Global,
-    typed: &[&str],
-    output: W,
-    messages: M,
-) -> Option<u8> {
+    words: Result<&[String], WordFault>,
+    (text, message): (&[u8], &[u8]),
+    status: u8,
+) -> bool {
+    let mut output = Vec::new(alloc);
+    let mut messages = Vec::new(alloc);
+    let ended = status_for(alloc, words, &mut output, &mut messages);
+    ended == status && output.as_slice() == text && messages.as_slice() == message
+}
+
+/// Whether this text is written for words that are typed, without a message, and this is the status.
+fn are_typed_obeyed(alloc: Global, typed: &str, text: &[u8], status: u8) -> bool {
     match words(alloc, typed) {
-        Some(words) => Some(status_for(alloc, Ok(&words), output, messages)),
-        None => None,
+        Some(words) => is_obeyed(alloc, Ok(&words), (text, b""), status),
+        None => false,
     }
 }
 
-/// Whether this is written for words, without a message, and this is the status.
-fn is_obeyed(alloc: Global, typed: CommandWords, text: &[u8], status: u8) -> bool {
-    let mut output = Vec::new(alloc);
-    let mut messages = Vec::new(alloc);
-    let ended = status_typed(alloc, typed, &mut output, &mut messages);
-    ended == Some(status) && messages.is_empty() && output.as_slice() == text
-}
-
 /// Words, each with what is written and the status. A script of a batch has a line that names it, and one alone has none.
-static DONE: [(CommandWords, &[u8], u8); 6] = [
-    (&[], b"? 1 Form\n", 1),
-    (&["script", "one"], b"clock 5\n", 0),
-    (&["batch", "one"], b"file one\nclock 5\n", 0),
+static DONE: [(&str, &[u8], u8); 6] = [
+    ("", b"? 1 Form\n", 1),
+    ("|script|one", b"clock 5\n", 0),
+    ("|batch|one", b"file one\nclock 5\n", 0),
     (
-        &["batch", "one", "two"],
+        "|batch|one|two",
         b"file one\nclock 5\nfile two\n? 1 Form\n",
         1,
     ),
-    (&["script", "none"], b"", 2),
-    (&["--version"], b"lgp_lab 0.1.0\n", 0),
+    ("|script|none", b"", 2),
+    ("|--version", b"lgp_lab 0.1.0\n", 0),
 ];
 
 /// How many of the words come before the first that are obeyed otherwise.
 fn words_obeyed(alloc: Global) -> usize {
     let mut obeyed: usize = 0;
     for (typed, text, status) in &DONE {
-        if !is_obeyed(alloc, typed, text, *status) {
+        if !are_typed_obeyed(alloc, typed, text, *status) {
             return obeyed;
         }
         obeyed = obeyed.saturating_add(1);
@@ -87,19 +84,11 @@ fn words_are_obeyed_without_a_message(rt: HostRuntime) {
 /// What is reported of words that cannot be read.
 const UNREAD: &[u8] = b"error: the words of the command line are not UTF-8 text\n";
 
-/// Whether this is reported for words that are not there, without any output, and this is the status.
-fn is_unread(alloc: Global, fault: WordFault, text: &[u8], status: u8) -> bool {
-    let mut output = Vec::new(alloc);
-    let mut messages = Vec::new(alloc);
-    let ended = status_for(alloc, Err(fault), &mut output, &mut messages);
-    ended == status && output.is_empty() && messages.as_slice() == text
-}
-
 #[test]
 fn words_that_are_not_there_are_reported(rt: HostRuntime) {
     let reported = [
-        is_unread(rt.alloc(), WordFault::NotText, UNREAD, 64),
-        is_unread(rt.alloc(), WordFault::Memory, b"", 3),
+        is_obeyed(rt.alloc(), Err(WordFault::NotText), (b"", UNREAD), 64),
+        is_obeyed(rt.alloc(), Err(WordFault::Memory), (b"", b""), 3),
     ];
     expect_eq(&rt, reported, [true; 2]);
 }

@@ -69,57 +69,51 @@ fn drawn<H: Origins<A>, A: Allocator, B: Allocator>(
     (stopped_at(lab, drawn), signs.as_slice() == SIGNS)
 }
 
-/// The run started, reported, gone back and drawn: whether it was started, reported as above, gone back and drawn as above; and how
-/// both end.
-fn reported_and_drawn<H: Origins<A>, A: Allocator, B: Allocator + Copy>(
-    alloc: B,
-    lab: &mut Debugger<H, A>,
-) -> ([bool; 4], [Stopped; 2]) {
-    let started = start_near_end(lab);
-    let (reported, are_lines) = reported(alloc, lab);
-    let is_back = goes_back(lab, 1);
-    let (drawn, are_signs) = drawn(alloc, lab);
-    ([started, are_lines, is_back, are_signs], [reported, drawn])
-}
-
-#[test]
-fn reported_up_to_the_clocks_end(rt: HostRuntime) {
-    let seen = match debugger(rt.alloc()) {
-        Some(mut lab) => reported_and_drawn(rt.alloc(), &mut lab),
-        None => ([false; 4], [[0; 2]; 2]),
-    };
-    expect_eq(&rt, seen, ([true; 4], [AT_END; 2]));
-}
-
-/// The run started and profiled: whether it was started, how it ends, and the word times by phase.
+/// The same where it is added to a profile, and the word times by phase.
 fn profiled<H: History<A>, A: Allocator, B: Allocator>(
     lab: &mut Debugger<H, A>,
     profile: &mut Profile<B>,
-) -> (bool, [u64; 6]) {
-    let started = start_near_end(lab);
+) -> (Stopped, [u64; 4]) {
     let outcome = profile_run(lab, 9, profile);
-    let [orders, left] = stopped_at(lab, outcome);
     let phases = profile.phases();
-    let (find, take) = (phases.find, phases.take);
-    (started, [orders, left, find, take, phases.seek, phases.act])
+    let times = [phases.find, phases.take, phases.seek, phases.act];
+    (stopped_at(lab, outcome), times)
 }
 
 /// That of a new profile.
 fn profiled_anew<H: History<A>, A: Allocator, B: Allocator>(
     alloc: B,
     lab: &mut Debugger<H, A>,
-) -> (bool, [u64; 6]) {
+) -> (Stopped, [u64; 4]) {
     match Profile::new(alloc) {
         Ok(mut profile) => profiled(lab, &mut profile),
-        Err(_) => (false, [0; 6]),
+        Err(_) => ([0; 2], [0; 4]),
     }
 }
 
+/// The run started, and profiled, reported and drawn, with the way back between them: whether it was started and gone back twice; the
+/// profile; and what is reported and drawn.
+type Seen = ([bool; 3], (Stopped, [u64; 4]), [(Stopped, bool); 2]);
+
+fn seen<H: Origins<A>, A: Allocator, B: Allocator + Copy>(
+    alloc: B,
+    lab: &mut Debugger<H, A>,
+) -> Seen {
+    let is_started = start_near_end(lab);
+    let profiled = profiled_anew(alloc, lab);
+    let is_back = goes_back(lab, 1);
+    let reported = reported(alloc, lab);
+    let is_back_again = goes_back(lab, 1);
+    let moved = [is_started, is_back, is_back_again];
+    (moved, profiled, [reported, drawn(alloc, lab)])
+}
+
 #[test]
-fn profiled_up_to_the_clocks_end(rt: HostRuntime) {
+fn profiled_reported_and_drawn_up_to_the_clocks_end(rt: HostRuntime) {
     let seen = match debugger(rt.alloc()) {
-        Some(mut lab) => profiled_anew(rt.alloc(), &mut lab),
-        None => (false, [0; 6]),
+        Some(mut lab) => seen(rt.alloc(), &mut lab),
+        None => ([false; 3], ([0; 2], [0; 4]), [([0; 2], false); 2]),
     };
-    expect_eq(&rt, seen, (true, [1, 54, 36, 1, 8, 1]));
+    let profiled = (AT_END, [36, 1, 8, 1]);
+    expect_eq(&rt, seen, ([true; 3], profiled, [(AT_END, true); 2]));
 }

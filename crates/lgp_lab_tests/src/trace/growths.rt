@@ -84,48 +84,62 @@ fn is_reported(way: Way, text: &[u8]) -> bool {
     }
 }
 
-/// Two orders reported with a growth refused, and gone back. The order whose lines or signs found no room remains, and the answer counts
-/// it: the clock is 74 after the first order, and 140 after the second.
-fn run_refused<H: Origins<A>, A: Allocator, B: Allocator>(
-    (limited, nth): (&Limited<B>, u64),
+/// Two orders reported in this way: how many the run counts, whether it was refused for want of memory, and whether both are reported.
+fn told_run<H: Origins<A>, A: Allocator, C: Allocator>(
+    alloc: C,
     way: Way,
     lab: &mut Debugger<H, A>,
-) -> Attempt {
-    let mut text = Vec::new(limited);
-    limited.refuse(nth);
+) -> (u64, bool, bool) {
+    let mut text = Vec::new(alloc);
     let (orders, answers_so) = counted(run_so(way, lab, &mut text));
+    (orders, answers_so, is_reported(way, text.as_slice()))
+}
+
+/// Two orders reported in this way, and gone back: whether a growth was refused, and whether both are reported. The order whose lines
+/// or signs found no room remains, and the answer counts it: the clock is 74 after the first order, and 140 after the second.
+fn told_and_back<H: Origins<A>, A: Allocator, C: Allocator>(
+    alloc: C,
+    way: Way,
+    lab: &mut Debugger<H, A>,
+) -> (bool, bool) {
+    let (orders, refused, reported) = told_run(alloc, way, lab);
     let stands = matches!((orders, lab.look().clock), (1, 74) | (2, 140));
     let is_back = stands && goes_back(lab, orders);
-    ended(
-        limited.was_refused(),
-        is_back && answers_so,
-        is_back && is_reported(way, text.as_slice()),
-    )
+    (is_back && refused, is_back && reported)
 }
 
-/// What is said of three words, with a growth refused.
-fn words_refused<H: Origins<A>, A: Allocator, B: Allocator>(
-    limited: &Limited<B>,
-    nth: u64,
+/// What is said of three words: whether a growth was refused, and whether this is all that there is to say.
+fn told_words<H: Origins<A>, A: Allocator, C: Allocator>(
+    alloc: C,
     lab: &Debugger<H, A>,
-) -> Attempt {
-    let mut text = Vec::new(limited);
-    limited.refuse(nth);
+) -> (bool, bool) {
+    let mut text = Vec::new(alloc);
     let refused = push_words(lab, &mut text).is_err();
-    ended(limited.was_refused(), refused, text.as_slice() == WORDS)
+    (refused, text.as_slice() == WORDS)
 }
 
-/// Orders reported in a way, or what is said of three words where there is none, with a growth refused.
+/// The same of orders reported in a way, or of what is said of three words where there is none.
+fn told<H: Origins<A>, A: Allocator, C: Allocator>(
+    alloc: C,
+    way: Option<Way>,
+    lab: &mut Debugger<H, A>,
+) -> (bool, bool) {
+    match way {
+        Some(way) => told_and_back(alloc, way, lab),
+        None => told_words(alloc, lab),
+    }
+}
+
+/// The same with a growth refused.
 fn refused<H: Origins<A>, A: Allocator, B: Allocator>(
     limited: &Limited<B>,
     nth: u64,
     way: Option<Way>,
     lab: &mut Debugger<H, A>,
 ) -> Attempt {
-    match way {
-        Some(way) => run_refused((limited, nth), way, lab),
-        None => words_refused(limited, nth, lab),
-    }
+    limited.refuse(nth);
+    let (refused, reported) = told(limited, way, lab);
+    ended(limited.was_refused(), refused, reported)
 }
 
 /// Whether growths were refused before that was reported, and each of them was answered so.
@@ -152,21 +166,30 @@ fn profile_lines(form: Form) -> &'static [u8] {
     }
 }
 
-/// A profile's text with a growth refused.
+/// A profile's text: whether a growth was refused, and whether these are its lines.
+fn told_profile<A: Allocator, C: Allocator>(
+    alloc: C,
+    form: Form,
+    profile: &Profile<A>,
+) -> (bool, bool) {
+    let mut text = Vec::new(alloc);
+    let refused = push_profile_in(&mut text, form, 42, profile, &NoLabels).is_err();
+    (refused, text.as_slice() == profile_lines(form))
+}
+
+/// The same with a growth refused.
 fn profile_refused<A: Allocator, B: Allocator>(
     limited: &Limited<B>,
     nth: u64,
     form: Form,
     profile: &Profile<A>,
 ) -> Attempt {
-    let mut text = Vec::new(limited);
     limited.refuse(nth);
-    let refused = push_profile_in(&mut text, form, 42, profile, &NoLabels).is_err();
-    let reported = text.as_slice() == profile_lines(form);
+    let (refused, reported) = told_profile(limited, form, profile);
     ended(limited.was_refused(), refused, reported)
 }
 
-/// The same of a profile's text.
+/// Whether growths of a profile's text were refused in turn, and each of them was answered so.
 fn profile_in_turn<A: Allocator, B: Allocator>(
     limited: &Limited<B>,
     form: Form,
@@ -182,21 +205,27 @@ fn profile_in_turn<A: Allocator, B: Allocator>(
     false
 }
 
+/// Whether two orders are run, and the order at 0001 has lost the u 0005.
+fn two_run<H: Origins<A>, A: Allocator>(lab: &mut Debugger<H, A>) -> [bool; 2] {
+    [
+        matches!(lab.run(2), Ok(ran) if ran.orders == 2),
+        matches!(lab.origin(address(1)), Some(origin) if origin.lost.get() == 0x000a_0014),
+    ]
+}
+
 /// Whether the program is started; whether lines, data and signs had growths in turn and each was reported at last; whether two orders
 /// are run then, and the order at 0001 has lost the u 0005; and the same of the words.
 fn in_turn<H: Origins<A>, A: Allocator, B: Allocator>(
     limited: &Limited<B>,
     lab: &mut Debugger<H, A>,
-) -> [bool; 7] {
-    [
+) -> ([bool; 4], [bool; 2], bool) {
+    let told = [
         start(lab),
         told_in_turn(limited, Some(Way::Lines), lab),
         told_in_turn(limited, Some(Way::Data), lab),
         told_in_turn(limited, Some(Way::Signs), lab),
-        matches!(lab.run(2), Ok(ran) if ran.orders == 2),
-        matches!(lab.origin(address(1)), Some(origin) if origin.lost.get() == 0x000a_0014),
-        told_in_turn(limited, None, lab),
-    ]
+    ];
+    (told, two_run(lab), told_in_turn(limited, None, lab))
 }
 
 #[test]
@@ -204,9 +233,10 @@ fn each_growth_refused(rt: HostRuntime) {
     let limited = Limited::new(rt.alloc());
     let seen = match debugger(rt.alloc()) {
         Some(mut lab) => in_turn(&limited, &mut lab),
-        None => [false; 7],
+        None => ([false; 4], [false; 2], false),
     };
-    expect_eq(&rt, (seen, limited.blocks_out()), ([true; 7], 0));
+    let wanted = ([true; 4], [true; 2], true);
+    expect_eq(&rt, (seen, limited.blocks_out()), (wanted, 0));
 }
 
 #[test]

@@ -4,7 +4,7 @@ ghost use Rattle.std.specs.Prelude.{◌^◌, ◌<◌, IsTrue};
 ghost use Rattle.lgp_trace.specs.Phases.{all_phases};
 
 use super::growths::{Attempt, counted, ended};
-use super::steps::{debugger, debugger_of, goes_back, put_all};
+use super::steps::{debugger, debugger_of, goes_back, start};
 use super::{SUM_OF_A_TABLE, address, is_few, press, take, with_words};
 use crate::expect_eq;
 use lgp_debugger::Debugger;
@@ -16,29 +16,25 @@ use lgp_trace::optimum_laws::{all_save_the_sum, own_sector, savings_add_up};
 use lgp_trace::{Account, Freedom, Optimum, optimum_run};
 use std::alloc::{Allocator, Global};
 
-/// What is noted of at most a given number of the orders that come; none where that is refused.
-pub(super) fn noted<H: History<A>, A: Allocator, B: Allocator + Copy>(
+/// What is noted of the program that sums a table; none where that is refused.
+fn noted<H: History<A>, A: Allocator, B: Allocator + Copy>(
     alloc: B,
     lab: &mut Debugger<H, A>,
-    limit: u64,
 ) -> Option<Optimum<B>> {
     let mut optimum = Optimum::new(alloc).ok()?;
-    match optimum_run(lab, limit, &mut optimum) {
+    start(lab);
+    match optimum_run(lab, 100, &mut optimum) {
         Ok(_) => Some(optimum),
         Err(_) => None,
     }
 }
 
-/// The same of a program that is started.
-pub(super) fn optimum_of<A: Allocator + Copy>(
-    alloc: A,
-    words: &[(u16, u32)],
-    limit: u64,
-) -> Option<Optimum<A>> {
-    let mut lab = debugger(alloc)?;
-    put_all(&mut lab, words);
-    let _live = lab.press(Action::Start);
-    noted(alloc, &mut lab, limit)
+/// The same of a new debugger.
+pub(super) fn optimum_of_a_sum<A: Allocator + Copy>(alloc: A) -> Option<Optimum<A>> {
+    match debugger(alloc) {
+        Some(mut lab) => noted(alloc, &mut lab),
+        None => None,
+    }
 }
 
 /// What an optimum tells of a word: whether it may be elsewhere, its best sector, and what it saves there.
@@ -98,7 +94,7 @@ fn rows_as<A: Allocator>(optimum: &Optimum<A>, rows: &[Row]) -> usize {
 
 /// How many word times the program takes, and how many rows come before the first that is reported otherwise.
 fn rows_noted(alloc: Global) -> (u64, usize) {
-    match optimum_of(alloc, SUM_OF_A_TABLE, 100) {
+    match optimum_of_a_sum(alloc) {
         Some(optimum) => (optimum.took(), rows_as(&optimum, NAMED)),
         None => (0, 0),
     }
@@ -158,36 +154,41 @@ fn the_words_of_a_program(rt: HostRuntime) {
     expect_eq(&rt, seen, [(2910, 14); 2]);
 }
 
-/// The program noted from its start, and gone back where a growth is refused. Where no growth was refused, all its orders are noted;
-/// otherwise the run says so, and has stopped before the order.
-fn run_noted<H: History<A>, A: Allocator, B: Allocator, C: Allocator>(
-    limited: &Limited<B>,
+/// The program noted from its start, and gone back where a growth is refused: whether the run says so and has stopped before the
+/// order, and whether all its orders are noted.
+fn run_noted<H: History<A>, A: Allocator, C: Allocator>(
     lab: &mut Debugger<H, A>,
     optimum: &mut Optimum<C>,
-) -> Attempt {
+) -> (bool, bool) {
     let (orders, is_refused) = counted(optimum_run(lab, 100, optimum));
     let stands = optimum.took() == lab.look().clock;
     if is_refused {
         goes_back(lab, orders);
     }
-    let is_done = !is_refused && orders == 42;
-    ended(
-        limited.was_refused(),
-        is_refused && stands,
-        is_done && stands,
-    )
+    (is_refused && stands, !is_refused && orders == 42 && stands)
 }
 
-/// That of a new optimum with the nth growth refused.
+/// That of a new optimum; `None` where it is not made.
+fn run_anew<H: History<A>, A: Allocator, C: Allocator + Copy>(
+    alloc: C,
+    lab: &mut Debugger<H, A>,
+) -> Option<(bool, bool)> {
+    match Optimum::new(alloc) {
+        Ok(mut optimum) => Some(run_noted(lab, &mut optimum)),
+        Err(_) => None,
+    }
+}
+
+/// How that ends with the nth growth refused.
 fn run_refused<H: History<A>, A: Allocator, B: Allocator>(
     limited: &Limited<B>,
     nth: u64,
     lab: &mut Debugger<H, A>,
 ) -> Attempt {
     limited.refuse(nth);
-    match Optimum::new(limited) {
-        Ok(mut optimum) => run_noted(limited, lab, &mut optimum),
-        Err(_) => Attempt::Refused,
+    match run_anew(limited, lab) {
+        Some((answers_so, is_done)) => ended(limited.was_refused(), answers_so, is_done),
+        None => Attempt::Refused,
     }
 }
 
@@ -196,8 +197,7 @@ fn in_turn<H: History<A>, A: Allocator, B: Allocator>(
     limited: &Limited<B>,
     lab: &mut Debugger<H, A>,
 ) -> u64 {
-    put_all(lab, SUM_OF_A_TABLE);
-    let _live = lab.press(Action::Start);
+    start(lab);
     for nth in 1..40 {
         match run_refused(limited, nth, lab) {
             Attempt::Reported => return nth - 1,

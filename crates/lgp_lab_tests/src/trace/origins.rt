@@ -14,9 +14,10 @@ pub fn push_words<H: Origins<A>, A: Allocator, B: Allocator>(
     lab: &Debugger<H, A>,
     text: &mut Vec<u8, B>,
 ) -> Result<(), AllocError> {
-    push_why(lab, text, address(0), &NoLabels)?;
-    push_why(lab, text, address(1), &NoLabels)?;
-    push_why(lab, text, address(2), &NoLabels)
+    for number in 0..3 {
+        push_why(lab, text, address(number), &NoLabels)?;
+    }
+    Ok(())
 }
 
 /// The sector of 0000 has position 0 and is read at clock 64, that of 0001 position 9: it is stored there at clock 73, and read at

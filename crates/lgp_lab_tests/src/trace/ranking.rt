@@ -1,8 +1,8 @@
 //! The words with most to gain, against numbers made by hand.
 
+use super::address;
 use super::growths::{Attempt, MOST, ended};
-use super::optimum::optimum_of;
-use super::{SUM_OF_A_TABLE, address};
+use super::optimum::optimum_of_a_sum;
 use crate::expect_eq;
 use lgp_limited::Limited;
 use lgp_trace::{Freedom, Gain, NoLabels, Optimum, push_optimum, push_word_optimum};
@@ -121,7 +121,7 @@ fn push_part<A: Allocator + Copy, B: Allocator>(
 
 #[test]
 fn the_words_with_most_to_gain(rt: HostRuntime) {
-    let seen = match optimum_of(rt.alloc(), SUM_OF_A_TABLE, 100) {
+    let seen = match optimum_of_a_sum(rt.alloc()) {
         Some(optimum) => (
             rankings(rt.alloc(), &optimum),
             optimum.together(Freedom::Free),
@@ -131,17 +131,27 @@ fn the_words_with_most_to_gain(rt: HostRuntime) {
     expect_eq(&rt, seen, ([true; 5], 960));
 }
 
-/// A part reported with the nth growth refused.
+/// A part reported: whether a growth was refused, and whether this is what is wanted.
+fn told<A: Allocator + Copy, B: Allocator>(
+    alloc: A,
+    (part, wanted): (Part, &[u8]),
+    optimum: &Optimum<B>,
+) -> (bool, bool) {
+    let mut text = Vec::new(alloc);
+    let reported = push_part(alloc, &mut text, part, optimum);
+    (!reported, text.as_slice() == wanted)
+}
+
+/// The same with the nth growth refused.
 fn reported_refused<A: Allocator, B: Allocator>(
     limited: &Limited<A>,
     nth: u64,
-    (part, wanted): (Part, &[u8]),
+    part: (Part, &[u8]),
     optimum: &Optimum<B>,
 ) -> Attempt {
-    let mut text = Vec::new(limited);
     limited.refuse(nth);
-    let reported = push_part(limited, &mut text, part, optimum);
-    ended(limited.was_refused(), !reported, text.as_slice() == wanted)
+    let (refused, is_wanted) = told(limited, part, optimum);
+    ended(limited.was_refused(), refused, is_wanted)
 }
 
 /// How many growths were refused before a part was reported; 0 where one of them was answered otherwise.
@@ -164,7 +174,7 @@ fn in_turn<A: Allocator, B: Allocator>(
 #[test]
 fn each_growth_refused(rt: HostRuntime) {
     let limited = Limited::new(rt.alloc());
-    let growths = match optimum_of(rt.alloc(), SUM_OF_A_TABLE, 100) {
+    let growths = match optimum_of_a_sum(rt.alloc()) {
         Some(optimum) => [
             in_turn(&limited, (Part::Words, REPORTED), &optimum) > 6,
             in_turn(&limited, (Part::Word(8), NAMED_BY_NONE), &optimum) > 0,

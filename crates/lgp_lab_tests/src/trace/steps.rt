@@ -78,14 +78,20 @@ pub fn goes_back<H: History<A>, A: Allocator>(lab: &mut Debugger<H, A>, orders: 
     lab.back(orders).is_ok()
 }
 
-/// Presses START, performs as many orders as there are rows, goes back as many as the last rows, and performs those again. How many
+/// Puts the program that sums a table on the drum, and presses START.
+pub fn start<H: History<A>, A: Allocator>(lab: &mut Debugger<H, A>) {
+    put_all(lab, SUM_OF_A_TABLE);
+    let _live = lab.press(Action::Start);
+}
+
+/// Starts the program, performs as many orders as there are rows, goes back as many as the last rows, and performs those again. How many
 /// were as their rows say, the first time and again; how many steps were kept after each; and whether one more is refused at rest.
 fn there_and_back<H: History<A>, A: Allocator>(
     lab: &mut Debugger<H, A>,
     rows: &[Row],
     last: &[Row],
 ) -> (usize, usize, [u64; 2], bool) {
-    let _live = lab.press(Action::Start);
+    start(lab);
     let first = orders_as(lab, rows);
     let kept = lab.kept();
     goes_back(lab, last.len() as u64);
@@ -99,10 +105,7 @@ fn there_and_back<H: History<A>, A: Allocator>(
 fn a_debuggers_orders_have_the_same_accounts(rt: HostRuntime) {
     let last = ORDERS.get(22..).unwrap_or_default();
     let seen = match debugger(rt.alloc()) {
-        Some(mut lab) => {
-            put_all(&mut lab, SUM_OF_A_TABLE);
-            there_and_back(&mut lab, ORDERS, last)
-        }
+        Some(mut lab) => there_and_back(&mut lab, ORDERS, last),
         None => (0, 0, [0; 2], false),
     };
     expect_eq(&rt, seen, (42, 20, [30, 30], true));
