@@ -45,6 +45,25 @@ pub enum Kind {
     Checkpoints,
 }
 
+/// What is done over a history, whichever kind it is of.
+pub trait Job<A: Allocator> {
+    type Answer;
+
+    fn over<H: History<A>>(&self, alloc: A, history: Result<H, AllocError>) -> Self::Answer;
+}
+
+/// Does a job over a new history of a kind, which keeps at most a given number of steps.
+pub fn over_kind<A: Allocator + Copy, J: Job<A>>(
+    alloc: A,
+    (kind, capacity): (Kind, usize),
+    job: &J,
+) -> J::Answer {
+    match kind {
+        Kind::Records => job.over(alloc, records(alloc, capacity)),
+        Kind::Checkpoints => job.over(alloc, checkpoints(alloc, capacity)),
+    }
+}
+
 /// A machine at a boundary and a history of it. Nothing is said of it but that its calls can be made.
 struct Session<A: Allocator, H: History<A>> {
     machine: Machine<A>,
@@ -54,7 +73,10 @@ struct Session<A: Allocator, H: History<A>> {
 // Written out: a derived drop is copied to each place where one is dropped.
 impl<A: Allocator, H: History<A>> Drop for Session<A, H> {
     fn drop(self) {
-        let Session { machine: _, history: _ } = self;
+        let Session {
+            machine: _,
+            history: _,
+        } = self;
     }
 }
 
@@ -143,7 +165,10 @@ fn do_step<A: Allocator + Clone>(machine: &mut Machine<A>, step: &Step<A>) -> Re
         Step::Perform => machine.next_order().is_ok(),
         Step::Press(action) => machine.press(*action).is_ok(),
         Step::Idle(times) => machine.rest(*times).is_ok(),
-        Step::Mount(tape) => machine.mount(tape.copy()?.into_codes()).is_ok(),
+        Step::Mount(tape) => match tape.copy() {
+            Ok(copy) => machine.mount(copy.into_codes()).is_ok(),
+            Err(_) => false,
+        },
         Step::Put(address, word) => machine.put(*address, *word).is_ok(),
     };
     if done { Ok(()) } else { Err(AllocError) }

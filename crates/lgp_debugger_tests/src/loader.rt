@@ -51,10 +51,7 @@ enum Way<'a> {
 
 /// The image of a source; `None` where it has faults, or without memory.
 pub fn image<A: Allocator + Copy>(alloc: A, source: &[u8]) -> Option<Image<A>> {
-    match assemble(alloc, source) {
-        Ok(image) => Some(image),
-        Err(_) => None,
-    }
+    assemble(alloc, source).ok()
 }
 
 fn tape_by<A: Allocator + Copy>(

@@ -73,10 +73,32 @@ fn shows<A: Allocator>(
         })
 }
 
-/// Whether a machine has this word at the address of this text.
-fn has_word<A: Allocator>(machine: &Machine<A>, place: &[u8; 4], digits: &[u8; 8]) -> bool {
-    machine.word(at(place)) == word(digits)
+/// An address, and the word that is there.
+type Row = (&'static [u8; 4], &'static [u8; 8]);
+
+/// Whether a machine has these words.
+fn has_words<A: Allocator>(machine: &Machine<A>, rows: &[Row]) -> bool {
+    for (place, digits) in rows {
+        if machine.word(at(place)) != word(digits) {
+            return false;
+        }
+    }
+    true
 }
+
+/// What there is after two words have been keyed in at 0100.
+static AFTER_TWO: [Row; 3] = [
+    (b"0100", b"00000004"),
+    (b"0101", b"80000000"),
+    (b"0102", b"00000000"),
+];
+
+/// What there is where no word has been stored.
+static BLANK: [Row; 3] = [
+    (b"0000", b"00000000"),
+    (b"0001", b"00000000"),
+    (b"0002", b"00000000"),
+];
 
 #[test]
 fn what_is_pressed_to_store_a_word(rt: HostRuntime) {
@@ -92,26 +114,25 @@ fn what_is_pressed_to_start_a_program(rt: HostRuntime) {
     expect_eq(&rt, to_start(at(b"6300")), b"M000f3w00FOENS".map(action_of));
 }
 
-/// Keys two words in at 0100 with the first growth refused. No memory is asked for. The first store waits 64 word times for sector
+/// The words that are keyed in.
+fn two_words() -> [Word; 2] {
+    [word(b"00000004"), word(b"80000000")]
+}
+
+/// Keys these words in at 0100 with the first growth refused. No memory is asked for. The first store waits 64 word times for sector
 /// 00, the second 8 for sector 01; each acts for one.
-fn keys_two_in<B: Allocator>(
+fn keys_two_in<B: Allocator, A: Allocator>(
     limited: &Limited<B>,
-    machine: &mut Machine<&Limited<B>>,
-) -> [bool; 6] {
+    machine: &mut Machine<A>,
+) -> [bool; 4] {
     limited.refuse(1);
-    let answer = key(
-        machine,
-        at(b"0100"),
-        &[word(b"00000004"), word(b"80000000")],
-    );
+    let answer = key(machine, at(b"0100"), &two_words());
     let stepped = Status::Halted(Cause::Step);
     [
         answer.is_ok(),
         limited.was_refused(),
         shows(machine, (b"80000000", b"000j0104"), stepped, 74),
-        has_word(machine, b"0100", b"00000004"),
-        has_word(machine, b"0101", b"80000000"),
-        has_word(machine, b"0102", b"00000000"),
+        has_words(machine, &AFTER_TWO),
     ]
 }
 
@@ -133,10 +154,13 @@ fn keys_within<A: Allocator>(machine: &mut Machine<A>) -> [bool; 4] {
 }
 
 /// The three of them one after another on a new machine.
-type Three = ([bool; 6], [bool; 2], [bool; 4]);
+type Three = ([bool; 4], [bool; 2], [bool; 4]);
 
-fn keyed_on_one<B: Allocator>(limited: &Limited<B>) -> Option<Three> {
-    match Machine::new(limited) {
+fn keyed_on_one<B: Allocator, A: Allocator + Copy>(
+    limited: &Limited<B>,
+    alloc: A,
+) -> Option<Three> {
+    match Machine::new(alloc) {
         Ok(mut machine) => {
             let two = keys_two_in(limited, &mut machine);
             Some((
@@ -151,7 +175,7 @@ fn keyed_on_one<B: Allocator>(limited: &Limited<B>) -> Option<Three> {
 
 /// Rests up to a clock, and keys a word in at 0000: whether a machine can rest, the clock's end is reported, the machine is before
 /// the order that stores the word, and the drum is blank there.
-fn keys_at_the_end<A: Allocator>(machine: &mut Machine<A>, clock: u64) -> [bool; 6] {
+fn keys_at_the_end<A: Allocator>(machine: &mut Machine<A>, clock: u64) -> [bool; 4] {
     [
         machine.rest(clock).is_ok(),
         key(machine, Address::default(), &[word(b"00000004")]) == Err(KeyFault::ClockEnd),
@@ -161,14 +185,12 @@ fn keys_at_the_end<A: Allocator>(machine: &mut Machine<A>, clock: u64) -> [bool;
             Status::Executing,
             clock,
         ),
-        has_word(machine, b"0000", b"00000000"),
-        has_word(machine, b"0001", b"00000000"),
-        has_word(machine, b"0002", b"00000000"),
+        has_words(machine, &BLANK),
     ]
 }
 
 /// The same on a new machine, one word time before the clock's end.
-fn keyed_at_the_end(global: Global) -> Option<[bool; 6]> {
+fn keyed_at_the_end(global: Global) -> Option<[bool; 4]> {
     match Machine::new(global) {
         Ok(mut machine) => Some(keys_at_the_end(&mut machine, CLOCK_END - 1)),
         Err(_) => None,
@@ -177,11 +199,12 @@ fn keyed_at_the_end(global: Global) -> Option<[bool; 6]> {
 
 #[test]
 fn words_are_keyed_in_or_refused(rt: HostRuntime) {
-    let keyed = keyed_on_one(&Limited::new(rt.alloc()));
-    let two = [true, false, true, true, true, true];
+    let limited = Limited::new(rt.alloc());
+    let keyed = keyed_on_one(&limited, &limited);
+    let two = [true, false, true, true];
     expect_eq(
         &rt,
         (keyed, keyed_at_the_end(rt.alloc())),
-        (Some((two, [true; 2], [true; 4])), Some([true; 6])),
+        (Some((two, [true; 2], [true; 4])), Some([true; 4])),
     );
 }

@@ -5,7 +5,7 @@ use super::calls::{
     press_button, put, run, run_freely, step, with_order, word_at,
 };
 use crate::expect_eq;
-use crate::history::{Kind, checkpoints, records};
+use crate::history::{Job, Kind, over_kind, records};
 use crate::loader::image;
 use lgp_assembler::Image;
 use lgp_debugger::{
@@ -69,6 +69,19 @@ fn state<H: History<A>, A: Allocator>(lab: &Debugger<H, A>) -> State {
 /// What a debugger has: its state, and how many steps and orders are kept.
 fn whole<H: History<A>, A: Allocator>(lab: &Debugger<H, A>) -> (State, (u64, u64)) {
     (state(lab), kept(lab))
+}
+
+/// Whether a debugger is in a state.
+fn is_at<H: History<A>, A: Allocator>(lab: &Debugger<H, A>, wanted: Option<&State>) -> bool {
+    Some(&state(lab)) == wanted
+}
+
+/// Whether a debugger has this.
+fn is_whole<H: History<A>, A: Allocator>(
+    lab: &Debugger<H, A>,
+    (wanted, count): &(State, (u64, u64)),
+) -> bool {
+    is_at(lab, Some(wanted)) && kept(lab) == *count
 }
 
 /// A call that takes memory.
@@ -146,7 +159,7 @@ fn in_turn<H: History<A>, A: Allocator>(
         limited.refuse(nth);
         match called(lab, call) {
             Ended::Done if !limited.was_refused() => return Some(nth > 1),
-            Ended::Refused if limited.was_refused() && whole(lab) == before => {}
+            Ended::Refused if limited.was_refused() && is_whole(lab, &before) => {}
             _ => return None,
         }
     }
@@ -156,28 +169,43 @@ fn in_turn<H: History<A>, A: Allocator>(
 /// Mounts a tape, or hands it back.
 fn mount_or_back<H: History<A>, A: Allocator>(
     lab: &mut Debugger<H, A>,
-    tape: Vec<Code, A>,
-) -> Result<(), (MountFault, Vec<Code, A>)> {
-    lab.mount(tape)
+    tape: &mut Option<Vec<Code, A>>,
+) -> Ended {
+    let Some(codes) = tape.take() else {
+        return Ended::Otherwise;
+    };
+    match lab.mount(codes) {
+        Ok(()) => Ended::Done,
+        Err((fault, back)) => {
+            *tape = Some(back);
+            end_of_call(false, fault == MountFault::Memory)
+        }
+    }
+}
+
+/// The codes of a tape that there is.
+fn codes_there<A: Allocator>(tape: &Option<Vec<Code, A>>) -> Option<Codes> {
+    match tape {
+        Some(tape) => Some(codes(tape.as_slice())),
+        None => None,
+    }
 }
 
 /// Mounts a tape likewise. A tape that is handed back has all of its codes, and is tried again.
 fn mount_in_turn<H: History<A>, A: Allocator>(
     limited: &Limited<Global>,
     lab: &mut Debugger<H, A>,
-    tape: Vec<Code, A>,
+    tape: &mut Option<Vec<Code, A>>,
 ) -> Option<bool> {
-    let (before, shown) = (whole(lab), codes(tape.as_slice()));
-    let mut tape = tape;
+    let (before, shown) = (whole(lab), codes_there(tape));
     for nth in 1..MOST {
         limited.refuse(nth);
-        match mount_or_back(lab, tape) {
-            Ok(()) => return (!limited.was_refused()).then_some(nth > 1),
-            Err((MountFault::Memory, back)) if codes(back.as_slice()) == shown => tape = back,
-            Err(_) => return None,
-        }
-        if !limited.was_refused() || whole(lab) != before {
-            return None;
+        let ended = mount_or_back(lab, tape);
+        let refused = limited.was_refused();
+        match ended {
+            Ended::Done if !refused => return Some(nth > 1),
+            Ended::Refused if refused && codes_there(tape) == shown && is_whole(lab, &before) => {}
+            _ => return None,
         }
     }
     None
@@ -191,10 +219,8 @@ fn mount_text_in_turn<H: History<A>, A: Allocator + Copy>(
     text: &[u8],
 ) -> Option<bool> {
     limited.refuse(0);
-    match read_tape_text(alloc, text) {
-        Ok(codes) => mount_in_turn(limited, lab, codes),
-        Err(_) => None,
-    }
+    let mut tape = read_tape_text(alloc, text).ok();
+    mount_in_turn(limited, lab, &mut tape)
 }
 
 /// A call, and whether it takes memory over records and over checkpoints.
@@ -261,17 +287,16 @@ fn perform<H: History<A>, A: Allocator>(
     Some(grown)
 }
 
-/// Six steps and 190 orders, six steps and ten orders. How many of the steps are as their rows say, and whether an order takes memory.
-fn fill<H: History<A>, A: Allocator + Copy>(
+/// Six steps and 190 orders, six steps and ten orders. Whether all of the steps are as their rows say, and the first orders take memory.
+fn is_filled<H: History<A>, A: Allocator + Copy>(
     (limited, alloc, kind): (&Limited<Global>, A, Kind),
     lab: &mut Debugger<H, A>,
     log: &mut Vec<State>,
-) -> (usize, Option<bool>, usize, bool) {
-    let opened = first_wrong(limited, alloc, lab, (&OPENING, kind));
-    let grown = perform(limited, lab, 190, log);
-    let paused = first_wrong(limited, alloc, lab, (&PAUSE, kind));
-    let done = perform(limited, lab, 10, log).is_some();
-    (opened, grown, paused, done)
+) -> bool {
+    first_wrong(limited, alloc, lab, (&OPENING, kind)) == 6
+        && perform(limited, lab, 190, log) == Some(true)
+        && first_wrong(limited, alloc, lab, (&PAUSE, kind)) == 6
+        && perform(limited, lab, 10, log).is_some()
 }
 
 /// Goes back order by order until a given number are kept, each time with each growth refused in turn; at each the state is that of `log`.
@@ -290,25 +315,30 @@ fn go_back<H: History<A>, A: Allocator>(
         if in_turn(limited, lab, Call::Back)? {
             grown = grown.saturating_add(1);
         }
-        if log.pop() != Some(state(lab)) {
+        if !is_at(lab, log.last()) {
             return None;
         }
+        let _ = log.pop();
     }
     None
 }
 
-/// Goes to the latest order that one of two rules hits. Whether that takes memory, and what is kept there; `None` also where the
-/// state is not that of `log`.
+/// Goes to the latest order that one of two rules hits. Whether that takes memory; `None` also where the state is not that of `log`.
 fn go_to_hit<H: History<A>, A: Allocator>(
     limited: &Limited<Global>,
     lab: &mut Debugger<H, A>,
     log: &mut Vec<State>,
-) -> Option<(bool, (u64, u64))> {
-    add_rule(lab, Named::At(5)).ok()?;
-    add_rule(lab, Named::Changed(100)).ok()?;
-    let grown = in_turn(limited, lab, Call::LastHit)?;
+) -> Option<bool> {
+    if add_rule(lab, Named::At(5)).is_err() || add_rule(lab, Named::Changed(100)).is_err() {
+        return None;
+    }
+    let grown = in_turn(limited, lab, Call::LastHit);
     log.truncate(191);
-    (log.pop() == Some(state(lab))).then_some((grown, kept(lab)))
+    if !is_at(lab, log.last()) {
+        return None;
+    }
+    let _ = log.pop();
+    grown
 }
 
 /// Whether the rules are those two. They are taken out.
@@ -318,88 +348,99 @@ fn has_rules<H: History<A>, A: Allocator>(lab: &mut Debugger<H, A>) -> bool {
         && is_removed(lab, 0, None)
 }
 
-/// How often the way back takes memory: order by order before the hit, to the hit, and order by order after it. What is kept at the
-/// hit, and whether the rules are there at the end.
-type Gone = (Option<u64>, Option<(bool, (u64, u64))>, Option<u64>, bool);
-
-/// Goes back three orders, then to the latest order that a rule hits, and then order by order to the first one that is kept.
-fn go_back_by_rules<H: History<A>, A: Allocator>(
-    limited: &Limited<Global>,
+/// Goes back three orders, then to the latest order that a rule hits, and then order by order to the first one that is kept. Whether all
+/// that is as it should be.
+///
+/// The 212 steps fill a history of 130; 124 of those are orders. Of the last seven orders after the first three back the first one
+/// changes the word that was put in the pause. The rules stay. Over records no way back takes memory, over checkpoints each.
+fn goes_back_by_rules<H: History<A>, A: Allocator>(
+    (limited, kind): (&Limited<Global>, Kind),
     lab: &mut Debugger<H, A>,
     log: &mut Vec<State>,
-) -> Gone {
-    let first = go_back(limited, lab, 121, log);
-    let hit = go_to_hit(limited, lab, log);
-    let last = go_back(limited, lab, 0, log);
-    (first, hit, last, has_rules(lab))
+) -> bool {
+    let (first, grows, last) = match kind {
+        Kind::Records => (0, false, 0),
+        Kind::Checkpoints => (3, true, 114),
+    };
+    go_back(limited, lab, 121, log) == Some(first)
+        && go_to_hit(limited, lab, log) == Some(grows)
+        && kept(lab) == (120, 114)
+        && go_back(limited, lab, 0, log) == Some(last)
+        && has_rules(lab)
 }
 
-/// What is kept, the counter, how many codes are printed, and the tape.
-type Place = ((u64, u64), u16, usize, Codes);
+/// Whether as much is kept as there is room for, and one order back too many is refused.
+fn is_full<H: History<A>, A: Allocator>(lab: &mut Debugger<H, A>) -> bool {
+    kept(lab) == (130, 124) && back(lab, 125) == Err(BackFault::TooFar(124))
+}
 
-fn place<H: History<A>, A: Allocator>(lab: &Debugger<H, A>) -> Place {
+/// Whether nothing is kept before the first kept order, which is the 77th, the second of a turn of the loop, before which 26 codes were
+/// printed and the first tape was there.
+fn is_at_the_first<H: History<A>, A: Allocator>(lab: &Debugger<H, A>) -> bool {
     let machine = lab.machine();
     let left = codes(machine.tape_left().unwrap_or_default());
-    (
-        kept(lab),
-        look(lab).counter.number(),
-        machine.printed().len(),
-        left,
-    )
+    kept(lab) == (0, 0)
+        && look(lab).counter.number() == 1
+        && machine.printed().len() == 26
+        && left == (3, (6 * 67 + 10) * 67 + 32)
 }
 
-/// The 212 steps fill a history of 130; 124 of those are orders. Of the last seven orders after the first three back the first one
-/// changes the word that was put in the pause. The first kept order is the 77th, the second of a turn of the loop, before which 26
-/// codes were printed and the first tape was there. The rules stay. Over records no way back takes memory, over checkpoints each.
-fn expected_gone(kind: Kind) -> Gone {
-    match kind {
-        Kind::Records => (Some(0), Some((false, (120, 114))), Some(0), true),
-        Kind::Checkpoints => (Some(3), Some((true, (120, 114))), Some(114), true),
-    }
-}
+/// Fills a history and goes back to its first order. Whether the calls take memory as their rows say; whether the history is full then;
+/// whether the way back takes memory as it should; whether all is there as it was; and how many orders were performed before the first
+/// kept one.
+type ThereAndBack = ([bool; 4], usize);
 
-/// Fills a history and goes back to its first order. Whether the calls take memory as their rows say; whether as much is kept then
-/// as there is room for; whether one order back too many is refused; whether the way back takes memory as it should; how many
-/// orders were performed before the first kept one, and whether all is there as it was.
-type ThereAndBack = (bool, bool, bool, bool, usize, bool);
-
+/// That over a history, with a log of states.
 fn there_and_back<H: History<A>, A: Allocator + Copy>(
     (limited, alloc, kind): (&Limited<Global>, A, Kind),
     lab: &mut Debugger<H, A>,
     log: &mut Vec<State>,
 ) -> ThereAndBack {
-    let filled = fill((limited, alloc, kind), lab, log) == (6, Some(true), 6, true);
-    let full = kept(lab) == (130, 124);
-    let too_far = back(lab, 125) == Err(BackFault::TooFar(124));
-    let gone = go_back_by_rules(limited, lab, log) == expected_gone(kind);
-    let there = place(lab) == ((0, 0), 1, 26, (3, (6 * 67 + 10) * 67 + 32));
-    (filled, full, too_far, gone, log.len(), there)
+    let filled = is_filled((limited, alloc, kind), lab, log);
+    let full = is_full(lab);
+    let gone = goes_back_by_rules((limited, kind), lab, log);
+    ([filled, full, gone, is_at_the_first(lab)], log.len())
 }
 
-/// That over a history, with a log of states.
-fn gone_over<H: History<A>, A: Allocator + Copy>(
-    so: (&Limited<Global>, A, Kind),
-    history: Result<H, AllocError>,
-    log: &mut Vec<State>,
-) -> Option<ThereAndBack> {
-    let mut lab = with_order(so.1, history, PRINT)?;
-    Some(there_and_back(so, &mut lab, log))
+/// That, with the memory for the log.
+#[derive(Drop)]
+struct GoThereAndBack<'a> {
+    limited: &'a Limited<Global>,
+    kind: Kind,
+    global: Global,
+}
+
+impl<A: Allocator + Copy> Job<A> for GoThereAndBack<'_> {
+    type Answer = Option<ThereAndBack>;
+
+    fn over<H: History<A>>(
+        &self,
+        alloc: A,
+        history: Result<H, AllocError>,
+    ) -> Option<ThereAndBack> {
+        let mut lab = with_order(alloc, history, PRINT)?;
+        let mut log = Vec::new(self.global);
+        Some(there_and_back((self.limited, alloc, self.kind), &mut lab, &mut log))
+    }
 }
 
 /// That over a history of at most 130 steps, and how many blocks are out at last.
 fn gone_over_kind(global: Global, kind: Kind) -> (Option<ThereAndBack>, u64) {
-    let limited = Limited::new(global);
-    let mut log = Vec::new(global);
-    let so = (&limited, &limited, kind);
-    let seen = match kind {
-        Kind::Records => gone_over(so, records(&limited, 130), &mut log),
-        Kind::Checkpoints => gone_over(so, checkpoints(&limited, 130), &mut log),
-    };
+    let limited = &Limited::new(global);
+    let seen = over_kind(
+        limited,
+        (kind, 130),
+        &GoThereAndBack {
+            limited,
+            kind,
+            global,
+        },
+    );
     (seen, limited.blocks_out())
 }
 
 /// What there is over each kind of history.
-const THERE_AND_BACK: (Option<ThereAndBack>, u64) = (Some((true, true, true, true, 76, true)), 0);
+const THERE_AND_BACK: (Option<ThereAndBack>, u64) = (Some(([true; 4], 76)), 0);
 
 #[test]
 fn debuggers_with_each_growth_refused(rt: HostRuntime) {
@@ -427,12 +468,21 @@ fn log_orders<H: History<A>, A: Allocator>(lab: &mut Debugger<H, A>, log: &mut V
     log.push(state(lab)).is_ok()
 }
 
-/// The same over records with ample memory.
-fn is_logged(global: Global, log: &mut Vec<State>) -> bool {
-    match with_order(global, records(global, 130), PRINT) {
+/// The same over a history.
+fn logged_over<H: History<A>, A: Allocator + Copy>(
+    alloc: A,
+    history: Result<H, AllocError>,
+    log: &mut Vec<State>,
+) -> bool {
+    match with_order(alloc, history, PRINT) {
         Some(mut lab) => start(&mut lab) && log_orders(&mut lab, log),
         None => false,
     }
+}
+
+/// The same over records with ample memory.
+fn is_logged(global: Global, log: &mut Vec<State>) -> bool {
+    logged_over(global, records(global, 130), log)
 }
 
 /// How a run of 80 orders ends whose nth growth is refused: after a given number of orders, with all of them done, or otherwise.
@@ -449,9 +499,10 @@ fn stands<H: History<A>, A: Allocator>(
     log: &[State],
     orders: u64,
 ) -> bool {
-    let there = log.get(orders as usize) == Some(&state(lab));
-    let kept_there = kept(lab) == (orders.saturating_add(3), orders);
-    there && kept_there && back(lab, orders) == Ok(()) && log.first() == Some(&state(lab))
+    is_at(lab, log.get(orders as usize))
+        && kept(lab) == (orders.saturating_add(3), orders)
+        && back(lab, orders).is_ok()
+        && is_at(lab, log.first())
 }
 
 /// By the rules, of which there are none, or freely, past one that would stop it.
@@ -500,31 +551,43 @@ fn run_refused<H: History<A>, A: Allocator>(
     }
 }
 
-/// Runs so over a history.
-fn run_over<H: History<A>, A: Allocator + Copy>(
-    so: (&Limited<Global>, Way, u64),
-    alloc: A,
-    history: Result<H, AllocError>,
-    log: &[State],
-) -> RunEnd {
-    match with_order(alloc, history, PRINT) {
-        Some(mut lab) => run_refused(so, &mut lab, log),
-        None => RunEnd::Otherwise,
+/// A run that is made so.
+#[derive(Drop)]
+struct RunSo<'a> {
+    limited: &'a Limited<Global>,
+    way: Way,
+    nth: u64,
+    log: &'a [State],
+}
+
+impl<A: Allocator + Copy> Job<A> for RunSo<'_> {
+    type Answer = RunEnd;
+
+    fn over<H: History<A>>(&self, alloc: A, history: Result<H, AllocError>) -> RunEnd {
+        match with_order(alloc, history, PRINT) {
+            Some(mut lab) => run_refused((self.limited, self.way, self.nth), &mut lab, self.log),
+            None => RunEnd::Otherwise,
+        }
     }
 }
 
-fn run_of_kind(
-    limited: &Limited<Global>,
+fn run_of_kind<A: Allocator + Copy>(
+    (limited, alloc): (&Limited<Global>, A),
     (kind, way): (Kind, Way),
     log: &[State],
     nth: u64,
 ) -> RunEnd {
     limited.refuse(0);
-    let so = (limited, way, nth);
-    match kind {
-        Kind::Records => run_over(so, limited, records(limited, 130), log),
-        Kind::Checkpoints => run_over(so, limited, checkpoints(limited, 130), log),
-    }
+    over_kind(
+        alloc,
+        (kind, 130),
+        &RunSo {
+            limited,
+            way,
+            nth,
+            log,
+        },
+    )
 }
 
 /// How runs end whose first, second .. growth is refused: after how many orders the first does, whether one does after 61 orders,
@@ -532,11 +595,15 @@ fn run_of_kind(
 type Runs = (Option<u64>, bool, bool, bool);
 
 /// Runs over a history with each growth refused in turn.
-fn all_runs(limited: &Limited<Global>, so: (Kind, Way), log: &[State]) -> Runs {
+fn all_runs<A: Allocator + Copy>(
+    (limited, alloc): (&Limited<Global>, A),
+    so: (Kind, Way),
+    log: &[State],
+) -> Runs {
     let (mut first, mut latest) = (None, 0);
     let (mut at_copy, mut in_order) = (false, true);
     for nth in 1..MOST {
-        match run_of_kind(limited, so, log, nth) {
+        match run_of_kind((limited, alloc), so, log, nth) {
             RunEnd::After(orders) => {
                 first = first.or(Some(orders));
                 at_copy |= orders == 61;
@@ -557,7 +624,7 @@ fn runs_of(global: Global, so: (Kind, Way)) -> (Runs, u64) {
     if !is_logged(global, &mut log) {
         return ((None, false, false, false), 0);
     }
-    let runs = all_runs(&limited, so, log.as_slice());
+    let runs = all_runs((&limited, &limited), so, log.as_slice());
     (runs, limited.blocks_out())
 }
 
@@ -582,60 +649,102 @@ fn a_run_says_after_how_many_orders_it_is_refused(rt: HostRuntime) {
 /// Whether a load takes memory, and the clock and what is kept then.
 type Loaded = Option<(bool, u64, (u64, u64))>;
 
-/// Loads with each growth refused in turn, with a step kept. `None` where a
-/// growth is refused and anything is done, or where none is and it is not loaded by 23 orders.
+/// How a load ends; it is done by 23 orders.
+fn load_ended<H: History<A>, A: Allocator + Copy>(
+    lab: &mut Debugger<H, A>,
+    alloc: A,
+    image: &Image,
+) -> Ended {
+    let answer = load(lab, alloc, image);
+    end_of_call(answer == Ok(23), answer == Err(LoadFault::Memory))
+}
+
+/// Loads with each growth refused in turn. Whether there was one; `None` where a growth is refused and anything is done, or where none is
+/// and it is not loaded.
 fn load_in_turn<H: History<A>, A: Allocator + Copy>(
     limited: &Limited<Global>,
     alloc: A,
     lab: &mut Debugger<H, A>,
     image: &Image,
-) -> Loaded {
-    put(lab, 100, 4).ok()?;
+) -> Option<bool> {
     let before = whole(lab);
     for nth in 1..MOST {
         limited.refuse(nth);
-        let answer = load(lab, alloc, image);
-        if answer == Ok(23) && !limited.was_refused() {
-            return Some((nth > 1, clock(lab), kept(lab)));
-        }
-        let refused = answer == Err(LoadFault::Memory) && limited.was_refused();
-        if !refused || whole(lab) != before {
-            return None;
+        match load_ended(lab, alloc, image) {
+            Ended::Done if !limited.was_refused() => return Some(nth > 1),
+            Ended::Refused if limited.was_refused() && is_whole(lab, &before) => {}
+            _ => return None,
         }
     }
     None
 }
 
-/// Loads so over a history.
-fn load_over<H: History<A>, A: Allocator + Copy>(
+/// Loads so with a step kept.
+fn load_after_a_step<H: History<A>, A: Allocator + Copy>(
     limited: &Limited<Global>,
     alloc: A,
-    history: Result<H, AllocError>,
+    lab: &mut Debugger<H, A>,
     image: &Image,
 ) -> Loaded {
-    match with_order(alloc, history, PRINT) {
-        Some(mut lab) => load_in_turn(limited, alloc, &mut lab, image),
+    if put(lab, 100, 4).is_err() {
+        return None;
+    }
+    match load_in_turn(limited, alloc, lab, image) {
+        Some(grown) => Some((grown, clock(lab), kept(lab))),
         None => None,
     }
 }
 
-fn load_of_kind(limited: &Limited<Global>, kind: Kind, image: &Image) -> Loaded {
-    limited.refuse(0);
-    match kind {
-        Kind::Records => load_over(limited, limited, records(limited, 4), image),
-        Kind::Checkpoints => load_over(limited, limited, checkpoints(limited, 4), image),
+/// A load that is made so.
+#[derive(Drop)]
+struct LoadSo<'a> {
+    limited: &'a Limited<Global>,
+    image: &'a Image,
+}
+
+impl<A: Allocator + Copy> Job<A> for LoadSo<'_> {
+    type Answer = Loaded;
+
+    fn over<H: History<A>>(&self, alloc: A, history: Result<H, AllocError>) -> Loaded {
+        match with_order(alloc, history, PRINT) {
+            Some(mut lab) => load_after_a_step(self.limited, alloc, &mut lab, self.image),
+            None => None,
+        }
     }
 }
 
-/// A load of one word over records and one over checkpoints, and how many blocks are out at last.
+fn load_of_kind<A: Allocator + Copy>(
+    limited: &Limited<Global>,
+    alloc: A,
+    kind: Kind,
+    image: &Image,
+) -> Loaded {
+    limited.refuse(0);
+    over_kind(alloc, (kind, 4), &LoadSo { limited, image })
+}
+
+/// A load over records and one over checkpoints.
+fn load_of_each<A: Allocator + Copy>(
+    limited: &Limited<Global>,
+    alloc: A,
+    image: &Image,
+) -> [Loaded; 2] {
+    [
+        load_of_kind(limited, alloc, Kind::Records, image),
+        load_of_kind(limited, alloc, Kind::Checkpoints, image),
+    ]
+}
+
+/// Such loads of one word, and how many blocks are out at last.
 fn loads(global: Global) -> ([Loaded; 2], u64) {
-    let limited = Limited::new(global);
     let Some(image) = image(global, b" org 0100\n word 00000004\n end") else {
         return ([None; 2], 0);
     };
-    let over_records = load_of_kind(&limited, Kind::Records, &image);
-    let over_checkpoints = load_of_kind(&limited, Kind::Checkpoints, &image);
-    ([over_records, over_checkpoints], limited.blocks_out())
+    let limited = Limited::new(global);
+    (
+        load_of_each(&limited, &limited, &image),
+        limited.blocks_out(),
+    )
 }
 
 #[test]

@@ -4,11 +4,11 @@ use super::calls::{
     Button, back, clock, kept, last_hit, mount, press_button, run, tape_left, with_order,
 };
 use crate::expect_eq;
-use crate::history::{checkpoints, records};
+use crate::history::{Job, Kind, over_kind};
 use lgp_debugger::{Debugger, HitFault, MountFault, Ran, Reason, RunFault};
 use lgp_flexo::{Code, TAPE_LIMIT};
 use lgp_history::{BackFault, CAPACITY_LIMIT, History};
-use std::alloc::{AllocError, Allocator, Global};
+use std::alloc::{AllocError, Allocator};
 
 /// A transfer to 0000.
 const TRANSFER: u32 = 0x000a_0000;
@@ -29,13 +29,19 @@ fn mounted<H: History<A>, A: Allocator>(
 }
 
 /// A tape that is too long, and then one that is just short enough.
-fn two_mounted(alloc: Global) -> [Mounted; 2] {
-    match with_order(alloc, records(alloc, 4), TRANSFER) {
-        Some(mut lab) => [
-            mounted(alloc, &mut lab, TAPE_LIMIT + 1),
-            mounted(alloc, &mut lab, TAPE_LIMIT),
-        ],
-        None => [None; 2],
+struct TwoMounted;
+
+impl<A: Allocator + Copy> Job<A> for TwoMounted {
+    type Answer = [Mounted; 2];
+
+    fn over<H: History<A>>(&self, alloc: A, history: Result<H, AllocError>) -> [Mounted; 2] {
+        match with_order(alloc, history, TRANSFER) {
+            Some(mut lab) => [
+                mounted(alloc, &mut lab, TAPE_LIMIT + 1),
+                mounted(alloc, &mut lab, TAPE_LIMIT),
+            ],
+            None => [None; 2],
+        }
     }
 }
 
@@ -45,7 +51,8 @@ fn a_tape_has_at_most_1048576_codes(rt: HostRuntime) {
         Some((Err((MountFault::TooLong, 1_048_577)), 0, (0, 0))),
         Some((Ok(()), 1_048_576, (1, 0))),
     ];
-    expect_eq(&rt, two_mounted(rt.alloc()), wanted);
+    let seen = over_kind(rt.alloc(), (Kind::Records, 4), &TwoMounted);
+    expect_eq(&rt, seen, wanted);
 }
 
 /// What a call of `back` answers, and then the clock and what is kept.
@@ -68,13 +75,20 @@ fn filled<H: History<A>, A: Allocator>(lab: &mut Debugger<H, A>) -> Filled {
     (run(lab, 70_000), kept(lab), last_hit(lab))
 }
 
-/// The same over a history, and then the ways back: one order too many, one order, 64, and all others.
-fn filled_and_back<H: History<Global>>(
-    alloc: Global,
-    history: Result<H, AllocError>,
-) -> Option<(Filled, [Back; 4])> {
-    let mut lab = with_order(alloc, history, TRANSFER)?;
-    Some((filled(&mut lab), four_ways_back(&mut lab)))
+/// The same, and then the ways back: one order too many, one order, 64, and all others.
+struct FilledAndBack;
+
+impl<A: Allocator + Copy> Job<A> for FilledAndBack {
+    type Answer = Option<(Filled, [Back; 4])>;
+
+    fn over<H: History<A>>(
+        &self,
+        alloc: A,
+        history: Result<H, AllocError>,
+    ) -> Option<(Filled, [Back; 4])> {
+        let mut lab = with_order(alloc, history, TRANSFER)?;
+        Some((filled(&mut lab), four_ways_back(&mut lab)))
+    }
 }
 
 fn four_ways_back<H: History<A>, A: Allocator>(lab: &mut Debugger<H, A>) -> [Back; 4] {
@@ -110,8 +124,8 @@ fn expected() -> Option<(Filled, [Back; 4])> {
 fn full_histories_are_gone_back_through(rt: HostRuntime) {
     let alloc = rt.alloc();
     let seen = [
-        filled_and_back(alloc, records(alloc, CAPACITY_LIMIT)),
-        filled_and_back(alloc, checkpoints(alloc, CAPACITY_LIMIT)),
+        over_kind(alloc, (Kind::Records, CAPACITY_LIMIT), &FilledAndBack),
+        over_kind(alloc, (Kind::Checkpoints, CAPACITY_LIMIT), &FilledAndBack),
     ];
     expect_eq(&rt, seen, [expected(), expected()]);
 }

@@ -2,7 +2,7 @@
 
 use super::calls::{Button, Named, Row, Shown, first_wrong, with_order};
 use crate::expect_eq;
-use crate::history::{Kind, checkpoints, records};
+use crate::history::{Job, Kind, over_kind};
 use lgp_debugger::{
     HitFault, IdleFault, MountFault, PutFault, Ran, Reason, RuleFault, RunFault, RunRefusal,
     StepFault,
@@ -10,7 +10,7 @@ use lgp_debugger::{
 use lgp_history::{BackFault, History};
 use lgp_loader::LoadFault;
 use lgp_table::{Cause, Status};
-use std::alloc::{AllocError, Global};
+use std::alloc::{AllocError, Allocator, Global};
 
 /// The order that transfers to 0000.
 const TRANSFER: u32 = 0x000a_0000;
@@ -394,32 +394,27 @@ static EXAMPLES: [Example; 13] = [
     MANY_RULES,
 ];
 
+fn examples() -> &'static [Example] {
+    &EXAMPLES
+}
+
 /// The place of the first row that goes wrong over a history, or how many there are; more than that without memory.
-fn first_in<H: History<Global>>(
-    alloc: Global,
-    history: Result<H, AllocError>,
-    example: &Example,
-) -> usize {
-    match with_order(alloc, history, example.first) {
-        Some(mut lab) => first_wrong(&mut lab, alloc, example.rows),
-        None => usize::MAX,
+impl<A: Allocator + Copy> Job<A> for Example {
+    type Answer = usize;
+
+    fn over<H: History<A>>(&self, alloc: A, history: Result<H, AllocError>) -> usize {
+        match with_order(alloc, history, self.first) {
+            Some(mut lab) => first_wrong(&mut lab, alloc, self.rows),
+            None => usize::MAX,
+        }
     }
 }
 
-/// The same over a history of a kind.
-fn first_over(alloc: Global, kind: Kind, example: &Example) -> usize {
-    let capacity = example.capacity;
-    match kind {
-        Kind::Records => first_in(alloc, records(alloc, capacity), example),
-        Kind::Checkpoints => first_in(alloc, checkpoints(alloc, capacity), example),
-    }
-}
-
-/// What goes wrong first: the place of the example and of the row, `None` where nothing does.
-fn first_of_all(alloc: Global, kind: Kind) -> Option<(usize, usize)> {
+/// What goes wrong first over histories of a kind: the place of the example and of the row, `None` where nothing does.
+fn first_of_all(alloc: Global, kind: Kind, examples: &[Example]) -> Option<(usize, usize)> {
     let mut place = 0usize;
-    for example in &EXAMPLES {
-        let row = first_over(alloc, kind, example);
+    for example in examples {
+        let row = over_kind(alloc, (kind, example.capacity), example);
         if row != example.rows.len() {
             return Some((place, row));
         }
@@ -430,9 +425,10 @@ fn first_of_all(alloc: Global, kind: Kind) -> Option<(usize, usize)> {
 
 #[test]
 fn examples_over_each_history(rt: HostRuntime) {
+    let examples = examples();
     let found = [
-        first_of_all(rt.alloc(), Kind::Records),
-        first_of_all(rt.alloc(), Kind::Checkpoints),
+        first_of_all(rt.alloc(), Kind::Records, examples),
+        first_of_all(rt.alloc(), Kind::Checkpoints, examples),
     ];
     expect_eq(&rt, found, [None; 2]);
 }

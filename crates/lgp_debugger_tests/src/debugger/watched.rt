@@ -4,10 +4,10 @@ ghost use Rattle.std.specs.Prelude.{◌≡◌, false};
 
 use super::calls::{Button, Named, add_rule, clock, kept, press_button, with_order};
 use crate::expect_eq;
-use crate::history::records;
+use crate::history::{Job, Kind, over_kind};
 use lgp_debugger::{Debugger, Ran, Reason, RunFault, RunRefusal, WatchFault, Watcher};
 use lgp_history::History;
-use std::alloc::{Allocator, Global};
+use std::alloc::{AllocError, Allocator};
 
 /// Keeps the clock at which the latest order began, of as many orders as there is room for.
 #[derive(Drop)]
@@ -70,7 +70,8 @@ fn refused(orders: u64) -> Result<Ran, RunFault> {
     })
 }
 
-/// Five runs one after another over a transfer to itself: at rest, of three orders, of none, without room for the third order, and by a rule.
+/// Five runs one after another over a transfer to itself: at rest, of three orders, of none, without room for the third order, and by
+/// a rule.
 fn five_runs<H: History<A>, A: Allocator>(lab: &mut Debugger<H, A>) -> [Answered; 5] {
     let at_rest = watched(lab, (3, 9));
     let _live = press_button(lab, Button::Start);
@@ -82,9 +83,21 @@ fn five_runs<H: History<A>, A: Allocator>(lab: &mut Debugger<H, A>) -> [Answered
 }
 
 /// The same over a new machine.
-fn five_runs_over(alloc: Global) -> Option<[Answered; 5]> {
-    let mut lab = with_order(alloc, records(alloc, 4096), TRANSFER)?;
-    Some(five_runs(&mut lab))
+struct FiveRuns;
+
+impl<A: Allocator + Copy> Job<A> for FiveRuns {
+    type Answer = Option<[Answered; 5]>;
+
+    fn over<H: History<A>>(
+        &self,
+        alloc: A,
+        history: Result<H, AllocError>,
+    ) -> Option<[Answered; 5]> {
+        match with_order(alloc, history, TRANSFER) {
+            Some(mut lab) => Some(five_runs(&mut lab)),
+            None => None,
+        }
+    }
 }
 
 /// The first transfer ends at 67, and each later one 64 word times after the one before. The order for which there was no room remains.
@@ -97,7 +110,8 @@ fn what_is_seen_is_kept(rt: HostRuntime) {
         (refused(3), 259, 387, 6),
         (ran(1, Reason::Rule(0)), 387, 451, 7),
     ];
-    expect_eq(&rt, five_runs_over(rt.alloc()), Some(wanted));
+    let seen = over_kind(rt.alloc(), (Kind::Records, 4096), &FiveRuns);
+    expect_eq(&rt, seen, Some(wanted));
 }
 
 /// What the run answers, then the clock and how many orders are kept.
@@ -123,9 +137,17 @@ fn three_quiet_runs<H: History<A>, A: Allocator>(lab: &mut Debugger<H, A>) -> [E
 }
 
 /// The same over a new machine.
-fn three_quiet_runs_over(alloc: Global) -> Option<[Ended; 3]> {
-    let mut lab = with_order(alloc, records(alloc, 4096), TRANSFER)?;
-    Some(three_quiet_runs(&mut lab))
+struct ThreeQuietRuns;
+
+impl<A: Allocator + Copy> Job<A> for ThreeQuietRuns {
+    type Answer = Option<[Ended; 3]>;
+
+    fn over<H: History<A>>(&self, alloc: A, history: Result<H, AllocError>) -> Option<[Ended; 3]> {
+        match with_order(alloc, history, TRANSFER) {
+            Some(mut lab) => Some(three_quiet_runs(&mut lab)),
+            None => None,
+        }
+    }
 }
 
 /// What looks at nothing is stopped by the rules that there are when it is made.
@@ -136,5 +158,6 @@ fn nothing_looks_by_the_rules(rt: HostRuntime) {
         (ran(1, Reason::Rule(0)), 259, 4),
         (ran(0, Reason::Rest), 259, 4),
     ];
-    expect_eq(&rt, three_quiet_runs_over(rt.alloc()), Some(wanted));
+    let seen = over_kind(rt.alloc(), (Kind::Records, 4096), &ThreeQuietRuns);
+    expect_eq(&rt, seen, Some(wanted));
 }

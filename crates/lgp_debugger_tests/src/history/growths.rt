@@ -3,8 +3,8 @@
 ghost use Rattle.std.specs.Prelude.{◌≤◌};
 
 use super::{
-    Deed, Kind, Seen, Session, TRANSFER, address, back, checkpoints, records, seen, session_of,
-    step_of, take,
+    Deed, Job, Kind, Seen, Session, TRANSFER, address, back, over_kind, seen, session_of, step_of,
+    take,
 };
 use crate::expect_eq;
 use lgp_flexo::Code;
@@ -33,48 +33,60 @@ fn numbers(codes: &[Code]) -> (usize, [u8; 3]) {
     )
 }
 
-/// Copies a step with each growth refused in turn. The codes that the copy mounts, as it shows and as it hands out; `None` where
-/// a growth is refused and it is copied, or where none is and it is not.
-fn copied<A: Allocator + Clone>(
+/// Copies a step with each growth refused in turn. Whether the codes that the copy mounts are these, as it shows and as it hands out;
+/// false also where a growth is refused and it is copied, or where none is and it is not.
+fn is_copied<A: Allocator + Clone>(
     limited: &Limited<Global>,
     step: &Step<A>,
-) -> Option<[(usize, [u8; 3]); 2]> {
+    wanted: (usize, [u8; 3]),
+) -> bool {
     for nth in 1..MOST {
         limited.refuse(nth);
         let copied = step.copy();
         if copied.is_ok() == limited.was_refused() {
-            return None;
+            return false;
         }
         if let Ok(Step::Mount(copy)) = copied {
             let shown = numbers(copy.codes());
             let codes = copy.into_codes();
-            return (nth > 1).then_some([shown, numbers(codes.as_slice())]);
+            return nth > 1 && shown == wanted && numbers(codes.as_slice()) == wanted;
         }
     }
-    None
+    false
 }
 
 /// The same of a step that mounts a tape; whether that is an order; and how many blocks are out then.
-type Copied = (Option<[(usize, [u8; 3]); 2]>, bool, u64);
-
-fn copied_step(global: Global) -> Option<Copied> {
-    let limited = Limited::new(global);
-    let step = step_of(&limited, Deed::MountFirst)?;
-    let seen = copied(&limited, &step);
-    Some((seen, step.is_order(), limited.blocks_out()))
+fn copied_step<A: Allocator + Copy>(
+    limited: &Limited<Global>,
+    alloc: A,
+) -> Option<(bool, bool, u64)> {
+    match step_of(alloc, Deed::MountFirst) {
+        Some(step) => {
+            let copied = is_copied(limited, &step, FIRST_TAPE);
+            Some((copied, step.is_order(), limited.blocks_out()))
+        }
+        None => None,
+    }
 }
 
 #[test]
 fn each_growth_of_a_copied_step_is_refused(rt: HostRuntime) {
-    let wanted = (Some([(3, [6, 10, 32]); 2]), false, 1);
-    expect_eq(&rt, copied_step(rt.alloc()), Some(wanted));
+    let limited = Limited::new(rt.alloc());
+    let seen = copied_step(&limited, &limited);
+    expect_eq(&rt, seen, Some((true, false, 1)));
 }
 
 /// How many steps a new history keeps; `None` without memory.
-fn kept_by<A: Allocator, H: History<A>>(history: Result<H, AllocError>) -> Option<u64> {
-    match history {
-        Ok(history) => Some(history.kept()),
-        Err(_) => None,
+struct Kept;
+
+impl<A: Allocator + Copy> Job<A> for Kept {
+    type Answer = Option<u64>;
+
+    fn over<H: History<A>>(&self, _alloc: A, history: Result<H, AllocError>) -> Option<u64> {
+        match history {
+            Ok(history) => Some(history.kept()),
+            Err(_) => None,
+        }
     }
 }
 
@@ -82,10 +94,7 @@ fn kept_by<A: Allocator, H: History<A>>(history: Result<H, AllocError>) -> Optio
 fn made(limited: &Limited<Global>, kind: Kind) -> Option<u64> {
     for nth in 1..MOST {
         limited.refuse(nth);
-        let kept = match kind {
-            Kind::Records => kept_by(records(limited, 130)),
-            Kind::Checkpoints => kept_by(checkpoints(limited, 130)),
-        };
+        let kept = over_kind(limited, (kind, 130), &Kept);
         if kept.is_some() == limited.was_refused() {
             return None;
         }
@@ -113,9 +122,15 @@ const HOLD: u32 = 0x000c_0190;
 type Whole = (Seen, u32, (usize, [u8; 3]));
 
 fn whole<A: Allocator, H: History<A>>(session: &Session<A, H>) -> Option<Whole> {
-    let left = numbers(session.machine.tape_left()?);
+    let seen = seen(session)?;
+    let left = session.machine.tape_left().unwrap_or_default();
     let word = session.machine.word(address(100)).get();
-    Some((seen(session)?, word, left))
+    Some((seen, word, numbers(left)))
+}
+
+/// Whether a session has this.
+fn is_whole<A: Allocator, H: History<A>>(session: &Session<A, H>, wanted: &Option<Whole>) -> bool {
+    whole(session) == *wanted
 }
 
 /// Takes a step with each growth refused in turn. Whether there was one; `None` where a growth is refused and the step is taken or
@@ -132,7 +147,7 @@ fn take_in_turn<A: Allocator + Clone, H: History<A>>(
         if taken == Ok(true) && !limited.was_refused() {
             return Some(nth > 1);
         }
-        if taken.is_ok() || !limited.was_refused() || whole(session) != before {
+        if taken.is_ok() || !limited.was_refused() || !is_whole(session, &before) {
             return None;
         }
     }
@@ -210,61 +225,52 @@ fn first_wrong<A: Allocator + Copy, H: History<A>>(
     place
 }
 
-/// How many steps before the first order are as their rows say and how many orders after them take memory, and likewise of the steps
-/// within the orders and the orders after those.
-type Filled = (usize, Option<u64>, usize, Option<u64>);
-
-/// Four steps and 190 orders, six steps and ten orders.
-fn fill<A: Allocator + Copy, H: History<A>>(
+/// Four steps and 190 orders, six steps and ten orders. Whether the steps are as their rows say, and as many orders take memory as they
+/// should: over checkpoints the orders at 64, 128 and 192, because the machine is copied there.
+fn is_filled<A: Allocator + Copy, H: History<A>>(
     (limited, alloc, kind): (&Limited<Global>, A, Kind),
     session: &mut Session<A, H>,
-) -> Filled {
-    let opened = first_wrong((limited, alloc, kind), session, &OPENING);
-    let first = perform_all(limited, session, 190);
-    let paused = first_wrong((limited, alloc, kind), session, &PAUSE);
-    let second = perform_all(limited, session, 10);
-    (opened, first, paused, second)
+) -> bool {
+    let copies = match kind {
+        Kind::Records => 0,
+        Kind::Checkpoints => 3,
+    };
+    first_wrong((limited, alloc, kind), session, &OPENING) == 4
+        && perform_all(limited, session, 190) == Some(copies)
+        && first_wrong((limited, alloc, kind), session, &PAUSE) == 6
+        && perform_all(limited, session, 10) == Some(0)
 }
 
-/// Over checkpoints the orders at 64, 128 and 192 take memory, because the machine is copied there.
-fn expected_filled(kind: Kind) -> Filled {
-    match kind {
-        Kind::Records => (4, Some(0), 6, Some(0)),
-        Kind::Checkpoints => (4, Some(3), 6, Some(0)),
-    }
-}
-
-/// The latest order that begins at 0005 or changes the word at 0136, looked for with each growth refused in turn, and whether there
-/// was one.
-type Found = Option<(Option<(u64, u8)>, bool)>;
-
-fn find_in_turn<A: Allocator, H: History<A>>(
+/// Looks for the latest order that begins at 0005 or changes the word at 0136, with each growth refused in turn. Whether that is the
+/// order that is so many back, by the second rule, and whether there was a growth where `grows`.
+fn is_found<A: Allocator, H: History<A>>(
     limited: &Limited<Global>,
     session: &Session<A, H>,
-) -> Found {
+    (back, grows): (u64, bool),
+) -> bool {
     let rules = [Rule::At(address(5)), Rule::Changed(address(100))];
     for nth in 1..MOST {
         limited.refuse(nth);
         let found = session.history.find(&session.machine, &rules);
         if found.is_ok() == limited.was_refused() {
-            return None;
+            return false;
         }
-        if let Ok(hit) = found {
-            return Some((hit, nth > 1));
+        if found.is_ok() {
+            return found == Ok(Some((back, 1))) && grows == (nth > 1);
         }
     }
-    None
+    false
 }
 
-/// What there is some orders back, and whether going there takes memory.
-type Back = Option<(Option<Whole>, bool)>;
-
-/// Goes back a given number of orders, at least 1, with each growth refused in turn.
-fn back_in_turn<A: Allocator, H: History<A>>(
+/// Goes back a given number of orders, at least 1, with each growth refused in turn. Whether that leads where it should, and whether
+/// it takes memory where `grows`.
+fn leads_back<A: Allocator, H: History<A>>(
     limited: &Limited<Global>,
     session: &mut Session<A, H>,
     orders: u64,
-) -> Back
+    wanted: &Whole,
+    grows: bool,
+) -> bool
     requires some { 1 ≤ orders }
 {
     let before = whole(session);
@@ -272,14 +278,14 @@ fn back_in_turn<A: Allocator, H: History<A>>(
         limited.refuse(nth);
         let answer = back(session, orders);
         if answer == Ok(()) && !limited.was_refused() {
-            return Some((whole(session), nth > 1));
+            return whole(session).as_ref() == Some(wanted) && grows == (nth > 1);
         }
         let refused = answer == Err(BackFault::Memory) && limited.was_refused();
-        if !refused || whole(session) != before {
-            return None;
+        if !refused || !is_whole(session, &before) {
+            return false;
         }
     }
-    None
+    false
 }
 
 /// The tapes that are mounted before the first order and within the orders.
@@ -303,11 +309,11 @@ fn go_back<A: Allocator, H: History<A>>(
     let after = ((6099, going, 120, 114), 8, SECOND_TAPE);
     let before = ((6021, going, 111, 111), 0, FIRST_TAPE);
     [
-        find_in_turn(limited, session) == Some((Some((10, 1)), grows)),
-        back_in_turn(limited, session, 3) == Some((Some(last), grows)),
-        find_in_turn(limited, session) == Some((Some((7, 1)), grows)),
-        back_in_turn(limited, session, 7) == Some((Some(after), grows)),
-        back_in_turn(limited, session, 3) == Some((Some(before), grows)),
+        is_found(limited, session, (10, grows)),
+        leads_back(limited, session, 3, &last, grows),
+        is_found(limited, session, (7, grows)),
+        leads_back(limited, session, 7, &after, grows),
+        leads_back(limited, session, 3, &before, grows),
     ]
 }
 
@@ -322,7 +328,7 @@ fn go_back_to_the_first<A: Allocator, H: History<A>>(
     let first = ((2444, Status::Going, 0, 0), 0, FIRST_TAPE);
     [
         back(session, 112) == Err(BackFault::TooFar(111)),
-        back_in_turn(limited, session, 111) == Some((Some(first), grows)),
+        leads_back(limited, session, 111, &first, grows),
     ]
 }
 
@@ -332,24 +338,43 @@ type ThereAndBack = (bool, [bool; 5], [bool; 2]);
 /// Fills a session and goes back to its first step.
 fn there_and_back<A: Allocator + Copy, H: History<A>>(
     (limited, alloc, kind): (&Limited<Global>, A, Kind),
-    history: Result<H, AllocError>,
-) -> Option<ThereAndBack> {
-    let mut session = session_of(alloc, history, [HOLD, TRANSFER])?;
+    session: &mut Session<A, H>,
+) -> ThereAndBack {
     let grows = matches!(kind, Kind::Checkpoints);
-    let filled = fill((limited, alloc, kind), &mut session);
-    let ways = go_back(limited, &mut session, grows);
-    let last = go_back_to_the_first(limited, &mut session, grows);
-    Some((filled == expected_filled(kind), ways, last))
+    let filled = is_filled((limited, alloc, kind), session);
+    let ways = go_back(limited, session, grows);
+    (filled, ways, go_back_to_the_first(limited, session, grows))
+}
+
+/// That over a history.
+#[derive(Drop)]
+struct GoThereAndBack<'a> {
+    limited: &'a Limited<Global>,
+    kind: Kind,
+}
+
+impl<A: Allocator + Copy> Job<A> for GoThereAndBack<'_> {
+    type Answer = Option<ThereAndBack>;
+
+    fn over<H: History<A>>(
+        &self,
+        alloc: A,
+        history: Result<H, AllocError>,
+    ) -> Option<ThereAndBack> {
+        match session_of(alloc, history, [HOLD, TRANSFER]) {
+            Some(mut session) => Some(there_and_back(
+                (self.limited, alloc, self.kind),
+                &mut session,
+            )),
+            None => None,
+        }
+    }
 }
 
 /// That over a history of at most 130 steps, and how many blocks are out at last.
-fn over_kind(global: Global, kind: Kind) -> (Option<ThereAndBack>, u64) {
-    let limited = Limited::new(global);
-    let so = (&limited, &limited, kind);
-    let seen = match kind {
-        Kind::Records => there_and_back(so, records(&limited, 130)),
-        Kind::Checkpoints => there_and_back(so, checkpoints(&limited, 130)),
-    };
+fn gone_over_kind(global: Global, kind: Kind) -> (Option<ThereAndBack>, u64) {
+    let limited = &Limited::new(global);
+    let seen = over_kind(limited, (kind, 130), &GoThereAndBack { limited, kind });
     (seen, limited.blocks_out())
 }
 
@@ -358,8 +383,8 @@ const THERE_AND_BACK: (Option<ThereAndBack>, u64) = (Some((true, [true; 5], [tru
 #[test]
 fn histories_with_each_growth_refused(rt: HostRuntime) {
     let seen = [
-        over_kind(rt.alloc(), Kind::Records),
-        over_kind(rt.alloc(), Kind::Checkpoints),
+        gone_over_kind(rt.alloc(), Kind::Records),
+        gone_over_kind(rt.alloc(), Kind::Checkpoints),
     ];
     expect_eq(&rt, seen, [THERE_AND_BACK; 2]);
 }

@@ -3,12 +3,12 @@
 ghost use Rattle.std.specs.Prelude.{◌≤◌};
 
 use super::{
-    Deed, Seen, Session, TRANSFER, all_taken, back, checkpoints, records, seen, session_of,
+    Deed, Job, Kind, Seen, Session, TRANSFER, all_taken, back, over_kind, seen, session_of,
 };
 use crate::expect_eq;
 use lgp_history::{BackFault, History};
 use lgp_table::{Action, Status};
-use std::alloc::{AllocError, Allocator, Global};
+use std::alloc::{AllocError, Allocator};
 
 /// Goes back a given number of orders, at least 1: the answer, and what is seen then.
 fn back_and_seen<A: Allocator, H: History<A>>(
@@ -39,16 +39,19 @@ fn ten_orders<A: Allocator, H: History<A>>(session: &mut Session<A, H>) -> TenOr
     (there, refused, back_and_seen(session, 4))
 }
 
-/// The same of transfers over a history; `None` where a step is refused.
-fn ten_transfers<H: History<Global>>(
-    alloc: Global,
-    history: Result<H, AllocError>,
-) -> Option<TenOrders> {
-    let mut session = session_of(alloc, history, [TRANSFER, 0])?;
-    if all_taken(alloc, &mut session, &STARTED) && all_taken(alloc, &mut session, &TEN) {
-        Some(ten_orders(&mut session))
-    } else {
-        None
+/// The same of transfers; `None` where a step is refused.
+struct TenTransfers;
+
+impl<A: Allocator + Copy> Job<A> for TenTransfers {
+    type Answer = Option<TenOrders>;
+
+    fn over<H: History<A>>(&self, alloc: A, history: Result<H, AllocError>) -> Option<TenOrders> {
+        let mut session = session_of(alloc, history, [TRANSFER, 0])?;
+        if all_taken(alloc, &mut session, &STARTED) && all_taken(alloc, &mut session, &TEN) {
+            Some(ten_orders(&mut session))
+        } else {
+            None
+        }
     }
 }
 
@@ -62,8 +65,8 @@ const TEN_TRANSFERS: TenOrders = (
 #[test]
 fn the_fourth_last_of_ten(rt: HostRuntime) {
     let found = [
-        ten_transfers(rt.alloc(), records(rt.alloc(), 4)),
-        ten_transfers(rt.alloc(), checkpoints(rt.alloc(), 4)),
+        over_kind(rt.alloc(), (Kind::Records, 4), &TenTransfers),
+        over_kind(rt.alloc(), (Kind::Checkpoints, 4), &TenTransfers),
     ];
     expect_eq(&rt, found, [Some(TEN_TRANSFERS); 2]);
 }

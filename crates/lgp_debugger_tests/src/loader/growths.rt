@@ -19,21 +19,33 @@ static PROGRAMS: [(&[u8], Way<'static>, u64); 5] = [
     (NO_WORDS, Way::Single, 5),
 ];
 
+/// Whether the tape of an image is this one: true where it is, false without memory, `None` otherwise.
+fn is_taped<A: Allocator + Copy>(
+    alloc: A,
+    image: &Image,
+    way: Way,
+    ample: &[Code],
+) -> Option<bool> {
+    match tape_by(alloc, image, way) {
+        Ok(tape) if tape.as_slice() == ample => Some(true),
+        Err(CutFault::Memory) => Some(false),
+        _ => None,
+    }
+}
+
 /// How often the tape of an image is refused before it is there; `None` where a growth is refused and the answer is another than
 /// `Memory`, or where none is and the tape is another than this.
-fn refused_tapes<B: Allocator>(
-    limited: &Limited<B>,
+fn refused_tapes<B: Allocator, A: Allocator + Copy>(
+    (limited, alloc): (&Limited<B>, A),
     image: &Image,
     way: Way,
     ample: &[Code],
 ) -> Option<u64> {
     for nth in 0..MOST {
         limited.refuse(nth + 1);
-        match tape_by(limited, image, way) {
-            Ok(tape) if !limited.was_refused() => {
-                return (tape.as_slice() == ample).then_some(nth);
-            }
-            Err(CutFault::Memory) if limited.was_refused() => {}
+        match is_taped(alloc, image, way, ample) {
+            Some(true) if !limited.was_refused() => return Some(nth),
+            Some(false) if limited.was_refused() => {}
             _ => return None,
         }
     }
@@ -41,24 +53,27 @@ fn refused_tapes<B: Allocator>(
 }
 
 /// The same for the tape that a source has with ample memory.
-fn tapes_of<B: Allocator>(
-    limited: &Limited<B>,
-    global: Global,
+fn tapes_of<B: Allocator, A: Allocator + Copy>(
+    (limited, alloc, global): (&Limited<B>, A, Global),
     source: &[u8],
     way: Way,
 ) -> Option<u64> {
     let image = image(global, source)?;
     match tape_by(global, &image, way) {
-        Ok(ample) => refused_tapes(limited, &image, way, ample.as_slice()),
+        Ok(ample) => refused_tapes((limited, alloc), &image, way, ample.as_slice()),
         Err(_) => None,
     }
 }
 
 /// For how many of the programs the tape is refused at least once.
-fn taped_programs<B: Allocator>(limited: &Limited<B>, global: Global) -> usize {
+fn taped_programs<B: Allocator, A: Allocator + Copy>(
+    limited: &Limited<B>,
+    alloc: A,
+    global: Global,
+) -> usize {
     let mut taped = 0usize;
     for (source, way, _) in &PROGRAMS {
-        if tapes_of(limited, global, source, *way) >= Some(1) {
+        if tapes_of((limited, alloc, global), source, *way) >= Some(1) {
             taped = taped.saturating_add(1);
         }
     }
@@ -68,7 +83,8 @@ fn taped_programs<B: Allocator>(limited: &Limited<B>, global: Global) -> usize {
 /// The same over a heap of its own, and how many bytes are used there at last.
 fn taped_over_heap(global: Global) -> Option<(usize, usize)> {
     let heap = LocalHeap::new(global, 4096).ok()?;
-    let taped = taped_programs(&Limited::new(&heap), global);
+    let limited = Limited::new(&heap);
+    let taped = taped_programs(&limited, &limited, global);
     Some((taped, heap.used()))
 }
 
@@ -79,11 +95,15 @@ fn each_growth_of_a_tape_is_refused(rt: HostRuntime) {
 }
 
 /// How many of the numbers that do not cut two words are reported as such with the first growth refused, and without one.
-fn cut_without_memory<B: Allocator>(limited: &Limited<B>, image: &Image) -> usize {
+fn cut_without_memory<B: Allocator, A: Allocator + Copy>(
+    limited: &Limited<B>,
+    alloc: A,
+    image: &Image,
+) -> usize {
     let mut reported = 0usize;
     for counts in &NO_CUTS {
         limited.refuse(1);
-        let length = tape_length(limited, image, Way::Cut(counts));
+        let length = tape_length(alloc, image, Way::Cut(counts));
         if length == Err(CutFault::BadCut) && !limited.was_refused() {
             reported = reported.saturating_add(1);
         }
@@ -94,7 +114,8 @@ fn cut_without_memory<B: Allocator>(limited: &Limited<B>, image: &Image) -> usiz
 /// The same of an image of its own.
 fn cut_one_without_memory(global: Global) -> Option<usize> {
     let image = image(global, TWO_WORDS)?;
-    Some(cut_without_memory(&Limited::new(global), &image))
+    let limited = Limited::new(global);
+    Some(cut_without_memory(&limited, &limited, &image))
 }
 
 #[test]
@@ -169,6 +190,7 @@ fn within_a_tape<A: Allocator + Copy>(alloc: A) -> Option<Machine<A>> {
 }
 
 /// How a load ends: after n orders, refused for memory, or otherwise.
+#[derive(Drop)]
 enum End {
     Loaded(u64),
     Refused,
@@ -194,12 +216,9 @@ fn refused_loads<B: Allocator, A: Allocator + Copy>(
     for nth in 0..MOST {
         limited.refuse(nth + 1);
         match end_of(alloc, machine, image, way) {
-            End::Loaded(orders) => return (!limited.was_refused()).then_some((nth, orders)),
-            End::Refused => {}
-            End::Otherwise => return None,
-        }
-        if !limited.was_refused() || !are_same(machine, before) {
-            return None;
+            End::Loaded(orders) if !limited.was_refused() => return Some((nth, orders)),
+            End::Refused if limited.was_refused() && are_same(machine, before) => {}
+            _ => return None,
         }
     }
     None
@@ -230,40 +249,42 @@ fn loads_beside<B: Allocator, A: Allocator + Copy>(
 }
 
 /// The same on a machine that has read a tape, too.
-fn loads_of<B: Allocator>(
-    limited: &Limited<B>,
-    global: Global,
+fn loads_of<B: Allocator, A: Allocator + Copy>(
+    (limited, alloc, global): (&Limited<B>, A, Global),
     so: (&Image, Way),
 ) -> Option<(u64, u64)> {
     limited.refuse(0);
-    match within_a_tape(limited) {
-        Some(mut machine) => loads_beside((limited, limited, global), &mut machine, so),
+    match within_a_tape(alloc) {
+        Some(mut machine) => loads_beside((limited, alloc, global), &mut machine, so),
         None => None,
     }
 }
 
-/// Whether a load is refused at least once, and then takes this many orders.
-fn takes<B: Allocator>(
-    limited: &Limited<B>,
-    global: Global,
-    so: (&Image, Way),
+/// Whether a load of a source is refused at least once, and then takes this many orders.
+fn takes<B: Allocator, A: Allocator + Copy>(
+    (limited, alloc, global): (&Limited<B>, A, Global),
+    (source, way): (&[u8], Way),
     wanted: u64,
 ) -> bool {
-    match loads_of(limited, global, so) {
+    let Some(image) = image(global, source) else {
+        return false;
+    };
+    match loads_of((limited, alloc, global), (&image, way)) {
         Some((often, orders)) => often > 0 && orders == wanted,
         None => false,
     }
 }
 
 /// How many of the programs are refused at least once, and take as many orders as they have to.
-fn loaded_programs<B: Allocator>(limited: &Limited<B>, global: Global) -> usize {
+fn loaded_programs<B: Allocator, A: Allocator + Copy>(
+    limited: &Limited<B>,
+    alloc: A,
+    global: Global,
+) -> usize {
     let mut loaded = 0usize;
     for (source, way, orders) in &PROGRAMS {
-        match image(global, source) {
-            Some(image) if takes(limited, global, (&image, *way), *orders) => {
-                loaded = loaded.saturating_add(1);
-            }
-            _ => {}
+        if takes((limited, alloc, global), (source, *way), *orders) {
+            loaded = loaded.saturating_add(1);
         }
     }
     loaded
@@ -272,7 +293,8 @@ fn loaded_programs<B: Allocator>(limited: &Limited<B>, global: Global) -> usize 
 /// The same over a heap of its own, and how many bytes are used there at last.
 fn loaded_over_heap(global: Global) -> Option<(usize, usize)> {
     let heap = LocalHeap::new(global, 262144).ok()?;
-    let loaded = loaded_programs(&Limited::new(&heap), global);
+    let limited = Limited::new(&heap);
+    let loaded = loaded_programs(&limited, &limited, global);
     Some((loaded, heap.used()))
 }
 
@@ -298,16 +320,15 @@ fn first_refused<B: Allocator, A: Allocator + Copy>(
 }
 
 /// That of a program that is loaded so on a machine that is there.
-fn answer_of<B: Allocator>(
-    limited: &Limited<B>,
-    global: Global,
+fn answer_of<B: Allocator, A: Allocator + Copy>(
+    (limited, alloc, global): (&Limited<B>, A, Global),
     image: &Image,
     (stand, way): (Stand, Way),
 ) -> Option<Answer> {
     limited.refuse(0);
-    let mut machine = machine_at(limited, stand)?;
+    let mut machine = machine_at(alloc, stand)?;
     let before = machine_at(global, stand)?;
-    Some(first_refused((limited, limited), &mut machine, &before, (image, way)))
+    Some(first_refused((limited, alloc), &mut machine, &before, (image, way)))
 }
 
 /// Machines: within an order, at rest, and one word time before the clock's end.
@@ -334,10 +355,13 @@ static ANSWERS: [(Stand, Way<'static>, LoadFault, bool); 12] = [
 ];
 
 /// The place of the first load that answers otherwise or leaves a block out, or how many there are.
-fn first_otherwise<B: Allocator>(limited: &Limited<B>, global: Global, image: &Image) -> usize {
+fn first_otherwise<B: Allocator, A: Allocator + Copy>(
+    (limited, alloc, global): (&Limited<B>, A, Global),
+    image: &Image,
+) -> usize {
     let mut place = 0usize;
     for (stand, way, fault, refused) in &ANSWERS {
-        let found = answer_of(limited, global, image, (*stand, *way));
+        let found = answer_of((limited, alloc, global), image, (*stand, *way));
         if found != Some((Err(*fault), *refused, true)) || limited.blocks_out() != 0 {
             return place;
         }
@@ -349,7 +373,8 @@ fn first_otherwise<B: Allocator>(limited: &Limited<B>, global: Global, image: &I
 /// The same for two words.
 fn first_otherwise_of_two(global: Global) -> Option<usize> {
     let image = image(global, TWO_WORDS)?;
-    Some(first_otherwise(&Limited::new(global), global, &image))
+    let limited = Limited::new(global);
+    Some(first_otherwise((&limited, &limited, global), &image))
 }
 
 /// Only the refusal for the clock's end comes after that for memory.

@@ -67,21 +67,21 @@ static LOADS: &[Load<'static>] = &[
     },
 ];
 
-/// The place of the first load that ends otherwise, or how many there are.
-fn first_ended_otherwise(alloc: Global, loads: &[Load]) -> usize {
+/// The place of the first load that ends otherwise; `None` where there is none.
+fn first_ended_otherwise(alloc: Global) -> Option<usize> {
     let mut place = 0usize;
-    for load in loads {
+    for load in LOADS {
         if !has_ended(alloc, load) {
-            return place;
+            return Some(place);
         }
         place = place.saturating_add(1);
     }
-    place
+    None
 }
 
 #[test]
 fn programs_are_loaded(rt: HostRuntime) {
-    expect_eq(&rt, first_ended_otherwise(rt.alloc(), LOADS), LOADS.len());
+    expect_eq(&rt, first_ended_otherwise(rt.alloc()), None);
 }
 
 static WORDS_OF_TWO_BLOCKS: &[(&[u8], &[u8])] = &[

@@ -1,9 +1,8 @@
 //! Single calls, and what shows after each.
 
 use super::{
-    CLOCK_END, INPUT, PRINT, TRANSFER, address, ahead, live, look, mount_codes, next_order,
-    parts_at, press, printed, put, rest, shown, start, started, status_after, tape_left, turn,
-    turns, with_tape, with_words, within_an_order, word_at,
+    CLOCK_END, PRINT, TRANSFER, address, ahead, live, look, mount_codes, mount_text, next_order,
+    parts_at, press, printed, put, rest, shown, status_after, tape_left, turn, turns, word_at,
 };
 use crate::console::key;
 use crate::expect_eq;
@@ -17,82 +16,96 @@ const OPERATOR: Status = Status::Halted(Cause::Operator);
 
 const STOPPED: Status = Status::Halted(Cause::Stop);
 
+/// A button of the console, or the key of the conditional stop.
+#[derive(Clone, Copy)]
+enum Button {
+    Start,
+    Manual,
+    SixBit,
+    Stop,
+}
+
+/// A call or a look, and last what it has to answer.
+enum Row {
+    /// What shows in Normal with a blank accumulator: counter, register, status and clock.
+    Shows(u16, u32, Status, u64),
+    /// Within an activity nothing shows, lies ahead or is live, and no tape is seen.
+    Hidden,
+    /// Accumulator and clock.
+    Accumulator(u32, u64),
+    WordAt(u16, u32),
+    /// The parts of the word at 0000 are those of a transfer to 0000.
+    Transfers,
+    /// How many codes are printed, and the first one's number.
+    Printed(usize, Option<u8>),
+    TapeLeft(usize),
+    /// What the next activity costs, and the number of the code that it prints.
+    Ahead(u64, Option<u8>),
+    /// What an activity took, the status after it and the number of the code that it printed.
+    Prints(u64, Status, u8),
+    /// The status after an activity.
+    After(Result<Status, OrderFault>),
+    Turn(Result<bool, TurnFault>),
+    /// Word times until one ends at a boundary or is refused, at most a given number: how many there were, and what the last one
+    /// answered.
+    Turns(u64, (u64, Result<bool, TurnFault>)),
+    Rest(u64, Result<(), RestFault>),
+    Put(u16, u32, Result<(), PutFault>),
+    Press(Button, Pressed),
+    /// A key by the number of its code: whether it is predicted to be live or dead, is so, and leaves this accumulator.
+    Strike((u8, Pressed, u32)),
+    /// The tape of a text, which is taken.
+    Tape(&'static [u8]),
+    /// A tape of a given number of codes; a refused one is reported by the number of codes handed back.
+    Mount(usize, Result<(), (MountFault, usize)>),
+}
+
+fn action_of(button: Button) -> Action {
+    match button {
+        Button::Start => Action::Start,
+        Button::Manual => Action::Mode(Mode::Manual),
+        Button::SixBit => Action::SixBit(true),
+        Button::Stop => Action::Key(Code::STOP),
+    }
+}
+
+/// The code of a number.
+fn code(number: Option<u8>) -> Option<Code> {
+    Code::new(number?)
+}
+
 /// The accumulator and the clock; `None` within an activity.
 fn accumulator_and_clock<A: Allocator>(machine: &Machine<A>) -> Option<(u32, u64)> {
     let look = look(machine)?;
     Some((look.accumulator, look.clock))
 }
 
-/// Whether a transfer shows its parts before it is kept decoded and after.
-fn shows_parts(global: Global) -> Option<bool> {
-    let mut machine = started(global, &[(0, TRANSFER)])?;
-    let parts = (false, Op::U, address(0));
-    Some(
-        parts_at(&machine, 0) == parts
-            && status_after(&mut machine) == Ok(Status::Going)
-            && parts_at(&machine, 0) == parts,
-    )
+/// Whether none of the looks that need a boundary shows anything.
+fn is_hidden<A: Allocator>(machine: &Machine<A>) -> bool {
+    look(machine).is_none()
+        && ahead(machine).is_none()
+        && live(machine, Action::Start).is_none()
+        && tape_left(machine).is_none()
 }
 
-/// Whether a new machine shows its opening state: its last word is blank, nothing is printed, no tape is there, and a word time at
-/// rest lies ahead.
-fn opens(global: Global) -> Option<bool> {
-    let machine = Machine::new(global).ok()?;
-    Some(
-        look(&machine) == shown(0, 0, 0, OPERATOR, 0)
-            && word_at(&machine, 4095) == 0
-            && printed(&machine) == (0, None)
-            && tape_left(&machine) == Some(0)
-            && ahead(&machine) == Some((1, None)),
-    )
+/// Whether a look answers so.
+fn is_seen<A: Allocator>(machine: &Machine<A>, row: &Row) -> bool {
+    match row {
+        Row::Shows(counter, register, status, clock) => {
+            look(machine) == shown(*counter, 0, *register, *status, *clock)
+        }
+        Row::Hidden => is_hidden(machine),
+        Row::Accumulator(bits, clock) => accumulator_and_clock(machine) == Some((*bits, *clock)),
+        Row::WordAt(at, wanted) => word_at(machine, *at) == *wanted,
+        Row::Transfers => parts_at(machine, 0) == (false, Op::U, address(0)),
+        Row::Printed(count, number) => printed(machine) == (*count, code(*number)),
+        Row::TapeLeft(wanted) => tape_left(machine) == Some(*wanted),
+        Row::Ahead(cost, number) => ahead(machine) == Some((*cost, code(*number))),
+        _ => false,
+    }
 }
 
-/// Whether a new machine performs no order at rest, and its clock goes on by five word times and by one.
-fn goes_on_at_rest(global: Global) -> Option<bool> {
-    let mut machine = Machine::new(global).ok()?;
-    Some(
-        next_order(&mut machine) == Err(OrderFault::AtRest)
-            && rest(&mut machine, 5) == Ok(())
-            && look(&machine) == shown(0, 0, 0, OPERATOR, 5)
-            && turn(&mut machine) == Ok(true)
-            && look(&machine) == shown(0, 0, 0, OPERATOR, 6),
-    )
-}
-
-/// Whether an input reads three codes, waits after them, and ends where the stop code is struck.
-fn waits_for_a_stop(global: Global) -> Option<bool> {
-    let mut machine = with_tape(global, &INPUT, b"12[16]3")?;
-    Some(
-        status_after(&mut machine) == Ok(Status::Going)
-            && status_after(&mut machine) == Ok(Status::Waiting)
-            && status_after(&mut machine) == Err(OrderFault::AtRest)
-            && accumulator_and_clock(&machine) == Some((0x123, 1612))
-            && press(&mut machine, Action::Key(Code::STOP)) == Ok(Pressed::Live)
-            && status_after(&mut machine) == Ok(STOPPED),
-    )
-}
-
-/// Whether an input by six bits enters two codes.
-fn enters_six_bits(global: Global) -> Option<bool> {
-    let mut machine = with_tape(global, &INPUT, b"a'")?;
-    Some(
-        press(&mut machine, Action::SixBit(true)) == Ok(Pressed::Live)
-            && status_after(&mut machine) == Ok(Status::Going)
-            && status_after(&mut machine) == Ok(Status::Going)
-            && accumulator_and_clock(&machine) == Some((0x39, 844)),
-    )
-}
-
-/// Keys by the numbers of their codes, whether they are live, and the accumulator after each.
-static KEYS: [(u8, Pressed, u32); 5] = [
-    (2, Pressed::Live, 0),
-    (2, Pressed::Live, 0),
-    (18, Pressed::Live, 4),
-    (32, Pressed::Dead, 4),
-    (16, Pressed::Dead, 4),
-];
-
-/// Whether a key is predicted to be live or dead, is so, and leaves this accumulator.
+/// Whether a key is predicted to be live or dead, is so, and leaves this accumulator at clock 0.
 fn strikes<A: Allocator>(
     machine: &mut Machine<A>,
     (number, pressed, accumulator): &(u8, Pressed, u32),
@@ -102,118 +115,199 @@ fn strikes<A: Allocator>(
         && accumulator_and_clock(machine) == Some((*accumulator, 0))
 }
 
-/// Whether these keys do so one after another.
-fn strikes_all<A: Allocator>(machine: &mut Machine<A>) -> bool {
-    for row in &KEYS {
-        if !strikes(machine, row) {
-            return false;
+/// Whether orders and word times or a look answer so.
+fn is_performed<A: Allocator>(machine: &mut Machine<A>, row: &Row) -> bool {
+    match row {
+        Row::Prints(cost, status, number) => {
+            next_order(machine) == Ok((*cost, *status, Code::new(*number)))
         }
+        Row::After(wanted) => status_after(machine) == *wanted,
+        Row::Turn(wanted) => turn(machine) == *wanted,
+        Row::Turns(limit, wanted) => turns(machine, *limit) == *wanted,
+        Row::Rest(times, wanted) => rest(machine, *times) == *wanted,
+        _ => is_seen(machine, row),
     }
-    true
 }
 
-/// The same in Manual.
-fn enters_in_manual(global: Global) -> Option<bool> {
-    let mut machine = Machine::new(global).ok()?;
-    let manual = press(&mut machine, Action::Mode(Mode::Manual)) == Ok(Pressed::Live);
-    Some(manual && strikes_all(&mut machine))
+/// Whether what an operator does or anything of the above answers so.
+fn is_answered(global: Global, machine: &mut Machine, row: &Row) -> bool {
+    match row {
+        Row::Put(at, bits, wanted) => put(machine, *at, *bits) == *wanted,
+        Row::Press(button, wanted) => press(machine, action_of(*button)) == Ok(*wanted),
+        Row::Strike(wanted) => strikes(machine, wanted),
+        Row::Tape(text) => mount_text(machine, global, text),
+        Row::Mount(count, wanted) => mount_codes(machine, global, *count) == Some(*wanted),
+        _ => is_performed(machine, row),
+    }
 }
 
-/// Whether a print is foretold, prints, shows what it leaves, and leaves the machine at work.
-fn prints(global: Global) -> Option<bool> {
-    let mut machine = started(global, &[(0, PRINT)])?;
-    let code = Code::new(57);
-    Some(
-        ahead(&machine) == Some((451, code))
-            && next_order(&mut machine) == Ok((451, Status::Going, code))
-            && printed(&machine) == (1, code)
-            && look(&machine) == shown(1, 0, PRINT, Status::Going, 451)
-            && rest(&mut machine, 1) == Err(RestFault::AtWork),
-    )
+/// A transfer shows its parts before it is kept decoded and after.
+const PARTS: &[Row] = &[
+    Row::Put(0, TRANSFER, Ok(())),
+    Row::Press(Button::Start, Pressed::Live),
+    Row::Transfers,
+    Row::After(Ok(Status::Going)),
+    Row::Transfers,
+];
+
+/// The opening state: the last word is blank, nothing is printed, no tape is there, and a word time at rest lies ahead.
+const OPENING: &[Row] = &[
+    Row::Shows(0, 0, OPERATOR, 0),
+    Row::WordAt(4095, 0),
+    Row::Printed(0, None),
+    Row::TapeLeft(0),
+    Row::Ahead(1, None),
+];
+
+/// No order is performed at rest, and the clock goes on by five word times and by one.
+const AT_REST: &[Row] = &[
+    Row::After(Err(OrderFault::AtRest)),
+    Row::Rest(5, Ok(())),
+    Row::Shows(0, 0, OPERATOR, 5),
+    Row::Turn(Ok(true)),
+    Row::Shows(0, 0, OPERATOR, 6),
+];
+
+/// An input reads three codes, waits after them, and ends where the stop code is struck.
+const WAITING: &[Row] = &[
+    Row::Put(0, 0x0008_0000, Ok(())),
+    Row::Put(1, 0x0004_0000, Ok(())),
+    Row::Tape(b"12[16]3"),
+    Row::Press(Button::Start, Pressed::Live),
+    Row::After(Ok(Status::Going)),
+    Row::After(Ok(Status::Waiting)),
+    Row::After(Err(OrderFault::AtRest)),
+    Row::Accumulator(0x123, 1612),
+    Row::Press(Button::Stop, Pressed::Live),
+    Row::After(Ok(STOPPED)),
+];
+
+/// An input by six bits enters two codes.
+const SIX_BITS: &[Row] = &[
+    Row::Put(0, 0x0008_0000, Ok(())),
+    Row::Put(1, 0x0004_0000, Ok(())),
+    Row::Tape(b"a'"),
+    Row::Press(Button::Start, Pressed::Live),
+    Row::Press(Button::SixBit, Pressed::Live),
+    Row::After(Ok(Status::Going)),
+    Row::After(Ok(Status::Going)),
+    Row::Accumulator(0x39, 844),
+];
+
+/// Keys struck in Manual.
+const KEYS: &[Row] = &[
+    Row::Press(Button::Manual, Pressed::Live),
+    Row::Strike((2, Pressed::Live, 0)),
+    Row::Strike((2, Pressed::Live, 0)),
+    Row::Strike((18, Pressed::Live, 4)),
+    Row::Strike((32, Pressed::Dead, 4)),
+    Row::Strike((16, Pressed::Dead, 4)),
+];
+
+/// A print is foretold, prints, shows what it leaves, and leaves the machine at work.
+const PRINTING: &[Row] = &[
+    Row::Put(0, PRINT, Ok(())),
+    Row::Press(Button::Start, Pressed::Live),
+    Row::Ahead(451, Some(57)),
+    Row::Prints(451, Status::Going, 57),
+    Row::Printed(1, Some(57)),
+    Row::Shows(1, PRINT, Status::Going, 451),
+    Row::Rest(1, Err(RestFault::AtWork)),
+];
+
+/// Within an order nothing shows. The calls that need a boundary are refused, a tape is handed back, and the word put is not there.
+const WITHIN: &[Row] = &[
+    Row::Put(0, TRANSFER, Ok(())),
+    Row::Press(Button::Start, Pressed::Live),
+    Row::Turn(Ok(false)),
+    Row::Hidden,
+    Row::After(Err(OrderFault::Moving)),
+    Row::Put(0, 2, Err(PutFault::Moving)),
+    Row::Mount(2, Err((MountFault::Moving, 2))),
+    Row::Rest(0, Err(RestFault::AtWork)),
+    Row::WordAt(0, TRANSFER),
+];
+
+/// An order of seven word times begins four before the clock's end, is refused whole and changes nothing, and within it the fifth
+/// word time is refused and a press is kept.
+const END_WITHIN: &[Row] = &[
+    Row::Put(0, TRANSFER, Ok(())),
+    Row::Rest(CLOCK_END - 4, Ok(())),
+    Row::Press(Button::Start, Pressed::Live),
+    Row::Ahead(7, None),
+    Row::Shows(0, 0, Status::Going, CLOCK_END - 4),
+    Row::After(Err(OrderFault::ClockEnd)),
+    Row::Shows(0, 0, Status::Going, CLOCK_END - 4),
+    Row::Turns(7, (5, Err(TurnFault::ClockEnd))),
+    Row::Press(Button::Start, Pressed::Kept),
+];
+
+/// A machine at rest goes to the clock's end, and no word time further.
+const END_AT_REST: &[Row] = &[
+    Row::Rest(CLOCK_END, Ok(())),
+    Row::Turn(Err(TurnFault::ClockEnd)),
+    Row::Rest(1, Err(RestFault::ClockEnd)),
+    Row::Rest(0, Ok(())),
+    Row::Shows(0, 0, OPERATOR, CLOCK_END),
+];
+
+/// A tape that is one code too long is handed back; the longest one is taken.
+const LONG_TAPES: &[Row] = &[
+    Row::Mount(TAPE_LIMIT + 1, Err((MountFault::TooLong, 1_048_577))),
+    Row::TapeLeft(0),
+    Row::Mount(1_048_576, Ok(())),
+    Row::TapeLeft(1_048_576),
+];
+
+/// Each on a new machine.
+static STORIES: [&[Row]; 11] = [
+    PARTS,
+    OPENING,
+    AT_REST,
+    WAITING,
+    SIX_BITS,
+    KEYS,
+    PRINTING,
+    WITHIN,
+    END_WITHIN,
+    END_AT_REST,
+    LONG_TAPES,
+];
+
+/// The place of the first row that answers otherwise, or how many there are.
+fn first_otherwise(global: Global, machine: &mut Machine, rows: &[Row]) -> usize {
+    let mut place = 0usize;
+    for row in rows {
+        if !is_answered(global, machine, row) {
+            return place;
+        }
+        place = place.saturating_add(1);
+    }
+    place
 }
 
-/// Whether the calls that need a boundary are refused, a tape handed back, and the word put is not there.
-fn refuses_all(global: Global) -> Option<bool> {
-    let mut machine = within_an_order(global)?;
-    Some(
-        next_order(&mut machine) == Err(OrderFault::Moving)
-            && put(&mut machine, 0, 2) == Err(PutFault::Moving)
-            && mount_codes(&mut machine, global, 2) == Some(Err((MountFault::Moving, 2)))
-            && rest(&mut machine, 0) == Err(RestFault::AtWork)
-            && word_at(&machine, 0) == TRANSFER,
-    )
+/// The same on a new machine; more than there are without memory.
+fn first_on_a_new_one(global: Global, rows: &[Row]) -> usize {
+    match Machine::new(global) {
+        Ok(mut machine) => first_otherwise(global, &mut machine, rows),
+        Err(_) => usize::MAX,
+    }
 }
 
-/// Whether none of the calls that need a boundary shows anything.
-fn is_hidden(global: Global) -> Option<bool> {
-    let machine = within_an_order(global)?;
-    Some(
-        look(&machine).is_none()
-            && ahead(&machine).is_none()
-            && live(&machine, Action::Start).is_none()
-            && tape_left(&machine).is_none(),
-    )
-}
-
-/// Whether an order of seven word times begins four before the clock's end, is refused whole and changes nothing, and within it
-/// the fifth word time is refused and a press is kept.
-fn ends_within(global: Global) -> Option<bool> {
-    let mut machine = with_words(global, &[(0, TRANSFER)])?;
-    let begun = rest(&mut machine, CLOCK_END - 4) == Ok(())
-        && start(&mut machine)
-        && ahead(&machine) == Some((7, None));
-    let before = look(&machine);
-    Some(
-        begun
-            && next_order(&mut machine) == Err(OrderFault::ClockEnd)
-            && look(&machine) == before
-            && turns(&mut machine, 7) == (5, Err(TurnFault::ClockEnd))
-            && press(&mut machine, Action::Start) == Ok(Pressed::Kept),
-    )
-}
-
-/// Whether a machine at rest goes to the clock's end, and no word time further.
-fn ends_at_rest(global: Global) -> Option<bool> {
-    let mut machine = Machine::new(global).ok()?;
-    Some(
-        rest(&mut machine, CLOCK_END) == Ok(())
-            && turn(&mut machine) == Err(TurnFault::ClockEnd)
-            && rest(&mut machine, 1) == Err(RestFault::ClockEnd)
-            && rest(&mut machine, 0) == Ok(())
-            && look(&machine) == shown(0, 0, 0, OPERATOR, CLOCK_END),
-    )
-}
-
-/// Whether a tape of a given number of codes is answered so, and this many codes are left then.
-fn mounts(
-    global: Global,
-    count: usize,
-    wanted: Result<(), (MountFault, usize)>,
-    left: usize,
-) -> Option<bool> {
-    let mut machine = Machine::new(global).ok()?;
-    let mounted = mount_codes(&mut machine, global, count);
-    Some(mounted == Some(wanted) && tape_left(&machine) == Some(left))
+/// The places of the first story and of its first row that answers otherwise; `None` where all is answered so.
+fn first_of_all(global: Global) -> Option<(usize, usize)> {
+    let mut place = 0usize;
+    for rows in &STORIES {
+        let row = first_on_a_new_one(global, rows);
+        if row != rows.len() {
+            return Some((place, row));
+        }
+        place = place.saturating_add(1);
+    }
+    None
 }
 
 #[test]
 fn calls_are_answered_at_rest_within_an_order_and_at_the_clocks_end(rt: HostRuntime) {
-    let alloc = rt.alloc();
-    let back = Err((MountFault::TooLong, 1_048_577));
-    let answered = [
-        shows_parts(alloc),
-        opens(alloc),
-        goes_on_at_rest(alloc),
-        waits_for_a_stop(alloc),
-        enters_six_bits(alloc),
-        enters_in_manual(alloc),
-        prints(alloc),
-        refuses_all(alloc),
-        is_hidden(alloc),
-        ends_within(alloc),
-        ends_at_rest(alloc),
-        mounts(alloc, TAPE_LIMIT + 1, back, 0),
-        mounts(alloc, 1_048_576, Ok(()), 1_048_576),
-    ];
-    expect_eq(&rt, answered, [Some(true); 13]);
+    expect_eq(&rt, first_of_all(rt.alloc()), None);
 }

@@ -106,9 +106,9 @@ const FOUR: [Event; 4] = [
 
 /// Whether a machine goes to two word times before the clock's end, a play stops there, and it comes to no growth. The last three
 /// say nothing.
-fn plays_at_the_end<B: Allocator>(
+fn plays_at_the_end<B: Allocator, A: Allocator>(
     limited: &Limited<B>,
-    machine: &mut Machine<&Limited<B>>,
+    machine: &mut Machine<A>,
 ) -> [bool; 6] {
     let stopped = PlayFault {
         done: 3,
@@ -129,9 +129,9 @@ fn events_of_a_print() -> [Event; 452] {
 
 /// Plays these with the first growth refused, and a word time more: whether the last word time of the print is refused and nothing
 /// is printed then nor shows, and the word time more prints.
-fn plays_without_room<B: Allocator>(
+fn plays_without_room<B: Allocator, A: Allocator>(
     limited: &Limited<B>,
-    machine: &mut Machine<&Limited<B>>,
+    machine: &mut Machine<A>,
 ) -> [bool; 6] {
     let stopped = PlayFault {
         done: 451,
@@ -148,9 +148,9 @@ fn plays_without_room<B: Allocator>(
     ]
 }
 
-fn plays<B: Allocator>(
+fn plays<B: Allocator, A: Allocator>(
     limited: &Limited<B>,
-    machine: &mut Machine<&Limited<B>>,
+    machine: &mut Machine<A>,
     at_the_end: bool,
 ) -> [bool; 6] {
     if at_the_end {
@@ -160,9 +160,13 @@ fn plays<B: Allocator>(
 }
 
 /// The one or the other on a new machine.
-fn played<B: Allocator>(limited: &Limited<B>, at_the_end: bool) -> Option<[bool; 6]> {
+fn played<B: Allocator, A: Allocator + Copy>(
+    limited: &Limited<B>,
+    alloc: A,
+    at_the_end: bool,
+) -> Option<[bool; 6]> {
     limited.refuse(0);
-    match with_words(limited, &[(0, PRINT)]) {
+    match with_words(alloc, &[(0, PRINT)]) {
         Some(mut machine) => Some(plays(limited, &mut machine, at_the_end)),
         None => None,
     }
@@ -171,7 +175,10 @@ fn played<B: Allocator>(limited: &Limited<B>, at_the_end: bool) -> Option<[bool;
 #[test]
 fn a_play_stops_at_the_clocks_end_and_where_there_is_no_room(rt: HostRuntime) {
     let limited = Limited::new(rt.alloc());
-    let played = [played(&limited, true), played(&limited, false)];
+    let played = [
+        played(&limited, &limited, true),
+        played(&limited, &limited, false),
+    ];
     expect_eq(
         &rt,
         (played, limited.blocks_out()),

@@ -78,9 +78,9 @@ fn is_whole<A: Allocator>(machine: &Machine<A>, wanted: &Option<Whole>) -> bool 
 }
 
 /// The same of one that was made last, with no growth refused.
-fn is_last<B: Allocator>(
+fn is_last<B: Allocator, A: Allocator>(
     limited: &Limited<B>,
-    machine: &Machine<&Limited<B>>,
+    machine: &Machine<A>,
     wanted: &Option<Whole>,
 ) -> bool {
     !limited.was_refused() && is_whole(machine, wanted)
@@ -91,9 +91,13 @@ fn is_last<B: Allocator>(
 type Tried = [bool; 2];
 
 /// Makes a machine with the nth growth refused.
-fn try_new<B: Allocator>(limited: &Limited<B>, nth: u64, wanted: &Option<Whole>) -> Tried {
+fn try_new<B: Allocator, A: Allocator + Copy>(
+    (limited, alloc): (&Limited<B>, A),
+    nth: u64,
+    wanted: &Option<Whole>,
+) -> Tried {
     limited.refuse(nth);
-    match Machine::new(limited) {
+    match Machine::new(alloc) {
         Ok(machine) => [true, is_last(limited, &machine, wanted)],
         Err(_) => [false, limited.was_refused()],
     }
@@ -108,55 +112,61 @@ fn drum_of_two<A: Allocator + Copy>(alloc: A) -> Option<Drum<A>> {
 }
 
 /// Whether a machine that begins with a drum is made with ample memory, and has what is wanted.
-fn is_made_of<'a, B: Allocator>(
-    limited: &'a Limited<B>,
-    drum: Drum<&'a Limited<B>>,
+fn is_made_of<B: Allocator, A: Allocator + Copy>(
+    (limited, alloc): (&Limited<B>, A),
+    drum: Drum<A>,
     wanted: &Option<Whole>,
 ) -> bool {
     limited.refuse(0);
-    match Machine::with_drum(limited, drum) {
+    match Machine::with_drum(alloc, drum) {
         Ok(machine) => is_whole(&machine, wanted),
         Err(_) => false,
     }
 }
 
 /// Makes a machine that begins with such a drum likewise. A drum that is handed back is tried again.
-fn try_with_drum<B: Allocator>(limited: &Limited<B>, nth: u64, wanted: &Option<Whole>) -> Tried {
+fn try_with_drum<B: Allocator, A: Allocator + Copy>(
+    (limited, alloc): (&Limited<B>, A),
+    nth: u64,
+    wanted: &Option<Whole>,
+) -> Tried {
     limited.refuse(0);
-    let Some(drum) = drum_of_two(limited) else {
+    let Some(drum) = drum_of_two(alloc) else {
         return [true, false];
     };
     limited.refuse(nth);
-    match Machine::with_drum(limited, drum) {
+    match Machine::with_drum(alloc, drum) {
         Ok(machine) => [true, is_last(limited, &machine, wanted)],
         Err(refused) => {
             let was_refused = limited.was_refused();
-            [
-                false,
-                was_refused && is_made_of(limited, refused.value, wanted),
-            ]
+            let made = is_made_of((limited, alloc), refused.value, wanted);
+            [false, was_refused && made]
         }
     }
 }
 
 /// Makes a machine with a drum or without one.
-fn try_made<B: Allocator>(
-    limited: &Limited<B>,
+fn try_made<B: Allocator, A: Allocator + Copy>(
+    (limited, alloc): (&Limited<B>, A),
     nth: u64,
     with_drum: bool,
     wanted: &Option<Whole>,
 ) -> Tried {
     if with_drum {
-        return try_with_drum(limited, nth, wanted);
+        return try_with_drum((limited, alloc), nth, wanted);
     }
-    try_new(limited, nth, wanted)
+    try_new((limited, alloc), nth, wanted)
 }
 
 /// Makes a machine with each growth refused in turn: how many growths are refused before it is made; 0 where anything is not as it
 /// should be.
-fn made<B: Allocator>(limited: &Limited<B>, with_drum: bool, wanted: &Option<Whole>) -> u64 {
+fn made<B: Allocator, A: Allocator + Copy>(
+    (limited, alloc): (&Limited<B>, A),
+    with_drum: bool,
+    wanted: &Option<Whole>,
+) -> u64 {
     for nth in 1..MOST {
-        let [is_made, is_right] = try_made(limited, nth, with_drum, wanted);
+        let [is_made, is_right] = try_made((limited, alloc), nth, with_drum, wanted);
         if !is_right {
             return 0;
         }
@@ -170,14 +180,15 @@ fn made<B: Allocator>(limited: &Limited<B>, with_drum: bool, wanted: &Option<Who
 /// Whether a growth of a new machine over a heap is refused, and how many bytes are used there at last.
 fn made_over_heap(global: Global) -> Option<(bool, usize)> {
     let heap = LocalHeap::new(global, 262144).ok()?;
-    let made = made(&Limited::new(&heap), false, &opening((0, [0; 3])));
+    let limited = Limited::new(&heap);
+    let made = made((&limited, &limited), false, &opening((0, [0; 3])));
     Some((made > 0, heap.used()))
 }
 
 #[test]
 fn each_growth_of_a_new_machine_is_refused(rt: HostRuntime) {
     let limited = Limited::new(rt.alloc());
-    let made = made(&limited, true, &opening((2, [0, 4, 0])));
+    let made = made((&limited, &limited), true, &opening((2, [0, 4, 0])));
     expect_eq(
         &rt,
         (made_over_heap(rt.alloc()), made > 0, limited.blocks_out()),
@@ -212,9 +223,9 @@ fn shown_within_a_tape() -> Option<Whole> {
 }
 
 /// Copies a machine with the nth growth refused: as above, and the machine is the same where there is no copy.
-fn try_copy<B: Allocator>(
+fn try_copy<B: Allocator, A: Allocator + Copy>(
     limited: &Limited<B>,
-    machine: &Machine<&Limited<B>>,
+    machine: &Machine<A>,
     nth: u64,
     wanted: &Option<Whole>,
 ) -> Tried {
@@ -226,9 +237,9 @@ fn try_copy<B: Allocator>(
 }
 
 /// Copies a machine with each growth refused in turn: how many growths are refused, or 0, as above.
-fn copied<B: Allocator>(
+fn copied<B: Allocator, A: Allocator + Copy>(
     limited: &Limited<B>,
-    machine: &Machine<&Limited<B>>,
+    machine: &Machine<A>,
     wanted: &Option<Whole>,
 ) -> u64 {
     for nth in 1..MOST {
@@ -245,7 +256,10 @@ fn copied<B: Allocator>(
 
 /// Whether a machine prints, and reads the first three of the five codes on its tape; whether a growth of its copy is refused;
 /// whether the machine is the same then; and whether as many blocks are out after the copies as before them.
-fn copies<B: Allocator>(limited: &Limited<B>, machine: &mut Machine<&Limited<B>>) -> [bool; 4] {
+fn copies<B: Allocator, A: Allocator + Copy>(
+    limited: &Limited<B>,
+    machine: &mut Machine<A>,
+) -> [bool; 4] {
     let wanted = shown_within_a_tape();
     let performed = perform_three(machine);
     let before = limited.blocks_out();
@@ -257,8 +271,11 @@ fn copies<B: Allocator>(limited: &Limited<B>, machine: &mut Machine<&Limited<B>>
     ]
 }
 
-fn copied_within_a_tape<B: Allocator>(limited: &Limited<B>) -> Option<[bool; 4]> {
-    match with_tape(limited, &PRINT_AND_INPUT, b"12'3'") {
+fn copied_within_a_tape<B: Allocator, A: Allocator + Copy>(
+    limited: &Limited<B>,
+    alloc: A,
+) -> Option<[bool; 4]> {
+    match with_tape(alloc, &PRINT_AND_INPUT, b"12'3'") {
         Some(mut machine) => Some(copies(limited, &mut machine)),
         None => None,
     }
@@ -266,30 +283,34 @@ fn copied_within_a_tape<B: Allocator>(limited: &Limited<B>) -> Option<[bool; 4]>
 
 #[test]
 fn each_growth_of_a_copy_is_refused(rt: HostRuntime) {
-    let copies = copied_within_a_tape(&Limited::new(rt.alloc()));
+    let limited = Limited::new(rt.alloc());
+    let copies = copied_within_a_tape(&limited, &limited);
     expect_eq(&rt, copies, Some([true; 4]));
 }
 
 /// Whether the next order is refused with the first growth.
-fn order_is_refused<B: Allocator>(
+fn order_is_refused<B: Allocator, A: Allocator>(
     limited: &Limited<B>,
-    machine: &mut Machine<&Limited<B>>,
+    machine: &mut Machine<A>,
 ) -> bool {
     limited.refuse(1);
     matches!(next_order(machine), Err(OrderFault::Memory)) && limited.was_refused()
 }
 
 /// Whether the 451st word time is refused with the first growth.
-fn turns_are_refused<B: Allocator>(
+fn turns_are_refused<B: Allocator, A: Allocator>(
     limited: &Limited<B>,
-    machine: &mut Machine<&Limited<B>>,
+    machine: &mut Machine<A>,
 ) -> bool {
     limited.refuse(1);
     turns(machine, 500) == (451, Err(TurnFault::Memory)) && limited.was_refused()
 }
 
 /// Whether a word time ends at a boundary with the second growth refused, which does not come.
-fn turn_is_done<B: Allocator>(limited: &Limited<B>, machine: &mut Machine<&Limited<B>>) -> bool {
+fn turn_is_done<B: Allocator, A: Allocator>(
+    limited: &Limited<B>,
+    machine: &mut Machine<A>,
+) -> bool {
     limited.refuse(2);
     turn(machine) == Ok(true) && !limited.was_refused()
 }
@@ -302,7 +323,7 @@ fn shown_at_print(printed: usize, look: Option<Look>) -> Option<Whole> {
 
 /// Whether a print without room in one call is refused and changes nothing; whether it is refused at its last word time and nothing
 /// is printed then nor shows; and whether that word time prints when there is room.
-fn prints<B: Allocator>(limited: &Limited<B>, machine: &mut Machine<&Limited<B>>) -> [bool; 7] {
+fn prints<B: Allocator, A: Allocator>(limited: &Limited<B>, machine: &mut Machine<A>) -> [bool; 7] {
     let before = shown_at_print(0, shown(0, 0, 0, Status::Going, 0));
     let after = shown_at_print(1, shown(1, 0, PRINT, Status::Going, 451));
     [
@@ -317,8 +338,11 @@ fn prints<B: Allocator>(limited: &Limited<B>, machine: &mut Machine<&Limited<B>>
 }
 
 /// That of a machine that is started on a print.
-fn print_without_room<B: Allocator>(limited: &Limited<B>) -> Option<[bool; 7]> {
-    match started(limited, &[(0, PRINT)]) {
+fn print_without_room<B: Allocator, A: Allocator + Copy>(
+    limited: &Limited<B>,
+    alloc: A,
+) -> Option<[bool; 7]> {
+    match started(alloc, &[(0, PRINT)]) {
         Some(mut machine) => Some(prints(limited, &mut machine)),
         None => None,
     }
@@ -327,6 +351,6 @@ fn print_without_room<B: Allocator>(limited: &Limited<B>) -> Option<[bool; 7]> {
 #[test]
 fn a_code_without_room_is_not_printed(rt: HostRuntime) {
     let limited = Limited::new(rt.alloc());
-    let prints = print_without_room(&limited);
+    let prints = print_without_room(&limited, &limited);
     expect_eq(&rt, (prints, limited.blocks_out()), (Some([true; 7]), 0));
 }
