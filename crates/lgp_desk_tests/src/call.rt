@@ -37,6 +37,11 @@ static ROWS: [Row; 12] = [
     (b"words 0050 1", 0, b"0050 00000000\n"),
 ];
 
+/// These lines by reference: each function that names a static with texts takes longer to prove.
+fn rows() -> &'static [Row] {
+    &ROWS
+}
+
 /// A status, and what an outcome tells.
 type Reported = (u32, u64, u64);
 
@@ -87,7 +92,7 @@ fn is_answered<A: Allocator + Copy>(session: &mut Session<A>, row: &Row) -> bool
 /// How many lines come before the first whose reply is another one.
 fn rows_answered<A: Allocator + Copy>(session: &mut Session<A>) -> usize {
     let mut answered: usize = 0;
-    for row in &ROWS {
+    for row in rows() {
         if !is_answered(session, row) {
             return answered;
         }
@@ -124,23 +129,26 @@ fn odd_lines<A: Allocator + Copy>(session: &mut Session<A>) -> [Reported; 3] {
     [long, ask(session, &bytes, &mut room), all]
 }
 
-#[test]
-fn a_line_may_be_long_and_have_any_bytes(rt: HostRuntime) {
-    let reported = match Session::new(rt.alloc()) {
+/// The same of a new session.
+fn reported_of_odd_lines(alloc: Global) -> [Reported; 3] {
+    match Session::new(alloc) {
         Ok(mut session) => odd_lines(&mut session),
         Err(_) => [(0, 0, 0); 3],
-    };
-    let long = b"? 11 TooLong: a line has at most 4096 bytes, a source 1048576\n".len() as u64;
-    let form = b"? 1 Form: there is no such command, help lists them\n".len() as u64;
-    let lines = b"? 1 Form: these are several lines, give them one by one\n".len() as u64;
-    expect_eq(&rt, reported, [(1, 1, long), (1, 1, form), (1, 1, lines)]);
+    }
 }
 
-/// What is reported of the end of a session after these lines; none where memory is refused.
-fn end_after(alloc: Global, lines: &[&[u8]]) -> Option<Reported> {
+/// The replies are that a line has at most 4096 bytes, that there is no such command, and that these are several lines.
+#[test]
+fn a_line_may_be_long_and_have_any_bytes(rt: HostRuntime) {
+    let reported = reported_of_odd_lines(rt.alloc());
+    expect_eq(&rt, reported, [(1, 1, 62), (1, 1, 52), (1, 1, 56)]);
+}
+
+/// What is reported of the end of a session after these lines, or status 3 where memory is refused.
+fn end_after(alloc: Global, lines: &[&[u8]]) -> Reported {
     match Session::new(alloc) {
-        Ok(session) => Some(end_of(session, lines)),
-        Err(_) => None,
+        Ok(session) => end_of(session, lines),
+        Err(_) => (3, 0, 0),
     }
 }
 
@@ -159,13 +167,13 @@ fn an_open_source_is_answered_at_the_end(rt: HostRuntime) {
         end_after(rt.alloc(), &[b"source"]),
         end_after(rt.alloc(), &[]),
     ];
-    expect_eq(&rt, ends, [Some((1, 1, 24)), Some((0, 0, 0))]);
+    expect_eq(&rt, ends, [(1, 1, 24), (0, 0, 0)]);
 }
 
 /// The status of a line that is refused for want of memory, where nothing is reported, and 9 where anything is; 0 where none is refused.
 fn refused_line<A: Allocator + Copy>(session: &mut Session<A>) -> u32 {
     let mut room = [b'.'; 64];
-    for (line, _, _) in ROWS {
+    for (line, _, _) in rows() {
         match ask(session, line, &mut room) {
             (3, 0, 0) => return 3,
             (3, _, _) => return 9,

@@ -28,88 +28,46 @@ const RETURNS: [u8; 1023] = [b'\r'; 1023];
 /// Blank tape, of which a line has no room for the text.
 const BLANK: [u8; 1024] = [0; 1024];
 
-/// The bytes of a file of lines.
-fn lines_of(name: &str) -> Option<&'static [u8]> {
-    if name == "two lines" {
-        return Some(b"put 0000 = 1\nwords 0000 1");
-    }
-    if name == "outer" {
-        return Some(b"put 0001 = 1\r\ndo two lines\nwords 0001 1\nfoo\n");
-    }
-    if name == "itself" {
-        return Some(b"do itself\n");
-    }
-    if name == "naming" {
-        return Some(
-            b"foo\nsource program\nrestore torn\ntape torn\narchive torn\nsource faulty\nbar\n",
-        );
-    }
-    if name == "leaving" {
-        return Some(b"do quitting\nwords 0000 1\n");
-    }
-    if name == "quitting" {
-        return Some(b"quit\nwords 0000 1\n");
-    }
-    if name == "opening" {
-        return Some(b"source\n start z\n");
-    }
-    None
-}
+/// The names of files and their bytes. First come those of lines.
+static FILES: [(&str, &[u8]); 24] = [
+    ("two lines", b"put 0000 = 1\nwords 0000 1"),
+    (
+        "outer",
+        b"put 0001 = 1\r\ndo two lines\nwords 0001 1\nfoo\n",
+    ),
+    ("itself", b"do itself\n"),
+    (
+        "naming",
+        b"foo\nsource program\nrestore torn\ntape torn\narchive torn\nsource faulty\nbar\n",
+    ),
+    ("leaving", b"do quitting\nwords 0000 1\n"),
+    ("quitting", b"quit\nwords 0000 1\n"),
+    ("opening", b"source\n start z\n"),
+    ("lesson.txt", b"put 0001 = 2\nfoo"),
+    ("empty", b""),
+    ("program", b"start z\n end start"),
+    ("faulty", b" foo\n"),
+    ("pointed", b" z\n.\n z\n"),
+    ("tape", b"12[16]\n3'"),
+    ("torn", b"12A"),
+    ("later", b"12\n[16]\n3A"),
+    ("strange", b"12@"),
+    ("drum", b"0100 00000004\r\n0101 00000008"),
+    ("coded", b"\x06\x0a\x10\x0e\x20"),
+    ("shown", b"0100:\t0000000J\r\nd -lt 0101 00000008\n"),
+    ("backwards", b"0101:\t00000004\n0100:\t00000008\n"),
+    ("fitting", &FITTING),
+    ("longer", &LONGER),
+    ("returns", &RETURNS),
+    ("blank", &BLANK),
+];
 
-/// The bytes of a file of another kind.
-fn text_of(name: &str) -> Option<&'static [u8]> {
-    if name == "empty" {
-        return Some(b"");
-    }
-    if name == "program" {
-        return Some(b"start z\n end start");
-    }
-    if name == "faulty" {
-        return Some(b" foo\n");
-    }
-    if name == "pointed" {
-        return Some(b" z\n.\n z\n");
-    }
-    if name == "tape" {
-        return Some(b"12[16]\n3'");
-    }
-    if name == "torn" {
-        return Some(b"12A");
-    }
-    if name == "later" {
-        return Some(b"12\n[16]\n3A");
-    }
-    if name == "strange" {
-        return Some(b"12@");
-    }
-    if name == "drum" {
-        return Some(b"0100 00000004\r\n0101 00000008");
-    }
-    if name == "coded" {
-        return Some(b"\x06\x0a\x10\x0e\x20");
-    }
-    if name == "shown" {
-        return Some(b"0100:\t0000000J\r\nd -lt 0101 00000008\n");
-    }
-    if name == "backwards" {
-        return Some(b"0101:\t00000004\n0100:\t00000008\n");
-    }
-    None
-}
-
-/// The bytes of a long file.
-fn long_text_of(name: &str) -> Option<&'static [u8]> {
-    if name == "fitting" {
-        return Some(&FITTING);
-    }
-    if name == "longer" {
-        return Some(&LONGER);
-    }
-    if name == "returns" {
-        return Some(&RETURNS);
-    }
-    if name == "blank" {
-        return Some(&BLANK);
+/// The bytes of a file.
+fn bytes_of(name: &str) -> Option<&'static [u8]> {
+    for (known, bytes) in &FILES {
+        if *known == name {
+            return Some(*bytes);
+        }
     }
     None
 }
@@ -118,11 +76,10 @@ impl Filing for Made {
     type Reader = FeedOf<&'static [u8]>;
 
     fn open(&self, name: &str) -> Option<FeedOf<&'static [u8]>> {
-        let text = match (lines_of(name), text_of(name)) {
-            (Some(text), _) | (None, Some(text)) => text,
-            (None, None) => long_text_of(name)?,
-        };
-        Some(FeedOf::new(text, READS))
+        match bytes_of(name) {
+            Some(bytes) => Some(FeedOf::new(bytes, READS)),
+            None => None,
+        }
     }
 
     fn keep(&self, name: &str, _text: &[u8]) -> bool {
@@ -230,7 +187,8 @@ fn lines_at_a_desk_are_answered(rt: HostRuntime) {
     expect_eq(&rt, rows_answered(rt.alloc(), &LINES), 7);
 }
 
-static NAMING: [Row; 20] = [
+/// Files of lines and of sources.
+static LINES_AND_SOURCES: [Row; 10] = [
     (
         Manner::Bare,
         b"do two lines\ntranscript\n",
@@ -294,6 +252,15 @@ static NAMING: [Row; 20] = [
         b"? 1 Form: there is no such command, help lists them\n        line 1 of naming\ncells 1 start 0000\n? 1 Form: line 1 is no line of a dump\n        torn, line 3 of naming\n? 13 File torn: the byte at place 2, counted from 0, in line 1, begins no sign of a tape\n        line 4 of naming\nok 3\n? 9 Faults\nline 1 UnknownOrder\n         foo\n         ^^^\nline 2 NoEnd\n        faulty, line 6 of naming\n? 1 Form: there is no such command, help lists them\n        line 7 of naming\n? 9 Faults\nline 1 UnknownOrder\n         foo\n         ^^^\nline 2 NoEnd\n        faulty\n",
         6,
     ),
+];
+
+#[test]
+fn files_of_lines_and_sources_are_named(rt: HostRuntime) {
+    expect_eq(&rt, rows_answered(rt.alloc(), &LINES_AND_SOURCES), 10);
+}
+
+/// Files of tapes and of drums.
+static TAPES_AND_DRUMS: [Row; 11] = [
     (
         Manner::Bare,
         b"tape tape\ntape torn\ntape later\narchive torn\narchive strange\ntranscript\n",
@@ -359,11 +326,18 @@ static NAMING: [Row; 20] = [
         b"ok\nsaved kept\nlive\n? 13 File locked: it cannot be written, and is as it was\nput 0100 00000004\npress start\n",
         1,
     ),
+    // Nothing is said to be kept that is not.
+    (
+        Manner::Bare,
+        b"punch locked\ncopy-archive locked\ntranscript\n",
+        b"? 13 File locked: it cannot be written, and is as it was\n? 13 File locked: it cannot be written, and is as it was\n",
+        2,
+    ),
 ];
 
 #[test]
-fn files_are_named(rt: HostRuntime) {
-    expect_eq(&rt, rows_answered(rt.alloc(), &NAMING), 20);
+fn files_of_tapes_and_drums_are_named(rt: HostRuntime) {
+    expect_eq(&rt, rows_answered(rt.alloc(), &TAPES_AND_DRUMS), 11);
 }
 
 /// Whether no line is refused, whether the first reply and the front of the second are these, and how many bytes are written.

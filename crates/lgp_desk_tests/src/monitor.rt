@@ -139,15 +139,11 @@ fn refusals(limited: &Limited<Global>, global: Global, lines: &[u8], faults: u64
 }
 
 #[test]
-fn each_growth_of_a_reported_run_is_refused(rt: HostRuntime) {
+fn each_growth_of_reported_runs_and_of_marked_faults_is_refused(rt: HostRuntime) {
     let limited = Limited::new(rt.alloc());
-    let refused = refusals(&limited, rt.alloc(), EACH, 0);
-    expect_eq(&rt, (refused > 20, limited.blocks_out()), (true, 0));
-}
-
-#[test]
-fn each_growth_of_marked_faults_is_refused(rt: HostRuntime) {
-    let limited = Limited::new(rt.alloc());
-    let refused = refusals(&limited, rt.alloc(), FAULTY, 2);
-    expect_eq(&rt, (refused > 20, limited.blocks_out()), (true, 0));
+    let are_refused = [
+        refusals(&limited, rt.alloc(), EACH, 0) > 20,
+        refusals(&limited, rt.alloc(), FAULTY, 2) > 20,
+    ];
+    expect_eq(&rt, (are_refused, limited.blocks_out()), ([true; 2], 0));
 }

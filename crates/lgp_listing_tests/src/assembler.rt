@@ -25,10 +25,13 @@ pub const FAULTY_SOURCE: &[u8] =
 pub const OPERATIONS: &[u8] =
     b" int 5 10\n int -1 0\n p =a\n -t 6308\n u *+2\n p\n word 7wwwwwwq\n frac -1.0\n i\n c x-1\nx h *\n end";
 
+/// The digits of an address and of its word.
+type Cell = ([u8; 4], [u8; 8]);
+
 /// What a source without faults assembles to: its words with their places, its start and its names.
 #[derive(Clone, Copy)]
 struct Wanted<'a> {
-    cells: &'a [(&'a [u8], &'a [u8])],
+    cells: &'a [Cell],
     start: Option<&'a [u8]>,
     symbols: &'a [(&'a [u8], u16)],
 }
@@ -47,7 +50,7 @@ fn is_cell(cell: &(Address, Word), address: &[u8], digits: &[u8]) -> bool {
 }
 
 /// Whether cells have these addresses and digits.
-fn are_cells(cells: &[(Address, Word)], wanted: &[(&[u8], &[u8])]) -> bool {
+fn are_cells(cells: &[(Address, Word)], wanted: &[Cell]) -> bool {
     let mut place = 0usize;
     for (address, digits) in wanted {
         match cells.get(place) {
@@ -59,12 +62,17 @@ fn are_cells(cells: &[(Address, Word)], wanted: &[(&[u8], &[u8])]) -> bool {
     cells.len() == wanted.len()
 }
 
+/// Whether a name and its value are these.
+pub fn is_symbol(symbol: &(Name, u16), name: &[u8], value: u16) -> bool {
+    symbol.0.bytes() == name && symbol.1 == value
+}
+
 /// Whether names and values are these.
 fn are_symbols(symbols: &[(Name, u16)], wanted: &[(&[u8], u16)]) -> bool {
     let mut place = 0usize;
     for (name, value) in wanted {
         match symbols.get(place) {
-            Some(symbol) if symbol.0.bytes() == *name && symbol.1 == *value => {}
+            Some(symbol) if is_symbol(symbol, name, *value) => {}
             _ => return false,
         }
         place = place.saturating_add(1);
@@ -73,19 +81,19 @@ fn are_symbols(symbols: &[(Name, u16)], wanted: &[(&[u8], u16)]) -> bool {
 }
 
 /// Whether a source assembles to these words, this start and these names.
-fn assembles_to<A: Allocator + Copy>(alloc: A, source: &[u8], wanted: Wanted) -> [bool; 3] {
-    let Ok(image) = assemble(alloc, source) else {
-        return [false; 3];
-    };
-    [
-        are_cells(image.cells(), wanted.cells),
-        image.start() == address(wanted.start),
-        are_symbols(image.symbols(), wanted.symbols),
-    ]
+fn assembles_to(alloc: Global, source: &[u8], wanted: &Wanted) -> [bool; 3] {
+    match assemble(alloc, source) {
+        Ok(image) => [
+            are_cells(image.cells(), wanted.cells),
+            image.start() == address(wanted.start),
+            are_symbols(image.symbols(), wanted.symbols),
+        ],
+        Err(_) => [false; 3],
+    }
 }
 
 /// Whether faults have these lines and kinds.
-fn are_faults(faults: &[Fault], wanted: &[(u64, FaultKind)]) -> bool {
+pub fn are_faults(faults: &[Fault], wanted: &[(u64, FaultKind)]) -> bool {
     let mut place = 0usize;
     for (line, kind) in wanted {
         match faults.get(place) {
@@ -108,10 +116,10 @@ fn has_faults(alloc: Global, source: &[u8], wanted: &[(u64, FaultKind)]) -> bool
 
 const FIRST_IMAGE: Wanted = Wanted {
     cells: &[
-        (b"0000", b"0001000j"),
-        (b"0001", b"000j00j8"),
-        (b"0002", b"00000000"),
-        (b"0003", b"0jjjjjjj"),
+        (*b"0000", *b"0001000j"),
+        (*b"0001", *b"000j00j8"),
+        (*b"0002", *b"00000000"),
+        (*b"0003", *b"0jjjjjjj"),
     ],
     start: Some(b"0000"),
     symbols: FIRST_SYMBOLS,
@@ -119,17 +127,17 @@ const FIRST_IMAGE: Wanted = Wanted {
 
 const OPERATION_IMAGE: Wanted = Wanted {
     cells: &[
-        (b"0000", b"00f00000"),
-        (b"0001", b"80000000"),
-        (b"0002", b"00083900"),
-        (b"0003", b"800g3w20"),
-        (b"0004", b"000f0018"),
-        (b"0005", b"00080000"),
-        (b"0006", b"7wwwwwwq"),
-        (b"0007", b"80000000"),
-        (b"0008", b"00040000"),
-        (b"0009", b"000k0024"),
-        (b"0010", b"000j0028"),
+        (*b"0000", *b"00f00000"),
+        (*b"0001", *b"80000000"),
+        (*b"0002", *b"00083900"),
+        (*b"0003", *b"800g3w20"),
+        (*b"0004", *b"000f0018"),
+        (*b"0005", *b"00080000"),
+        (*b"0006", *b"7wwwwwwq"),
+        (*b"0007", *b"80000000"),
+        (*b"0008", *b"00040000"),
+        (*b"0009", *b"000k0024"),
+        (*b"0010", *b"000j0028"),
     ],
     start: None,
     symbols: &[(b"x", 10)],
@@ -143,26 +151,26 @@ const EMPTY_IMAGE: Wanted = Wanted {
 
 /// A name of a place past the drum.
 const PAST_IMAGE: Wanted = Wanted {
-    cells: &[(b"6363", b"00000000")],
+    cells: &[(*b"6363", *b"00000000")],
     start: Some(b"6363"),
     symbols: &[(b"past", 4096)],
 };
 
 /// The place before the loader's.
 const BEFORE_LOADER: Wanted = Wanted {
-    cells: &[(b"6263", b"00000000")],
+    cells: &[(*b"6263", *b"00000000")],
     start: None,
     symbols: &[],
 };
 
 /// The place after the loader's.
 const BEHIND_LOADER: Wanted = Wanted {
-    cells: &[(b"6322", b"00000000")],
+    cells: &[(*b"6322", *b"00000000")],
     start: None,
     symbols: &[],
 };
 
-static SOURCES: &[(&[u8], Wanted)] = &[
+static SOURCES: [(&[u8], Wanted); 6] = [
     (FIRST_PROGRAM, FIRST_IMAGE),
     (OPERATIONS, OPERATION_IMAGE),
     (b" end", EMPTY_IMAGE),
@@ -171,12 +179,12 @@ static SOURCES: &[(&[u8], Wanted)] = &[
     (b" org 6322\n z\n end\n", BEHIND_LOADER),
 ];
 
-/// The first of some sources that does not assemble to what is beside it, and which of its
+/// The first of the sources that does not assemble to what is beside it, and which of its
 /// cells, its start and its names are right.
-fn first_wrong(alloc: Global, sources: &[(&[u8], Wanted)]) -> Option<(usize, [bool; 3])> {
+fn first_wrong(alloc: Global) -> Option<(usize, [bool; 3])> {
     let mut place = 0usize;
-    for (source, wanted) in sources {
-        let right = assembles_to(alloc, source, *wanted);
+    for (source, wanted) in &SOURCES {
+        let right = assembles_to(alloc, source, wanted);
         if right != [true; 3] {
             return Some((place, right));
         }
@@ -187,7 +195,7 @@ fn first_wrong(alloc: Global, sources: &[(&[u8], Wanted)]) -> Option<(usize, [bo
 
 #[test]
 fn sources_without_faults(rt: HostRuntime) {
-    expect_eq(&rt, first_wrong(rt.alloc(), SOURCES), None);
+    expect_eq(&rt, first_wrong(rt.alloc()), None);
 }
 
 static FAULTS_IN_ORDER: &[(u64, FaultKind)] = &[
@@ -211,7 +219,7 @@ fn faults_in_order_of_lines(rt: HostRuntime) {
 }
 
 /// Sources with one fault each, its line and its kind.
-static ONE_FAULT: &[(&[u8], u64, FaultKind)] = &[
+static ONE_FAULT: [(&[u8], u64, FaultKind); 19] = [
     (b"", 1, FaultKind::NoEnd),
     (b" z\n z", 3, FaultKind::NoEnd),
     (b" org 6363\n z\n z\n end", 3, FaultKind::PastEnd),
@@ -234,9 +242,9 @@ static ONE_FAULT: &[(&[u8], u64, FaultKind)] = &[
 ];
 
 /// The place of the first row whose source has another fault, or how many rows there are.
-fn first_other_fault(alloc: Global, rows: &[(&[u8], u64, FaultKind)]) -> usize {
+fn first_other_fault(alloc: Global) -> usize {
     let mut place = 0usize;
-    for (source, line, kind) in rows {
+    for (source, line, kind) in &ONE_FAULT {
         if !has_faults(alloc, source, &[(*line, *kind)]) {
             return place;
         }
@@ -247,8 +255,7 @@ fn first_other_fault(alloc: Global, rows: &[(&[u8], u64, FaultKind)]) -> usize {
 
 #[test]
 fn sources_of_one_fault(rt: HostRuntime) {
-    let found = first_other_fault(rt.alloc(), ONE_FAULT);
-    expect_eq(&rt, found, ONE_FAULT.len());
+    expect_eq(&rt, first_other_fault(rt.alloc()), 19);
 }
 
 #[test]
@@ -283,18 +290,11 @@ fn lines_that_make_words(rt: HostRuntime) {
     expect_eq(&rt, found, wanted);
 }
 
-/// The number of an address.
-fn number(text: &[u8]) -> Option<u64> {
-    match Address::parse(text) {
-        Some(address) => Some(u64::from(address.number())),
-        None => None,
-    }
-}
-
+/// From 6300 to 6321: tracks of 64 words.
 #[test]
 fn places_that_the_loader_keeps(rt: HostRuntime) {
-    let found = (Some(LOADER_PLACES.start), Some(LOADER_PLACES.end - 1));
-    expect_eq(&rt, found, (number(b"6300"), number(b"6321")));
+    let found = [LOADER_PLACES.start, LOADER_PLACES.end - 1];
+    expect_eq(&rt, found, [63 * 64, 63 * 64 + 21]);
 }
 
 /// Whether a kind is shown so after its line.

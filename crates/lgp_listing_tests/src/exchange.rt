@@ -2,8 +2,8 @@
 
 use crate::expect_eq;
 use lgp_exchange::{
-    BytesFault, ExaminedFault, deposits_of, paper_of, push_deposits, push_paper, read_examined,
-    read_tape_bytes, tape_bytes, write_archive_text,
+    BytesFault, ExaminedFault, paper_of, push_deposits, push_paper, read_examined, read_tape_bytes,
+    tape_bytes, write_archive_text,
 };
 use lgp_flexo::{Code, TAPE_LIMIT, read_archive_text};
 use std::alloc::{Allocator, Global};

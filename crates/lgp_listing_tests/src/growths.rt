@@ -1,7 +1,7 @@
 //! Calls with each growth refused in turn: each time the answer is that there is no memory, and at last it is what there is with
 //! ample memory.
 
-use crate::assembler::{FAULTY_SOURCE, FIRST_PROGRAM, OPERATIONS, are_named, marks};
+use crate::assembler::{FAULTY_SOURCE, FIRST_PROGRAM, OPERATIONS, are_named, is_symbol, marks};
 use crate::exchange::{codes_of, drums};
 use crate::expect_eq;
 use crate::listing::dumps;
@@ -30,22 +30,40 @@ enum Call<'a> {
     Listing(&'a [u8], &'a Result<Vec<u8>, AssembleError>),
     /// A line with the mark of its fault, that of an unknown name.
     Marked(&'a [u8], &'a [u8]),
-    /// The dump of a drum.
-    Dump(&'a Drum, &'a [u8]),
+    /// A form of a drum or of codes.
+    Written(Form<'a>, &'a [u8]),
     /// The drum of a dump.
     ReadDump(&'a [u8], &'a Drum),
-    /// A tape as the text of an archive.
-    Archive(&'a [Code], &'a [u8]),
-    /// A tape as bytes.
-    Bytes(&'a [Code], &'a [u8]),
     /// The tape of bytes.
     ReadBytes(&'a [u8], &'a [Code]),
-    /// The deposits of a drum.
-    Deposits(&'a Drum, &'a [u8]),
     /// The drum of a text.
     Examined(&'a [u8], &'a Drum),
+}
+
+/// In which form a drum or codes are written.
+#[derive(Clone, Copy)]
+pub enum Form<'a> {
+    /// The dump of a drum.
+    Dump(&'a Drum),
+    /// The deposits of a drum.
+    Deposits(&'a Drum),
+    /// A tape as the text of an archive.
+    Archive(&'a [Code]),
+    /// A tape as bytes.
+    Bytes(&'a [Code]),
     /// The paper of printed codes.
-    Paper(&'a [Code], &'a [u8]),
+    Paper(&'a [Code]),
+}
+
+/// A drum or codes in this form.
+fn written<A: Allocator + Copy>(alloc: A, form: Form) -> Result<Vec<u8, A>, AllocError> {
+    match form {
+        Form::Dump(drum) => dump(alloc, drum),
+        Form::Deposits(drum) => deposits_of(alloc, drum),
+        Form::Archive(codes) => write_archive_text(alloc, codes),
+        Form::Bytes(codes) => tape_bytes(alloc, codes),
+        Form::Paper(codes) => paper_of(alloc, codes),
+    }
 }
 
 /// Whether names and values are the same.
@@ -53,7 +71,7 @@ fn same_symbols(found: &[(Name, u16)], wanted: &[(Name, u16)]) -> bool {
     let mut place = 0usize;
     for (name, value) in wanted {
         match found.get(place) {
-            Some(symbol) if symbol.0.bytes() == name.bytes() && symbol.1 == *value => {}
+            Some(symbol) if is_symbol(symbol, name.bytes(), *value) => {}
             _ => return false,
         }
         place = place.saturating_add(1);
@@ -65,9 +83,12 @@ fn same_symbols(found: &[(Name, u16)], wanted: &[(Name, u16)]) -> bool {
 fn same_image<A: Allocator>(found: &Image<A>, ample: &Result<Image, AssembleError>) -> bool {
     match ample {
         Ok(wanted) => {
-            found.cells() == wanted.cells()
-                && found.start() == wanted.start()
-                && same_symbols(found.symbols(), wanted.symbols())
+            let are_same = [
+                found.cells() == wanted.cells(),
+                found.start() == wanted.start(),
+                same_symbols(found.symbols(), wanted.symbols()),
+            ];
+            are_same == [true; 3]
         }
         Err(_) => false,
     }
@@ -115,14 +136,14 @@ fn is_listed<A: Allocator + Copy>(
     }
 }
 
-fn is_written<A: Allocator>(written: Result<Vec<u8, A>, AllocError>, ample: &[u8]) -> Option<bool> {
-    match written {
+pub fn is_written<A: Allocator + Copy>(alloc: A, form: Form, ample: &[u8]) -> Option<bool> {
+    match written(alloc, form) {
         Ok(bytes) => Some(bytes.as_slice() == ample),
         Err(_) => None,
     }
 }
 
-fn is_dumped_drum<A: Allocator + Copy>(alloc: A, text: &[u8], ample: &Drum) -> Option<bool> {
+pub fn is_dumped_drum<A: Allocator + Copy>(alloc: A, text: &[u8], ample: &Drum) -> Option<bool> {
     match read_dump(alloc, text) {
         Ok(drum) => Some(same_words(&drum, ample)),
         Err(DumpFault::Memory) => None,
@@ -130,7 +151,7 @@ fn is_dumped_drum<A: Allocator + Copy>(alloc: A, text: &[u8], ample: &Drum) -> O
     }
 }
 
-fn is_examined_drum<A: Allocator + Copy>(alloc: A, text: &[u8], ample: &Drum) -> Option<bool> {
+pub fn is_examined_drum<A: Allocator + Copy>(alloc: A, text: &[u8], ample: &Drum) -> Option<bool> {
     match read_examined(alloc, text) {
         Ok(drum) => Some(same_words(&drum, ample)),
         Err(ExaminedFault::Memory) => None,
@@ -138,7 +159,7 @@ fn is_examined_drum<A: Allocator + Copy>(alloc: A, text: &[u8], ample: &Drum) ->
     }
 }
 
-fn is_tape<A: Allocator>(alloc: A, bytes: &[u8], ample: &[Code]) -> Option<bool> {
+pub fn is_tape_of_bytes<A: Allocator>(alloc: A, bytes: &[u8], ample: &[Code]) -> Option<bool> {
     match read_tape_bytes(alloc, bytes) {
         Ok(codes) => Some(codes.as_slice() == ample),
         Err(BytesFault::Memory(_)) => None,
@@ -151,14 +172,10 @@ fn is_same<A: Allocator + Copy>(alloc: A, call: Call) -> Option<bool> {
         Call::Assembly(source, ample) => is_assembled(alloc, source, ample),
         Call::Listing(source, ample) => is_listed(alloc, source, ample),
         Call::Marked(line, ample) => marks::is_shown(alloc, line, FaultKind::UnknownName, ample),
-        Call::Dump(drum, ample) => is_written(dump(alloc, drum), ample),
+        Call::Written(form, ample) => is_written(alloc, form, ample),
         Call::ReadDump(text, ample) => is_dumped_drum(alloc, text, ample),
-        Call::Archive(codes, ample) => is_written(write_archive_text(alloc, codes), ample),
-        Call::Bytes(codes, ample) => is_written(tape_bytes(alloc, codes), ample),
-        Call::ReadBytes(bytes, ample) => is_tape(alloc, bytes, ample),
-        Call::Deposits(drum, ample) => is_written(deposits_of(alloc, drum), ample),
+        Call::ReadBytes(bytes, ample) => is_tape_of_bytes(alloc, bytes, ample),
         Call::Examined(text, ample) => is_examined_drum(alloc, text, ample),
-        Call::Paper(codes, ample) => is_written(paper_of(alloc, codes), ample),
     }
 }
 
@@ -173,20 +190,18 @@ pub fn same_words<A: Allocator, B: Allocator>(drum: &Drum<A>, other: &Drum<B>) -
     true
 }
 
-/// Calls with each growth refused in turn. How many growths the call has; `None` where one is refused and the answer is another than
-/// that, or where none is and the answer is another than with ample memory.
-fn growths<B: Allocator>(limited: &Limited<B>, call: Call) -> Option<u64> {
+/// Calls with each growth refused in turn. How many growths the call has; 0 where one is refused and the answer is another than that,
+/// or where none is and the answer is another than with ample memory.
+fn growths<B: Allocator>(limited: &Limited<B>, call: Call) -> u64 {
     for nth in 0..MOST {
         limited.refuse(nth + 1);
-        let same = is_same(limited, call);
-        if !limited.was_refused() {
-            return if same == Some(true) { Some(nth) } else { None };
-        }
-        if same.is_some() {
-            return None;
+        match (is_same(limited, call), limited.was_refused()) {
+            (None, true) => {}
+            (Some(true), false) => return nth,
+            _ => return 0,
         }
     }
-    None
+    0
 }
 
 /// How many growths the assembly of a source has, or its listing.
@@ -194,7 +209,7 @@ fn growths_of<B: Allocator>(
     limited: &Limited<B>,
     global: Global,
     (is_listed, source): (bool, &[u8]),
-) -> Option<u64> {
+) -> u64 {
     if is_listed {
         growths(limited, Call::Listing(source, &listing(global, source)))
     } else {
@@ -223,7 +238,7 @@ static SOURCES: [(bool, &[u8], u64); 10] = [
 fn first_with_fewer<B: Allocator>(limited: &Limited<B>, global: Global) -> usize {
     let mut place = 0usize;
     for (is_listed, source, least) in &SOURCES {
-        if growths_of(limited, global, (*is_listed, source)) < Some(*least) {
+        if growths_of(limited, global, (*is_listed, source)) < *least {
             return place;
         }
         place = place.saturating_add(1);
@@ -239,73 +254,87 @@ fn fewer_over_heap(global: Global) -> Option<(usize, usize)> {
 }
 
 /// Whether the assembly of a thousand words has at least seven growths, and how many blocks are out at last.
-fn growths_of_words(global: Global) -> Option<(bool, u64)> {
+fn growths_of_words(global: Global) -> (bool, u64) {
     let mut source = Vec::new(global);
     let are_named = are_named(&mut source);
     let limited = Limited::new(global);
     let found = growths_of(&limited, global, (false, source.as_slice()));
-    Some((are_named && found >= Some(7), limited.blocks_out()))
+    (are_named && found >= 7, limited.blocks_out())
 }
 
 /// The thousand words, their names and the table of names grow more than once each.
 #[test]
 fn each_growth_of_an_assembly_and_of_a_listing_is_refused(rt: HostRuntime) {
     let found = (fewer_over_heap(rt.alloc()), growths_of_words(rt.alloc()));
-    let wanted = (Some((SOURCES.len(), 0)), Some((true, 0)));
+    let wanted = (Some((10, 0)), (true, 0));
     expect_eq(&rt, found, wanted);
 }
 
-/// Whether four calls have growths: the dump of a drum and the drum read from it; and whether the drum's deposits have more than one,
-/// and the drum read from them has one.
-fn growths_of_drum<B: Allocator>(
+/// How long the dump of a drum is, and whether it and the drum read from it have growths.
+fn growths_of_dump<B: Allocator>(
     limited: &Limited<B>,
+    global: Global,
     drum: &Drum,
-    (dumped, deposits): (&[u8], &[u8]),
-) -> [bool; 4] {
-    [
-        growths(limited, Call::Dump(drum, dumped)) >= Some(1),
-        growths(limited, Call::ReadDump(dumped, drum)) >= Some(1),
-        growths(limited, Call::Deposits(drum, deposits)) > Some(1),
-        growths(limited, Call::Examined(deposits, drum)) == Some(1),
-    ]
-}
-
-/// The same of a drum and its two texts, with how long these are.
-fn growths_of_texts<B: Allocator>(
-    limited: &Limited<B>,
-    drum: &Drum,
-    dumped: Result<Vec<u8>, AllocError>,
-    deposits: Result<Vec<u8>, AllocError>,
-) -> ([usize; 2], [bool; 4]) {
-    match (dumped, deposits) {
-        (Ok(dumped), Ok(deposits)) => (
-            [dumped.len(), deposits.len()],
-            growths_of_drum(limited, drum, (dumped.as_slice(), deposits.as_slice())),
+) -> (usize, [bool; 2]) {
+    match dump(global, drum) {
+        Ok(text) => (
+            text.len(),
+            [
+                growths(limited, Call::Written(Form::Dump(drum), &text)) >= 1,
+                growths(limited, Call::ReadDump(&text, drum)) >= 1,
+            ],
         ),
-        _ => ([0; 2], [false; 4]),
+        Err(_) => (0, [false; 2]),
     }
 }
 
-/// The same of a drum without a word of zeros, over a heap of its own; then how many bytes are used of the heap at last, and how many
-/// blocks are out.
-fn drum_over_heap(global: Global) -> Option<([usize; 2], [bool; 4], usize, u64)> {
-    let drum = drums::full_drum(global)?;
-    let heap = LocalHeap::new(global, 1 << 20).ok()?;
+/// How long the deposits of a drum are, and whether they have more growths than one, and the drum read from them has one.
+fn growths_of_deposits<B: Allocator>(
+    limited: &Limited<B>,
+    global: Global,
+    drum: &Drum,
+) -> (usize, [bool; 2]) {
+    match deposits_of(global, drum) {
+        Ok(text) => (
+            text.len(),
+            [
+                growths(limited, Call::Written(Form::Deposits(drum), &text)) > 1,
+                growths(limited, Call::Examined(&text, drum)) == 1,
+            ],
+        ),
+        Err(_) => (0, [false; 2]),
+    }
+}
+
+/// The same of both texts, how many bytes are used of a heap at last, and how many blocks are out.
+type OverHeap = ([(usize, [bool; 2]); 2], usize, u64);
+
+/// Both texts of a drum over a heap of its own.
+fn drum_over_heap(global: Global, drum: &Drum) -> Option<OverHeap> {
+    let Ok(heap) = LocalHeap::new(global, 1 << 20) else {
+        return None;
+    };
     let limited = Limited::new(&heap);
-    let (lengths, found) = growths_of_texts(
-        &limited,
-        &drum,
-        dump(global, &drum),
-        deposits_of(global, &drum),
-    );
-    Some((lengths, found, heap.used(), limited.blocks_out()))
+    let found = [
+        growths_of_dump(&limited, global, drum),
+        growths_of_deposits(&limited, global, drum),
+    ];
+    Some((found, heap.used(), limited.blocks_out()))
+}
+
+/// The same of a drum without a word of zeros.
+fn full_drum_over_heap(global: Global) -> Option<OverHeap> {
+    match drums::full_drum(global) {
+        Some(drum) => drum_over_heap(global, &drum),
+        None => None,
+    }
 }
 
 /// A line of a dump has 14 bytes, and a deposit 20.
 #[test]
 fn each_growth_over_a_full_drum_is_refused(rt: HostRuntime) {
-    let wanted = ([4096 * 14, 4096 * 20], [true; 4], 0, 0);
-    expect_eq(&rt, drum_over_heap(rt.alloc()), Some(wanted));
+    let found = [(4096 * 14, [true; 2]), (4096 * 20, [true; 2])];
+    expect_eq(&rt, full_drum_over_heap(rt.alloc()), Some((found, 0, 0)));
 }
 
 /// Whether the text of a tape of a hundred zeros has more growths than one, its bytes and the tape read from these have one each, and
@@ -313,10 +342,10 @@ fn each_growth_over_a_full_drum_is_refused(rt: HostRuntime) {
 fn growths_of_tape<B: Allocator>(limited: &Limited<B>, codes: &[Code]) -> [bool; 4] {
     let marked = b"         b none\n           ^^^^\n";
     [
-        growths(limited, Call::Archive(codes, &[b'0'; 100])) > Some(1),
-        growths(limited, Call::Bytes(codes, &[2; 100])) == Some(1),
-        growths(limited, Call::ReadBytes(&[2; 100], codes)) == Some(1),
-        growths(limited, Call::Marked(b" b none", marked)) > Some(1),
+        growths(limited, Call::Written(Form::Archive(codes), &[b'0'; 100])) > 1,
+        growths(limited, Call::Written(Form::Bytes(codes), &[2; 100])) == 1,
+        growths(limited, Call::ReadBytes(&[2; 100], codes)) == 1,
+        growths(limited, Call::Marked(b" b none", marked)) > 1,
     ]
 }
 
@@ -324,26 +353,38 @@ fn growths_of_tape<B: Allocator>(limited: &Limited<B>, codes: &[Code]) -> [bool;
 fn grows_by_paper<B: Allocator>(limited: &Limited<B>, codes: &[Code]) -> bool {
     let mut text = [b'a'; 100];
     text[..8].copy_from_slice(b"        ");
-    growths(limited, Call::Paper(codes, &text)) > Some(5)
+    growths(limited, Call::Written(Form::Paper(codes), &text)) > 5
 }
 
 /// Both over a heap; then how many bytes are used of the heap at last, and how many blocks are out.
-fn codes_over_heap(global: Global) -> Option<([bool; 4], bool, usize, u64)> {
+fn codes_over_heap(
+    global: Global,
+    tape: &[Code],
+    row: &[Code],
+) -> Option<([bool; 4], bool, usize, u64)> {
+    let Ok(heap) = LocalHeap::new(global, 65_536) else {
+        return None;
+    };
+    let limited = Limited::new(&heap);
+    let found = growths_of_tape(&limited, tape);
+    let grows = grows_by_paper(&limited, row);
+    Some((found, grows, heap.used(), limited.blocks_out()))
+}
+
+/// The same of such a tape and such a row.
+fn tape_and_row_over_heap(global: Global) -> Option<([bool; 4], bool, usize, u64)> {
     let mut row = [57; 93];
     row[0] = 24;
-    let tape = codes_of(global, &[2; 100])?;
-    let row = codes_of(global, &row)?;
-    let heap = LocalHeap::new(global, 65_536).ok()?;
-    let limited = Limited::new(&heap);
-    let found = growths_of_tape(&limited, tape.as_slice());
-    let grows = grows_by_paper(&limited, row.as_slice());
-    Some((found, grows, heap.used(), limited.blocks_out()))
+    match (codes_of(global, &[2; 100]), codes_of(global, &row)) {
+        (Some(tape), Some(row)) => codes_over_heap(global, &tape, &row),
+        _ => None,
+    }
 }
 
 #[test]
 fn each_growth_over_codes_is_refused(rt: HostRuntime) {
     let wanted = ([true; 4], true, 0, 0);
-    expect_eq(&rt, codes_over_heap(rt.alloc()), Some(wanted));
+    expect_eq(&rt, tape_and_row_over_heap(rt.alloc()), Some(wanted));
 }
 
 /// Whether a byte above 63 is refused as such.

@@ -1,12 +1,12 @@
 //! Disassembly, listings and dumps.
 
-use crate::assembler::FIRST_PROGRAM;
+use crate::assembler::{FIRST_PROGRAM, are_faults};
 use crate::expect_eq;
-use lgp_assembler::{AssembleError, Fault, FaultKind, assemble};
+use lgp_assembler::{AssembleError, FaultKind, assemble};
 use lgp_drum::Drum;
 use lgp_listing::{
-    DrumWords, DumpFault, disassemble, dump, listing, listing_from_image, push_cell_line,
-    push_dump, read_dump,
+    DrumWords, DumpFault, disassemble, listing, listing_from_image, push_cell_line, push_dump,
+    read_dump,
 };
 use lgp_word::{Address, Word, read_digits};
 use std::alloc::{AllocError, Allocator, Global};
@@ -50,12 +50,17 @@ fn words_as_a_source_has_them(rt: HostRuntime) {
     expect_eq(&rt, first_written_otherwise(WORDS), WORDS.len());
 }
 
-/// Whether a source has this listing.
-fn has_listing<A: Allocator + Copy>(alloc: A, source: &[u8], wanted: &[u8]) -> bool {
-    match listing(alloc, source) {
+/// Whether a text is this one.
+fn is_text<E: Drop>(text: Result<Vec<u8>, E>, wanted: &[u8]) -> bool {
+    match text {
         Ok(text) => text.as_slice() == wanted,
         Err(_) => false,
     }
+}
+
+/// Whether a source has this listing.
+fn has_listing(alloc: Global, source: &[u8], wanted: &[u8]) -> bool {
+    is_text(listing(alloc, source), wanted)
 }
 
 #[test]
@@ -65,12 +70,9 @@ fn a_listing_of_five_lines(rt: HostRuntime) {
 }
 
 /// Whether a source has this listing by its image.
-fn has_image_listing<A: Allocator + Copy>(alloc: A, source: &[u8], wanted: &[u8]) -> bool {
-    let Ok(image) = assemble(alloc, source) else {
-        return false;
-    };
-    match listing_from_image(alloc, source, &image) {
-        Ok(text) => text.as_slice() == wanted,
+fn has_image_listing(alloc: Global, source: &[u8], wanted: &[u8]) -> bool {
+    match assemble(alloc, source) {
+        Ok(image) => is_text(listing_from_image(alloc, source, &image), wanted),
         Err(_) => false,
     }
 }
@@ -81,24 +83,17 @@ fn the_same_listing_by_the_image(rt: HostRuntime) {
     expect_eq(&rt, found, true);
 }
 
-/// The line and the kind of the fault, where there is one.
-fn only_one(faults: &[Fault]) -> Option<(u64, FaultKind)> {
-    match faults {
-        [fault] => Some((fault.line, fault.kind)),
-        _ => None,
-    }
-}
-
-/// The fault of a source that has one, its line and its kind.
-fn only_fault(alloc: Global, source: &[u8]) -> Option<(u64, FaultKind)> {
+/// Whether a source has no listing, for these faults.
+fn has_no_listing(alloc: Global, source: &[u8], faults: &[(u64, FaultKind)]) -> bool {
     match listing(alloc, source) {
-        Err(AssembleError::Faults(list)) => only_one(list.faults()),
-        _ => None,
+        Err(AssembleError::Faults(list)) => are_faults(list.faults(), faults),
+        _ => false,
     }
 }
 
 #[test]
 fn a_faulty_source_has_no_listing(rt: HostRuntime) {
-    let found = only_fault(rt.alloc(), b" b none\n end\n");
-    expect_eq(&rt, found, Some((1, FaultKind::UnknownName)));
+    let faults = [(1, FaultKind::UnknownName)];
+    let found = has_no_listing(rt.alloc(), b" b none\n end\n", &faults);
+    expect_eq(&rt, found, true);
 }

@@ -45,13 +45,9 @@ fn refusals(limited: &Limited<Global>, global: Global, lines: (&[u8], u64)) -> u
 #[test]
 fn each_growth_is_refused(rt: HostRuntime) {
     let limited = Limited::new(rt.alloc());
-    let refused = refusals(&limited, rt.alloc(), (EACH, 2));
-    expect_eq(&rt, (refused > 60, limited.blocks_out()), (true, 0));
-}
-
-#[test]
-fn each_growth_of_what_is_shared_is_refused(rt: HostRuntime) {
-    let limited = Limited::new(rt.alloc());
-    let refused = refusals(&limited, rt.alloc(), (SHARED, 0));
-    expect_eq(&rt, (refused > 20, limited.blocks_out()), (true, 0));
+    let are_refused = [
+        refusals(&limited, rt.alloc(), (EACH, 2)) > 60,
+        refusals(&limited, rt.alloc(), (SHARED, 0)) > 20,
+    ];
+    expect_eq(&rt, (are_refused, limited.blocks_out()), ([true; 2], 0));
 }

@@ -92,24 +92,3 @@ fn rows_kept(alloc: Global) -> usize {
 fn tapes_and_drums_are_kept(rt: HostRuntime) {
     expect_eq(&rt, rows_kept(rt.alloc()), 10);
 }
-
-/// Whether two lines are refused, and this is written.
-fn is_refused(alloc: Global, typed: &[u8], text: &[u8]) -> bool {
-    let is_kept = Cell::new(false);
-    let wanting = Wanting {
-        wanted: b"",
-        is_kept: &is_kept,
-    };
-    let mut written = Vec::new(alloc);
-    let outcome = answer(alloc, Manner::Bare, wanting, Silence, typed, &mut written);
-    is_done(outcome, 2) && written.as_slice() == text
-}
-
-/// Nothing is said to be kept that is not.
-#[test]
-fn what_cannot_be_kept_is_refused(rt: HostRuntime) {
-    let typed = b"punch locked\ncopy-archive locked\ntranscript\n";
-    let text =
-        b"? 13 File locked: it cannot be written, and is as it was\n? 13 File locked: it cannot be written, and is as it was\n";
-    expect_eq(&rt, is_refused(rt.alloc(), typed, text), true);
-}

@@ -2,30 +2,12 @@
 
 ghost use Rattle.std.specs.Prelude.{◌≡◌, false};
 
+use super::Made;
 use crate::expect_eq;
 use lgp_desk::{FilesOf, Filing, Manner, obey_session};
 use lgp_lab::{Feed, FeedOf, READS, Sink, SinkOf, WordFault};
 use lgp_monitor::Silence;
 use std::alloc::Global;
-
-/// One file, and none that can be kept.
-#[derive(Clone, Copy, Drop)]
-struct OneFile;
-
-impl Filing for OneFile {
-    type Reader = FeedOf<&'static [u8]>;
-
-    fn open(&self, name: &str) -> Option<FeedOf<&'static [u8]>> {
-        if name != "lesson.txt" {
-            return None;
-        }
-        Some(FeedOf::new(b"put 0001 = 2\nfoo".as_slice(), READS))
-    }
-
-    fn keep(&self, _name: &str, _text: &[u8]) -> bool {
-        false
-    }
-}
 
 /// Appends words as the runtime gives them; false where memory is refused.
 fn push_words(alloc: Global, words: &mut Vec<String>, typed: &[&str]) -> bool {
@@ -86,7 +68,7 @@ fn status_for(
         alloc,
         words,
         manner,
-        OneFile,
+        Made,
         &mut input,
         &mut output,
         &mut messages,

@@ -92,9 +92,9 @@ pub fn is_shown<A: Allocator>(
 }
 
 /// The place of the first row for which something else is shown.
-fn first_mismarked(alloc: Global, rows: &[Row]) -> usize {
+fn first_mismarked(alloc: Global) -> usize {
     let mut place = 0usize;
-    for (line, kind, wanted) in rows {
+    for (line, kind, wanted) in &ROWS {
         if is_shown(alloc, line, *kind, wanted) != Some(true) {
             return place;
         }
@@ -105,22 +105,15 @@ fn first_mismarked(alloc: Global, rows: &[Row]) -> usize {
 
 #[test]
 fn faulty_lines_are_marked(rt: HostRuntime) {
-    expect_eq(&rt, first_mismarked(rt.alloc(), &ROWS), ROWS.len());
+    expect_eq(&rt, first_mismarked(rt.alloc()), 16);
 }
 
-/// Whether of a line with an unknown name this is shown, both as texts with how often each comes.
-fn is_shown_so(alloc: Global, line: &[(&[u8], u32)], wanted: &[(&[u8], u32)]) -> Option<bool> {
-    let line = text_of(alloc, line)?;
-    let wanted = text_of(alloc, wanted)?;
-    is_shown(alloc, &line, FaultKind::UnknownName, &wanted)
-}
+/// A text as pieces, with how often each of them comes.
+type Pieces = &'static [(&'static [u8], u32)];
 
-/// Of a line with a name of 300 letters 200 bytes are shown and 197 letters marked. Nothing is
-/// marked of an operand after the 200 bytes that are shown.
-#[test]
-fn long_lines_are_cut(rt: HostRuntime) {
-    let cut = is_shown_so(
-        rt.alloc(),
+/// Long lines with an unknown name, and what is shown of each.
+static LONG: [(Pieces, Pieces); 2] = [
+    (
         &[(b" b ", 1), (b"a", 300)],
         &[
             (b"         b ", 1),
@@ -129,11 +122,38 @@ fn long_lines_are_cut(rt: HostRuntime) {
             (b"^", 197),
             (b"\n", 1),
         ],
-    );
-    let unmarked = is_shown_so(
-        rt.alloc(),
+    ),
+    (
         &[(b" b", 1), (b" ", 250), (b"none", 1)],
         &[(b"         b", 1), (b" ", 198), (b" ..\n", 1)],
-    );
-    expect_eq(&rt, (cut, unmarked), (Some(true), Some(true)));
+    ),
+];
+
+/// Whether of a line with an unknown name this is shown.
+fn is_shown_so(alloc: Global, line: Pieces, wanted: Pieces) -> bool {
+    match (text_of(alloc, line), text_of(alloc, wanted)) {
+        (Some(line), Some(wanted)) => {
+            is_shown(alloc, &line, FaultKind::UnknownName, &wanted) == Some(true)
+        }
+        _ => false,
+    }
+}
+
+/// The place of the first long line of which something else is shown.
+fn first_miscut(alloc: Global) -> usize {
+    let mut place = 0usize;
+    for (line, wanted) in &LONG {
+        if !is_shown_so(alloc, line, wanted) {
+            return place;
+        }
+        place = place.saturating_add(1);
+    }
+    place
+}
+
+/// Of a line with a name of 300 letters 200 bytes are shown and 197 letters marked. Nothing is
+/// marked of an operand after the 200 bytes that are shown.
+#[test]
+fn long_lines_are_cut(rt: HostRuntime) {
+    expect_eq(&rt, first_miscut(rt.alloc()), 2);
 }

@@ -14,7 +14,7 @@ type Patch = (
 );
 
 /// In the place 0102, which is 66; `start` is 0 and `one` is 3.
-static PATCHES: &[Patch] = &[
+static PATCHES: [Patch; 21] = [
     (b"b", Some(b"one"), None, Ok(0x0001_000c)),
     (b"h", Some(b"one+2"), None, Ok(0x000c_0014)),
     (b"u", Some(b"*-1"), None, Ok(0x000a_0104)),
@@ -49,7 +49,7 @@ static PATCHES: &[Patch] = &[
 ];
 
 /// What addresses of operands are, in the same place.
-static ADDRESSES: &[(&[u8], Result<u16, OperandFault>)] = &[
+static ADDRESSES: [(&[u8], Result<u16, OperandFault>); 8] = [
     (b"one", Ok(3)),
     (b"one+0010", Ok(13)),
     (b"*", Ok(66)),
@@ -69,9 +69,9 @@ fn bits(names: &Symbols, patch: &Patch) -> Result<u32, OperandFault> {
 }
 
 /// How many of the operations have the word or the fault that is beside them.
-fn right_patches(names: &Symbols, patches: &[Patch]) -> usize {
+fn right_patches(names: &Symbols) -> usize {
     let mut right = 0_usize;
-    for patch in patches {
+    for patch in &PATCHES {
         right = right.saturating_add(usize::from(bits(names, patch) == patch.3));
     }
     right
@@ -86,31 +86,30 @@ fn number(names: &Symbols, text: &[u8]) -> Result<u16, OperandFault> {
 }
 
 /// How many of the operands have the address or the fault that is beside them.
-fn right_addresses(names: &Symbols, addresses: &[(&[u8], Result<u16, OperandFault>)]) -> usize {
+fn right_addresses(names: &Symbols) -> usize {
     let mut right = 0_usize;
-    for (text, wanted) in addresses {
+    for (text, wanted) in &ADDRESSES {
         right = right.saturating_add(usize::from(number(names, text) == *wanted));
     }
     right
 }
 
-/// How many of the operations and of the operands are right, with the names of the first program:
-/// `start` is 0 and `one` is 3.
-fn right_with_names(alloc: Global) -> (usize, usize) {
-    let Ok(image) = assemble(alloc, FIRST_PROGRAM) else {
-        return (0, 0);
-    };
-    let names = Symbols {
-        names: image.symbols(),
-    };
-    (
-        right_patches(&names, PATCHES),
-        right_addresses(&names, ADDRESSES),
-    )
+/// How many of the operations and of the operands are right with these names.
+fn right_with_names(names: &Symbols) -> (usize, usize) {
+    (right_patches(names), right_addresses(names))
+}
+
+/// The same with the names of the first program: `start` is 0 and `one` is 3.
+fn right_after_assembly(alloc: Global) -> (usize, usize) {
+    match assemble(alloc, FIRST_PROGRAM) {
+        Ok(image) => right_with_names(&Symbols {
+            names: image.symbols(),
+        }),
+        Err(_) => (0, 0),
+    }
 }
 
 #[test]
 fn operations_stand_alone(rt: HostRuntime) {
-    let right = right_with_names(rt.alloc());
-    expect_eq(&rt, right, (PATCHES.len(), ADDRESSES.len()));
+    expect_eq(&rt, right_after_assembly(rt.alloc()), (21, 8));
 }

@@ -1,7 +1,7 @@
 //! Drums as SIMH's deposits, and as it shows them.
 
 use super::*;
-use crate::growths::same_words;
+use crate::growths::{Form, is_examined_drum, is_written};
 use crate::text_of;
 use lgp_drum::Drum;
 use lgp_word::{Address, Word};
@@ -53,11 +53,10 @@ const DEPOSITS: &[u8] =
     b"d -lt 0000 01234566\nd -lt 0001 00000002\nd -lt 0150 89fgjkqq\nd -lt 6363 wwwwwwwq\n";
 
 /// Whether a drum of these words has these deposits.
-fn has_deposits(global: Global, cells: &[Cell], text: &[u8]) -> Option<bool> {
-    let drum = drum_of(global, cells)?;
-    match deposits_of(global, &drum) {
-        Ok(written) => Some(written.as_slice() == text),
-        Err(_) => None,
+fn has_deposits(global: Global, cells: &[Cell], text: &[u8]) -> bool {
+    match drum_of(global, cells) {
+        Some(drum) => is_written(global, Form::Deposits(&drum), text) == Some(true),
+        None => false,
     }
 }
 
@@ -67,35 +66,42 @@ fn words_are_deposits(rt: HostRuntime) {
         has_deposits(rt.alloc(), &CELLS, DEPOSITS),
         has_deposits(rt.alloc(), &[], b""),
     ];
-    expect_eq(&rt, found, [Some(true); 2]);
+    expect_eq(&rt, found, [true; 2]);
 }
 
-/// Whether the deposits of a drum with the word 2 at 0001 come after what a text had.
-fn is_appended(global: Global) -> Option<bool> {
-    let drum = drum_of(global, &[(1, 2)])?;
-    let mut text = text_of(global, &[(b"go\n", 1)])?;
-    let is_done = push_deposits(&mut text, &drum).is_ok();
-    Some(is_done && text.as_slice() == b"go\nd -lt 0001 00000002\n".as_slice())
+/// Whether a drum's deposits come after what a text had, which then is this one.
+fn come_after(drum: &Drum, text: &mut Vec<u8>, wanted: &[u8]) -> bool {
+    push_deposits(text, drum).is_ok() && text.as_slice() == wanted
+}
+
+/// The same of a drum with the word 2 at 0001.
+fn are_appended(global: Global) -> bool {
+    match (drum_of(global, &[(1, 2)]), text_of(global, &[(b"go\n", 1)])) {
+        (Some(drum), Some(mut text)) => {
+            come_after(&drum, &mut text, b"go\nd -lt 0001 00000002\n")
+        }
+        _ => false,
+    }
 }
 
 #[test]
 fn deposits_come_after_the_text(rt: HostRuntime) {
-    expect_eq(&rt, is_appended(rt.alloc()), Some(true));
+    expect_eq(&rt, are_appended(rt.alloc()), true);
 }
 
-/// The fault of a text; `None` where it has none.
-fn fault_of<A: Allocator + Copy>(alloc: A, text: &[u8]) -> Option<ExaminedFault> {
-    read_examined(alloc, text).err()
+/// Whether a text has this fault.
+fn has_fault<A: Allocator + Copy>(alloc: A, text: &[u8], wanted: ExaminedFault) -> bool {
+    match read_examined(alloc, text) {
+        Ok(_) => false,
+        Err(fault) => fault == wanted,
+    }
 }
 
 /// Whether a text is read as a drum of these words.
 fn is_read_as(global: Global, text: &[u8], cells: &[Cell]) -> bool {
-    let Some(wanted) = drum_of(global, cells) else {
-        return false;
-    };
-    match read_examined(global, text) {
-        Ok(drum) => same_words(&drum, &wanted),
-        Err(_) => false,
+    match drum_of(global, cells) {
+        Some(wanted) => is_examined_drum(global, text, &wanted) == Some(true),
+        None => false,
     }
 }
 
@@ -179,7 +185,7 @@ pub static FAULTY: [(&[u8], ExaminedFault); 23] = [
 pub fn first_other_fault<A: Allocator + Copy>(alloc: A) -> usize {
     let mut place = 0usize;
     for (text, fault) in &FAULTY {
-        if fault_of(alloc, text) != Some(*fault) {
+        if !has_fault(alloc, text, *fault) {
             return place;
         }
         place = place.saturating_add(1);
@@ -201,13 +207,15 @@ pub fn full_drum(global: Global) -> Option<Drum> {
     Some(drum)
 }
 
-/// The fault of 100,000 lines after which one is bad.
-fn many_lines(global: Global) -> Option<ExaminedFault> {
-    let text = text_of(global, &[(b"0000:\t00000000\n", 100_000)])?;
-    fault_of(global, text.as_slice())
+/// Whether of 100,000 lines the second is out of order.
+fn is_second_refused(global: Global) -> bool {
+    match text_of(global, &[(b"0000:\t00000000\n", 100_000)]) {
+        Some(text) => has_fault(global, &text, ExaminedFault::Order(2)),
+        None => false,
+    }
 }
 
 #[test]
 fn a_long_text_is_refused_at_its_second_line(rt: HostRuntime) {
-    expect_eq(&rt, many_lines(rt.alloc()), Some(ExaminedFault::Order(2)));
+    expect_eq(&rt, is_second_refused(rt.alloc()), true);
 }

@@ -4,19 +4,27 @@ use super::tapes::codes_of;
 use super::*;
 use crate::text_of;
 
+/// The paper of the codes of these numbers.
+fn paper(global: Global, numbers: &[u8]) -> Option<Vec<u8>> {
+    match codes_of(global, numbers) {
+        Some(codes) => paper_of(global, &codes).ok(),
+        None => None,
+    }
+}
+
 /// Whether the codes of these numbers are shown as this text.
 fn is_shown_as(global: Global, numbers: &[u8], text: &[u8]) -> bool {
-    let Some(codes) = codes_of(global, numbers) else {
-        return false;
-    };
-    match paper_of(global, codes.as_slice()) {
-        Ok(shown) => shown.as_slice() == text,
-        Err(_) => false,
+    match paper(global, numbers) {
+        Some(shown) => shown.as_slice() == text,
+        None => false,
     }
 }
 
 /// Numbers of codes, and the text of the paper.
-static PAPERS: [(&[u8], &[u8]); 24] = [
+type Row = (&'static [u8], &'static [u8]);
+
+/// Signs, cases, ends of lines, and codes that print nothing.
+static SIGNS: [Row; 11] = [
     (&[], b""),
     (&[57, 5, 53], b"abc"),
     (&[57, 16, 5, 16], b"a\nb\n"),
@@ -28,6 +36,10 @@ static PAPERS: [(&[u8], &[u8]); 24] = [
     (&[8, 7, 11, 15, 19, 23, 27], b"_=:?]["),
     (&[0, 57, 12, 63, 5], b"ab"),
     (&[28, 36, 8, 60, 4, 43], b"[28][36][60][43]"),
+];
+
+/// Tabs and backspaces.
+static MOVES: [Row; 13] = [
     (&[24, 57], b"        a"),
     (&[57, 24, 5], b"a       b"),
     (
@@ -47,9 +59,9 @@ static PAPERS: [(&[u8], &[u8]); 24] = [
 ];
 
 /// The place of the first codes that are shown otherwise, or how many rows there are.
-fn first_shown_otherwise(global: Global) -> usize {
+fn first_shown_otherwise(global: Global, rows: &[Row]) -> usize {
     let mut place = 0usize;
-    for (numbers, text) in &PAPERS {
+    for (numbers, text) in rows {
         if !is_shown_as(global, numbers, text) {
             return place;
         }
@@ -59,30 +71,51 @@ fn first_shown_otherwise(global: Global) -> usize {
 }
 
 #[test]
-fn codes_are_shown(rt: HostRuntime) {
-    expect_eq(&rt, first_shown_otherwise(rt.alloc()), PAPERS.len());
+fn signs_are_shown(rt: HostRuntime) {
+    expect_eq(&rt, first_shown_otherwise(rt.alloc(), &SIGNS), 11);
 }
 
-/// Whether the paper of codes comes after what a text had.
-fn is_appended(global: Global) -> Option<bool> {
-    let codes = codes_of(global, &[24, 57, 16])?;
-    let mut text = text_of(global, &[(b"first\n", 1)])?;
-    let is_done = push_paper(global, &mut text, codes.as_slice()).is_ok();
-    Some(is_done && text.as_slice() == b"first\n        a\n".as_slice())
+#[test]
+fn moves_of_the_carriage_are_shown(rt: HostRuntime) {
+    expect_eq(&rt, first_shown_otherwise(rt.alloc(), &MOVES), 13);
+}
+
+/// Whether the paper of codes comes after what a text had, which then is this one.
+fn comes_after(global: Global, codes: &[Code], text: &mut Vec<u8>, wanted: &[u8]) -> bool {
+    push_paper(global, text, codes).is_ok() && text.as_slice() == wanted
+}
+
+/// The same of a tab, a sign and a carriage return.
+fn is_appended(global: Global) -> bool {
+    match (
+        codes_of(global, &[24, 57, 16]),
+        text_of(global, &[(b"first\n", 1)]),
+    ) {
+        (Some(codes), Some(mut text)) => {
+            comes_after(global, &codes, &mut text, b"first\n        a\n")
+        }
+        _ => false,
+    }
 }
 
 #[test]
 fn paper_comes_after_the_text(rt: HostRuntime) {
-    expect_eq(&rt, is_appended(rt.alloc()), Some(true));
+    expect_eq(&rt, is_appended(rt.alloc()), true);
 }
 
-/// How long the paper is of codes, each of which comes a given number of times.
+/// How long the paper is of the codes of these numbers.
+fn paper_length(global: Global, numbers: &[u8]) -> Option<usize> {
+    match paper(global, numbers) {
+        Some(text) => Some(text.len()),
+        None => None,
+    }
+}
+
+/// The same of codes each of which comes a given number of times.
 fn length_of(global: Global, pieces: &[(&[u8], u32)]) -> Option<usize> {
-    let numbers = text_of(global, pieces)?;
-    let codes = codes_of(global, numbers.as_slice())?;
-    match paper_of(global, codes.as_slice()) {
-        Ok(text) => Some(text.len()),
-        Err(_) => None,
+    match text_of(global, pieces) {
+        Some(numbers) => paper_length(global, &numbers),
+        None => None,
     }
 }
 

@@ -1,6 +1,7 @@
 //! Tapes as texts of archives and as bytes.
 
 use super::*;
+use crate::growths::{Form, is_tape_of_bytes, is_written};
 use crate::text_of;
 
 /// The bytes that stand for codes by themselves, by the number of the code.
@@ -76,12 +77,9 @@ pub fn codes_of(global: Global, numbers: &[u8]) -> Option<Vec<Code>> {
 
 /// Whether the codes of these numbers are written as this text.
 fn is_written_as(global: Global, numbers: &[u8], text: &[u8]) -> bool {
-    let Some(codes) = codes_of(global, numbers) else {
-        return false;
-    };
-    match write_archive_text(global, codes.as_slice()) {
-        Ok(written) => written.as_slice() == text,
-        Err(_) => false,
+    match codes_of(global, numbers) {
+        Some(codes) => is_written(global, Form::Archive(&codes), text) == Some(true),
+        None => false,
     }
 }
 
@@ -150,11 +148,11 @@ fn are_counted(codes: &mut Vec<Code>, count: usize) -> bool {
     true
 }
 
-/// How long the text of a tape is, and whether the tape is read back from it.
-fn text_length(global: Global, codes: &[Code]) -> Option<(usize, bool)> {
+/// Whether the text of a tape is this long, and the tape is read back from it.
+fn is_text(global: Global, codes: &[Code], length: usize) -> [bool; 2] {
     match write_archive_text(global, codes) {
-        Ok(text) => Some((text.len(), is_tape(global, text.as_slice(), codes))),
-        Err(_) => None,
+        Ok(text) => [text.len() == length, is_tape(global, &text, codes)],
+        Err(_) => [false; 2],
     }
 }
 
@@ -167,43 +165,41 @@ fn is_tape(global: Global, text: &[u8], codes: &[Code]) -> bool {
 }
 
 /// The same of a tape of this many codes, one after another each from 0 to 63.
-fn read_back(global: Global, count: usize) -> Option<(usize, bool)> {
-    let codes = counted(global, count)?;
-    text_length(global, codes.as_slice())
+fn is_read_back(global: Global, count: usize, length: usize) -> [bool; 2] {
+    match counted(global, count) {
+        Some(codes) => is_text(global, &codes, length),
+        None => [false; 2],
+    }
 }
 
 #[test]
 fn the_longest_tape_is_written_and_read(rt: HostRuntime) {
-    let found = [read_back(rt.alloc(), 64), read_back(rt.alloc(), TAPE_LIMIT)];
     let longest = TAPE_LIMIT / 64 * 100;
-    expect_eq(&rt, found, [Some((100, true)), Some((longest, true))]);
+    let found = [
+        is_read_back(rt.alloc(), 64, 100),
+        is_read_back(rt.alloc(), TAPE_LIMIT, longest),
+    ];
+    expect_eq(&rt, found, [[true; 2]; 2]);
 }
 
-/// How many bytes a tape has and the last one, and whether the tape is read back from them.
-type Bytes = (usize, Option<u8>, bool);
-
-fn as_bytes(global: Global, codes: &[Code]) -> Option<Bytes> {
+/// Whether a tape has this many bytes, the last of them is 63, and the tape is read back from them.
+fn are_bytes(global: Global, codes: &[Code], count: usize) -> [bool; 3] {
     match tape_bytes(global, codes) {
-        Ok(bytes) => {
-            let is_same = is_tape_of_bytes(global, bytes.as_slice(), codes);
-            Some((bytes.len(), bytes.last().copied(), is_same))
-        }
-        Err(_) => None,
-    }
-}
-
-/// Whether bytes are read as this tape.
-fn is_tape_of_bytes(global: Global, bytes: &[u8], codes: &[Code]) -> bool {
-    match read_tape_bytes(global, bytes) {
-        Ok(read) => read.as_slice() == codes,
-        Err(_) => false,
+        Ok(bytes) => [
+            bytes.len() == count,
+            bytes.ends_with(&[63]),
+            is_tape_of_bytes(global, &bytes, codes) == Some(true),
+        ],
+        Err(_) => [false; 3],
     }
 }
 
 /// The same of a tape of this many codes.
-fn counted_as_bytes(global: Global, count: usize) -> Option<Bytes> {
-    let codes = counted(global, count)?;
-    as_bytes(global, codes.as_slice())
+fn counted_as_bytes(global: Global, count: usize) -> [bool; 3] {
+    match counted(global, count) {
+        Some(codes) => are_bytes(global, &codes, count),
+        None => [false; 3],
+    }
 }
 
 #[test]
@@ -212,39 +208,52 @@ fn tapes_are_bytes(rt: HostRuntime) {
         counted_as_bytes(rt.alloc(), 64),
         counted_as_bytes(rt.alloc(), TAPE_LIMIT),
     ];
-    let wanted = [
-        Some((64, Some(63), true)),
-        Some((TAPE_LIMIT, Some(63), true)),
-    ];
-    expect_eq(&rt, found, wanted);
+    expect_eq(&rt, found, [[true; 3]; 2]);
 }
 
-/// How bytes are read: how many codes there are, or the place of the first bad byte, or else `Err(None)`.
-fn reading(global: Global, bytes: &[u8]) -> Result<usize, Option<usize>> {
+/// How many codes bytes have, and the place of the first bad byte; neither is where they are refused otherwise.
+type Reading = [Option<usize>; 2];
+
+fn reading(global: Global, bytes: &[u8]) -> Reading {
     match read_tape_bytes(global, bytes) {
-        Ok(codes) => Ok(codes.len()),
-        Err(BytesFault::NoCode(place)) => Err(Some(place)),
-        Err(_) => Err(None),
+        Ok(codes) => [Some(codes.len()), None],
+        Err(BytesFault::NoCode(place)) => [None, Some(place)],
+        Err(_) => [None; 2],
     }
+}
+
+/// Bytes, and how they are read.
+static READINGS: [(&[u8], Reading); 5] = [
+    (b"", [Some(0), None]),
+    (&[0, 63], [Some(2), None]),
+    (&[0, 64, 255], [None, Some(1)]),
+    (&[255], [None, Some(0)]),
+    (&[1, 2, 3, 128], [None, Some(3)]),
+];
+
+/// The place of the first bytes that are read otherwise, or how many there are.
+fn first_read_otherwise(global: Global) -> usize {
+    let mut place = 0usize;
+    for (bytes, wanted) in &READINGS {
+        if reading(global, bytes) != *wanted {
+            return place;
+        }
+        place = place.saturating_add(1);
+    }
+    place
 }
 
 #[test]
 fn bytes_above_63_are_refused(rt: HostRuntime) {
-    let found = [
-        reading(rt.alloc(), b""),
-        reading(rt.alloc(), &[0, 63]),
-        reading(rt.alloc(), &[0, 64, 255]),
-        reading(rt.alloc(), &[255]),
-        reading(rt.alloc(), &[1, 2, 3, 128]),
-    ];
-    let wanted = [Ok(0), Ok(2), Err(Some(1)), Err(Some(0)), Err(Some(3))];
-    expect_eq(&rt, found, wanted);
+    expect_eq(&rt, first_read_otherwise(rt.alloc()), 5);
 }
 
-/// How many codes there are of this many bytes of 5 and then one more byte.
-fn long(global: Global, count: u32, last: u8) -> Option<Result<usize, Option<usize>>> {
-    let bytes = text_of(global, &[(&[5], count), (&[last], 1)])?;
-    Some(reading(global, bytes.as_slice()))
+/// How this many bytes of 5 and then one more byte are read; `None` without memory.
+fn long(global: Global, count: u32, last: u8) -> Option<Reading> {
+    match text_of(global, &[(&[5], count), (&[last], 1)]) {
+        Some(bytes) => Some(reading(global, &bytes)),
+        None => None,
+    }
 }
 
 #[test]
@@ -256,9 +265,9 @@ fn one_byte_too_many_is_refused(rt: HostRuntime) {
         long(rt.alloc(), limit, 64),
     ];
     let wanted = [
-        Some(Ok(TAPE_LIMIT)),
-        Some(Err(None)),
-        Some(Err(Some(TAPE_LIMIT))),
+        Some([Some(TAPE_LIMIT), None]),
+        Some([None, None]),
+        Some([None, Some(TAPE_LIMIT)]),
     ];
     expect_eq(&rt, found, wanted);
 }

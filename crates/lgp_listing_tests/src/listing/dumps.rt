@@ -2,32 +2,28 @@
 
 use super::*;
 use crate::exchange::drums::drum_of;
-use crate::growths::same_words;
+use crate::growths::{Form, is_dumped_drum, is_written};
 use crate::text_of;
 
 /// The number of an address, and the bits of its word.
 type Cell = (u16, u32);
 
 /// Whether a drum has this dump.
-fn has_dump<A: Allocator + Copy>(alloc: A, drum: &Drum, wanted: &[u8]) -> bool {
-    match dump(alloc, drum) {
-        Ok(text) => text.as_slice() == wanted,
-        Err(_) => false,
-    }
+fn has_dump(alloc: Global, drum: &Drum, wanted: &[u8]) -> bool {
+    is_written(alloc, Form::Dump(drum), wanted) == Some(true)
 }
 
 /// Whether a text is the dump of a drum.
 fn reads_as(alloc: Global, text: &[u8], wanted: &Drum) -> bool {
-    match read_dump(alloc, text) {
-        Ok(drum) => same_words(&drum, wanted),
-        Err(_) => false,
-    }
+    is_dumped_drum(alloc, text, wanted) == Some(true)
 }
 
 /// Whether a drum of these words has this dump, and whether the dump is read as them.
-fn is_dumped(alloc: Global, cells: &[Cell], text: &[u8]) -> Option<(bool, bool)> {
-    let drum = drum_of(alloc, cells)?;
-    Some((has_dump(alloc, &drum, text), reads_as(alloc, text, &drum)))
+fn is_dumped(alloc: Global, cells: &[Cell], text: &[u8]) -> [bool; 2] {
+    match drum_of(alloc, cells) {
+        Some(drum) => [has_dump(alloc, &drum, text), reads_as(alloc, text, &drum)],
+        None => [false; 2],
+    }
 }
 
 /// The dump of the words 4 at 0100 and 80000000 at 6363.
@@ -42,7 +38,7 @@ fn dumps_are_read_back(rt: HostRuntime) {
         is_dumped(rt.alloc(), &CELLS, DUMP),
         is_dumped(rt.alloc(), &[(0, 0)], b""),
     ];
-    expect_eq(&rt, found, [Some((true, true)); 2]);
+    expect_eq(&rt, found, [[true; 2]; 2]);
 }
 
 /// A drum that is lent word by word.
@@ -59,43 +55,55 @@ impl DrumWords for Lent<'_> {
     }
 }
 
-/// How many lines the dump of a lent drum has that is appended to a text; `None` without memory.
-fn lines_of(text: &mut Vec<u8>, drum: &Drum) -> Option<u64> {
-    push_dump(text, &Lent { drum }).ok()
+/// How many lines the dump of a lent drum has that is appended to a text, and whether the text then is this one; `None` without memory.
+fn appended(text: &mut Vec<u8>, drum: &Drum, wanted: &[u8]) -> Option<(u64, bool)> {
+    match push_dump(text, &Lent { drum }) {
+        Ok(lines) => Some((lines, text.as_slice() == wanted)),
+        Err(_) => None,
+    }
 }
 
-/// The same of a drum with these words, and whether it comes after what was there.
-fn appended(alloc: Global, cells: &[Cell], wanted: &[u8]) -> Option<(Option<u64>, bool)> {
-    let drum = drum_of(alloc, cells)?;
-    let mut text = text_of(alloc, &[(b"dump\n", 1)])?;
-    let lines = lines_of(&mut text, &drum);
-    Some((lines, text.as_slice() == wanted))
+/// The same of a drum with these words, and of a text that has a line.
+fn appended_to_a_line(alloc: Global, cells: &[Cell], wanted: &[u8]) -> Option<(u64, bool)> {
+    match (drum_of(alloc, cells), text_of(alloc, &[(b"dump\n", 1)])) {
+        (Some(drum), Some(mut text)) => appended(&mut text, &drum, wanted),
+        _ => None,
+    }
 }
 
 #[test]
 fn the_dump_of_a_lent_drum_is_appended(rt: HostRuntime) {
     let wanted = b"dump\n0100 00000004\n6363 80000000\n";
-    let found = appended(rt.alloc(), &CELLS, wanted);
-    expect_eq(&rt, found, Some((Some(2), true)));
+    let found = appended_to_a_line(rt.alloc(), &CELLS, wanted);
+    expect_eq(&rt, found, Some((2, true)));
 }
 
-/// Whether the line of the address of a number and of a word is this; `None` where they are no address and no word.
-fn has_line(alloc: Global, cell: Cell, wanted: &[u8]) -> Option<bool> {
-    let (address, word) = (Address::new(cell.0)?, Word::new(cell.1)?);
+/// Whether the line of an address and of a word is this.
+fn has_line(alloc: Global, (address, word): (Address, Word), wanted: &[u8]) -> bool {
     let mut text = Vec::new(alloc);
-    let is_done = push_cell_line(&mut text, address, word).is_ok();
-    Some(is_done && text.as_slice() == wanted)
+    push_cell_line(&mut text, address, word).is_ok() && text.as_slice() == wanted
+}
+
+/// The same of the address of a number and the word of these bits.
+fn has_line_of(alloc: Global, cell: Cell, wanted: &[u8]) -> bool {
+    match (Address::new(cell.0), Word::new(cell.1)) {
+        (Some(address), Some(word)) => has_line(alloc, (address, word), wanted),
+        _ => false,
+    }
 }
 
 #[test]
 fn a_word_of_zeros_has_a_line_of_its_own(rt: HostRuntime) {
-    let found = has_line(rt.alloc(), (64, 0), b"0100 00000000\n");
-    expect_eq(&rt, found, Some(true));
+    let found = has_line_of(rt.alloc(), (64, 0), b"0100 00000000\n");
+    expect_eq(&rt, found, true);
 }
 
-/// Why a text is no dump.
-fn fault_of<A: Allocator + Copy>(alloc: A, text: &[u8]) -> Option<DumpFault> {
-    read_dump(alloc, text).err()
+/// Whether a text is no dump for this reason.
+fn has_fault<A: Allocator + Copy>(alloc: A, text: &[u8], wanted: DumpFault) -> bool {
+    match read_dump(alloc, text) {
+        Ok(_) => false,
+        Err(fault) => fault == wanted,
+    }
 }
 
 pub static NO_DUMPS: &[(&[u8], DumpFault)] = &[
@@ -115,7 +123,7 @@ pub static NO_DUMPS: &[(&[u8], DumpFault)] = &[
 pub fn first_other_fault<A: Allocator + Copy>(alloc: A) -> usize {
     let mut place = 0usize;
     for (text, wanted) in NO_DUMPS {
-        if fault_of(alloc, text) != Some(*wanted) {
+        if !has_fault(alloc, text, *wanted) {
             return place;
         }
         place = place.saturating_add(1);
