@@ -21,3 +21,6 @@ returns-clause-reads_back g c =
     let all : take c.loop-code.code-index c.args.codes.now ≡ c.args.codes.now = take_all c.loop-code.code-index c.args.codes.now c.loop-code-test.false in
     ap codes_of_archive (c.loop-code.invariant.written ∙ ap archived_tape all)
     ∙ archive_reads_back c.args.codes.now (subst (All IsCode) all c.loop-code.invariant.codes)
+
+pub returns-clause-written : goal.returns-clause-written
+returns-clause-written g c = grind (arith, common_steps)

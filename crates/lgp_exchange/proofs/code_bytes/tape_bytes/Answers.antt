@@ -10,3 +10,9 @@ loop-code-preserved g c = record {
   codes = All-more IsCode c.args.codes.now c.loop-code.code-index c.code-item.result c.loop-code-test.true c.loop-code.invariant.codes
       (subst IsCode c.code-item.is (search rules));
 }
+
+pub returns-clause-bytes : goal.returns-clause-bytes
+returns-clause-bytes g c = grind (arith, common_steps)
+
+pub returns-clause-codes : goal.returns-clause-codes
+returns-clause-codes g c = grind (arith, common_steps)

@@ -1,4 +1,5 @@
 use Rattle.std.proofs.Common.{◌≡◌, ◌<◌, ◌++◌, ◌∙◌, rules, ap, sym, subst, arith, drop, length, get_or, ◌+◌, refl}
+use Rattle.std.proofs.lemmas.Grind.{common_steps}
 use Rattle.std.proofs.lemmas.List.{append_assoc, drop_more, take_all}
 use Rattle.std.proofs.lemmas.List.Elements.{All-more}
 use Rattle.std.specs.List.{All}
@@ -39,3 +40,6 @@ returns-clause-drum g c =
       size = size;
       words_are = subst (All IsWord) (take_all c.loop-number.number (g.W.DrumWords.words c.args.words.now) (omega arith)) c.loop-number.invariant.words;
     }
+
+pub returns-clause-text : goal.returns-clause-text
+returns-clause-text g c = grind (arith, common_steps)

@@ -1,4 +1,5 @@
-use Rattle.std.proofs.Common.{◌≡◌, Err, length, rules}
+use Rattle.std.proofs.Common.{◌≡◌, Err, length, rules, arith}
+use Rattle.std.proofs.lemmas.Grind.{common_steps}
 use Rattle.lgp_script.specs.Files.{heading}
 use Rattle.lgp_script.specs.Script.{script_language}
 use Rattle.lgp_script.specs.LabState.{opening_state}
@@ -28,3 +29,6 @@ returns-clause-stands g c =
     let same : c.after_bytes.result ≡ fault_after (length (heading c.args.name.now)) c.in-Err.fault = search rules in
     rw same (StandsWritten-part script_language opening_state c.in-Err.fault (heading c.args.name.now) read (g.R.Feed.remaining c.run_script.new.reader)
     (g.W.Sink.contents c.args.writer.now) (g.W.Sink.contents c.write_whole.new.writer) (g.W.Sink.contents c.run_script.new.writer) written c.in-Err.ensures.stands)
+
+pub returns-in-Ok-run_script-clause-text : goal.returns-in-Ok-run_script-clause-text
+returns-in-Ok-run_script-clause-text g c = grind (arith, common_steps)

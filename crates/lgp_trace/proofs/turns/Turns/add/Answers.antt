@@ -1,5 +1,7 @@
+use Rattle.lgp_trace.proofs.Sums.{sums}
 -- One turn more in the counts of a row is one more of its word.
 use Rattle.std.proofs.Common.{◌≡◌, ◌∙◌, ◌*◌, ℕ, List, ap, arith, length, rules, slice_index, sym}
+use Rattle.std.proofs.lemmas.Grind.{common_steps}
 use Rattle.std.specs.Vec.{with_items}
 use Rattle.std.proofs.lemmas.List.{with_items_is}
 use Rattle.lgp_trace.specs.OptimumKept.{Turned}
@@ -15,3 +17,12 @@ returns-clause-turns g c = λ other sector below on_track.
     let whole : (with_items c.self.inside.counts c.add_turns.new.counts).items ≡ c.add_turns.new.counts = with_items_is c.self.inside.counts _ (omega (arith, c.add_turns.ensures.length, c.deref_mut.ensures.len, ap length c.deref_mut.ensures.value)) in
     rw (whole, old_rows, old_counts) (word_turns c.self.inside.rows.items c.self.inside.counts.items c.add_turns.new.counts c.args.word (is_late c.args.room c.args.begun)
     c.self.invariant (search rules) (search rules) (rw (sym first, sym c.deref_mut.ensures.value) c.add_turns.ensures.turns) other sector below on_track)
+
+pub invariant_of-self : goal.invariant_of-self
+invariant_of-self g c = grind (arith, common_steps, sums)
+
+pub returns-clause-length : goal.returns-clause-length
+returns-clause-length g c = grind (arith, common_steps, sums)
+
+pub returns-clause-one : goal.returns-clause-one
+returns-clause-one g c = grind (arith, common_steps, sums)
