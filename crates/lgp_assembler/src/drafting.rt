@@ -37,7 +37,11 @@ pub struct Draft<A: Allocator> {
 // Written out: a derived drop is copied to each place where one is dropped.
 impl<A: Allocator> Drop for Draft<A> {
     fn drop(self) {
-        let Draft { taken: _, faults: _, parts: _ } = self;
+        let Draft {
+            taken: _,
+            faults: _,
+            parts: _,
+        } = self;
     }
 }
 

@@ -64,7 +64,11 @@ pub struct Parts<A: Allocator> {
 // Written out: a derived drop is copied to each place where one is dropped.
 impl<A: Allocator> Drop for Parts<A> {
     fn drop(self) {
-        let Parts { cells: _, start: _, symbols: _ } = self;
+        let Parts {
+            cells: _,
+            start: _,
+            symbols: _,
+        } = self;
     }
 }
 

@@ -32,7 +32,10 @@ pub struct Session<A: Allocator + Copy> {
 // Written out: a derived drop is copied to each place where one is dropped.
 impl<A: Allocator + Copy> Drop for Session<A> {
     fn drop(self) {
-        let Session { monitor: _, reply: _ } = self;
+        let Session {
+            monitor: _,
+            reply: _,
+        } = self;
     }
 }
 

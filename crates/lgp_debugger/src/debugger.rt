@@ -65,7 +65,11 @@ pub struct Debugger<H: History<A>, A: Allocator = Global> {
 // Written out: a derived drop is copied to each place where one is dropped.
 impl<H: History<A>, A: Allocator> Drop for Debugger<H, A> {
     fn drop(self) {
-        let Debugger { machine: _, history: _, rules: _ } = self;
+        let Debugger {
+            machine: _,
+            history: _,
+            rules: _,
+        } = self;
     }
 }
 

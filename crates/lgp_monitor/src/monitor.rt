@@ -43,7 +43,11 @@ pub struct Monitor<L, A: Allocator, P: Progress = Silence> {
 // Written out: a derived drop is copied to each place where one is dropped.
 impl<L: Drop, A: Allocator, P: Progress> Drop for Monitor<L, A, P> {
     fn drop(self) {
-        let Monitor { alloc: _, recorder: _, progress: _ } = self;
+        let Monitor {
+            alloc: _,
+            recorder: _,
+            progress: _,
+        } = self;
     }
 }
 

@@ -65,7 +65,12 @@ pub struct Laboratory<A: Allocator + Clone> {
 // Written out: a derived drop is copied to each place where one is dropped.
 impl<A: Allocator + Clone> Drop for Laboratory<A> {
     fn drop(self) {
-        let Laboratory { alloc: _, debugger: _, program: _, opened: _ } = self;
+        let Laboratory {
+            alloc: _,
+            debugger: _,
+            program: _,
+            opened: _,
+        } = self;
     }
 }
 

@@ -19,7 +19,10 @@ pub struct Program<A: Allocator> {
 // Written out: a derived drop is copied to each place where one is dropped.
 impl<A: Allocator> Drop for Program<A> {
     fn drop(self) {
-        let Program { source: _, image: _ } = self;
+        let Program {
+            source: _,
+            image: _,
+        } = self;
     }
 }
 

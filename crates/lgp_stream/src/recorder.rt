@@ -20,7 +20,10 @@ pub struct Recorder<L, A: Allocator> {
 // Written out: a derived drop is copied to each place where one is dropped.
 impl<L: Drop, A: Allocator> Drop for Recorder<L, A> {
     fn drop(self) {
-        let Recorder { answers: _, transcript: _ } = self;
+        let Recorder {
+            answers: _,
+            transcript: _,
+        } = self;
     }
 }
 

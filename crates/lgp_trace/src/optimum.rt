@@ -53,7 +53,12 @@ pub struct Optimum<A: Allocator = Global> {
 // Written out: a derived drop is copied to each place where one is dropped.
 impl<A: Allocator> Drop for Optimum<A> {
     fn drop(self) {
-        let Optimum { took: _, turns: _, last: _, uses: _ } = self;
+        let Optimum {
+            took: _,
+            turns: _,
+            last: _,
+            uses: _,
+        } = self;
     }
 }
 
