@@ -242,7 +242,7 @@ fn is_filled<A: Allocator + Copy, H: History<A>>(
 }
 
 /// Looks for the latest order that begins at 0005 or changes the word at 0136, with each growth refused in turn. Whether that is the
-/// order that is so many back, by the second rule, and whether there was a growth where `grows`.
+/// order a given number back, by the second rule, and whether there was a growth where `grows`.
 fn is_found<A: Allocator, H: History<A>>(
     limited: &Limited<Global>,
     session: &Session<A, H>,

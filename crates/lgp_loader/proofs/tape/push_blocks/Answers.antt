@@ -1,4 +1,5 @@
-use Rattle.std.proofs.Common.{rules, ◌+◌, drop, slice_index_or}
+use Rattle.std.proofs.Common.{rules, ◌+◌, drop, slice_index_or, arith}
+use Rattle.std.proofs.lemmas.Grind.{common_steps}
 use Rattle.lgp_loader.proofs.Cuts.{count_dropped, one_piece_more}
 use Rattle.lgp_loader.proofs.tape.push_blocks.Goals as goal
 
@@ -11,3 +12,12 @@ loop-count-preserved g c =
     c.split_at.result.0.now c.split_at.result.1.now c.loop-count.codes.items c.push_block.new.codes.items _
     (count_dropped counts place (search rules)) all is (search rules) (search rules) (search rules) (search rules) in
     (codes, cuts, search rules)
+
+pub split_at-requires : goal.split_at-requires
+split_at-requires g c = grind (arith, common_steps)
+
+pub push_block-requires-clause-some : goal.push_block-requires-clause-some
+push_block-requires-clause-some g c = grind (arith, common_steps)
+
+pub returns : goal.returns
+returns g c = grind (arith, common_steps)
