@@ -1,10 +1,16 @@
-//! The tests of the machine and its parts, over their public calls.
+//! The tests of the machine, of loading, of histories and of the debugger, over their public calls.
 #![tactic(auto)]
 
 #[cfg(test)]
 mod console;
 #[cfg(test)]
+mod debugger;
+#[cfg(test)]
+mod history;
+#[cfg(test)]
 mod keyin;
+#[cfg(test)]
+mod loader;
 #[cfg(test)]
 mod machine;
 #[cfg(test)]
