@@ -1,6 +1,5 @@
-# What ./lgp_lab, ./lgp_monitor, ./prove, ./try_tests and .ci/run share: which crates a program stands on, whether what is built is the
-# proved program of today's sources, and how a program is run by the proved module or without its proofs. It is read by them and not
-# run by itself.
+# What the scripts of the repository share: which crates a program uses, whether what is built is the proved program of today's sources, and
+# how a program is run by the proved module or without its proofs. Scripts read it; it is not run by itself.
 # They set `top`, the repository's folder, and `caller`, the name in front of each line on standard error.
 
 # The status of a launcher that could not run the program, or whose run was cut off.
@@ -16,6 +15,16 @@ say() {
 give_up() {
     say "$*"
     exit $UNABLE
+}
+
+# Where the words of a script ask for help: writes the comment at the script's head, and ends.
+help_where_asked() {
+    case ${1-} in
+        --help | -h)
+            sed -n '2,/^[^#]/s/^# \{0,1\}//p' "$0"
+            exit 0
+            ;;
+    esac
 }
 
 # Where the proved program lies, and beside it the line of the toolchain that proved it.
@@ -106,11 +115,38 @@ mark_module() {
     module_sources >"$(module_path).sources"
 }
 
-# Runs a program over the module, and ends with its status; returns where that hands the command line back.
+# Hands this call over to the program by the module. That takes the place of the shell, so that signals and keys reach it. Returns where the
+# module does not do what the words ask for, which node is asked before.
 run_module() {
-    local status=0
-    node "$top/page/module/terminal.mjs" "$caller" "$@" || status=$?
-    [ "$status" -eq "$HANDED_BACK" ] || exit "$status"
+    local terminal=$top/page/module/terminal.mjs status=0
+    if [ $# -gt 0 ]; then
+        ! write_recorded "$@" || exit 0
+        node "$terminal" --takes "$caller" "$@" </dev/null || status=$?
+        [ "$status" -ne "$HANDED_BACK" ] || return 0
+    fi
+    exec node "$terminal" "$caller" "$@"
+}
+
+# Writes what the program writes for words that ask for its help or its version, as .ci/calls keeps it; fails for all other words.
+write_recorded() {
+    case ${!#} in --help | -h | --version) ;; *) return 1 ;; esac
+    awk -v call="\$ $caller $* </dev/null" '
+        /^\$ / { is_it = ($0 == call); next }
+        is_it && sub(/^> /, "") { print; found = 1 }
+        END { exit !found }
+    ' "$top/.ci/calls.expected" 2>/dev/null
+}
+
+# Gives up where there is no toolchain either, in a line that names both ways out.
+need_way() {
+    ! command -v rt >/dev/null 2>&1 || return 0
+    [ $# -eq 0 ] || ! write_recorded "$@" || exit 0
+    if ! has_node; then
+        give_up "this needs node, 18 or later, which runs the proved module, or the Rattle toolchain, by which ./prove makes the program: neither is here"
+    elif has_module; then
+        give_up "the proved module does not do what these words ask for: this needs the Rattle toolchain, by which ./prove makes the program"
+    fi
+    give_up "the proved module is not that of these sources, so node does not run it: this needs the Rattle toolchain, by which ./prove makes the program"
 }
 
 # How a program is run: as the proved program, else by the module, else without its proofs. For tests CONDUGWA_RUN names one of these.

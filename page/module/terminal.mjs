@@ -1,9 +1,11 @@
 // The programs lgp_lab and lgp_monitor over the proved module, for ./lgp_lab and ./lgp_monitor where the native programs are not made.
 //
 //     node terminal.mjs lgp_lab|lgp_monitor WORDS..
+//     node terminal.mjs --takes lgp_lab|lgp_monitor WORDS..
 //
-// A command line that is not done here is handed back: nothing is read or written, and the status is HANDED_BACK.
-import { openSync, readFileSync } from "node:fs";
+// A command line that is not done here is handed back: nothing is read or written, and the status is HANDED_BACK. With --takes nothing is done,
+// and the status alone says whether it would be.
+import { openSync, readFileSync, statSync } from "node:fs";
 import { createInterface } from "node:readline";
 import { isatty } from "node:tty";
 import { Desk } from "./desk.mjs";
@@ -79,11 +81,14 @@ function batch(names) {
     return worst;
 }
 
-/** The source in a file, where a script can hold it. */
+/** The source in a file, where a script can hold it. A pipe, which can be read once, is not read to see whether it is taken. */
 function sourceIn(name) {
+    const isPipe = !statSync(name).isFile();
+    if (isAsked && isPipe) return "";
     const source = textFrom(readAll(openSync(name, "r")));
-    if (source.length > SOURCE || hasLine(source, ".") || source.split("\n").some(isLonger)) throw new HandedBack();
-    return source;
+    if (source.length <= SOURCE && !hasLine(source, ".") && !source.split("\n").some(isLonger)) return source;
+    if (isPipe) tell(`${program}: the module does not take this source from a pipe: write it to a file`);
+    throw new HandedBack();
 }
 
 /** Writes the faults of a source, or what a function takes of the replies to lines after it; the status. */
@@ -221,16 +226,19 @@ async function monitor({ names, manner }) {
     return desk.isRefused ? QUESTIONS : WELL;
 }
 
-const [program, ...words] = process.argv.slice(2);
+const isAsked = process.argv[2] === "--takes";
+const [program, ...words] = process.argv.slice(isAsked ? 3 : 2);
 
 async function status() {
     try {
         if (program === "lgp_monitor") {
             const sitting = sittingOf(words);
+            if (isAsked) return WELL;
             tellWay("./prove lgp30m");
             return await monitor(sitting);
         }
         const task = taskOf(words);
+        if (isAsked) return WELL;
         tellWay("./prove");
         return task();
     } catch (failure) {

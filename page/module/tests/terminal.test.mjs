@@ -106,6 +106,16 @@ inFolder("what is not done here is handed back, and nothing is said or read", { 
     const lines = [["tape", "point"], ["--help"], ["--version"], ["asm"], ["asm", "point"], ["asm", "wide"], ["run", "point", "4294967296"], ["script", "a", "b"], ["jump"], ["batch"], ["script", ""]];
     for (const words of lines) assert.deepEqual([words, lab(words, "panel\n", here)], [words, { text: "", told: "", status: HANDED_BACK }]);
     for (const words of [["--help"], ["-V"], ["--echo", "--echo"], ["--none"]]) assert.equal(monitor(words, "panel\n", here).status, HANDED_BACK);
+    const asked = (words) => ran("--takes", ["lgp_lab", ...words], "panel\n", here);
+    for (const words of lines) assert.deepEqual([words, asked(words)], [words, { text: "", told: "", status: HANDED_BACK }]);
+});
+
+inFolder("whether words are taken is answered before anything is done", { good: " z\n end\n" }, (here) => {
+    const asked = (...words) => ran("--takes", words, "panel\n", here);
+    for (const words of [["lgp_lab"], ["lgp_lab", "asm", "good"], ["lgp_lab", "script", "good"], ["lgp_monitor", "--json", "good"]])
+        assert.deepEqual([words, asked(...words)], [words, { text: "", told: "", status: 0 }]);
+    const listed = spawnSync("bash", ["-c", `cat | { node ${program} --takes lgp_lab asm "$0" && node ${program} lgp_lab asm "$0"; }`, "/dev/stdin"], { input: " z\n end\n" });
+    assert.equal(listed.stdout.toString(), lab(["asm", "good"], "", here).text);
 });
 
 test("a reply comes before the next line is read", async () => {
