@@ -1,6 +1,6 @@
 // Calls of the proved module: a session, which answers one line of the monitor after another, and whole scripts.
 //
-// The module is crates/lgp_c_region, linked for wasm64 and lowered to a memory of 32 bits; c/lgp30_region.h says what its functions ask for.
+// The module is crates/lgp_c_region, linked for wasm64 and lowered to a memory of 32 bits; c/lgp30.h says what its functions ask for.
 // They take addresses and lengths as BigInts. Its memory is laid out here after what the module itself uses:
 //
 //     session | outcome | memory to hand over | text | region, handed over for good | room for replies, which grows

@@ -1,4 +1,4 @@
-//! The laboratory for programs without `malloc`, which hand their memory over: the functions of `c/lgp30_region.h`.
+//! The laboratory for programs without `malloc`, which hand their memory over: the functions of `c/lgp30.h` over given memory.
 #![tactic(auto)]
 
 ghost use Rattle.std.specs.Prelude.{◌≡◌, ◌<◌, ◌≤◌, IfSome, IsNone, IsSome, None, Some, length};
