@@ -12,8 +12,8 @@ enum { LINE_ROOM = 4097 };
  * Whether there was one. */
 int read_line(uint8_t *line, size_t *length);
 
-/* Writes a reply at once, also to a pipe, so that whoever asks a line has its reply before asking the
- * next one. Whether all of it was written. */
+/* Writes a reply immediately, even to a pipe, so that each line has its reply before the next one is
+ * asked. Whether all of it was written. */
 int write_reply(const uint8_t *reply, size_t length);
 
 #endif

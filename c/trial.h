@@ -56,7 +56,7 @@ void try_lines(const struct calls *calls);
 void try_long_lines(const struct calls *calls);
 
 /* Opens a session and asks it fifteen lines, up to one for which there is no memory. How many were
- * answered, none also where the session was not opened; the status is the last one. The session is open
+ * answered, none if the session was not opened; the status is the last one. The session is open
  * afterwards unless that is LGP_NO_MEMORY. */
 enum { WORK_LINES = 15 };
 size_t work(const struct calls *calls, struct lgp_session *session, uint32_t *status);
