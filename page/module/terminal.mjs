@@ -208,6 +208,8 @@ function sitAtTerminal(typist, desk, recorded) {
             stdin.setRawMode(false);
             process.kill(process.pid, "SIGINT");
         });
+        // the reader pauses when the program was stopped by Ctrl-Z; the prompt makes it go on
+        reader.on("SIGCONT", () => reader.prompt(true));
         reader.on("close", resolve);
         offer();
     });

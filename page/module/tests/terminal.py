@@ -14,11 +14,13 @@ import termios
 import time
 
 PROGRAM = pathlib.Path(__file__).resolve().parent.parent / "terminal.mjs"
+LAUNCHER = PROGRAM.parent.parent.parent / "lgp_monitor"
 SECONDS = 120
 ESCAPES = re.compile(r"\x1b\[[0-9;?]*[A-Za-z]")
 UP = "\x1b[A"
 CTRL_C = "\x03"
 CTRL_D = "\x04"
+CTRL_Z = "\x1a"
 
 
 def take_terminal():
@@ -29,9 +31,9 @@ def take_terminal():
 class Terminal:
     """A program at a terminal."""
 
-    def __init__(self, name="lgp_monitor"):
+    def __init__(self, name="lgp_monitor", command=None):
         self.end, inner = pty.openpty()
-        self.program = subprocess.Popen(["node", PROGRAM, name], stdin=inner, stdout=inner, stderr=subprocess.DEVNULL, env={**os.environ, "TERM": "xterm"},
+        self.program = subprocess.Popen(command or ["node", PROGRAM, name], stdin=inner, stdout=inner, stderr=subprocess.DEVNULL, env={**os.environ, "TERM": "xterm", "PS1": "$ "},
                                         start_new_session=True, preexec_fn=take_terminal)
         os.close(inner)
 
@@ -118,8 +120,22 @@ def a_script_that_is_typed():
     assert terminal.status() == 0
 
 
+def stopped_and_continued():
+    # bash writes its prompts on standard error
+    terminal = Terminal(command=["bash", "--norc", "-i", "-c", "exec 2>&1; exec bash --norc -i"])
+    terminal.shown("$ ")
+    terminal.type(f"CONDUGWA_RUN=module {LAUNCHER} 2>/dev/null\n", "0000 halted operator> ")
+    shown = terminal.type(CTRL_Z, "$ ")
+    assert "Stopped" in shown, shown
+    terminal.type("fg\n", "0000 halted operator> ")
+    terminal.type("words 0000 1\r", "0000 00000000\n0000 halted operator> ")
+    terminal.type("quit\r", "$ ")
+    terminal.type("exit\n", "")
+    assert terminal.status() == 0
+
+
 def main():
-    checks = [lines_that_are_typed, an_end, a_long_run_is_broken_off, a_script_that_is_typed]
+    checks = [lines_that_are_typed, an_end, a_long_run_is_broken_off, a_script_that_is_typed, stopped_and_continued]
     for check in checks:
         check()
     print(f"terminal: {len(checks)} well")
