@@ -7,11 +7,11 @@ use Rattle.lgp_assembler.specs.declared.operands.Meaning.TheVariants.{Cell, Plac
 use Rattle.lgp_assembler.specs.declared.operands.OperandFault.{OperandFault}
 use Rattle.lgp_assembler.specs.Fields.{LineFields}
 use Rattle.lgp_assembler.specs.Places.{has_word, word_count, place_of, names_of}
-use Rattle.lgp_assembler.specs.Faults.{fault_of, faults_in}
+use Rattle.lgp_assembler.specs.Faults.{fault_of, faults_in, line_meaning}
 use Rattle.lgp_assembler.specs.Image.{line_cell, all_lines, cell_at, cells_in, faults_of, image_of, passed_lines}
 use Rattle.lgp_word.specs.Address.{IsAddress}
 use Rattle.lgp_assembler.specs.Parts.{AreProgramCells, HaveOwnPlaces}
-use Rattle.lgp_assembler.specs.Laws.{HasCellAt, LinesHaveCells, lines_in, place_after, word_total}
+use Rattle.lgp_assembler.specs.Laws.{HasItsCell, LinesHaveCells, lines_in, place_after, word_total}
 use Rattle.lgp_assembler.proofs.Assembled.{first_none}
 use Rattle.lgp_assembler.proofs.CellWords.{program_cells, start_is, words_in}
 use Rattle.lgp_assembler.proofs.LineCells.{AreFaultless, cell_missing, cell_there, cells_after, cells_in_order, each_faultless, front_faultless}
@@ -22,7 +22,7 @@ one_there : (cell : Option (ℕ × ℕ)) → is_some cell ≡ true → length (o
 one_there None there = absurd (true≢false (sym there))
 one_there (Some cell) there = refl
 
-the_cell : (place : ℕ) (r : Result Meaning OperandFault) → is_some (cell_at place r) ≡ true → (word : ℕ) × (cell_at place r ≡ Some (place, word))
+the_cell : (place : ℕ) (r : Result Meaning OperandFault) → is_some (cell_at place r) ≡ true → (word : ℕ) × (r ≡ Ok (Cell word))
 the_cell place (Ok (Cell word)) there = (word, refl)
 the_cell place (Ok (Place address)) there = absurd (true≢false (sym there))
 the_cell place (Ok Nothing) there = absurd (true≢false (sym there))
@@ -51,15 +51,16 @@ module _ (names : List (List ℕ × ℕ)) where
   as_many_at_all lines none = as_many [] lines (each_faultless _ [] _ none) ∙ omega arith
 
   cell_of_line : (earlier after : List LineFields) (line : LineFields) → faults_in names (passed_lines earlier (line ∷ after)) ≡ [] → has_word line ≡ true
-      → (word : ℕ) × (cells_in names (passed_lines earlier (line ∷ after)) ≡ cells_in names earlier ++ (place_of line earlier, word) ∷ cells_after names (line ∷ earlier) after)
+      → (word : ℕ) × (line_meaning names (place_of line earlier) line ≡ Ok (Cell word)) × (cells_in names (passed_lines earlier (line ∷ after)) ≡ cells_in names earlier ++ (place_of line earlier, word) ∷ cells_after names (line ∷ earlier) after)
   unfolding cells_in
   cell_of_line earlier after line none has =
       let place = place_of line earlier in
       let own = (each_faultless names earlier (line ∷ after) none).0 in
       let (word, is) = the_cell _ _ (cell_there names earlier line own has) in (
         word,
+        is,
         cells_in_order names (line ∷ earlier) after
-            ∙ (ap (λ o. (cells_in names earlier ++ option_to_list o) ++ cells_after names (line ∷ earlier) after) is
+            ∙ (ap (λ r. (cells_in names earlier ++ option_to_list (cell_at place r)) ++ cells_after names (line ∷ earlier) after) is
             ∙ append_assoc (cells_in names earlier) ((place, word) ∷ []) (cells_after names (line ∷ earlier) after)),
       )
 
@@ -67,19 +68,22 @@ faultless_lines : (source : List ℕ) → faults_of source ≡ [] → faults_in 
 faultless_lines source none = grind (arith, first_none)
 
 each_cell : (source : List ℕ) (before after : List LineFields) (line : LineFields) → faults_of source ≡ [] → lines_in source ≡ before ++ line ∷ after → has_word line ≡ true
-    → HasCellAt (image_of source).cells (place_after before line) (word_total before)
+    → HasItsCell source before line
 unfolding all_lines
 each_cell source before after line none parts has =
     let names = names_of (all_lines source) in
     let earlier = passed_lines [] before in
     let whole : all_lines source ≡ passed_lines earlier (line ∷ after) = ap (passed_lines []) parts ∙ passed-append [] before (line ∷ after) in
     let clear : faults_in names (passed_lines earlier (line ∷ after)) ≡ [] = sym (ap (faults_in names) whole) ∙ faultless_lines _ none in
-    let (word, cells) = cell_of_line _ _ after line clear has in (
+    let (word, is, cells) = cell_of_line _ _ after line clear has in (
       word,
-      cells_in names earlier,
-      cells_after names (line ∷ earlier) after,
-      ap (cells_in names) whole ∙ cells,
-      as_many_at_all _ before (front_faultless _ _ (line ∷ after) clear),
+      is,
+      (
+        cells_in names earlier,
+        cells_after names (line ∷ earlier) after,
+        ap (cells_in names) whole ∙ cells,
+        as_many_at_all _ before (front_faultless _ _ (line ∷ after) clear),
+      ),
     )
 
 pub cells_law : (source : List ℕ) → faults_of source ≡ [] → LinesHaveCells source

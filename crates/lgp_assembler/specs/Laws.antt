@@ -1,7 +1,7 @@
 -- Part of the public promise: what places, names and cells are, in the words of the source
 -- language. The lines are here in the order of the source.
 use Rattle.std.specs.Prelude.{◌≡◌, ◌≢◌, ◌⊎◌, ◌↔◌, ℕ, ◌+◌, true, false, List, [], ◌∷◌, ◌++◌, length}
-use Rattle.std.specs.Prelude.{map, Option, None, Some, option_map, option_to_list}
+use Rattle.std.specs.Prelude.{map, Option, None, Some, Ok, option_map, option_to_list}
 use Rattle.std.specs.List.{All}
 use Rattle.std.specs.Str.{bytes_eq}
 use Rattle.std.specs.Map.{lookup}
@@ -12,7 +12,9 @@ use Rattle.lgp_assembler.specs.Places.{names_of}
 use Rattle.lgp_assembler.specs.declared.refusal.Fault.{Fault}
 use Rattle.lgp_assembler.specs.declared.refusal.FaultKind.{FaultKind}
 use Rattle.lgp_assembler.specs.Faults.{LineFacts, facts_of, fault_rows, first_kind, fault_of}
-use Rattle.lgp_assembler.specs.Faults.{faults_in, missing_end, numbered_fault}
+use Rattle.lgp_assembler.specs.Faults.{faults_in, line_meaning, missing_end, numbered_fault}
+use Rattle.lgp_assembler.specs.Operands.{MeaningOrFault}
+use Rattle.lgp_assembler.specs.declared.operands.Meaning.TheVariants.{Cell}
 use Rattle.lgp_assembler.specs.Image.{faults_of, image_of, passed_lines}
 
 abbrev pub HasNoOrg : List LineFields → Type 0
@@ -95,16 +97,28 @@ pub record FaultsFollowLines (source : List ℕ) (before : List LineFields) (lin
   pub place_taken : ((facts_after source before line).is_place_taken ≡ true)
       ↔ HasWordAt before (place_after before line)
 
--- among some cells, after a given number of others, the cell of a place
-abbrev pub HasCellAt : List (ℕ × ℕ) → ℕ → ℕ → Type 0
-HasCellAt cells place others =
-    (word : ℕ) × (front : List (ℕ × ℕ)) × (rest : List (ℕ × ℕ))
+-- what a line after some others means, with the names of the whole source
+abbrev pub meaning_after : List ℕ → List LineFields → LineFields → MeaningOrFault
+meaning_after source before line =
+    line_meaning (image_of source).symbols (place_after before line) line
+
+-- among some cells, after a given number of others, the cell of this word at this place
+abbrev pub HasCellAt : List (ℕ × ℕ) → ℕ → ℕ → ℕ → Type 0
+HasCellAt cells place word others =
+    (front : List (ℕ × ℕ)) × (rest : List (ℕ × ℕ))
     × (cells ≡ front ++ (place, word) ∷ rest) × (length front ≡ others)
 
--- what holds of a source without faults: each line with a word has its cell, at the line's place and
--- after the cells of the lines before it; and there are as many cells as such lines
+-- a line after some others, in a source, has its cell: the word that the line means, at the line's
+-- place, and after the cells of the lines before it
+abbrev pub HasItsCell : List ℕ → List LineFields → LineFields → Type 0
+HasItsCell source before line =
+    (word : ℕ) × (meaning_after source before line ≡ Ok (Cell word))
+    × HasCellAt (image_of source).cells (place_after before line) word (word_total before)
+
+-- what holds of a source without faults: each line with a word has its cell, and there are as many
+-- cells as such lines
 pub record LinesHaveCells (source : List ℕ) : Type 0 where
   pub each : (before after : List LineFields) (line : LineFields)
       → lines_in source ≡ before ++ line ∷ after → has_word line ≡ true
-      → HasCellAt (image_of source).cells (place_after before line) (word_total before)
+      → HasItsCell source before line
   pub count : length (image_of source).cells ≡ word_total (lines_in source)

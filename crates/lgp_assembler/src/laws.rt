@@ -33,9 +33,9 @@ pub fn faults_follow_lines()
         → FaultsFollowLines source before line }
 {}
 
-/// A law, for readers and proofs: in a source without faults each line with a word has its cell, at
-/// the line's place and after the cells of the lines before it, and there are as many cells as
-/// such lines.
+/// A law, for readers and proofs: in a source without faults each line with a word has its cell: the
+/// word that the line means, at the line's place, and after the cells of the lines before it. There
+/// are as many cells as such lines.
 pub fn lines_have_cells()
     ensures { (source : List ℕ) → faults_of source ≡ [] → LinesHaveCells source }
 {}
