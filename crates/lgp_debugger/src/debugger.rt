@@ -21,8 +21,7 @@ ghost use Rattle.lgp_loader.specs.Loading.{loaded, loading_cost, loading_stopped
 ghost use Rattle.std.specs.Result.{IsErrAnd};
 
 use crate::fault::{
-    HitFault, IdleFault, MountFault, PutFault, Ran, Reason, RuleFault, RunFault, RunRefusal,
-    StepFault,
+    HitFault, IdleFault, Ran, Reason, RuleFault, RunFault, RunRefusal, StepFault,
 };
 use crate::watch::{Watch, first_stop_now, watch_of};
 use crate::watcher::{Quiet, WatchFault, Watcher};
@@ -31,7 +30,7 @@ use lgp_assembler::Image;
 use lgp_flexo::{Code, TAPE_LIMIT};
 use lgp_history::{BackFault, History, Origin, Origins, Rule, Step, Tape};
 use lgp_loader::{LoadFault, load};
-use lgp_machine::{CLOCK_END, Look, Machine};
+use lgp_machine::{CLOCK_END, Look, Machine, MountFault, PutFault};
 use lgp_phases::Outcome;
 use lgp_table::{Action, Status};
 use lgp_word::{Address, Word};
@@ -623,7 +622,7 @@ impl<H: History<A>, A: Allocator + Copy> Debugger<H, A> {
           state = loaded self.old.state (longest_load image.now);
           steps = [];
         }) }
-        ensures program { OnOk result (IsLoadedOver self.old.state.core.words
+        ensures program { OnOk result (IsLoadedOver 22 self.old.state.core.words
             self.new.state.core.words image.now.cells) }
         ensures time { OnOk result (self.new.state.clock
             ≡ self.old.state.clock + loading_cost self.old.state (longest_load image.now)) }

@@ -24,26 +24,6 @@ pub enum IdleFault {
     Memory,
 }
 
-/// Why a tape is refused.
-#[derive(Clone, Copy, Debug, PartialEq, Eq, Error)]
-pub enum MountFault {
-    #[error("the machine is not at rest")]
-    Moving,
-    #[error("the tape has more than 1048576 codes")]
-    TooLong,
-    #[error("out of memory")]
-    Memory,
-}
-
-/// Why a word is not put on the drum.
-#[derive(Clone, Copy, Debug, PartialEq, Eq, Error)]
-pub enum PutFault {
-    #[error("the machine is not at rest")]
-    Moving,
-    #[error("out of memory")]
-    Memory,
-}
-
 /// Why a rule is refused.
 #[derive(Clone, Copy, Debug, PartialEq, Eq, Error)]
 pub enum RuleFault {

@@ -8,7 +8,6 @@ mod watcher;
 
 pub use debugger::Debugger;
 pub use fault::{
-    HitFault, IdleFault, MountFault, PutFault, Ran, Reason, RuleFault, RunFault, RunRefusal,
-    StepFault,
+    HitFault, IdleFault, Ran, Reason, RuleFault, RunFault, RunRefusal, StepFault,
 };
 pub use watcher::{Quiet, WatchFault, Watcher};

@@ -1,6 +1,6 @@
 //! What an operator can do with a machine.
 
-ghost use Rattle.std.specs.Prelude.{◌≡◌, ◌+◌, ◌<◌, ◌≤◌, ◌↔◌, ℕ, false, List, length, is_some, IsTrue, IfOk, OnOk, OnErr, IfErr, Err};
+ghost use Rattle.std.specs.Prelude.{◌≡◌, ◌+◌, ◌<◌, ◌≤◌, ◌↔◌, ◌≢◌, ℕ, false, List, length, is_some, IsTrue, IfOk, OnOk, OnErr, IfErr, Err};
 ghost use Rattle.std.specs.Result.{IsErrAnd};
 ghost use Rattle.lgp_flexo.specs.TapeText.{tape_limit};
 ghost use Rattle.lgp_table.specs.Activity.{cost, next, print_of};
@@ -47,6 +47,7 @@ pub trait Operate {
         ensures too_long { IsErrAnd result (λ e. e.0 ≡ MountFault.TooLong)
             ↔ (IsTrue (is_at_rest (configuration self.old).state.core.panel.status)
             × (tape_limit < length (codes tape))) }
+        ensures no_memory { IfErr result (λ e. e.0 ≢ MountFault.Memory) }
         ensures handed_back { IfErr result (λ e. codes e.1 ≡ codes tape) }
         ensures unchanged { OnErr result (configuration self.new ≡ configuration self.old) };
 

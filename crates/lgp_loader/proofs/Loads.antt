@@ -56,19 +56,19 @@ single_ready s image long program few is =
 -- what they leave
 cells_over : (s : State) (blocks : List (List (ℕ × ℕ))) (start : Option ℕ) (cells : List (ℕ × ℕ)) → length s.core.words ≡ 4096
     → are_blocks blocks ≡ true → cells_of blocks ≡ cells → AreProgramCells cells → HaveOwnPlaces cells → IfSome start IsAddress
-    → IsLoadedOver s.core.words (loaded s (block_load blocks start)).core.words cells
+    → IsLoadedOver 22 s.core.words (loaded s (block_load blocks start)).core.words cells
 cells_over s blocks start cells long are same program own is =
-    subst (IsLoadedOver s.core.words (loaded s (block_load blocks start)).core.words) same
+    subst (IsLoadedOver 22 s.core.words (loaded s (block_load blocks start)).core.words) same
     (blocks_over s _ _ long are (subst AreProgramCells (sym same) program) (subst HaveOwnPlaces (sym same) own) is)
 
 pub longest_over : (s : State) (image : ImageParts) → length s.core.words ≡ 4096 → AreProgramCells image.cells → HaveOwnPlaces image.cells → IfSome image.start IsAddress
-    → IsLoadedOver s.core.words (loaded s (longest_load image)).core.words image.cells
+    → IsLoadedOver 22 s.core.words (loaded s (longest_load image)).core.words image.cells
 longest_over s image long program own is =
     cells_over s _ _ _ long (longest_are_blocks image.cells) (longest_have_cells _) program own is
 
 pub cut_over : (s : State) (image : ImageParts) (counts : List ℕ) → length s.core.words ≡ 4096 → is_cutting counts image.cells ≡ true
     → AreProgramCells image.cells → HaveOwnPlaces image.cells → IfSome image.start IsAddress
-    → IsLoadedOver s.core.words (loaded s (cut_load image counts)).core.words image.cells
+    → IsLoadedOver 22 s.core.words (loaded s (cut_load image counts)).core.words image.cells
 cut_over s image counts long cut program own is =
     cells_over s _ _ _ long (pieces_are_blocks counts image.cells cut) (pieces_have_cells counts _ cut) program own is
 

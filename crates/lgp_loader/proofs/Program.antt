@@ -54,25 +54,25 @@ overlay_lies (cell ∷ cells) words apart within (suc k) d less =
     k d (omega (arith, less))
 
 -- over a drum on which a loader lies
-over_loader : (words loader : List ℕ) (cells : List (ℕ × ℕ)) → length words ≡ 4096 → length loader ≤ 22 → HaveOwnPlaces cells
-    → IsLoadedOver words (overlay (with_words words loader) cells) cells
-over_loader words loader cells long fits own =
+over_loader : (words loader : List ℕ) (cells : List (ℕ × ℕ)) → length words ≡ 4096 → HaveOwnPlaces cells
+    → IsLoadedOver (length loader) words (overlay (with_words words loader) cells) cells
+over_loader words loader cells long own =
     let drum : length (with_words words loader) ≡ 4096 = length_from loader _ loader_base ∙ long in
     record {
       words = overlay_lies _ _ own.apart (λ k d less. subst (λ n. (slice_index_or cells k d).0 < n) (sym drum) (own.on_drum k d less));
       others = λ place free apart. overlay_misses _ _ _ apart ∙ ⊎_elim
           (λ less. before_words loader _ _ _ less)
-          (λ above. after_words loader words loader_base place (omega (arith, above, fits)))
+          (λ above. after_words loader words loader_base place (omega (arith, above)))
           free;
     }
 
 -- a word put at one of the loader's places
-put_in_loader : (old new : List ℕ) (cells : List (ℕ × ℕ)) (place word : ℕ) → 4032 ≤ place → place ≤ 4053 → HaveOwnPlaces cells
-    → IsLoadedOver old new cells → IsLoadedOver old (slice_set new place word) cells
-put_in_loader old new cells place word least most own over = record {
+put_in_loader : (loader : ℕ) (old new : List ℕ) (cells : List (ℕ × ℕ)) (place word : ℕ) → 4032 ≤ place → place < 4032 + loader → loader ≤ 22 → HaveOwnPlaces cells
+    → IsLoadedOver loader old new cells → IsLoadedOver loader old (slice_set new place word) cells
+put_in_loader loader old new cells place word least most few own over = record {
   words = λ k d less. get_or-set_other new place _ word 0 (λ same. ⊎_elim
       (λ below. let wrong : ⊥ = omega (arith, same, below, least) in wrong)
-      (λ above. let wrong : ⊥ = omega (arith, same, above, most) in wrong)
+      (λ above. let wrong : ⊥ = omega (arith, same, above, most, few) in wrong)
       (own.free k d less)) ∙ over.words k d less;
   others = λ p free apart. get_or-set_other new place p word 0 (λ same. ⊎_elim
       (λ below. let wrong : ⊥ = omega (arith, same, below, least) in wrong)
@@ -81,34 +81,34 @@ put_in_loader old new cells place word least most own over = record {
 }
 
 words_over_blocks : (words : List ℕ) (blocks : List (List (ℕ × ℕ))) (start : Option ℕ) → length words ≡ 4096 → HaveOwnPlaces (cells_of blocks)
-    → IsLoadedOver words (words_after_blocks words blocks start) (cells_of blocks)
+    → IsLoadedOver 22 words (words_after_blocks words blocks start) (cells_of blocks)
 words_over_blocks words blocks start long own =
     let cells = cells_of blocks in
-    put_in_loader _ _ _ _ _ (omega arith) (omega arith) own
-    (put_in_loader _ _ _ _ 0 (omega arith) (omega arith) own
-    (put_in_loader _ _ _ _ _ (omega arith) (omega arith) own
-    (over_loader words block_loader_words cells long (omega arith) own)))
+    put_in_loader 22 _ _ _ _ _ (omega arith) (omega arith) (omega arith) own
+    (put_in_loader 22 _ _ _ _ 0 (omega arith) (omega arith) (omega arith) own
+    (put_in_loader 22 _ _ _ _ _ (omega arith) (omega arith) (omega arith) own
+    (over_loader words block_loader_words cells long own)))
 
 words_over_single : (words : List ℕ) (image : ImageParts) → length words ≡ 4096 → HaveOwnPlaces image.cells
-    → IsLoadedOver words (words_after_single words image) image.cells
+    → IsLoadedOver 10 words (words_after_single words image) image.cells
 words_over_single words image long own =
     let cells = image.cells in
-    put_in_loader _ _ _ _ _ (omega arith) (omega arith) own
-    (put_in_loader _ _ _ _ _ (omega arith) (omega arith) own
-    (over_loader words single_loader_words cells long (omega arith) own))
+    put_in_loader 10 _ _ _ _ _ (omega arith) (omega arith) (omega arith) own
+    (put_in_loader 10 _ _ _ _ _ (omega arith) (omega arith) (omega arith) own
+    (over_loader words single_loader_words cells long own))
 
 -- ---- what loading leaves
 
 pub blocks_over : (s : State) (blocks : List (List (ℕ × ℕ))) (start : Option ℕ) → length s.core.words ≡ 4096
     → are_blocks blocks ≡ true → AreProgramCells (cells_of blocks) → HaveOwnPlaces (cells_of blocks) → IfSome start IsAddress
-    → IsLoadedOver s.core.words (loaded s (block_load blocks start)).core.words (cells_of blocks)
+    → IsLoadedOver 22 s.core.words (loaded s (block_load blocks start)).core.words (cells_of blocks)
 blocks_over s blocks start long are program own is =
     let few = own.few in
     let left = blocks_leave s _ _ long are program (omega (arith, few)) is in
-    subst (λ (ws : List ℕ). IsLoadedOver s.core.words ws (cells_of blocks)) (sym (ap (λ (t : State). t.core.words) left)) (words_over_blocks _ blocks start long own)
+    subst (λ (ws : List ℕ). IsLoadedOver 22 s.core.words ws (cells_of blocks)) (sym (ap (λ (t : State). t.core.words) left)) (words_over_blocks _ blocks start long own)
 
 pub single_over : (s : State) (image : ImageParts) → length s.core.words ≡ 4096 → AreProgramCells image.cells → HaveOwnPlaces image.cells → IfSome image.start IsAddress
-    → IsLoadedOver s.core.words (loaded s (single_load image)).core.words image.cells
+    → IsLoadedOver 10 s.core.words (loaded s (single_load image)).core.words image.cells
 single_over s image long program own is =
     grind (arith, single_leaves, words_over_single, own)
 
@@ -170,13 +170,13 @@ pub time_loaded : (now : Configuration) (s : State) (load : TapeLoad) → now �
 time_loaded now s load at = ap (λ (c : Configuration). c.state.clock) at ∙ loading_clock s _
 
 pub program_loaded : (now : Configuration) (s : State) (load : TapeLoad) (cells : List (ℕ × ℕ)) → now ≡ at_boundary (loaded s load) → length s.core.words ≡ 4096
-    → LeavesProgram load cells → IsLoadedOver s.core.words now.state.core.words cells
+    → LeavesProgram load cells → IsLoadedOver (length load.loader) s.core.words now.state.core.words cells
 program_loaded now s load cells at long leaves = grind arith
 
 -- the same after a load
 pub program_read : (load : TapeLoad) (cells : List (ℕ × ℕ)) (before after : Configuration) (answer : Result ℕ LoadFault)
     → IsLoad load before after answer → length before.state.core.words ≡ 4096 → LeavesProgram load cells
-    → OnOk answer (IsLoadedOver before.state.core.words after.state.core.words cells)
+    → OnOk answer (IsLoadedOver (length load.loader) before.state.core.words after.state.core.words cells)
 program_read load cells before after answer is long leaves =
     on_ok_weaker answer (λ at. program_loaded _ before.state _ _ at long leaves) is.leaves
 

@@ -4,7 +4,7 @@ use Rattle.std.specs.Bool.{OnFalse}
 use Rattle.std.specs.Prelude.{IsTrue}
 use Rattle.lgp_flexo.specs.TapeText.{tape_limit}
 use Rattle.lgp_machine.specs.declared.fault.MountFault.{MountFault}
-use Rattle.lgp_machine.specs.declared.fault.MountFault.TheVariants.{Moving, TooLong}
+use Rattle.lgp_machine.specs.declared.fault.MountFault.TheVariants.{Moving, TooLong, Memory}
 use Rattle.lgp_table.specs.State.{State}
 use Rattle.lgp_table.specs.Activity.{cost, next}
 use Rattle.lgp_table.specs.After.{after, total_cost}
@@ -49,10 +49,11 @@ one_more_performed now then s done so is clock = record {
 }
 
 -- a machine at rest takes a short tape
-pub no_mount_fault : (fault : MountFault) (rests : Bool) (codes : List ℕ) → (fault ≡ Moving → rests ≡ false) → (fault ≡ TooLong → IsTrue rests × (tape_limit < length codes))
+pub no_mount_fault : (fault : MountFault) (rests : Bool) (codes : List ℕ) → (fault ≡ Moving → rests ≡ false) → (fault ≡ TooLong → IsTrue rests × (tape_limit < length codes)) → (fault ≡ Memory → ⊥)
     → rests ≡ true → length codes ≤ tape_limit → ⊥
-no_mount_fault Moving rests codes moving long at_rest _ = let not = moving refl in cc
-no_mount_fault TooLong rests codes moving long at_rest short = let (rest, over) = long refl in omega (arith, over, short)
+no_mount_fault Moving rests codes moving long _ at_rest _ = let not = moving refl in cc
+no_mount_fault TooLong rests codes moving long _ at_rest short = let (rest, over) = long refl in omega (arith, over, short)
+no_mount_fault Memory rests codes moving long never at_rest short = absurd (never refl)
 
 -- where the clock's end is met, the clock after loading would be past it
 pub past_by_keying : (s : State) (load : TapeLoad) → clock_end < (keyed s loader_base load.loader).clock → clock_end < (loaded s load).clock

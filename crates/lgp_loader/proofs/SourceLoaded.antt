@@ -12,17 +12,17 @@ use Rattle.lgp_loader.proofs.Loads.{cut_over, longest_over}
 use Rattle.lgp_loader.proofs.Program.{single_over}
 
 pub longest_source : (s : State) (source : List ℕ) → length s.core.words ≡ 4096 → faults_of source ≡ []
-    → IsLoadedOver s.core.words (loaded s (longest_load (image_of source))).core.words (image_of source).cells
+    → IsLoadedOver 22 s.core.words (loaded s (longest_load (image_of source))).core.words (image_of source).cells
 longest_source s source long none =
     longest_over s (image_of source) long (places_filled _ none) (places_apart _ none) (start_on_drum _)
 
 pub cut_source : (s : State) (source counts : List ℕ) → length s.core.words ≡ 4096 → faults_of source ≡ [] → is_cutting counts (image_of source).cells ≡ true
-    → IsLoadedOver s.core.words (loaded s (cut_load (image_of source) counts)).core.words (image_of source).cells
+    → IsLoadedOver 22 s.core.words (loaded s (cut_load (image_of source) counts)).core.words (image_of source).cells
 cut_source s source counts long none cut =
     cut_over s (image_of source) _ long cut (places_filled _ none) (places_apart _ none) (start_on_drum _)
 
 pub single_source : (s : State) (source : List ℕ) → length s.core.words ≡ 4096 → faults_of source ≡ []
-    → IsLoadedOver s.core.words (loaded s (single_load (image_of source))).core.words (image_of source).cells
+    → IsLoadedOver 10 s.core.words (loaded s (single_load (image_of source))).core.words (image_of source).cells
 single_source s source long none =
     single_over s _ long (places_filled _ none) (places_apart _ none) (start_on_drum _)
 

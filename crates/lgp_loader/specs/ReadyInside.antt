@@ -26,4 +26,4 @@ GoesThrough load = (s : State) → length s.core.words ≡ 4096 → IsReady s lo
 abbrev pub LeavesProgram : TapeLoad → List (ℕ × ℕ) → Type 0
 LeavesProgram load cells =
     (s : State) → length s.core.words ≡ 4096
-    → IsLoadedOver s.core.words (loaded s load).core.words cells
+    → IsLoadedOver (length load.loader) s.core.words (loaded s load).core.words cells

@@ -61,7 +61,7 @@ pub fn single_loading()
 {}
 
 /// What loading leaves, in the words of the program, whose cells have places of their own: each cell's word at its place, and
-/// everywhere else, but for the loader's 22 places, the word that was there before. Whatever is loaded, the clock has gone on by
+/// everywhere else, but for the loader's own 22 or ten places, the word that was there before. Whatever is loaded, the clock has gone on by
 /// the sum of what all activities cost: the stores of the loader's words, the jump that starts it, and its orders.
 #[tactic(auto, using(crate::proofs::Program::loading_clock))]
 pub fn program_is_loaded()
@@ -69,32 +69,33 @@ pub fn program_is_loaded()
         → length s.core.words ≡ 4096
         → are_blocks blocks ≡ true → AreProgramCells (cells_of blocks)
         → HaveOwnPlaces (cells_of blocks) → IfSome start IsAddress
-        → IsLoadedOver s.core.words (loaded s (block_load blocks start)).core.words
+        → IsLoadedOver 22 s.core.words (loaded s (block_load blocks start)).core.words
         (cells_of blocks) }
     ensures single { (s : State) → (image : ImageParts) → length s.core.words ≡ 4096
         → AreProgramCells image.cells → HaveOwnPlaces image.cells → IfSome image.start IsAddress
-        → IsLoadedOver s.core.words (loaded s (single_load image)).core.words image.cells }
+        → IsLoadedOver 10 s.core.words (loaded s (single_load image)).core.words image.cells }
     ensures time { (s : State) → (load : TapeLoad)
         → (loaded s load).clock ≡ s.clock + loading_cost s load }
 {}
 
 /// What loading a source without faults leaves, in the longest blocks, in blocks of given lengths, and cell by cell: the word of
-/// each of its cells at that cell's place, and everywhere else, but for the loader's 22 places, the word that was there before.
+/// each of its cells at that cell's place, and everywhere else, but for the loader's own 22 or ten places, the word that was there
+/// before.
 /// Nothing is asked of the source but that it has no fault.
 #[tactic(auto, using(crate::proofs::SourceLoaded::source_loaded))]
 pub fn source_is_loaded()
     ensures longest { (s : State) → (source : List ℕ)
         → length s.core.words ≡ 4096 → faults_of source ≡ []
-        → IsLoadedOver s.core.words (loaded s (longest_load (image_of source))).core.words
+        → IsLoadedOver 22 s.core.words (loaded s (longest_load (image_of source))).core.words
         (image_of source).cells }
     ensures cut { (s : State) → (source : List ℕ) → (counts : List ℕ)
         → length s.core.words ≡ 4096 → faults_of source ≡ []
         → is_cutting counts (image_of source).cells ≡ true
-        → IsLoadedOver s.core.words (loaded s (cut_load (image_of source) counts)).core.words
+        → IsLoadedOver 22 s.core.words (loaded s (cut_load (image_of source) counts)).core.words
         (image_of source).cells }
     ensures single { (s : State) → (source : List ℕ)
         → length s.core.words ≡ 4096 → faults_of source ≡ []
-        → IsLoadedOver s.core.words (loaded s (single_load (image_of source))).core.words
+        → IsLoadedOver 10 s.core.words (loaded s (single_load (image_of source))).core.words
         (image_of source).cells }
 {}
 

@@ -245,7 +245,7 @@ pub fn load<A: Allocator + Copy, B: Allocator, M: Operate<Tape = Vec<Code, A>>>(
     requires tapes { M.codes ≡ (λ tape. tape.items) }
     ensures load { IsLoad (longest_load image.now)
         (M.configuration machine.old) (M.configuration machine.new) result }
-    ensures program { OnOk result (IsLoadedOver (M.configuration machine.old).state.core.words
+    ensures program { OnOk result (IsLoadedOver 22 (M.configuration machine.old).state.core.words
         (M.configuration machine.new).state.core.words image.now.cells) }
     ensures no_bad_cut { result ≢ Err LoadFault.BadCut }
 {
@@ -272,7 +272,7 @@ pub fn load_cut<A: Allocator + Copy, B: Allocator, M: Operate<Tape = Vec<Code, A
     requires tapes { M.codes ≡ (λ tape. tape.items) }
     ensures load { IsLoad (cut_load image.now counts.now)
         (M.configuration machine.old) (M.configuration machine.new) result }
-    ensures program { OnOk result (IsLoadedOver (M.configuration machine.old).state.core.words
+    ensures program { OnOk result (IsLoadedOver 22 (M.configuration machine.old).state.core.words
         (M.configuration machine.new).state.core.words image.now.cells) }
     ensures bad_cut { (result ≡ Err LoadFault.BadCut)
         ↔ (IsTrue (is_boundary (M.configuration machine.old))
@@ -301,7 +301,7 @@ pub fn load_single<A: Allocator + Copy, B: Allocator, M: Operate<Tape = Vec<Code
     requires tapes { M.codes ≡ (λ tape. tape.items) }
     ensures load { IsLoad (single_load image.now)
         (M.configuration machine.old) (M.configuration machine.new) result }
-    ensures program { OnOk result (IsLoadedOver (M.configuration machine.old).state.core.words
+    ensures program { OnOk result (IsLoadedOver 10 (M.configuration machine.old).state.core.words
         (M.configuration machine.new).state.core.words image.now.cells) }
     ensures no_bad_cut { result ≢ Err LoadFault.BadCut }
 {

@@ -40,14 +40,14 @@ pub struct PlayFault {
 /// Why a whole activity is refused.
 #[derive(Clone, Copy, Debug, PartialEq, Eq, Error)]
 pub enum OrderFault {
-    #[error("an activity has been begun")]
-    Moving,
     #[error("the machine is at rest")]
     AtRest,
     #[error("the clock would pass its end")]
     ClockEnd,
     #[error("out of memory for a printed code")]
     Memory,
+    #[error("an activity has been begun")]
+    Moving,
 }
 
 /// Why word times at rest are refused.
@@ -59,18 +59,22 @@ pub enum RestFault {
     ClockEnd,
 }
 
-/// Why a tape is refused.
+/// Why a tape is refused. The machine itself takes no memory for it, so it never answers `Memory`; a debugger does.
 #[derive(Clone, Copy, Debug, PartialEq, Eq, Error)]
 pub enum MountFault {
     #[error("the machine is not at rest")]
     Moving,
     #[error("the tape has more than 1048576 codes")]
     TooLong,
+    #[error("out of memory")]
+    Memory,
 }
 
-/// Why a word is not put on the drum.
+/// Why a word is not put on the drum. The machine itself takes no memory for it, so it never answers `Memory`; a debugger does.
 #[derive(Clone, Copy, Debug, PartialEq, Eq, Error)]
 pub enum PutFault {
     #[error("the machine is not at rest")]
     Moving,
+    #[error("out of memory")]
+    Memory,
 }

@@ -15,7 +15,7 @@ use Rattle.lgp_script.specs.LabState.{LabState}
 
 pub load_words : (lab : LabState) (source : List ℕ) → lab.source ≡ Some source → faults_of source ≡ []
     → length lab.debugger.state.core.words ≡ 4096 → loading_stopped lab.debugger.state (longest_load (image_of source)) ≡ None
-    → IsLoadedOver lab.debugger.state.core.words (answer_to_load lab).after.debugger.state.core.words (image_of source).cells
+    → IsLoadedOver 22 lab.debugger.state.core.words (answer_to_load lab).after.debugger.state.core.words (image_of source).cells
 unfolding answer_to_load
 load_words lab source at_hand none long within =
     rw (at_hand, within) (longest_source lab.debugger.state _ long none)
@@ -34,7 +34,7 @@ size_blank : length blank_words ≡ 4096
 unfolding blank_words
 size_blank = length-replicate {A = ℕ} 4096 0
 
-pub run_words : (source : List ℕ) → faults_of source ≡ [] → IsLoadedOver blank_words (loaded_new source).core.words (image_of source).cells
+pub run_words : (source : List ℕ) → faults_of source ≡ [] → IsLoadedOver 22 blank_words (loaded_new source).core.words (image_of source).cells
 run_words source none = longest_source (opening blank_words) _ size_blank none
 
 pub run_time : (source : List ℕ) → (loaded_new source).clock ≡ loading_cost (opening blank_words) (longest_load (image_of source))

@@ -23,7 +23,7 @@ pub fn load_leaves_the_source<A: Allocator>()
         → lab.source ≡ Some source → faults_of source ≡ []
         → length lab.debugger.state.core.words ≡ 4096
         → loading_stopped lab.debugger.state (longest_load (image_of source)) ≡ None
-        → IsLoadedOver lab.debugger.state.core.words
+        → IsLoadedOver 22 lab.debugger.state.core.words
         (answer_to_load lab).after.debugger.state.core.words (image_of source).cells }
     ensures time { (lab : LabState) → (source : List ℕ)
         → lab.source ≡ Some source
@@ -38,7 +38,7 @@ pub fn load_leaves_the_source<A: Allocator>()
 #[tactic(auto, using(crate::proofs::LoadLaws::run_laws))]
 pub fn run_begins_with_the_source()
     ensures words { (source : List ℕ) → faults_of source ≡ []
-        → IsLoadedOver blank_words (loaded_new source).core.words (image_of source).cells }
+        → IsLoadedOver 22 blank_words (loaded_new source).core.words (image_of source).cells }
     ensures time { (source : List ℕ) → (loaded_new source).clock
         ≡ loading_cost (opening blank_words) (longest_load (image_of source)) }
 {}

@@ -11,7 +11,7 @@ ghost use Rattle.lgp_script.specs.LaboratoryInside.{line_by};
 use super::Laboratory;
 use crate::refusal::{Refusal, push_counted, push_refusal};
 use crate::span::Span;
-use lgp_debugger::PutFault;
+use lgp_machine::PutFault;
 use lgp_listing::{DrumWords, disassemble, push_cell_line, push_dump};
 use lgp_machine::Machine;
 use lgp_text::{Piece, push_pieces};

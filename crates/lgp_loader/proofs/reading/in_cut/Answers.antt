@@ -1,4 +1,4 @@
-use Rattle.std.proofs.Common.{arith, true, ◌≡◌, subst}
+use Rattle.std.proofs.Common.{arith, true, length, ◌≡◌, subst}
 use Rattle.std.proofs.lemmas.Grind.{common_steps}
 use Rattle.lgp_loader.specs.Cutting.{is_cutting}
 use Rattle.lgp_loader.specs.LoadedOver.{IsLoadedOver}
@@ -25,4 +25,4 @@ returns-clause-program g c =
     let cut : is_cutting c.args.counts.now c.args.image.now.cells ≡ true = grind (arith, common_steps) in
     let orders = cut_orders c.args.image.now _ _ _ cut c.program_cells.ensures.cells c.orders_for.ensures in
     let same = same_load _ _ _ c.in_ok-tape.ensures.tape orders in
-    λ s long. subst (λ (load : TapeLoad). IsLoadedOver s.core.words (loaded s load).core.words c.args.image.now.cells) same (cut_over s c.args.image.now _ long cut known.program known.places known.start)
+    λ s long. subst (λ (load : TapeLoad). IsLoadedOver (length load.loader) s.core.words (loaded s load).core.words c.args.image.now.cells) same (cut_over s c.args.image.now _ long cut known.program known.places known.start)

@@ -1,4 +1,4 @@
-use Rattle.std.proofs.Common.{subst}
+use Rattle.std.proofs.Common.{length, subst}
 use Rattle.lgp_loader.specs.LoadedOver.{IsLoadedOver}
 use Rattle.lgp_loader.specs.Loading.{TapeLoad, loaded}
 use Rattle.lgp_loader.specs.ReadyInside.{IsReady}
@@ -24,4 +24,4 @@ returns-clause-program g c =
     let orders = longest_orders c.args.image.now _ _ _
     known.cells c.count_longest.ensures.count c.orders_for-orders.ensures in
     let same = same_load _ _ _ c.in_ok-tape.ensures.tape orders in
-    λ s long. subst (λ (load : TapeLoad). IsLoadedOver s.core.words (loaded s load).core.words c.args.image.now.cells) same (longest_over s c.args.image.now long known.program known.places known.start)
+    λ s long. subst (λ (load : TapeLoad). IsLoadedOver (length load.loader) s.core.words (loaded s load).core.words c.args.image.now.cells) same (longest_over s c.args.image.now long known.program known.places known.start)
