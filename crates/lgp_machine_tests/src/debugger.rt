@@ -3,5 +3,6 @@
 mod calls;
 mod growths;
 mod large;
+mod print;
 mod rows;
 mod watched;

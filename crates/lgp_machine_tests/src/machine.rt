@@ -1,6 +1,7 @@
 //! The machine by its calls.
 
 mod calls;
+mod drums;
 mod events;
 mod growths;
 mod marks;

@@ -5,13 +5,11 @@ ghost use Rattle.lgp_table.specs.Interleaving.{at_boundary};
 
 use crate::loader::image;
 use lgp_assembler::Image;
-use lgp_debugger::{
-    Debugger, HitFault, IdleFault, MountFault, PutFault, Ran, RuleFault, RunFault, StepFault,
-};
+use lgp_debugger::{Debugger, HitFault, IdleFault, Ran, RuleFault, RunFault, StepFault};
 use lgp_flexo::{Code, read_tape_text};
 use lgp_history::{BackFault, History, Rule};
 use lgp_loader::LoadFault;
-use lgp_machine::{Look, Machine};
+use lgp_machine::{Look, Machine, MountFault, PutFault};
 use lgp_table::{Action, Mode, Status};
 use lgp_word::{Address, Word};
 use std::alloc::{AllocError, Allocator};

@@ -8,14 +8,12 @@ use crate::expect_eq;
 use crate::history::{Job, Kind, over_kind, records};
 use crate::loader::image;
 use lgp_assembler::Image;
-use lgp_debugger::{
-    Debugger, HitFault, IdleFault, MountFault, PutFault, Ran, RunFault, RunRefusal, StepFault,
-};
+use lgp_debugger::{Debugger, HitFault, IdleFault, Ran, RunFault, RunRefusal, StepFault};
 use lgp_flexo::{Code, read_tape_text};
 use lgp_history::{BackFault, History};
 use lgp_limited::Limited;
 use lgp_loader::LoadFault;
-use lgp_machine::Look;
+use lgp_machine::{Look, MountFault, PutFault};
 use std::alloc::{AllocError, Allocator, Global};
 
 /// More growths than any call has.

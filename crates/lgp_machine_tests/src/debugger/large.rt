@@ -5,9 +5,10 @@ use super::calls::{
 };
 use crate::expect_eq;
 use crate::history::{Job, Kind, over_kind};
-use lgp_debugger::{Debugger, HitFault, MountFault, Ran, Reason, RunFault};
+use lgp_debugger::{Debugger, HitFault, Ran, Reason, RunFault};
 use lgp_flexo::{Code, TAPE_LIMIT};
 use lgp_history::{BackFault, CAPACITY_LIMIT, History};
+use lgp_machine::MountFault;
 use std::alloc::{AllocError, Allocator};
 
 /// A transfer to 0000.

@@ -3,12 +3,10 @@
 use super::calls::{Button, Named, Row, Shown, first_wrong, with_order};
 use crate::expect_eq;
 use crate::history::{Job, Kind, over_kind};
-use lgp_debugger::{
-    HitFault, IdleFault, MountFault, PutFault, Ran, Reason, RuleFault, RunFault, RunRefusal,
-    StepFault,
-};
+use lgp_debugger::{HitFault, IdleFault, Ran, Reason, RuleFault, RunFault, RunRefusal, StepFault};
 use lgp_history::{BackFault, History};
 use lgp_loader::LoadFault;
+use lgp_machine::{MountFault, PutFault};
 use lgp_table::{Cause, Status};
 use std::alloc::{AllocError, Allocator, Global};
 
@@ -221,6 +219,24 @@ const PUTS_AND_MOUNTS: Example = Example {
     ],
 };
 
+/// A `y` changes the address part of the word at 0002 and nothing else of it; back over it all of the word is as it was.
+const ADDRESS_PART_GOES_BACK: Example = Example {
+    capacity: 100,
+    first: 0x0001_00c8,
+    rows: &[
+        Row::Put(1, 0x0002_0008, Ok(())),
+        Row::Put(2, 0x9abc_def0, Ok(())),
+        Row::Put(50, 0x0000_0100, Ok(())),
+        Row::Press(Button::Start, true),
+        Row::Steps(2, 2),
+        Row::WordAt(2, 0x9abc_c100),
+        Row::Back(1, Ok(())),
+        Row::WordAt(2, 0x9abc_def0),
+        Row::Back(1, Ok(())),
+        Row::Clock(0),
+    ],
+};
+
 /// A load takes 23 orders, and no step is kept after it.
 const LOAD: Example = Example {
     capacity: 8,
@@ -378,7 +394,7 @@ const MANY_RULES: Example = Example {
 };
 
 /// Over each history.
-static EXAMPLES: [Example; 13] = [
+static EXAMPLES: [Example; 14] = [
     PRINT_GOES_BACK,
     LATEST_STEPS,
     RULES,
@@ -386,6 +402,7 @@ static EXAMPLES: [Example; 13] = [
     HUNDRED_STEPS,
     INPUT_GOES_BACK,
     PUTS_AND_MOUNTS,
+    ADDRESS_PART_GOES_BACK,
     LOAD,
     LOAD_AT_THE_END,
     AT_REST,

@@ -107,18 +107,28 @@ fn two_words_are_loaded_in_two_blocks(rt: HostRuntime) {
     expect_eq(&rt, found, [Some((Ok(33), true)), Some((Ok(41), true))]);
 }
 
-/// What the load of five lines answers, the status and the counter then, and whether the word of the last line lies on the drum.
-fn five_lines(alloc: Global) -> Option<(Result<u64, LoadFault>, Status, u16, bool)> {
-    let task = (FIVE_LINES, Way::Longest, NEW);
-    let (answer, look, has_word) = loaded(alloc, task, &[(b"0003", b"0jjjjjjj")])?;
+/// What the load of a source with a start answers, the status and the counter then, and whether given words lie on the drum.
+fn started(
+    alloc: Global,
+    source: &[u8],
+    words: &[(&[u8], &[u8])],
+) -> Option<(Result<u64, LoadFault>, Status, u16, bool)> {
+    let (answer, look, has_words) = loaded(alloc, (source, Way::Longest, NEW), words)?;
     let look = look?;
-    Some((answer, look.status, look.counter.number(), has_word))
+    Some((answer, look.status, look.counter.number(), has_words))
 }
 
 #[test]
-fn five_lines_are_loaded_and_started(rt: HostRuntime) {
-    let wanted = Some((Ok(53), Status::Going, 0, true));
-    expect_eq(&rt, five_lines(rt.alloc()), wanted);
+fn programs_with_a_start_are_loaded_and_started(rt: HostRuntime) {
+    let found = [
+        started(rt.alloc(), FIVE_LINES, &[(b"0003", b"0jjjjjjj")]),
+        started(rt.alloc(), b" end 0100", &[(b"6319", b"800f0100")]),
+    ];
+    let wanted = [
+        Some((Ok(53), Status::Going, 0, true)),
+        Some((Ok(5), Status::Going, 64, true)),
+    ];
+    expect_eq(&rt, found, wanted);
 }
 
 /// Sets the loader going by hand, with a tape mounted; false where a step is refused.

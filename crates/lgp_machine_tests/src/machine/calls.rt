@@ -194,9 +194,14 @@ const SIX_BITS: &[Row] = &[
     Row::Accumulator(0x39, 844),
 ];
 
-/// Keys struck in Manual.
+/// The eight digits of a word struck in Manual, and two keys that are dead there.
 const KEYS: &[Row] = &[
     Row::Press(Button::Manual, Pressed::Live),
+    Row::Strike((2, Pressed::Live, 0)),
+    Row::Strike((2, Pressed::Live, 0)),
+    Row::Strike((2, Pressed::Live, 0)),
+    Row::Strike((2, Pressed::Live, 0)),
+    Row::Strike((2, Pressed::Live, 0)),
     Row::Strike((2, Pressed::Live, 0)),
     Row::Strike((2, Pressed::Live, 0)),
     Row::Strike((18, Pressed::Live, 4)),
