@@ -14,6 +14,7 @@ use crate::actions::actions_to_store;
 use crate::operate::{Operate, press_all};
 use lgp_table::Action;
 use lgp_word::{Address, Word};
+use std::alloc::Allocator;
 use thiserror::Error;
 
 /// Why words are not keyed in.
@@ -32,7 +33,7 @@ pub enum KeyFault {
 
 /// Stores a word by hand. Answers false where the clock would pass its end: all is then pressed, and the order not performed.
 #[tactic(auto, using(crate::proofs::ByHand::storing))]
-fn store<M: Operate>(machine: &mut M, address: Address, word: Word) -> bool
+fn store<A: Allocator, M: Operate<A>>(machine: &mut M, address: Address, word: Word) -> bool
     requires boundary { M.configuration machine.old
         ≡ at_boundary (M.configuration machine.old).state }
     requires up { (M.configuration machine.old).state.core.panel.switches.six_bit ≡ false }
@@ -57,7 +58,11 @@ fn store<M: Operate>(machine: &mut M, address: Address, word: Word) -> bool
 /// Refused, in this order: within an activity (`Moving`), and where the words would go past 6363 (`PastEnd`), both before
 /// anything is pressed; where the clock would pass its end (`ClockEnd`): the words so far are stored, and the order to store the
 /// next one is in the instruction register, about to be executed.
-pub fn key_in<M: Operate>(machine: &mut M, base: Address, words: &[Word]) -> Result<(), KeyFault>
+pub fn key_in<A: Allocator, M: Operate<A>>(
+    machine: &mut M,
+    base: Address,
+    words: &[Word],
+) -> Result<(), KeyFault>
     ensures keyed { OnOk result (M.configuration machine.new
         ≡ at_boundary (keyed (M.configuration machine.old).state base words.now)) }
     ensures moving { (result ≡ Err KeyFault.Moving)

@@ -1,6 +1,6 @@
 //! What an operator can do with a machine.
 
-ghost use Rattle.std.specs.Prelude.{◌≡◌, ◌+◌, ◌<◌, ◌≤◌, ◌↔◌, ◌≢◌, ℕ, false, List, length, is_some, IsTrue, IfOk, OnOk, OnErr, IfErr, Err};
+ghost use Rattle.std.specs.Prelude.{◌≡◌, ◌+◌, ◌<◌, ◌≤◌, ◌↔◌, ◌≢◌, ℕ, false, List, length, is_some, IsTrue, IfOk, OnOk, OnErr, IfErr, IfSome, Err};
 ghost use Rattle.std.specs.Result.{IsErrAnd};
 ghost use Rattle.lgp_flexo.specs.TapeText.{tape_limit};
 ghost use Rattle.lgp_table.specs.Activity.{cost, next, print_of};
@@ -16,10 +16,11 @@ use lgp_table::Action;
 use lgp_word::Address;
 use std::alloc::Allocator;
 
-/// A machine as its operator has it: looked at, pressed, given a tape and let go on. Nothing here sets a word or a register.
-pub trait Operate {
-    /// What the codes of a tape are handed over in.
-    type Tape;
+/// A machine as its operator has it: looked at, pressed, given a tape and let go on. Nothing here sets a word or a register. The
+/// codes of its tapes lie in memory of the allocator `A`.
+pub trait Operate<A: Allocator> {
+    /// A tape that can be mounted.
+    type Tape: Drop;
 
     /// The codes of a tape.
     ghost codes: { Self.Tape → List ℕ };
@@ -37,6 +38,11 @@ pub trait Operate {
     fn press(&mut self, action: Action) -> Result<Pressed, PressFault>
         ensures state { configuration self.new ≡ after_press (configuration self.old) action }
         ensures answer { result ≡ press_outcome (configuration self.old) action };
+
+    /// The tape of these codes, which are taken out.
+    fn tape(list: &mut Option<Vec<Code, A>>) -> Self::Tape
+        requires { IsTrue (is_some list.old) }
+        ensures { IfSome list.old (λ list. codes result ≡ list.items) };
 
     /// Mounts a tape, at rest; the reader is off afterwards. A refused tape is handed back.
     fn mount(&mut self, tape: Self::Tape) -> Result<(), (MountFault, Self::Tape)>
@@ -77,7 +83,7 @@ pub trait Operate {
         ensures unchanged { OnErr result (configuration self.new ≡ configuration self.old) };
 }
 
-impl<A: Allocator> Operate for Machine<A> {
+impl<A: Allocator> Operate<A> for Machine<A> {
     type Tape = Vec<Code, A>;
 
     ghost codes = { λ tape. tape.items };
@@ -94,6 +100,13 @@ impl<A: Allocator> Operate for Machine<A> {
         Machine::press(self, action)
     }
 
+    fn tape(list: &mut Option<Vec<Code, A>>) -> Vec<Code, A> {
+        let Some(codes) = list.take() else {
+            unreachable!()
+        };
+        codes
+    }
+
     fn mount(&mut self, tape: Vec<Code, A>) -> Result<(), (MountFault, Vec<Code, A>)> {
         Machine::mount(self, tape)
     }
@@ -104,7 +117,7 @@ impl<A: Allocator> Operate for Machine<A> {
 }
 
 /// Presses in order, at a boundary.
-pub fn press_all<M: Operate>(machine: &mut M, actions: &[Action])
+pub fn press_all<A: Allocator, M: Operate<A>>(machine: &mut M, actions: &[Action])
     requires { M.configuration machine.old ≡ at_boundary (M.configuration machine.old).state }
     ensures { M.configuration machine.new
         ≡ at_boundary (after_actions (M.configuration machine.old).state actions.now) }

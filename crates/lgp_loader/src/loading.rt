@@ -57,14 +57,14 @@ fn loader_base() -> Address
     }
 }
 
-/// Mounts a tape on a machine at rest.
-fn mount<A: Allocator, M: Operate<Tape = Vec<Code, A>>>(machine: &mut M, tape: Vec<Code, A>)
-    requires tapes { M.codes ≡ (λ tape. tape.items) }
+/// Mounts a tape of these codes on a machine at rest.
+fn mount<A: Allocator, M: Operate<A>>(machine: &mut M, codes: Vec<Code, A>)
     requires rest { is_at_rest (M.configuration machine.old).state.core.panel.status ≡ true }
-    requires short { vec_len tape ≤ tape_limit }
+    requires short { vec_len codes ≤ tape_limit }
     ensures { M.configuration machine.new
-        ≡ at_boundary (after_mount (M.configuration machine.old).state tape.items) }
+        ≡ at_boundary (after_mount (M.configuration machine.old).state codes.items) }
 {
+    let tape = M::tape(&mut Some(codes));
     match machine.mount(tape) {
         Ok(()) => {}
         Err(_) => unreachable!(),
@@ -73,12 +73,11 @@ fn mount<A: Allocator, M: Operate<Tape = Vec<Code, A>>>(machine: &mut M, tape: V
 
 /// Keys a loader in and mounts a tape. Answers false where key-in meets the end of the clock.
 #[tactic(auto, using(crate::proofs::Begun::keyed_rests))]
-fn prepare<A: Allocator, M: Operate<Tape = Vec<Code, A>>>(
+fn prepare<A: Allocator, M: Operate<A>>(
     machine: &mut M,
     loader: &[Word],
     tape: Vec<Code, A>,
 ) -> bool
-    requires tapes { M.codes ≡ (λ tape. tape.items) }
     requires boundary { IsTrue (is_boundary (M.configuration machine.old)) }
     requires loader { IsLoader loader.now }
     requires short { vec_len tape ≤ tape_limit }
@@ -106,7 +105,7 @@ fn prepare<A: Allocator, M: Operate<Tape = Vec<Code, A>>>(
 /// Starts the loader. Answers false where the order that jumps to it would pass the end of the clock: all is then pressed, and the
 /// order not performed.
 #[tactic(auto, using(lgp_keyin::proofs::ByHand::jumping))]
-fn begin<M: Operate>(machine: &mut M) -> bool
+fn begin<A: Allocator, M: Operate<A>>(machine: &mut M) -> bool
     requires boundary { M.configuration machine.old
         ≡ at_boundary (M.configuration machine.old).state }
     requires up { (M.configuration machine.old).state.core.panel.switches.six_bit ≡ false }
@@ -127,7 +126,7 @@ fn begin<M: Operate>(machine: &mut M) -> bool
 }
 
 /// Performs an order that is at work and prints nothing. Answers false where it would pass the end of the clock.
-fn perform_one<M: Operate>(machine: &mut M) -> bool
+fn perform_one<A: Allocator, M: Operate<A>>(machine: &mut M) -> bool
     requires boundary { M.configuration machine.old
         ≡ at_boundary (M.configuration machine.old).state }
     requires work { is_at_rest (M.configuration machine.old).state.core.panel.status ≡ false }
@@ -143,7 +142,7 @@ fn perform_one<M: Operate>(machine: &mut M) -> bool
 }
 
 /// Performs a given number of orders that are at work and print nothing. Answers false where one of them would pass the end of the clock.
-fn perform<M: Operate>(machine: &mut M, orders: u64) -> bool
+fn perform<A: Allocator, M: Operate<A>>(machine: &mut M, orders: u64) -> bool
     requires boundary { M.configuration machine.old
         ≡ at_boundary (M.configuration machine.old).state }
     requires work { (before : ℕ) → before < orders
@@ -172,13 +171,12 @@ fn perform<M: Operate>(machine: &mut M, orders: u64) -> bool
 /// Keys a loader in, mounts a tape, starts the loader and performs a given number of orders, which are at work and print nothing. Answers
 /// false where the clock would pass its end.
 #[tactic(auto, using(crate::proofs::Program::tape_loaded))]
-fn load_tape<A: Allocator, M: Operate<Tape = Vec<Code, A>>>(
+fn load_tape<A: Allocator, M: Operate<A>>(
     machine: &mut M,
     loader: &[Word],
     tape: Vec<Code, A>,
     orders: u64,
 ) -> bool
-    requires tapes { M.codes ≡ (λ tape. tape.items) }
     requires boundary { IsTrue (is_boundary (M.configuration machine.old)) }
     requires ready { IsReady (M.configuration machine.old).state
         (load_with loader.now tape.items orders) }
@@ -207,12 +205,11 @@ fn load_tape<A: Allocator, M: Operate<Tape = Vec<Code, A>>>(
 
 /// The same of a tape that is ready. Answers how many orders the loader has performed.
 #[tactic(auto, using(crate::proofs::Stopped::stopped_nowhere))]
-fn read<A: Allocator, M: Operate<Tape = Vec<Code, A>>>(
+fn read<A: Allocator, M: Operate<A>>(
     machine: &mut M,
     loader: &[Word],
     reading: Reading<A>,
 ) -> Result<u64, LoadFault>
-    requires tapes { M.codes ≡ (λ tape. tape.items) }
     requires boundary { IsTrue (is_boundary (M.configuration machine.old)) }
     requires ready { IsReady (M.configuration machine.old).state
         (load_with loader.now reading.tape.items reading.orders) }
@@ -237,12 +234,11 @@ fn read<A: Allocator, M: Operate<Tape = Vec<Code, A>>>(
 /// Refused, in this order: within an activity (`Moving`), where there is no memory for the tape (`Memory`), both before anything
 /// is pressed; where the clock would pass its end (`ClockEnd`): the machine then is at the first boundary of the loading whose
 /// activity would pass it.
-pub fn load<A: Allocator + Copy, B: Allocator, M: Operate<Tape = Vec<Code, A>>>(
+pub fn load<A: Allocator + Copy, B: Allocator, M: Operate<A>>(
     alloc: A,
     machine: &mut M,
     image: &Image<B>,
 ) -> Result<u64, LoadFault>
-    requires tapes { M.codes ≡ (λ tape. tape.items) }
     ensures load { IsLoad (longest_load image.now)
         (M.configuration machine.old) (M.configuration machine.new) result }
     ensures program { OnOk result (IsLoadedOver 22 (M.configuration machine.old).state.core.words
@@ -263,13 +259,12 @@ pub fn load<A: Allocator + Copy, B: Allocator, M: Operate<Tape = Vec<Code, A>>>(
 /// Refused, in this order: within an activity (`Moving`), where the numbers do not cut the program's words into blocks (`BadCut`),
 /// where there is no memory for the tape (`Memory`), all before anything is pressed; where the clock would pass its end
 /// (`ClockEnd`).
-pub fn load_cut<A: Allocator + Copy, B: Allocator, M: Operate<Tape = Vec<Code, A>>>(
+pub fn load_cut<A: Allocator + Copy, B: Allocator, M: Operate<A>>(
     alloc: A,
     machine: &mut M,
     image: &Image<B>,
     counts: &[usize],
 ) -> Result<u64, LoadFault>
-    requires tapes { M.codes ≡ (λ tape. tape.items) }
     ensures load { IsLoad (cut_load image.now counts.now)
         (M.configuration machine.old) (M.configuration machine.new) result }
     ensures program { OnOk result (IsLoadedOver 22 (M.configuration machine.old).state.core.words
@@ -293,12 +288,11 @@ pub fn load_cut<A: Allocator + Copy, B: Allocator, M: Operate<Tape = Vec<Code, A
 
 /// Loads a program cell by cell, by the loader of ten words. Answers how many orders it performed, 8 for each word and 5. Refused
 /// as `load` is.
-pub fn load_single<A: Allocator + Copy, B: Allocator, M: Operate<Tape = Vec<Code, A>>>(
+pub fn load_single<A: Allocator + Copy, B: Allocator, M: Operate<A>>(
     alloc: A,
     machine: &mut M,
     image: &Image<B>,
 ) -> Result<u64, LoadFault>
-    requires tapes { M.codes ≡ (λ tape. tape.items) }
     ensures load { IsLoad (single_load image.now)
         (M.configuration machine.old) (M.configuration machine.new) result }
     ensures program { OnOk result (IsLoadedOver 10 (M.configuration machine.old).state.core.words
