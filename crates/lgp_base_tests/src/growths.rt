@@ -2,13 +2,13 @@
 //! ample memory.
 
 use crate::assembler::{FAULTY_SOURCE, FIRST_PROGRAM, OPERATIONS, are_named, is_symbol, marks};
-use crate::exchange::{codes_of, drums};
+use crate::exchange::{codes_of, drums, paper_of};
 use crate::expect_eq;
 use crate::listing::dumps;
 use lgp_assembler::{AssembleError, Fault, FaultKind, Image, Name, assemble};
 use lgp_drum::Drum;
 use lgp_exchange::{
-    BytesFault, ExaminedFault, deposits_of, paper_of, read_examined, read_tape_bytes, tape_bytes,
+    BytesFault, ExaminedFault, deposits_of, read_examined, read_tape_bytes, tape_bytes,
     write_archive_text,
 };
 use lgp_flexo::Code;

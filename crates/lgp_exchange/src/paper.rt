@@ -1,6 +1,6 @@
 //! Printed codes as the typewriter's paper has them.
 
-ghost use Rattle.std.specs.Prelude.{◌≡◌, ◌++◌, IfOk, OnOk};
+ghost use Rattle.std.specs.Prelude.{◌≡◌, ◌++◌, OnOk};
 ghost use Rattle.lgp_exchange.specs.Paper.{completed, paper_of};
 
 use crate::carriage::Carriage;
@@ -39,13 +39,4 @@ pub fn push_paper<A: Allocator, B: Allocator>(
         carriage.pass(*code)?;
     }
     carriage.push_row(text)
-}
-
-/// The text that `push_paper` appends.
-pub fn paper_of<A: Allocator + Copy>(alloc: A, codes: &[Code]) -> Result<Vec<u8, A>, AllocError>
-    ensures { IfOk result (λ text. text.items ≡ paper_of codes.now) }
-{
-    let mut text = Vec::new(alloc);
-    push_paper(alloc, &mut text, codes)?;
-    Ok(text)
 }

@@ -19,7 +19,7 @@ use lgp_table::Action;
 use lgp_trace::laws::{
     codes_pass, phases_read, phases_together, profiles, signs_are_word_times, words_stay,
 };
-use lgp_trace::{Account, Phases, Profile, take_account};
+use lgp_trace::{Account, Begun, Phases, Profile};
 use lgp_word::{Address, Word};
 use std::alloc::Allocator;
 
@@ -55,7 +55,13 @@ fn press<A: Allocator>(machine: &mut Machine<A>, action: Action) -> bool {
 
 /// The next activity's account.
 fn take<A: Allocator>(machine: &mut Machine<A>) -> Result<Account, OrderFault> {
-    take_account(machine)
+    let Some(begun) = Begun::of(machine) else {
+        return Err(OrderFault::Moving);
+    };
+    match machine.next_order() {
+        Ok(_) => Ok(begun.finish(machine)),
+        Err(fault) => Err(fault),
+    }
 }
 
 /// An order of a program: its place, the word times of its phases but for the one in which it is taken, and the word that is at

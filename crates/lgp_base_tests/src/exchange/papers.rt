@@ -12,6 +12,13 @@ fn paper(global: Global, numbers: &[u8]) -> Option<Vec<u8>> {
     }
 }
 
+/// The paper of codes.
+pub fn paper_of<A: Allocator + Copy>(alloc: A, codes: &[Code]) -> Result<Vec<u8, A>, AllocError> {
+    let mut text = Vec::new(alloc);
+    push_paper(alloc, &mut text, codes)?;
+    Ok(text)
+}
+
 /// Whether the codes of these numbers are shown as this text.
 fn is_shown_as(global: Global, numbers: &[u8], text: &[u8]) -> bool {
     match paper(global, numbers) {

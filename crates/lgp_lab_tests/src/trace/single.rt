@@ -1,34 +1,28 @@
 //! What is no activity, and which orders use a word. What single activities tell is in `texts/` of the tests of the monitor.
 
-use super::{clock, press, take, with_words};
+use super::{clock, press, with_words};
 use crate::expect_eq;
-use lgp_machine::{Machine, OrderFault};
-use lgp_table::Action;
-use lgp_trace::{Begun, seeks, stores};
+use lgp_machine::Machine;
+use lgp_table::{Action, seeks, stores};
+use lgp_trace::Begun;
 use lgp_word::Op;
 use std::alloc::Allocator;
 
-/// A machine at rest has no account, nor has one within an order; nothing changes.
-fn refused<A: Allocator>(machine: &mut Machine<A>) -> ([Option<OrderFault>; 2], bool, u64) {
-    let at_rest = take(machine).err();
+/// Whether an account begins at rest, and whether one begins within an order.
+fn begins<A: Allocator>(machine: &mut Machine<A>) -> [bool; 2] {
+    let at_rest = Begun::of(machine).is_some();
     press(machine, Action::Start);
     let _turned = machine.turn().is_ok();
-    let moving = take(machine).err();
-    (
-        [at_rest, moving],
-        Begun::of(machine).is_none(),
-        clock(machine),
-    )
+    [at_rest, Begun::of(machine).is_some()]
 }
 
 #[test]
-fn refusals(rt: HostRuntime) {
+fn no_account_begins_within_an_order(rt: HostRuntime) {
     let seen = match with_words(rt.alloc(), &[]) {
-        Some(mut machine) => refused(&mut machine),
-        None => ([None; 2], false, 0),
+        Some(mut machine) => begins(&mut machine),
+        None => [false; 2],
     };
-    let wanted = [Some(OrderFault::AtRest), Some(OrderFault::Moving)];
-    expect_eq(&rt, seen, (wanted, true, 0));
+    expect_eq(&rt, seen, [true, false]);
 }
 
 /// How many of the sixteen orders wait for a word, and how many store one.
