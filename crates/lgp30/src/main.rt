@@ -4,15 +4,16 @@
 
 ghost use Rattle.std.specs.Prelude.{None};
 
-use lgp_lab::{FeedOf, Folder, NotOpened, READS, SinkOf, WordFault, obey};
+use lgp_lab::{Feed, FeedOf, Folder, NotOpened, READS, SinkOf, WordFault, obey};
 use std::fs::File;
 use std::process::ExitCode;
 use std::{env, fs, io};
 
-/// The files of the system, by their paths. Nothing is known of them.
+/// The files of the system, by their paths, and whether a read of one has failed. Nothing is known of them.
 #[derive(Clone, Copy)]
 struct HostFolder<'a> {
     rt: &'a HostRuntime,
+    has_failed: bool,
 }
 
 impl Folder for HostFolder<'_> {
@@ -22,11 +23,17 @@ impl Folder for HostFolder<'_> {
 
     ghost contents = { λ folder name. None };
 
+    ghost failed = { λ folder. folder.has_failed };
+
     fn open(&self, name: &str) -> Result<FeedOf<File>, NotOpened> {
         match fs::open(self.rt, name) {
             Ok(file) => Ok(FeedOf::new(file, READS)),
             Err(_) => Err(NotOpened),
         }
+    }
+
+    fn close(&mut self, reader: FeedOf<File>) {
+        self.has_failed = self.has_failed || reader.has_failed();
     }
 }
 
@@ -49,7 +56,10 @@ fn word_fault(error: &io::Error) -> WordFault {
 
 /// Does what the words of the command line ask for; answers the status.
 fn run(rt: &HostRuntime, words: Result<&[String], WordFault>) -> u8 {
-    let folder = HostFolder { rt };
+    let mut folder = HostFolder {
+        rt,
+        has_failed: false,
+    };
     let mut input = FeedOf::new(rt.reader(), READS);
     let mut output = SinkOf::new(io::writer(rt));
     let mut messages = SinkOf::new(rt.stderr());
@@ -57,7 +67,7 @@ fn run(rt: &HostRuntime, words: Result<&[String], WordFault>) -> u8 {
         rt.alloc(),
         rt.alloc(),
         words,
-        &folder,
+        &mut folder,
         &mut input,
         &mut output,
         &mut messages,

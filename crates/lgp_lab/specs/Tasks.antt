@@ -96,10 +96,6 @@ pub record Failures : Type 0 where
   pub read : Bool
   pub write : Bool
 
--- of a file the reads are not seen from outside: any of them may have failed
-abbrev pub unseen_reads : Bool → Failures
-unseen_reads write = record { read = true; write = write }
-
 -- what became of the work on a file, of which nothing may be known: its text was written, or the
 -- file was not opened and nothing was written, or a fault broke the work off, and then a read or a
 -- write has failed, as the fault says, or memory was refused
@@ -136,22 +132,27 @@ IsBatch opens contents failures worst (name ∷ names) status w₀ w =
     × (((now < 2) × IsBatch opens contents failures (max worst now) names status w₁ w)
     ⊎ ((2 ≤ now) × (status ≡ max worst now) × (w ≡ w₁)))
 
--- what is written for a task, and the status of the program
+-- the same with the reads of files in place of those of the input
+abbrev pub of_files : Bool → Failures → Failures
+of_files unread failures = record failures { read = unread }
+
+-- what is written for a task, and the status of the program, by whether a read of a file has failed,
+-- and of the input, and a write
 abbrev pub IsPerformed : {A : Type 0} → (List ℕ → Option Bool) → (List ℕ → Option (List ℕ))
-    → Task A → Option (List ℕ) → Failures → ℕ → Option (List ℕ) → Option (List ℕ) → Type 0
-IsPerformed opens contents Stdin input failures =
+    → Task A → Option (List ℕ) → Bool → Failures → ℕ → Option (List ℕ) → Option (List ℕ) → Type 0
+IsPerformed opens contents Stdin input unread failures =
     IsWorked (script_work []) (Some true) input failures
-IsPerformed opens contents (Asm name) input failures =
-    IsWorked (source_work asm_answer) (opens name) (contents name) (unseen_reads failures.write)
-IsPerformed opens contents (Tape name) input failures =
-    IsWorked (source_work tape_answer) (opens name) (contents name) (unseen_reads failures.write)
-IsPerformed opens contents (Run name limit) input failures =
+IsPerformed opens contents (Asm name) input unread failures =
+    IsWorked (source_work asm_answer) (opens name) (contents name) (of_files unread failures)
+IsPerformed opens contents (Tape name) input unread failures =
+    IsWorked (source_work tape_answer) (opens name) (contents name) (of_files unread failures)
+IsPerformed opens contents (Run name limit) input unread failures =
     IsWorked (source_work (run_answer limit)) (opens name) (contents name)
-    (unseen_reads failures.write)
-IsPerformed opens contents (Script name) input failures =
-    IsWorked (script_work []) (opens name) (contents name) (unseen_reads failures.write)
-IsPerformed opens contents (Batch names) input failures =
-    IsBatch opens contents (unseen_reads failures.write) 0 names
+    (of_files unread failures)
+IsPerformed opens contents (Script name) input unread failures =
+    IsWorked (script_work []) (opens name) (contents name) (of_files unread failures)
+IsPerformed opens contents (Batch names) input unread failures =
+    IsBatch opens contents (of_files unread failures) 0 names
 
 -- a text reported: whole, with the status that goes with it; or in part, since a write has failed,
 -- with the status of that
@@ -189,11 +190,11 @@ IsUnread words.Memory m_failed status w₀ w m₀ m =
 -- what the program does for the words of the command line: where the command line takes them, the
 -- task that they hold, without a message; or they are refused
 abbrev pub IsObeyed : (A : Type 0) → (List ℕ → Option Bool) → (List ℕ → Option (List ℕ))
-    → List (List ℕ) → Option (List ℕ) → Failures → Bool → ℕ → Option (List ℕ) → Option (List ℕ)
-    → Option (List ℕ) → Option (List ℕ) → Type 0
-IsObeyed A opens contents typed input failures m_failed status w₀ w m₀ m =
+    → List (List ℕ) → Option (List ℕ) → Bool → Failures → Bool → ℕ → Option (List ℕ)
+    → Option (List ℕ) → Option (List ℕ) → Option (List ℕ) → Type 0
+IsObeyed A opens contents typed input unread failures m_failed status w₀ w m₀ m =
     (AskForTask typed
-    × IsPerformed {A = A} opens contents (task_for typed) input failures status w₀ w
+    × IsPerformed {A = A} opens contents (task_for typed) input unread failures status w₀ w
     × (m ≡ m₀))
     ⊎ ((fault : TaskFault A) × IsFaultOn command_line typed fault
     × IsRefused fault failures.write m_failed status w₀ w m₀ m)

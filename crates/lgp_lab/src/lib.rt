@@ -1,10 +1,7 @@
 //! The LGP-30 laboratory: scripts, files, and the words of the command line.
 #![tactic(auto)]
 
-pub use lgp_script::{
-    BUTTONS, Laboratory, READS, Span, Teller, asm_file, batch_part, is_command, is_comment, laws,
-    lone_number, push_fault_line, run_file, run_script, tape_file,
-};
+pub use lgp_script::{READS, asm_file, batch_part, run_file, run_script, tape_file};
 pub use lgp_stream::{Failed, Feed, FeedOf, Sink, SinkOf, StreamFault as LabFault};
 pub use lgp_task::{FileName, FileNames, Task, TaskFault, task_of};
 pub use tasks::{

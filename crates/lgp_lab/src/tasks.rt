@@ -1,10 +1,10 @@
 //! What the program does for a task: which file it reads, what it writes, and its status.
 
-ghost use Rattle.std.specs.Prelude.{◌≡◌, [], List, Option, Some, ℕ, Bool, IfErr, IfOk, IfSome, false, is_ok, map, true};
+ghost use Rattle.std.specs.Prelude.{◌≡◌, ◌||◌, [], List, Option, Some, ℕ, Bool, IfErr, IfOk, IfSome, false, is_ok, map, true};
 ghost use Rattle.std.specs.String.{string_bytes};
 ghost use Rattle.std.specs.Io.KnownBytes.{Appends};
 ghost use Rattle.lgp_stream.specs.Language.{HasCause};
-ghost use Rattle.lgp_lab.specs.Tasks.{HasDone, IsBatch, IsObeyed, IsOpenedAs, IsPerformed, IsRefused, IsReported, IsUnread, IsWorked, part_work, read_limit, script_work, status_for, unread_text, unseen_reads, usage_status, work_for};
+ghost use Rattle.lgp_lab.specs.Tasks.{HasDone, IsBatch, IsObeyed, IsOpenedAs, IsPerformed, IsRefused, IsReported, IsUnread, IsWorked, part_work, read_limit, script_work, status_for, unread_text, usage_status, work_for};
 
 use lgp_script::{asm_file, batch_part, run_file, run_script, tape_file};
 use lgp_stream::{Feed, Sink, StreamFault, write_whole};
@@ -26,6 +26,9 @@ pub trait Folder {
     /// The bytes of the file of a name, where they are known.
     ghost contents: { Self → List ℕ → Option (List ℕ) };
 
+    /// Whether a read of a file that was given back has failed.
+    ghost failed: { Self → Bool };
+
     /// Opens the file of this name, to be read from its first byte on.
     fn open(&self, name: &str) -> Result<Self::Reader, NotOpened>
         ensures opens { IfSome (opens self.now name.now) (λ opens. is_ok result ≡ opens) }
@@ -33,6 +36,12 @@ pub trait Folder {
             Self.Reader.remaining reader ≡ contents self.now name.now) }
         ensures reads { IfOk result (λ reader. Self.Reader.reads reader ≡ read_limit) }
         ensures failed { IfOk result (λ reader. Self.Reader.failed reader ≡ false) };
+
+    /// Takes back what has read a file.
+    fn close(&mut self, reader: Self::Reader)
+        ensures failed { failed self.new ≡ (failed self.old || Self.Reader.failed reader) }
+        ensures opens { opens self.new ≡ opens self.old }
+        ensures contents { contents self.new ≡ contents self.old };
 }
 
 /// Why a file was not worked through to its end.
@@ -120,20 +129,25 @@ pub fn work<A: Allocator + Copy, R: Feed, W: Sink>(
 pub fn work_on_file<A: Allocator + Copy, F: Folder, W: Sink>(
     alloc: A,
     job: Job,
-    folder: &F,
+    folder: &mut F,
     name: &str,
     writer: &mut W,
 ) -> Result<u64, FileFault>
+    requires folder { F.failed folder.old ≡ false }
     requires writer { W.failed writer.old ≡ false }
-    ensures opened { IsOpenedAs (F.opens folder.now name.now) result }
-    ensures done { HasDone (work_for job) (F.contents folder.now name.now)
-        (unseen_reads (W.failed writer.new)) result
+    ensures opened { IsOpenedAs (F.opens folder.old name.now) result }
+    ensures done { HasDone (work_for job) (F.contents folder.old name.now)
+        (record { read = F.failed folder.new; write = W.failed writer.new }) result
         (W.contents writer.old) (W.contents writer.new) }
+    ensures opens { F.opens folder.new ≡ F.opens folder.old }
+    ensures contents { F.contents folder.new ≡ F.contents folder.old }
 {
     let Ok(mut reader) = folder.open(name) else {
         return Err(FileFault::NotOpened);
     };
-    match work(alloc, job, &mut reader, writer) {
+    let outcome = work(alloc, job, &mut reader, writer);
+    folder.close(reader);
+    match outcome {
         Ok(count) => Ok(count),
         Err(fault) => Err(FileFault::Broken(fault)),
     }
@@ -142,19 +156,23 @@ pub fn work_on_file<A: Allocator + Copy, F: Folder, W: Sink>(
 /// Runs a script of several, from the file of a name.
 fn part<A: Allocator + Copy, F: Folder, W: Sink>(
     alloc: A,
-    folder: &F,
+    folder: &mut F,
     name: &str,
     writer: &mut W,
 ) -> Result<u64, FileFault>
-    ensures opened { IsOpenedAs (F.opens folder.now name.now) result }
-    ensures done { HasDone (part_work name.now) (F.contents folder.now name.now)
-        (unseen_reads (W.failed writer.new)) result
+    ensures opened { IsOpenedAs (F.opens folder.old name.now) result }
+    ensures done { HasDone (part_work name.now) (F.contents folder.old name.now)
+        (record { read = F.failed folder.new; write = W.failed writer.new }) result
         (W.contents writer.old) (W.contents writer.new) }
+    ensures opens { F.opens folder.new ≡ F.opens folder.old }
+    ensures contents { F.contents folder.new ≡ F.contents folder.old }
 {
     let Ok(mut reader) = folder.open(name) else {
         return Err(FileFault::NotOpened);
     };
-    match batch_part(alloc, name, &mut reader, writer) {
+    let outcome = batch_part(alloc, name, &mut reader, writer);
+    folder.close(reader);
+    match outcome {
         Ok(count) => Ok(count),
         Err(fault) => Err(FileFault::Broken(fault)),
     }
@@ -164,13 +182,14 @@ fn part<A: Allocator + Copy, F: Folder, W: Sink>(
 /// greatest status.
 pub fn run_batch<A: Allocator + Copy, F: Folder, W: Sink>(
     alloc: A,
-    folder: &F,
+    folder: &mut F,
     names: &FileNames<A>,
     writer: &mut W,
 ) -> u8
+    requires folder { F.failed folder.old ≡ false }
     requires writer { W.failed writer.old ≡ false }
-    ensures { IsBatch (F.opens folder.now) (F.contents folder.now)
-        (unseen_reads (W.failed writer.new)) 0 names.now result
+    ensures { IsBatch (F.opens folder.old) (F.contents folder.old)
+        (record { read = F.failed folder.new; write = W.failed writer.new }) 0 names.now result
         (W.contents writer.old) (W.contents writer.new) }
 {
     let mut worst = 0;
@@ -188,13 +207,15 @@ pub fn run_batch<A: Allocator + Copy, F: Folder, W: Sink>(
 fn status_on_file<A: Allocator + Copy, F: Folder, W: Sink>(
     alloc: A,
     job: Job,
-    folder: &F,
+    folder: &mut F,
     name: &str,
     writer: &mut W,
 ) -> u8
+    requires folder { F.failed folder.old ≡ false }
     requires writer { W.failed writer.old ≡ false }
-    ensures { IsWorked (work_for job) (F.opens folder.now name.now)
-        (F.contents folder.now name.now) (unseen_reads (W.failed writer.new)) result
+    ensures { IsWorked (work_for job) (F.opens folder.old name.now)
+        (F.contents folder.old name.now)
+        (record { read = F.failed folder.new; write = W.failed writer.new }) result
         (W.contents writer.old) (W.contents writer.new) }
 {
     status_of(work_on_file(alloc, job, folder, name, writer))
@@ -238,15 +259,16 @@ fn status_on_input<A: Allocator + Copy, R: Feed, W: Sink>(
 pub fn perform<A: Allocator + Copy, F: Folder, R: Feed, W: Sink>(
     alloc: A,
     task: &Task<A>,
-    folder: &F,
+    folder: &mut F,
     input: &mut R,
     output: &mut W,
 ) -> u8
+    requires folder { F.failed folder.old ≡ false }
     requires reads { R.reads input.old ≡ read_limit }
     requires input { R.failed input.old ≡ false }
     requires output { W.failed output.old ≡ false }
-    ensures { IsPerformed (F.opens folder.now) (F.contents folder.now) task.now
-        (R.remaining input.old)
+    ensures { IsPerformed (F.opens folder.old) (F.contents folder.old) task.now
+        (R.remaining input.old) (F.failed folder.new)
         (record { read = R.failed input.new; write = W.failed output.new }) result
         (W.contents output.old) (W.contents output.new) }
 {
@@ -326,18 +348,19 @@ pub fn obey<A: Allocator + Copy, F: Folder, R: Feed, W: Sink, M: Sink>(
     global: Global,
     alloc: A,
     words: Result<&[String], WordFault>,
-    folder: &F,
+    folder: &mut F,
     input: &mut R,
     output: &mut W,
     messages: &mut M,
 ) -> u8
+    requires folder { F.failed folder.old ≡ false }
     requires reads { R.reads input.old ≡ read_limit }
     requires input { R.failed input.old ≡ false }
     requires output { W.failed output.old ≡ false }
     requires messages { M.failed messages.old ≡ false }
     ensures obeyed { IfOk words.entry (λ words.
-        IsObeyed A (F.opens folder.now) (F.contents folder.now) (map string_bytes words.now)
-        (R.remaining input.old)
+        IsObeyed A (F.opens folder.old) (F.contents folder.old) (map string_bytes words.now)
+        (R.remaining input.old) (F.failed folder.new)
         (record { read = R.failed input.new; write = W.failed output.new })
         (M.failed messages.new) result (W.contents output.old) (W.contents output.new)
         (M.contents messages.old) (M.contents messages.new)) }

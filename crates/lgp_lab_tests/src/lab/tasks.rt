@@ -1,13 +1,13 @@
 //! What the program does for a task, over files that a test makes.
 
-ghost use Rattle.std.specs.Prelude.{None};
+ghost use Rattle.std.specs.Prelude.{◌≡◌, None, false};
 
 use super::streams::{Failing, Pieces};
 use crate::expect_eq;
 use crate::task::read;
 use lgp_lab::{
-    FeedOf, FileFault, FileNames, Folder, LabFault, NotOpened, READS, SinkOf, Task, TaskFault,
-    perform, refuse, status_of,
+    Feed, FeedOf, FileFault, FileNames, Folder, LabFault, NotOpened, READS, SinkOf, Task,
+    TaskFault, perform, refuse, status_of,
 };
 use std::alloc::Global;
 use std::io::Write;
@@ -28,9 +28,20 @@ fn what_became_of_a_file_gives_the_status(rt: HostRuntime) {
     expect_eq(&rt, (statuses, READS), wanted);
 }
 
-/// Five files, and none else. Of `fails` two lines are read, and then a read fails.
+/// Five files, and none else, with whether a read has failed. Of `fails` two lines are read, and then a read fails.
 #[derive(Clone, Copy, Drop)]
-pub struct Made;
+pub struct Made {
+    has_failed: bool,
+}
+
+impl Made {
+    /// Nothing was read yet.
+    pub fn new() -> Made
+        ensures { ⟦<Made as Folder>⟧.failed result ≡ false }
+    {
+        Made { has_failed: false }
+    }
+}
 
 /// The files by their names. The long one takes 2 from 128 until the rest is negative, in 196 orders.
 static FILES: [(&str, &[u8]); 5] = [
@@ -64,11 +75,17 @@ impl Folder for Made {
 
     ghost contents = { λ folder name. None };
 
+    ghost failed = { λ folder. folder.has_failed };
+
     fn open(&self, name: &str) -> Result<FeedOf<Pieces>, NotOpened> {
         match text_of(name) {
             Some(text) => Ok(FeedOf::new(Pieces::new(text, 7, name == "fails"), READS)),
             None => Err(NotOpened),
         }
+    }
+
+    fn close(&mut self, reader: FeedOf<Pieces>) {
+        self.has_failed = self.has_failed || reader.has_failed();
     }
 }
 
@@ -76,7 +93,7 @@ impl Folder for Made {
 fn status_into<W: Write + Drop>(alloc: Global, task: Task, writer: W) -> u8 {
     let mut input = FeedOf::new(b"bar".as_slice(), READS);
     let mut output = SinkOf::new(writer);
-    perform(alloc, &task, &Made, &mut input, &mut output)
+    perform(alloc, &task, &mut Made::new(), &mut input, &mut output)
 }
 
 /// The same of the task that words ask for; none where they ask for no task.

@@ -22,7 +22,7 @@ fn status_for<W: Write + Drop, M: Write + Drop>(
         alloc,
         alloc,
         words,
-        &Made,
+        &mut Made::new(),
         &mut input,
         &mut output,
         &mut messages,
