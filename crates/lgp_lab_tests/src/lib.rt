@@ -1,6 +1,8 @@
-//! The tests of accounts, of the command line and of the laboratory, over their public calls.
+//! The tests of accounts, of the command line and of the laboratory, over their public calls, and of the texts of all crates' faults.
 #![tactic(auto)]
 
+#[cfg(test)]
+mod faults;
 #[cfg(test)]
 mod lab;
 #[cfg(test)]

@@ -1,15 +1,17 @@
 //! Scripts and their replies.
 
 use super::streams::Pieces;
-use super::{Row, is_done, run_between};
+use super::{FIRST_RUN, FIRST_RUN_REPLIES, Row, is_done, run_between};
 use crate::expect_eq;
 use std::alloc::Global;
 
 /// Scripts that come in pieces. Others are in `texts/` and `examples/`, and the proved program answers those.
-static ROWS: [Row<'static>; 7] = [
+static ROWS: [Row<'static>; 18] = [
+    (FIRST_RUN, FIRST_RUN_REPLIES, 0),
+    // Orders that read a tape: one with a conditional stop, and one without, after which a key ends the input.
     (
-        b"dump\nput 6308 800g3w20\nshow 6308 1\ndump\nput 6363 80000000\nput 0100 00000004\nshow 6362 2\ndump\nput 6308 00000000\ndump\n",
-        b"dump 0\nok\n6308 -t 6308\ndump 1\n6308 800g3w20\nok\nok\n6362 z 0000\n6363 word 80000000\ndump 3\n0100 00000004\n6308 800g3w20\n6363 80000000\nok\ndump 2\n0100 00000004\n6363 80000000\n",
+        b"put 0000 00080000\nput 0001 00040000\nmount 12[16]3'\npress start\norders 2\npanel\n",
+        b"ok\nok\nok 5\nlive\norders 2 going\ncounter 0002 accumulator 00000123 register 00040000 status going mode normal switches uuuuuu reader off tape 0 clock 1996\n",
         0,
     ),
     (
@@ -17,26 +19,79 @@ static ROWS: [Row<'static>; 7] = [
         b"ok\nok\nok 4\nlive\norders 2 waiting\ncounter 0002 accumulator 00000123 register 00040000 status waiting mode normal switches uuuuuu reader off tape 0 clock 1612\nlive 1 dead 0\norders 1 halted stop\n",
         0,
     ),
-    (b"turn 5\r\r\nturn 5\rturn 5\n", b"? 1 Form\n? 1 Form\n", 2),
-    (b"turn 5\r", b"? 1 Form\n", 1),
+    // A load, and the words of the loader that it has changed.
+    (
+        b"source\n org 0100\n word 00000004\n end\n.\nload\npanel\nwords 0100 1\nwords 6309 1\nwords 6319 1\nwords 6321 1\n",
+        b"cells 1 start none\nloaded 23\ncounter 6320 accumulator 80000000 register 80000000 status halted stop mode normal switches uuuuuu reader off tape 0 clock 15342\n0100 00000004\n6309 000k0104\n6319 80000000\n6321 00000000\n",
+        0,
+    ),
+    // An order that prints, and back over it.
+    (
+        b"put 0000 00083900\npress start\norders 1\nprinted\nturn 1\nback 0\nback 1\nprinted\nback 1\n",
+        b"ok\nlive\norders 1 going\nprinted 1 a\n? 3 AtWork\nclock 451\nclock 0\nprinted 0\n? 7 TooFar 0\n",
+        2,
+    ),
+    (b"turn 5\n", b"clock 5\n", 0),
+    // Rules that stop runs, and back to the orders that they hit.
+    (
+        b"put 0000 000100j8\nput 0001 000q00jj\nput 0002 000j00j8\nput 0003 000f0000\nput 0051 00000002\npress start\nbreak 0002\nrun 100\ndrop 0\nwatch 0050\nrun 100\nrun 100\nlast\nwords 0050 1\nlast\nlast\ndrop 1\n",
+        b"ok\nok\nok\nok\nok\nlive\nrule 0\nran 2 rule 0\nok\nrule 0\nran 1 rule 0\nran 4 rule 0\nback 1 rule 0\n0050 00000002\nback 4 rule 0\n? 8 NoHit 2\n? 6 NoRule\n",
+        2,
+    ),
     // Each kind of fault once, but for those of bytes and of the drum's end.
     (
         b"source\n org 6304\n b 0100\na org 0100\n z\n org 0100\n z\n q 0000\n b\n b none\n b 6363+1\na z\n9a z\n z 0 0\n word 00000001\n end\n z\n.\nload\n",
         b"? 9 Faults\nline 2 InLoader\nline 6 PlaceTaken\nline 7 UnknownOrder\nline 8 MissingOperand\nline 9 UnknownName\nline 10 OutOfRange\nline 11 LabelTwice\nline 12 BadLabel\nline 13 Extra\nline 14 BadOperand\nline 16 AfterEnd\n? 10 NoImage\n",
         2,
     ),
+    // Lines that are refused, and a button that is dead.
+    (
+        b"mount 12A\nput 0000 000f0000\npress start\npress start\nput 0000 00000001\nput 0000 00000002\n",
+        b"? 12 BadSign 2\nok\nlive\ndead\n? 1 Form\n? 2 Moving\n",
+        3,
+    ),
+    (
+        b"mount [6\nmount [64]\n",
+        b"? 12 BadSign 0\n? 12 BadSign 0\n",
+        2,
+    ),
+    // Words as orders, and dumps.
+    (
+        b"put 6308 800g3w20\nshow 6308 1\ndump\n",
+        b"ok\n6308 -t 6308\ndump 1\n6308 800g3w20\n",
+        0,
+    ),
+    (
+        b"dump\nput 6363 80000000\nput 0100 00000004\nshow 6362 2\ndump\n",
+        b"dump 0\nok\nok\n6362 z 0000\n6363 word 80000000\ndump 2\n0100 00000004\n6363 80000000\n",
+        0,
+    ),
+    // An order that was performed is put anew.
+    (
+        b"put 0000 000f0000\npress start\norders 1\npress manual\nput 0000 00000000\npress normal\npress start\norders 1\npanel\n",
+        b"ok\nlive\norders 1 going\nlive\nok\nlive\nlive\norders 1 halted stop\ncounter 0001 accumulator 00000000 register 00000000 status halted stop mode normal switches uuuuuu reader off tape 0 clock 131\n",
+        0,
+    ),
+    // Back over a word put by hand and a mounted tape.
+    (
+        b"put 0000 000f0000\npress start\norders 2\npress manual\nput 0100 00000004\nmount a\npress normal\npress start\norders 1\nback 2\npanel\nwords 0100 1\nback 1\nback 1\n",
+        b"ok\nlive\norders 2 going\nlive\nok\nok 1\nlive\nlive\norders 1 going\nclock 67\ncounter 0000 accumulator 00000000 register 000f0000 status going mode normal switches uuuuuu reader off tape 0 clock 67\n0100 00000000\nclock 0\n? 7 TooFar 0\n",
+        1,
+    ),
+    // A line that is too long.
+    (&LONG_LINE, b"? 11 TooLong\n", 1),
+    (b"turn 5\r\r\nturn 5\rturn 5\n", b"? 1 Form\n? 1 Form\n", 2),
+    (b"turn 5\r", b"? 1 Form\n", 1),
     // Two points are no point, and a carriage return before the line feed is not the line's.
     (
         b"source\r\n..\r\n end\r\n.\r\nturn 1\n",
         b"? 9 Faults\nline 1 BadLabel\nclock 1\n",
         1,
     ),
-    (
-        b"put 0000 000100j8\nput 0001 000q00jj\nput 0002 000j00j8\nput 0003 000f0000\nput 0051 00000002\npress start\nbreak 0002\nrun 100\ndrop 0\nwatch 0050\nrun 100\nrun 100\nlast\nwords 0050 1\nlast\nlast\ndrop 1\n",
-        b"ok\nok\nok\nok\nok\nlive\nrule 0\nran 2 rule 0\nok\nrule 0\nran 1 rule 0\nran 4 rule 0\nback 1 rule 0\n0050 00000002\nback 4 rule 0\n? 8 NoHit 2\n? 6 NoRule\n",
-        2,
-    ),
 ];
+
+/// A line of a byte more than a line may have.
+const LONG_LINE: [u8; 4097] = [b'p'; 4097];
 
 /// Whether a script is answered as its row says, where it comes in pieces of at most a given number of bytes.
 fn is_answered_in_pieces(alloc: Global, row: &Row<'static>, most: usize) -> bool {
@@ -65,5 +120,5 @@ fn rows_answered(alloc: Global, rows: &[Row<'static>]) -> usize {
 
 #[test]
 fn scripts_are_answered_in_pieces_of_any_length(rt: HostRuntime) {
-    expect_eq(&rt, rows_answered(rt.alloc(), &ROWS), 7);
+    expect_eq(&rt, rows_answered(rt.alloc(), &ROWS), 18);
 }

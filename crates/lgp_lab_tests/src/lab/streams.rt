@@ -173,9 +173,11 @@ fn is_open_line_answered(
 fn open_lines_answered(alloc: Global) -> usize {
     let mut answered: usize = 0;
     for (text, fails, replies, wanted) in &OPEN_LINES {
-        let reader = Pieces::new(text, 7, *fails);
-        if !is_open_line_answered(alloc, reader, replies, *wanted) {
-            return answered;
+        for most in [1, 7] {
+            let reader = Pieces::new(text, most, *fails);
+            if !is_open_line_answered(alloc, reader, replies, *wanted) {
+                return answered;
+            }
         }
         answered = answered.saturating_add(1);
     }
