@@ -24,6 +24,14 @@ const within = (name, note) => (note === "" ? name : `${name}, ${note}`);
 /** The lines of a dump: of a line that is longer than is kept its front, and a byte 0, which no dump has. */
 const dumpLines = (text) => linesIn(endedText(text)).map((line) => `${frontOf(withoutReturn(line))}${isLonger(withoutReturn(line)) ? "\0" : ""}\n`);
 
+/** The part of a tape text from a place on that a line has room for, which cuts no group in two. */
+function tapePieceAt(text, at) {
+    const piece = text.slice(at, at + MOUNT_LIMIT);
+    if (at + piece.length === text.length) return piece;
+    const begun = piece.indexOf("[", piece.length - 3);
+    return begun < 0 ? piece : piece.slice(0, begun);
+}
+
 export class Typist {
     #desk;
     #openBeside;
@@ -76,14 +84,29 @@ export class Typist {
         return this.#desk.line(`mount ${this.#tapeIn(text)}`, within(name, note));
     }
 
-    /** The tape text of a file, if it is one: the module says whether. */
+    /** The tape text of a file, if it is one: the module says whether. A line takes the text of its codes, whatever line ends and groups the file has. */
     #tapeIn(text) {
-        if (text.length > MOUNT_LIMIT) throw new FileTrouble(LONG_TAPE);
-        const reply = this.#openBeside().answer(`mount ${text.replaceAll("\n", "\r")}`);
-        if (!isRefusal(reply)) return tapeTextOf(codesOf(text));
-        const { number: place } = refusalOf(reply);
-        const line = text.slice(0, place).split("\n").length;
-        throw new FileTrouble(`the byte at place ${place}, counted from 0, in line ${line}, begins no sign of a tape`);
+        const place = this.#badSignIn(text);
+        if (place !== null) {
+            const line = text.slice(0, place).split("\n").length;
+            throw new FileTrouble(`the byte at place ${place}, counted from 0, in line ${line}, begins no sign of a tape`);
+        }
+        const tape = tapeTextOf(codesOf(text));
+        if (tape.length > MOUNT_LIMIT) throw new FileTrouble(LONG_TAPE);
+        return tape;
+    }
+
+    /** The place of the first byte of a text that begins no sign of a tape, or null: a session beside is asked, piece by piece. */
+    #badSignIn(text) {
+        const beside = this.#openBeside();
+        for (let at = 0; at < text.length; ) {
+            const piece = tapePieceAt(text, at);
+            beside.answer("new");
+            const reply = beside.answer(`mount ${piece.replaceAll("\n", "\r")}`);
+            if (isRefusal(reply)) return at + refusalOf(reply).number;
+            at += piece.length;
+        }
+        return null;
     }
 
     /** Types the lines of a file. */

@@ -171,6 +171,18 @@ inFolder("dumps that are none", { odd: "0000 00000001\n", zero: "0000 00000000\n
 
 const NATIVE = "no file of this form is read or written here; the native program does that, which ./prove lgp30m makes";
 
+/** What counts for a line's room is the text of the codes: line ends and groups of codes with signs have none, and no group is cut in two. */
+inFolder("tapes of many lines and groups", {
+    lines: `${"0".repeat(80)}\n`.repeat(51) + "0".repeat(10), groups: `${"[02]".repeat(20)}\r\n`.repeat(60), cut: `${"0".repeat(4088)}[02]1\n`,
+    long: `${"0".repeat(80)}\n`.repeat(51) + "0".repeat(11), bad: `${"0".repeat(80)}\n`.repeat(60) + "[6x]", empty: "",
+}, (here) => {
+    const { text } = monitor([], "tape lines\ntape groups\ntape cut\ntape long\ntape bad\ntape empty\n", here);
+    assert.deepEqual(text.trimEnd().split("\n"), [
+        "ok 4090", "ok 1200", "ok 4090", "? 13 File long: more than 4090 bytes of tape text; the native program mounts it, which ./prove lgp30m makes",
+        "? 13 File bad: the byte at place 4860, counted from 0, in line 61, begins no sign of a tape", "ok 0",
+    ]);
+});
+
 inFolder("tapes", { tape: "l2\n[16][02]'\n", cut: "[1\n6]", bad: "12\n3Q", long: "1".repeat(5000), archive: "12!16'\n" }, (here) => {
     const { text, status } = monitor([], "tape tape\ntape cut\ntape bad\ntape long\narchive archive\ntranscript\n", here);
     assert.equal(status, 1);
