@@ -11,9 +11,11 @@ function stringOf(text) {
     return `"${escaped}"`;
 }
 
+/** A line as an object of its key and its value; the key of a refusal says that it is one. */
 function keyedOf(line) {
-    const [key] = wordsOf(line);
-    return `{${stringOf(key)}:${stringOf(line.slice(line.indexOf(key) + key.length).replace(/^ +/, ""))}}`;
+    const [word] = wordsOf(line);
+    const value = line.slice(line.indexOf(word) + word.length).replace(/^ +/, "");
+    return `{${stringOf(word === "?" ? "refusal" : word)}:${stringOf(value)}}`;
 }
 
 /** What is written for a line and its reply, with where the line comes from; the line is null for a reply of the desk itself. */

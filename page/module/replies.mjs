@@ -272,10 +272,11 @@ export function costsOf(lines) {
     return { orders, times, turns, ...placeOf(lines[1] ?? ""), sectors, saved: Number(free?.[1] ?? 0), ...(free === null ? reasonOf(last) : { kind: "free", reason: null }) };
 }
 
-/** What a run tells of its orders, and the line that ends it. What the monitor says behind that line begins with a blank. */
+/** What a run tells of its orders, and the line that ends it. What the monitor says behind that line begins with a blank, or for programs with
+ * the key `state`. */
 export function toldOf(reply) {
     const lines = linesOf(reply);
-    const last = lines.findLastIndex((line) => !line.startsWith(" "));
+    const last = lines.findLastIndex((line) => !/^( |state )/.test(line));
     return { told: lines.slice(0, Math.max(last, 0)), end: lines[last] ?? "" };
 }
 

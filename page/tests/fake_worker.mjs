@@ -7,7 +7,7 @@ const answers = {
     words: (first, count) => words(first, Number(count), "000100j8"),
     show: (first, count) => words(first, Number(count), "b 0050"),
     paper: () => "paper 6\nab\nc d\n",
-    commands: () => "words asks range\npaper asks nothing\ntrace-data does number\n",
+    commands: () => "words asks range\npaper asks alone\ntrace-data does number\n",
     "trace-data": () => { clock += 73; return `clock ${clock - 73}\nat 0001 put1\norder h 0004 sum\nfind 45\ntake 1\nseek 26\nact 1\nbefore 00000008\nafter 00000008\nstored 0004 sum\nfound 00000000\nfound-order z 0000\nfound-number 0\nleft 00000008\nleft-order z 0002\nleft-number 4\nran 1 limit\n`; },
     drum: () => "      64  i.........................Rx....................................\n     128  ........Fi.........................Wx...........................\nran 1 limit\n",
     back: () => { clock -= 73; return `clock ${clock}\n`; },

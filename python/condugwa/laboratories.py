@@ -141,7 +141,7 @@ class Laboratory:
     def _told(self, command: str, limit: int, *operands: str) -> "list[str]":
         """What stands in front of the reply of the run. Where the clock's end has broken the run off, that refusal is raised."""
         lines = self._asked(" ".join([command, str(limit), *operands])).removesuffix("\n").split("\n")
-        while len(lines) > 1 and lines[-1].startswith(" "):
+        while len(lines) > 1 and lines[-1].startswith((" ", "state ")):
             lines.pop()  # what the monitor says behind the reply
         *told, end = lines
         if end.startswith("?"):

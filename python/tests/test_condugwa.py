@@ -184,6 +184,12 @@ def test_a_told_run_that_the_clock_breaks_off_is_refused(laboratory, monkeypatch
         laboratory.profile(1000)
 
 
+@pytest.mark.parametrize("said", ["", "state a stop order halted the machine: press start lets it go on\n"])
+def test_what_is_said_after_a_told_run_is_no_line_of_it(laboratory, monkeypatch, said):
+    monkeypatch.setattr(laboratory, "answer", lambda line: f"ran 0 rest\n{said}")
+    assert laboratory.trace(1) == []
+
+
 def test_the_paper_has_capital_letters_after_upper_case_and_tab_stops(laboratory):
     assert laboratory.paper() == ""
     orders = ["p 0800", "p =1", "p 1600", "p 0400", "p =1", "p 2400", "p =0", "z"]

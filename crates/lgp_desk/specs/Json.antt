@@ -41,10 +41,14 @@ unfoldable pub has_keys : List ℕ → List ℕ → Bool
 has_keys line reply =
     not (is_question reply) && list_any (bytes_eq (first_word line)) keyed_commands
 
+-- what a line says by its key: its first word, or that it is a refusal
+abbrev pub json_key : List ℕ → List ℕ
+json_key word = if bytes_eq word (codes "?") then codes "refusal" else word
+
 -- a line of a reply: an object of its key and its value, or a string
 unfoldable pub json_line : Bool → List ℕ → List ℕ
 json_line true line =
-    codes "{" ++ (json_string (first_word line)
+    codes "{" ++ (json_string (json_key (first_word line))
     ++ (codes ":" ++ (json_string (without_spaces (after_word line)) ++ codes "}")))
 json_line false line = json_string line
 

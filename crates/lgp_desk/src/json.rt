@@ -3,7 +3,7 @@
 ghost use Rattle.std.specs.Prelude.{◌≡◌, ◌++◌, ◌==◌, ◌<◌, [], OnOk, codes, if◌then◌else◌, map, true};
 ghost use Rattle.bstr.specs.Text.{lines_of, without_terminator};
 ghost use Rattle.lgp_stream.specs.Language.{is_question};
-ghost use Rattle.lgp_desk.specs.Json.{has_keys, hex_digit, json_answer, json_byte, json_bytes, json_line, json_lines, json_note, json_own, json_reply, json_string, json_typed};
+ghost use Rattle.lgp_desk.specs.Json.{has_keys, hex_digit, json_answer, json_byte, json_bytes, json_key, json_line, json_lines, json_note, json_own, json_reply, json_string, json_typed};
 
 use bstr::ByteSlice;
 use lgp_stream::{Split, is_question, split_word, without_spaces};
@@ -71,6 +71,17 @@ fn has_keys(line: &[u8], reply: &[u8]) -> bool
             || word == b"profile-data".as_slice())
 }
 
+/// The key of a line that has this first word.
+fn json_key(word: &[u8]) -> &[u8]
+    ensures { result.now ≡ json_key word.now }
+{
+    if word == b"?".as_slice() {
+        b"refusal"
+    } else {
+        word
+    }
+}
+
 /// Appends a line of a reply.
 #[tactic(auto, unfolding(crate::specs::Json::json_line))]
 fn push_line<A: Allocator>(
@@ -85,7 +96,7 @@ fn push_line<A: Allocator>(
     }
     let Split { word, rest } = split_word(line);
     text.extend_from_slice(b"{")?;
-    push_string(text, word)?;
+    push_string(text, json_key(word))?;
     text.extend_from_slice(b":")?;
     push_string(text, without_spaces(rest))?;
     text.extend_from_slice(b"}")

@@ -4,8 +4,8 @@
 use crate::{End, ended, expect_eq, is_done};
 use lgp_lab::{FeedOf, READS, SinkOf};
 use lgp_limited::Limited;
-use lgp_monitor::run_monitor;
-use lgp_stream::StreamFault;
+use lgp_monitor::Monitor;
+use lgp_stream::{StreamFault, run_text};
 use std::alloc::{Allocator, Global};
 
 /// Typed lines, what is written for them, and how many replies begin with a question mark.
@@ -46,9 +46,12 @@ fn run<A: Allocator + Copy>(
     typed: &[u8],
     written: &mut Vec<u8>,
 ) -> Result<u64, StreamFault> {
+    let Ok(monitor) = Monitor::new(alloc) else {
+        return Err(StreamFault::Memory);
+    };
     let mut feed = FeedOf::new(typed, READS);
     let mut sink = SinkOf::new(written);
-    run_monitor(alloc, &mut feed, &mut sink)
+    run_text(alloc, monitor, &mut feed, &mut sink)
 }
 
 /// Whether this is written for typed lines, and a given number of replies begin with a question mark.

@@ -1,14 +1,15 @@
 -- Part of the public promise: the forms of commands, and why a line is in no command's form: which
 -- word of it is wrong, and what would be right.
 use Rattle.std.specs.Prelude.{ℕ, ◌==◌, ◌&&◌, ◌||◌, nat_lt, not, Bool, false, if◌then◌else◌}
-use Rattle.std.specs.Prelude.{is_some, Result, Ok, Err}
+use Rattle.std.specs.Prelude.{is_none, is_some, Result, Ok, Err}
 use Rattle.std.specs.Prelude.{List, ◌++◌, codes, drop, flat_map, length, slice_get, take}
 use Rattle.std.specs.Prelude.{slice_index}
-use Rattle.std.specs.Char.{is_ascii_uppercase}
-use Rattle.std.specs.List.{list_any}
+use Rattle.std.specs.Char.{is_ascii_digit, is_ascii_uppercase}
+use Rattle.std.specs.List.{list_all, list_any}
 use Rattle.std.specs.Option.{option_map_or}
 use Rattle.std.specs.Str.{byte, bytes_eq}
 use Rattle.lgp_word.specs.Decimal.{decimal_number}
+use Rattle.lgp_word.specs.Digits.{word_of_digits}
 use Rattle.lgp_word.specs.Order.{op_of_letter}
 use Rattle.lgp_assembler.specs.AddressOperands.{address_operand}
 use Rattle.lgp_assembler.specs.declared.operands.OperandFault.{OperandFault}
@@ -56,6 +57,7 @@ mistake_text mistakes.Drum = codes " is not on the drum"
 mistake_text mistakes.Blank = codes " has no blank between the order and its address"
 mistake_text mistakes.LetterDigit =
     codes " has l or o, which stand for 1 and 0 on a tape and not here"
+mistake_text mistakes.Odd = codes " is odd, and the last bit of a word is 0"
 mistake_text mistakes.Value = codes " is neither eight digits nor a fraction nor an operation"
 
 abbrev pub has_capital : List ℕ → Bool
@@ -94,13 +96,22 @@ is_l_or_o b = b == byte "l" || b == byte "o"
 abbrev pub has_l_or_o : List ℕ → Bool
 has_l_or_o word = list_any is_l_or_o word
 
--- of a word that is no value of `put`
+unfoldable pub is_word_digit : ℕ → Bool
+is_word_digit b =
+    is_ascii_digit b || b == byte "f" || b == byte "g" || b == byte "j" || b == byte "k"
+    || b == byte "q" || b == byte "w"
+
+abbrev pub are_word_digits : List ℕ → Bool
+are_word_digits word = list_all is_word_digit word
+
+-- of a word that is no value of `put`; eight digits that are no word are those of an odd number
 abbrev pub value_mistake : List ℕ → Mistake
 value_mistake word =
     if has_capital word then mistakes.Capital
     else (if is_order_with_digits word then mistakes.Blank
     else (if length word == 8 && has_l_or_o word then mistakes.LetterDigit
-    else mistakes.Value))
+    else (if length word == 8 && are_word_digits word && is_none (word_of_digits word)
+    then mistakes.Odd else mistakes.Value)))
 
 -- ---- why a line is in no command's form
 

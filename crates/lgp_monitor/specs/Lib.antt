@@ -12,5 +12,4 @@ pub mod Closing
 pub mod ClosingInside
 pub mod Operating
 pub mod Monitor
-pub mod Running
 pub mod FileTexts

@@ -19,7 +19,7 @@ use Rattle.lgp_monitor.specs.Closing.{closing_reply}
 use Rattle.lgp_monitor.specs.Questions.{answer_to}
 use Rattle.lgp_monitor.specs.Forms.{form_line, help_text, misformed_text}
 use Rattle.lgp_monitor.specs.Reasons.{explained, reasoned}
-use Rattle.lgp_monitor.specs.Telling.{reported_text}
+use Rattle.lgp_monitor.specs.Telling.{form_of, reported_text}
 use Rattle.lgp_monitor.specs.Entry.{entry_of}
 use Rattle.lgp_monitor.specs.Operating.{operated, starts_text}
 use Rattle.lgp_monitor.specs.declared.telling.Telling.{Telling}
@@ -92,7 +92,7 @@ module _ (recorded : Recorded LabState) where
   abbrev pub explained_run : Telling → ℕ → List ℕ → List ℕ
   explained_run telling limit line =
       let panel = panel_at (after_lines script_language recorded (run_line line ∷ [])).state in
-      explained panel.status panel.mode (reported_reply telling limit line)
+      explained (form_of telling) panel.status panel.mode (reported_reply telling limit line)
 
   -- the runs of an operator: the reply to the last one, and how often Start was pressed
   abbrev pub answer_to_operating : ℕ → List ℕ → Answer (Recorded LabState)

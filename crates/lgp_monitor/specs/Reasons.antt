@@ -8,6 +8,7 @@ use Rattle.lgp_stream.specs.LineWords.{after_word, first_word}
 use Rattle.lgp_table.specs.declared.panel.Mode.{Mode}
 use Rattle.lgp_table.specs.declared.panel.Status.{Status}
 use Rattle.lgp_text.specs.NamedValues.{named}
+use Rattle.lgp_trace.specs.declared.form.Form.{Form}
 use Rattle.lgp_monitor.specs.RunEnds.{stand_text, tells_standstill}
 use Rattle.lgp_monitor.specs.declared.reason.RefusalKind.{RefusalKind}
 use Rattle.lgp_monitor.specs.declared.reason.RefusalKind.TheVariants as kinds
@@ -65,9 +66,9 @@ with_reason reply kind =
 unfoldable pub reasoned : List ℕ → List ℕ
 reasoned reply = option_map_or (with_reason reply) (refusal_in (last_line reply)) reply
 
--- what is reported of a run after which the machine is in this state: where the reply at its end
--- leaves open in which state the machine is, with a line that says it
-unfoldable pub explained : Status → Mode → List ℕ → List ℕ
-explained status mode reported =
-    if tells_standstill (last_line reported) then reported ++ stand_text status mode
+-- what is reported of a run in a form after which the machine is in this state: where the reply at
+-- its end leaves open in which state the machine is, with a line that says it
+unfoldable pub explained : Form → Status → Mode → List ℕ → List ℕ
+explained form status mode reported =
+    if tells_standstill (last_line reported) then reported ++ stand_text form status mode
     else reasoned reported

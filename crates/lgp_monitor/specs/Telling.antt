@@ -11,8 +11,16 @@ use Rattle.lgp_trace.specs.OptimumLines.{optimum_text, word_text}
 use Rattle.lgp_trace.specs.Profile.{profile_of}
 use Rattle.lgp_trace.specs.ProfileData.{profile_in}
 use Rattle.lgp_trace.specs.Runs.{drawn, heading_in, reported}
+use Rattle.lgp_trace.specs.declared.form.Form.{Form}
+use Rattle.lgp_trace.specs.declared.form.Form.TheVariants as forms
 use Rattle.lgp_monitor.specs.declared.telling.Telling.{Telling}
 use Rattle.lgp_monitor.specs.declared.telling.Telling.TheVariants as tellings
+
+-- the form in which it is written
+abbrev pub form_of : Telling → Form
+form_of (tellings.Trace form) = form
+form_of (tellings.Profile form) = form
+form_of telling = forms.Columns
 
 -- what comes after an address: a blank and the first name that has it as its value, or nothing
 unfoldable pub label_of : List (List ℕ × ℕ) → ℕ → List ℕ

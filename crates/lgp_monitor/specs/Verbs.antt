@@ -88,7 +88,7 @@ operands_form verbs.End = codes ", which ends the program lgp_monitor"
 
 -- the same in a word or two, for programs
 unfoldable pub operands_kind : Verb → List ℕ
-operands_kind (verbs.Lone _) = codes " nothing\n"
+operands_kind (verbs.Lone _) = codes " alone\n"
 operands_kind (verbs.Address command) = codes " address\n"
 operands_kind (verbs.Number command) = codes " number\n"
 operands_kind verbs.NumberAddress = codes " number\n"
@@ -100,7 +100,7 @@ operands_kind verbs.Key = codes " button\n"
 operands_kind verbs.Source = codes " source\n"
 operands_kind verbs.File = codes " file\n"
 operands_kind verbs.Command = codes " command\n"
-operands_kind verbs.End = codes " nothing\n"
+operands_kind verbs.End = codes " alone\n"
 
 -- whether a command shows something and changes nothing
 abbrev pub only_asks : Verb → Bool

@@ -1,11 +1,12 @@
 //! The forms of commands, and why a line is in no command's form.
 
-ghost use Rattle.std.specs.Prelude.{◌≡◌, ◌++◌, ◌||◌, ◌&&◌, ◌==◌, OnOk, flat_map, if◌then◌else◌};
+ghost use Rattle.std.specs.Prelude.{◌≡◌, ◌++◌, ◌||◌, ◌&&◌, ◌==◌, OnOk, flat_map, if◌then◌else◌, is_none};
 ghost use Rattle.std.specs.Option.{option_map_or};
 ghost use Rattle.lgp_stream.specs.LineWords.{after_word, first_word, has_no_word};
 ghost use Rattle.lgp_assembler.specs.AddressOperands.{address_operand};
+ghost use Rattle.lgp_word.specs.Digits.{word_of_digits};
 ghost use Rattle.lgp_text.specs.NamedValues.{named, pairs_of};
-ghost use Rattle.lgp_monitor.specs.Forms.{address_mistake, are_digits, command_line, commands_text, form_line, has_capital, has_l_or_o, help_text, is_beyond_63, is_order_with_digits, misformed_address, misformed_text, mistake_text, no_command_reason, operand_reason, second_reason, takes_numbers, takes_place, value_mistake, value_reason, verb_reason};
+ghost use Rattle.lgp_monitor.specs.Forms.{address_mistake, are_digits, are_word_digits, command_line, commands_text, form_line, has_capital, has_l_or_o, help_text, is_beyond_63, is_order_with_digits, is_word_digit, misformed_address, misformed_text, mistake_text, no_command_reason, operand_reason, second_reason, takes_numbers, takes_place, value_mistake, value_reason, verb_reason};
 ghost use Rattle.lgp_monitor.specs.Verbs.{operands_form, operands_kind, verb_names};
 
 use crate::verb::{
@@ -15,7 +16,7 @@ use lgp_assembler::{Name, OperandFault, Symbols, address_operand};
 use lgp_script::lone_number;
 use lgp_stream::{has_no_word, split_word};
 use lgp_text::{Named, Piece, push_pieces};
-use lgp_word::{Address, Op, read_decimal};
+use lgp_word::{Address, Op, read_decimal, read_digits};
 use std::alloc::{AllocError, Allocator};
 
 /// What is wrong with a word of a line.
@@ -39,6 +40,8 @@ pub enum Mistake {
     Blank,
     /// It has `l` or `o`, which are 1 and 0 on a tape alone.
     LetterDigit,
+    /// It is the digits of an odd number.
+    Odd,
     /// It is no value.
     Value,
 }
@@ -57,6 +60,7 @@ fn mistake_text(mistake: Mistake) -> &'static [u8]
         Mistake::Drum => b" is not on the drum",
         Mistake::Blank => b" has no blank between the order and its address",
         Mistake::LetterDigit => b" has l or o, which stand for 1 and 0 on a tape and not here",
+        Mistake::Odd => b" is odd, and the last bit of a word is 0",
         Mistake::Value => b" is neither eight digits nor a fraction nor an operation",
     }
 }
@@ -133,6 +137,31 @@ fn has_l_or_o(word: &[u8]) -> bool
     word.iter().any(|byte| *byte == b'l' || *byte == b'o')
 }
 
+/// Whether a byte is a digit of a word.
+#[tactic(auto, unfolding(crate::specs::Forms::is_word_digit))]
+fn is_word_digit(byte: u8) -> bool
+    ensures { result ≡ is_word_digit byte }
+{
+    byte.is_ascii_digit() || matches!(byte, b'f' | b'g' | b'j' | b'k' | b'q' | b'w')
+}
+
+/// Whether all bytes of a word are digits of one.
+fn are_word_digits(word: &[u8]) -> bool
+    ensures { result ≡ are_word_digits word.now }
+{
+    word.iter().all(|byte| is_word_digit(*byte))
+}
+
+/// Whether eight digits are those of an odd number.
+fn is_odd(digits: &[u8]) -> bool
+    ensures { result ≡ is_none (word_of_digits digits.now) }
+{
+    match read_digits(digits) {
+        Some(_) => false,
+        None => true,
+    }
+}
+
 /// What is wrong with a word that is no value of `put`.
 fn value_mistake(word: &[u8]) -> Mistake
     ensures { result ≡ value_mistake word.now }
@@ -144,7 +173,10 @@ fn value_mistake(word: &[u8]) -> Mistake
         return Mistake::Blank;
     }
     if word.len() == 8 && has_l_or_o(word) {
-        Mistake::LetterDigit
+        return Mistake::LetterDigit;
+    }
+    if word.len() == 8 && are_word_digits(word) && is_odd(word) {
+        Mistake::Odd
     } else {
         Mistake::Value
     }

@@ -28,6 +28,7 @@ use crate::verb::Verb;
 use lgp_script::Laboratory;
 use lgp_stream::{Answers, LineBytes, Recorder, has_no_word, split_word};
 use lgp_text::{Piece, push_pieces};
+use lgp_trace::Form;
 use lgp_word::{Address, Op, Word, plain_order};
 use std::alloc::{AllocError, Allocator};
 use std::marker::Model;
@@ -105,17 +106,19 @@ fn jump_line<A: Allocator>(alloc: A, address: Address) -> Result<Vec<u8, A>, All
     Ok(line)
 }
 
-/// Appends what is reported of a run, with what is said after it in the state that the laboratory then has.
+/// Appends what is reported of a run in a form, with what is said after it in the state that the laboratory then has.
 fn push_reported<A: Allocator + Copy>(
     text: &mut Vec<u8, A>,
     reported: &[u8],
+    form: Form,
     laboratory: &Laboratory<A>,
 ) -> Result<(), AllocError>
     ensures { OnOk result (text.new.items ≡ text.old.items
-        ++ explained (panel_at laboratory.now).status (panel_at laboratory.now).mode reported.now) }
+        ++ explained form (panel_at laboratory.now).status (panel_at laboratory.now).mode
+        reported.now) }
 {
     let look = laboratory.debugger().look();
-    push_explained(text, reported, look.status, look.mode)
+    push_explained(text, reported, form, look.status, look.mode)
 }
 
 /// Answers a script's line, a refusal with its reason.
@@ -274,9 +277,10 @@ fn explain_reported<A: Allocator + Copy>(
         → OnOk result (IsAnswered reply.old.items reply.new.items recorder.new
         (answer_of recorder.old (Entry.Reported telling limit) line.now)) }
 {
+    let form = telling.form();
     let mut said = Vec::new(alloc);
     tell(alloc, recorder, telling, limit, line, &mut said)?;
-    push_reported(reply, &said, recorder.answers())
+    push_reported(reply, &said, form, recorder.answers())
 }
 
 /// Performs the runs of an operator whose typewriter starts the machine again.

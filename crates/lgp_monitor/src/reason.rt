@@ -8,6 +8,7 @@ use crate::run_end::{push_stand, tells_standstill};
 use lgp_stream::split_word;
 use lgp_table::{Mode, Status};
 use lgp_text::{Named, Piece, push_pieces, value_named};
+use lgp_trace::Form;
 use std::alloc::{AllocError, Allocator};
 
 /// Which refusal a reply is: those that do not say all by themselves.
@@ -131,19 +132,21 @@ pub fn push_reasoned<A: Allocator>(text: &mut Vec<u8, A>, reply: &[u8]) -> Resul
     }
 }
 
-/// Appends what is reported of a run after which the machine is in this state, with what is said after it.
+/// Appends what is reported of a run in a form after which the machine is in this state, with what is said after it.
 #[tactic(auto, unfolding(crate::specs::Reasons::explained))]
 pub fn push_explained<A: Allocator>(
     text: &mut Vec<u8, A>,
     reported: &[u8],
+    form: Form,
     status: Status,
     mode: Mode,
 ) -> Result<(), AllocError>
-    ensures { OnOk result (text.new.items ≡ text.old.items ++ explained status mode reported.now) }
+    ensures { OnOk result (text.new.items
+        ≡ text.old.items ++ explained form status mode reported.now) }
 {
     if tells_standstill(last_line(reported)) {
         text.extend_from_slice(reported)?;
-        return push_stand(text, status, mode);
+        return push_stand(text, form, status, mode);
     }
     push_reasoned(text, reported)
 }

@@ -9,7 +9,7 @@ ghost use Rattle.lgp_debugger.specs.Debugging.{order_origins, performed};
 ghost use Rattle.lgp_debugger.specs.Run.{UnlessMemory, orders_of, run_of};
 ghost use Rattle.lgp_script.specs.HistoryCommands.{answer_to_run, orders_run};
 ghost use Rattle.lgp_script.specs.LabState.{after_text, labels_of};
-ghost use Rattle.lgp_monitor.specs.Telling.{reported_text};
+ghost use Rattle.lgp_monitor.specs.Telling.{form_of, reported_text};
 ghost use Rattle.lgp_monitor.specs.TellingInside.{sectors_told};
 
 use crate::labels::NamedAddresses;
@@ -37,6 +37,18 @@ pub enum Telling {
     Optimum,
     /// By what one word would have cost at each sector.
     OptimumOf(Address),
+}
+
+impl Telling {
+    /// The form in which the run is reported.
+    pub fn form(&self) -> Form
+        ensures { result ≡ form_of self.now }
+    {
+        match self {
+            Telling::Trace(form) | Telling::Profile(form) => *form,
+            Telling::Drum | Telling::Optimum | Telling::OptimumOf(_) => Form::Columns,
+        }
+    }
 }
 
 /// A refused growth, after which nothing is counted.

@@ -192,7 +192,7 @@ pub fn operands_kind(verb: Verb) -> &'static [u8]
     ensures { result.now ≡ operands_kind verb }
 {
     match verb {
-        Verb::Lone(_) | Verb::End => b" nothing\n",
+        Verb::Lone(_) | Verb::End => b" alone\n",
         Verb::Address(_) => b" address\n",
         Verb::Number(_) | Verb::NumberAddress => b" number\n",
         Verb::Range | Verb::ScaledRange => b" range\n",

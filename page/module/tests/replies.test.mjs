@@ -29,8 +29,8 @@ test("what is live, and what lets the machine go on", () => {
 });
 
 test("the commands, and which only ask", () => {
-    assert.deepEqual([...replies.commandsOf("put does address word\nwhy asks address\n")],
-        [["put", { asks: false, takes: "address word" }], ["why", { asks: true, takes: "address" }]]);
+    assert.deepEqual([...replies.commandsOf("put does address word\nwhy asks address\nload does alone\n")],
+        [["put", { asks: false, takes: "address word" }], ["why", { asks: true, takes: "address" }], ["load", { asks: false, takes: "alone" }]]);
     assert.throws(() => replies.commandsOf("put ttss WORD\n"), replies.ReplyError);
 });
 
@@ -45,6 +45,8 @@ test("runs and their ends", () => {
     assert.deepEqual(replies.runOf("ran 0 rest\n"), { orders: 0, end: "rest", rule: null });
     assert.deepEqual(replies.runOf("ran 0 rest\n        a stop order halted the machine: press start lets it go on\n"),
         { orders: 0, end: "rest", rule: null });
+    assert.deepEqual(replies.toldOf("orders 0\nran 0 rest\nstate a stop order halted the machine: press start lets it go on\n"),
+        { told: ["orders 0"], end: "ran 0 rest" });
     assert.throws(() => replies.runOf("? 4 ClockEnd\n"), replies.ReplyError);
 });
 

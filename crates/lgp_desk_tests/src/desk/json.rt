@@ -6,7 +6,7 @@ use lgp_desk::Manner;
 use std::alloc::Global;
 
 /// Lines, and what is written for each of them.
-static ANSWERED: [Row; 9] = [
+static ANSWERED: [Row; 10] = [
     (
         Manner::Json,
         b"put 0000 = 1\n",
@@ -29,6 +29,14 @@ static ANSWERED: [Row; 9] = [
         Manner::Json,
         b"live now\n",
         b"{\"line\":\"live now\",\"reply\":[\"? 1 Form: live\"],\"refused\":true}\n",
+        0,
+    ),
+    // The sentence after a run is the value of a key.
+    (
+        Manner::Json,
+        b"trace-data 1\nprofile-data 0\n",
+        b"{\"line\":\"trace-data 1\",\"reply\":[{\"ran\":\"0 rest\"},{\"state\":\"the operator halted the machine, or has not started it: press start lets it go on\"}],\"refused\":false}\n\
+        {\"line\":\"profile-data 0\",\"reply\":[{\"orders\":\"0\"},{\"times\":\"0\"},{\"turns\":\"0.0\"},{\"find\":\"0\"},{\"take\":\"0\"},{\"seek\":\"0\"},{\"act\":\"0\"},{\"elsewhere\":\"0\"},{\"ran\":\"0 rest\"},{\"state\":\"the operator halted the machine, or has not started it: press start lets it go on\"}],\"refused\":false}\n",
         0,
     ),
     (
@@ -72,7 +80,7 @@ const LONGER: [u8; 4097] = [b';'; 4097];
 
 #[test]
 fn each_line_has_its_object(rt: HostRuntime) {
-    expect_eq(&rt, rows_answered(rt.alloc(), &ANSWERED), 9);
+    expect_eq(&rt, rows_answered(rt.alloc(), &ANSWERED), 10);
 }
 
 /// Whether the object of a longer line has its front and two points, and ends as that of a line that is passed over.
