@@ -133,9 +133,10 @@ fn asm_command<'a>(global: Global) -> Result<Command<'a>, AllocError>
         global,
         "asm",
         "Assemble a source and write its listing",
-        "Assemble a source and write its listing: each line after its address and the word that \
-         it became. Of a faulty source the faults are written instead, a line each.",
-        "Example: write the listing of the program in sum.src.\n  lgp_lab asm sum.src",
+        "Assemble a source and write its listing: the address and the word of each line, and then \
+         the line itself. If the source has faults, they are written instead, one on each line.",
+        "Example: write the listing of a program.\n  \
+         lgp_lab asm examples/loader-by-hand.source",
         SOURCE,
     )
 }
@@ -150,8 +151,9 @@ fn tape_command<'a>(global: Global) -> Result<Command<'a>, AllocError>
         "tape",
         "Assemble a source and write the paper tape that loads it",
         "Assemble a source and write, as text, the paper tape from which the loader stores its \
-         words and starts it. The tape can be mounted in a script by the command mount.",
-        "Example: make the tape of the program in sum.src.\n  lgp_lab tape sum.src",
+         words and starts it. A script mounts the tape with the command mount.",
+        "Example: make the tape of a program.\n  \
+         lgp_lab tape examples/loader-by-hand.source",
         SOURCE,
     )
 }
@@ -166,9 +168,10 @@ fn run_command<'a>(global: Global) -> Result<Command<'a>, AllocError>
         "run",
         "Assemble a source, load it into a new machine and run it",
         "Assemble a source, load it into a new machine as its operator would, by keying in the \
-         loader and reading the tape, and run it until it stops or LIMIT orders were performed. \
+         loader and reading the tape, and run it until it stops or has performed LIMIT orders. \
          Then write what was printed, and the registers, status, switches and clock.",
-        "Example: run the program in sum.src for 1000 orders at most.\n  lgp_lab run sum.src 1000",
+        "Example: run a program for at most 1000 orders.\n  \
+         lgp_lab run examples/loader-by-hand.source 1000",
         SOURCE,
     );
     with_argument(run, limit(global))
@@ -185,7 +188,7 @@ fn script_command<'a>(global: Global) -> Result<Command<'a>, AllocError>
         "Run a script and write its replies",
         "Run a script, a command of the laboratory on each line, on a new machine, and write the \
          reply to each command.",
-        "Example: run the commands in first-day.txt.\n  lgp_lab script first-day.txt",
+        "Example: run the commands in a file.\n  lgp_lab script examples/first-run.txt",
         "The script, a text file",
     )
 }
@@ -199,9 +202,10 @@ fn batch_command<'a>(global: Global) -> Result<Command<'a>, AllocError>
         global,
         "batch",
         "Run several scripts, each on a machine of its own",
-        "Run several scripts one after another, each on a new machine, and write `file` and its \
-         name before the replies to each.",
-        "Example: run all scripts of a lesson.\n  lgp_lab batch first-day.txt second-day.txt",
+        "Run several scripts one after another, each on a new machine. Write `file` and the name \
+         of each script before its replies.",
+        "Example: run two scripts.\n  \
+         lgp_lab batch examples/first-run.txt examples/message.txt",
     );
     with_argument(Ok(batch), files(global, "The scripts, text files"))
 }
@@ -233,8 +237,8 @@ pub(crate) fn command_line<'a>(global: Global) -> Result<Command<'a>, AllocError
         "A laboratory for the LGP-30, a drum computer of 1956: it assembles programs, makes paper \
          tapes, and runs the machine from its console, step by step and back again. Without a \
          command it runs the script on standard input.",
-        "Example: run a script, and then a program.\n  lgp_lab < first-day.txt\n  \
-         lgp_lab run sum.src 1000",
+        "Example: run a script, and then a program.\n  lgp_lab < examples/first-run.txt\n  \
+         lgp_lab run examples/loader-by-hand.source 1000",
     );
     let line = with_command(line, asm_command(global));
     let line = with_command(line, tape_command(global));
@@ -265,14 +269,14 @@ pub(crate) fn monitor_line<'a>(global: Global) -> Result<Command<'a>, AllocError
     let line = bare_line(
         global,
         "lgp_monitor",
-        "A monitor for the LGP-30: work the machine line by line",
-        "A monitor for the LGP-30, a drum computer of 1956: it reads lines, first those of the \
-         files and then those of standard input, does what each of them asks for, and writes its \
-         reply. The line help lists the commands.",
-        "Example: answer the lines in lesson.txt, and then those that are typed.\n  \
-         lgp_monitor lesson.txt",
+        "A monitor for the LGP-30: run the machine line by line",
+        "A monitor for the LGP-30, a drum computer of 1956. It reads lines, first from the files \
+         and then from standard input, carries out each of them, and writes its reply. The line \
+         help lists the commands.",
+        "Example: answer the lines in a file, and then those that are typed.\n  \
+         lgp_monitor examples/self-modifying.typed",
     );
-    let help = "Text files with lines that come before standard input's";
+    let help = "Text files with lines that are read before standard input";
     let line = with_argument(line, any_files(global, help));
     let echo = flag(global, ECHO, "Show each line above its reply");
     let line = with_argument(line, echo);
