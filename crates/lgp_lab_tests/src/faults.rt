@@ -73,7 +73,7 @@ fn of_texts(alloc: Global) -> [bool; 14] {
 }
 
 /// Faults of the machine, and of what keys in and loads.
-fn of_machines(alloc: Global) -> [bool; 22] {
+fn of_machines(alloc: Global) -> [bool; 24] {
     let turn = TurnFault::ClockEnd;
     [
         is_told(alloc, PressFault::Full, "16 actions are kept already"),
@@ -103,7 +103,9 @@ fn of_machines(alloc: Global) -> [bool; 22] {
             MountFault::TooLong,
             "the tape has more than 1048576 codes",
         ),
+        is_told(alloc, MountFault::Memory, "out of memory"),
         is_told(alloc, PutFault::Moving, "the machine is not at rest"),
+        is_told(alloc, PutFault::Memory, "out of memory"),
         is_told(alloc, KeyFault::Moving, "an activity has been begun"),
         is_told(
             alloc,
@@ -186,5 +188,5 @@ fn faults_have_their_texts(rt: HostRuntime) {
         of_machines(rt.alloc()),
         of_runs(rt.alloc()),
     );
-    expect_eq(&rt, told, ([true; 14], [true; 22], [true; 20]));
+    expect_eq(&rt, told, ([true; 14], [true; 24], [true; 20]));
 }
