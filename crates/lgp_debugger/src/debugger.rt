@@ -20,9 +20,7 @@ ghost use Rattle.lgp_loader.specs.LoadedOver.{IsLoadedOver};
 ghost use Rattle.lgp_loader.specs.Loading.{loaded, loading_cost, loading_stopped};
 ghost use Rattle.std.specs.Result.{IsErrAnd};
 
-use crate::fault::{
-    HitFault, IdleFault, Ran, Reason, RuleFault, RunFault, RunRefusal, StepFault,
-};
+use crate::fault::{HitFault, IdleFault, Ran, Reason, RuleFault, RunFault, RunRefusal, StepFault};
 use crate::watch::{Watch, first_stop_now, watch_of};
 use crate::watcher::{Quiet, WatchFault, Watcher};
 use arrayvec::ArrayVec;

@@ -7,7 +7,5 @@ mod watch;
 mod watcher;
 
 pub use debugger::Debugger;
-pub use fault::{
-    HitFault, IdleFault, Ran, Reason, RuleFault, RunFault, RunRefusal, StepFault,
-};
+pub use fault::{HitFault, IdleFault, Ran, Reason, RuleFault, RunFault, RunRefusal, StepFault};
 pub use watcher::{Quiet, WatchFault, Watcher};

@@ -4,6 +4,8 @@ use super::streams::Pieces;
 use super::{FIRST_RUN, FIRST_RUN_REPLIES, Row, is_done, run_between};
 use crate::expect_eq;
 use std::alloc::Global;
+use std::io;
+use std::io::Read;
 
 /// Scripts that come in pieces. Others are in `texts/` and `examples/`, and the proved program answers those.
 static ROWS: [Row<'static>; 18] = [
@@ -93,14 +95,19 @@ static ROWS: [Row<'static>; 18] = [
 /// A line of a byte more than a line may have.
 const LONG_LINE: [u8; 4097] = [b'p'; 4097];
 
-/// Whether a script is answered as its row says, where it comes in pieces of at most a given number of bytes.
-fn is_answered_in_pieces(alloc: Global, row: &Row<'static>, most: usize) -> bool {
-    let (script, replies, faults) = *row;
+/// Whether a script has these replies, and as many of them begin with a question mark.
+fn has_replies<R: Read + Drop>(alloc: Global, script: R, replies: &[u8], faults: u64) -> bool {
     let mut written = Vec::new(alloc);
-    let ended = run_between(alloc, Pieces::whole(script, most), &mut written);
+    let ended = run_between(alloc, script, &mut written);
     let (answer, has_read_failed, has_write_failed) = ended;
     let is_whole = !has_read_failed && !has_write_failed;
     is_done(answer, faults) && is_whole && written.as_slice() == replies
+}
+
+/// Whether a script is answered as its row says, where it comes in pieces of at most a given number of bytes.
+fn is_answered_in_pieces(alloc: Global, row: &Row<'static>, most: usize) -> bool {
+    let (script, replies, faults) = *row;
+    has_replies(alloc, Pieces::whole(script, most), replies, faults)
 }
 
 /// How many rows come before the first whose script is answered otherwise, in whatever pieces it comes.
@@ -121,4 +128,40 @@ fn rows_answered(alloc: Global, rows: &[Row<'static>]) -> usize {
 #[test]
 fn scripts_are_answered_in_pieces_of_any_length(rt: HostRuntime) {
     expect_eq(&rt, rows_answered(rt.alloc(), &ROWS), 18);
+}
+
+/// Gives one text and then another.
+#[derive(Drop)]
+struct Joined {
+    first: Pieces,
+    second: Pieces,
+}
+
+impl Read for Joined {
+    fn read(&mut self, buffer: &mut [u8]) -> io::Result<usize> {
+        let count = self.first.read(buffer)?;
+        if count > 0 {
+            return Ok(count);
+        }
+        self.second.read(buffer)
+    }
+}
+
+/// Whether a line that is too long is refused and the next one answered, where they come in pieces of at most a given number of bytes.
+fn is_next_answered(alloc: Global, most: usize) -> bool {
+    let script = Joined {
+        first: Pieces::whole(&LONG_LINE, most),
+        second: Pieces::whole(b"\nturn 5\n", most),
+    };
+    has_replies(alloc, script, b"? 11 TooLong\nclock 5\n", 1)
+}
+
+#[test]
+fn the_line_after_one_that_is_too_long_is_answered_in_pieces_of_any_length(rt: HostRuntime) {
+    let answered = [
+        is_next_answered(rt.alloc(), 1),
+        is_next_answered(rt.alloc(), 7),
+        is_next_answered(rt.alloc(), 5000),
+    ];
+    expect_eq(&rt, answered, [true; 3]);
 }

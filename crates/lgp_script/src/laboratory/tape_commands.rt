@@ -9,8 +9,8 @@ ghost use Rattle.lgp_script.specs.Refusal.{counted_text};
 
 use super::Laboratory;
 use crate::refusal::{Refusal, push_refusal};
-use lgp_machine::MountFault;
 use lgp_flexo::{Code, TextFault, read_tape_text, write_tape_text};
+use lgp_machine::MountFault;
 use lgp_text::{Piece, push_pieces};
 use std::alloc::{AllocError, Allocator};
 
