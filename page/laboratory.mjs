@@ -1,20 +1,18 @@
 // The controller. All that the page does is lines to the monitor, and all that it knows are their replies.
-import { SECTORS, addressIn, addressOf, isAmong, numberOf, windowAt } from "./addresses.mjs";
+import { addressIn, isAmong, windowAt } from "./addresses.mjs";
 import { Deeds } from "./deeds.mjs";
 import { commentsIn, isIdle, linesIn, setUp } from "./lines.mjs";
+import { Looks, SHOWN, costsIn } from "./looks.mjs";
 import * as replies from "./module/replies.mjs";
-import { ROOM, Room } from "./room.mjs";
 import { NoMemory } from "./module/session.mjs";
-
-/** How many words are shown around the counter. */
-export const SHOWN = 16;
+import { Run, questionOf, startsText } from "./portions.mjs";
+import { ROOM, Room } from "./room.mjs";
+import { Transcript } from "./transcript.mjs";
 
 const ACCOUNTS_KEPT = 400;
 const TALK_KEPT = 300;
 const TOLD_AT_ONCE = 48;
 const STEPPED_AT_ONCE = 200;
-const PORTION = { first: 2000, starts: 100, most: 50_000_000, milliseconds: 50 };
-const TELL_EVERY = 250;
 const NEW = /^ *new *$/;
 const IN_DIGITS = /^ *put +\d{4} +[0-9fgjkqw]{8} *$/;
 const STEPS = new Set(["put", "mount", "press", "type", "turn"]);
@@ -68,11 +66,15 @@ export class Laboratory extends EventTarget {
     wantsRows = true;
     isOnShow = false;
     deeds = new Deeds();
-    /** Lines that only ask, which a view wants asked at each look as well, and their last replies. */
+    /** How many orders were performed since the laboratory was opened, and again where they were performed again. */
+    performed = 0;
+    /** Lines that only ask and leave no trace, which a view wants asked at each look as well, and their last replies. */
     questionsToo = [];
     answers = [];
 
     #link;
+    #looks;
+    #transcript;
     #first = "0000";
     #live = { live: new Set(), way: { kind: "go" } };
     #commands = new Map();
@@ -90,13 +92,15 @@ export class Laboratory extends EventTarget {
     constructor(link) {
         super();
         this.#link = link;
+        this.#looks = new Looks(link);
+        this.#transcript = new Transcript(link);
     }
 
     /** Opens the laboratory, and asks which commands there are. */
     open() {
         return this.#act(async () => {
             await this.#link.opened;
-            this.#commands = replies.commandsOf(await this.#link.ask("commands"));
+            this.#commands = await this.#looks.commands();
             this.#questions = new Set([...this.#commands].filter(([, { asks }]) => asks).map(([name]) => name));
             await this.#look();
         });
@@ -120,6 +124,11 @@ export class Laboratory extends EventTarget {
     /** How many lines have been said where the reader has done something that a script had not, else none. */
     get doings() {
         return this.#isTouched ? this.#said.length : 0;
+    }
+
+    /** The lines that lead here from a new laboratory, as they were sent, without those that the page asked for itself. */
+    get lines() {
+        return this.#said;
     }
 
     /** Whether the monitor has a command. */
@@ -155,7 +164,7 @@ export class Laboratory extends EventTarget {
 
     #deed(deed) {
         return this.#question(async () => {
-            this.notice = null;
+            Object.assign(this, { notice: null, lastRun: null });
             return deed();
         });
     }
@@ -220,7 +229,7 @@ export class Laboratory extends EventTarget {
     }
 
     async #offer() {
-        return this.#isTouched ? { kind: "before", lines: await this.#ask("transcript") } : null;
+        return this.#isTouched ? { kind: "before", lines: await this.#transcript.script() } : null;
     }
 
     #forget() {
@@ -228,9 +237,10 @@ export class Laboratory extends EventTarget {
         this.#first = "0000";
         this.#isTouched = false;
         this.#hit = null;
-        Object.assign(this, { openSource: null, accounts: [], rows: [], profile: null, costs: null, assembled: null, labels: new Map(), rules: [] });
+        Object.assign(this, { openSource: null, accounts: [], rows: [], profile: null, costs: null, assembled: null, labels: new Map(), rules: [], lastRun: null, performed: 0 });
         this.#isRuleOfScript = [];
         this.#said = [];
+        this.#transcript.begin();
     }
 
     #ask(line) {
@@ -301,7 +311,7 @@ export class Laboratory extends EventTarget {
         else if (verb === "back") this.#noteBack(Number(operand));
         else if (verb === "last") this.#noteBack(replies.lastOf(reply).orders);
         else if (verb === "load") this.#forgetDeeds();
-        else if (verb === "new") await this.#anew();
+        else if (verb === "new") await this.#noteNew();
         else if (verb === "break" || verb === "watch") this.#isRuleOfScript.push(this.#isInScript);
         else if (verb === "drop") this.#isRuleOfScript.splice(Number(operand), 1);
     }
@@ -311,17 +321,13 @@ export class Laboratory extends EventTarget {
         const hasNames = verb === "put" && this.labels.size > 0 && !isAgain && !IN_DIGITS.test(line);
         const last = this.accounts.at(-1);
         if (last !== undefined) last.register ??= null;
-        const [noted] = hasNames ? await this.#standFor(1) : [line];
+        const [noted] = hasNames ? await this.#transcript.last(1) : [line];
         this.deeds.line(noted, isAgain);
-    }
-
-    /** The last lines of the transcript: those that a line just answered stands for. */
-    async #standFor(count) {
-        return linesIn(await this.#ask("transcript")).slice(-count);
     }
 
     /** Orders were performed that were not told: what was told before them are not the last orders any more. */
     #noteOrders(count, isAgain = false) {
+        this.performed += count;
         this.deeds.orders(count, isAgain);
         this.#room.ran(count);
         if (count > 0) Object.assign(this, { accounts: [], rows: [] });
@@ -347,16 +353,20 @@ export class Laboratory extends EventTarget {
     #noteStarts(starts, limit) {
         if (starts === 0) return;
         this.#forgetDeeds();
+        this.performed += starts * limit;
         this.#room.ran(starts * limit);
     }
 
     /** What has been told for the reader, told for the page as well: the orders are gone back over, as far as they are kept. */
-    async #tellAgain(verb, orders, before) {
+    #tellAgain(verb, orders, before) {
         const count = verb === "trace" ? Math.min(orders, ACCOUNTS_KEPT) : orders;
-        if (replies.isRefusal(await this.#ask(`back ${count}`))) return;
-        const { told } = replies.toldOf(await this.#ask(`${verb}-data ${count}`));
-        if (verb === "profile") this.profile = replies.profileOf(told);
-        else this.accounts = [...before, ...replies.accountsOf(told)].slice(-ACCOUNTS_KEPT);
+        return this.#transcript.aside(async () => {
+            if (replies.isRefusal(await this.#ask(`back ${count}`))) return true;
+            const { told, end } = replies.toldOf(await this.#ask(`${verb}-data ${count}`));
+            if (verb === "profile") this.profile = replies.profileOf(told);
+            else this.accounts = [...before, ...replies.accountsOf(told)].slice(-ACCOUNTS_KEPT);
+            return !replies.isRefusal(end);
+        });
     }
 
     /** A run that a rule has stopped, or that found the machine at rest, is told, but for one that a script asks for or that is done again. */
@@ -367,10 +377,16 @@ export class Laboratory extends EventTarget {
         else if (orders === 0 && end === "rest") this.notice = { kind: "atRest" };
     }
 
+    /** A line `new` begins without a script, but where it is a script's. */
+    async #noteNew() {
+        await this.#anew();
+        if (!this.#isInScript) Object.assign(this, { script: null, comments: new Map() });
+    }
+
     /** Going somewhere stands for lines that the operator could have done, each with a line of the reply. They are noted one by one, since there are steps among them that can be gone back over. */
     async #noteGo(reply) {
         const done = replies.linesOf(reply);
-        const lines = await this.#standFor(done.length);
+        const lines = await this.#transcript.last(done.length);
         for (const [place, line] of lines.entries()) await this.#note(line, `${done[place]}\n`, false);
     }
 
@@ -390,65 +406,36 @@ export class Laboratory extends EventTarget {
     async #look() {
         if (this.openSource !== null) return;
         const before = this.panel?.counter;
-        this.panel = replies.panelOf(await this.#ask("panel-data"));
-        this.costs = this.#costsOfLine;
+        Object.assign(this, { panel: await this.#looks.panel(), costs: this.#costsOfLine });
         this.#costsOfLine = null;
         this.accounts = this.accounts.filter(({ clock }) => clock < this.panel.clock);
         const last = this.accounts.at(-1);
         if (last !== undefined && last.register === undefined) Object.assign(last, { register: this.panel.register, next: this.panel.counter, status: this.panel.status });
         if (this.panel.counter !== before && !isAmong(this.panel.counter, this.#first, SHOWN - 1)) this.#first = windowAt(this.panel.counter, SHOWN);
-        await Promise.all([this.#lookAtLive(), this.#lookAtWords(), this.#lookAtTrack(), this.#lookAtPaper(), this.#lookAtRules(), this.#lookAtOthers()]);
+        const [live, words, track, , rules, answers] = await Promise.all([this.#looks.live(), this.#looks.words(this.#first), this.#looks.track(this.panel.counter.slice(0, 2)), this.#lookAtPaper(), this.#looks.rules(), this.#looks.others(this.questionsToo)]);
+        this.#live = live;
+        Object.assign(this, { words, track, rules, answers });
         if (this.#hit !== null) this.notice = { kind: "rule", number: this.#hit, rule: this.rules[this.#hit], isOfScript: this.#isRuleOfScript[this.#hit] ?? false };
         this.#hit = null;
     }
 
-    async #lookAtLive() {
-        this.#live = replies.liveOf(await this.#ask("live"));
-    }
-
-    async #lookAtTrack() {
-        this.track = replies.placesOf(await this.#ask(`words ${this.panel.counter.slice(0, 2)}00 ${SECTORS}`));
-    }
-
-    async #lookAtRules() {
-        if (this.knows("rules")) this.rules = replies.rulesOf(await this.#ask("rules"));
-    }
-
-    async #lookAtOthers() {
-        this.answers = await Promise.all(this.questionsToo.map((line) => this.#ask(line)));
-    }
-
     async #lookAtPaper() {
-        this.printed = replies.paperOf(await this.#ask("paper"));
+        this.printed = await this.#looks.paper();
         this.#room.printed(this.printed.count);
-    }
-
-    async #lookAtWords() {
-        const addresses = Array.from({ length: SHOWN }, (unused, place) => addressOf(numberOf(this.#first) + place));
-        const asked = [this.#ask(`words ${this.#first} ${SHOWN}`), this.#ask(`show ${this.#first} ${SHOWN}`), this.#originsOf(addresses)];
-        const [words, shown, origins] = await Promise.all(asked);
-        const [digits, orders] = [words, shown].map(replies.placesOf);
-        this.words = digits.map(({ address, text }, place) => ({ address, digits: text, order: orders[place].text, origin: origins.get(address) ?? null }));
-    }
-
-    /** Where these words came from, by their addresses, as far as a kept step tells. */
-    async #originsOf(addresses) {
-        if (!this.knows("why")) return new Map();
-        return replies.originsOf(await this.#link.askAll(addresses.map((address) => `why ${address}`)));
     }
 
     /** Shows the words around an address. */
     showAt(address) {
         return this.#question(async () => {
             this.#first = windowAt(address, SHOWN);
-            await this.#lookAtWords();
+            this.words = await this.#looks.words(this.#first);
         });
     }
 
     /** Does lines one after another, as if typed: into the source, where one is open. */
     say(...lines) {
         return this.#act(async () => {
-            this.notice = null;
+            Object.assign(this, { notice: null, lastRun: null });
             return this.#sayAll(lines);
         });
     }
@@ -465,10 +452,11 @@ export class Laboratory extends EventTarget {
         return reply;
     }
 
-    /** Begins with a new laboratory, whatever is open. The lines of the one before are offered. */
+    /** Begins with a new laboratory, whatever is open, and without a script. The lines of the one before are offered. */
     new() {
         return this.#act(async () => {
             this.notice = await this.#fresh();
+            Object.assign(this, { script: null, comments: new Map() });
             this.talk = [...this.talk, { line: "new", reply: "new\n" }].slice(-TALK_KEPT);
         });
     }
@@ -486,7 +474,7 @@ export class Laboratory extends EventTarget {
         });
     }
 
-    /** Traces, and, where rows are wanted, goes back over the same orders and draws them. */
+    /** Performs orders with their accounts. Where rows of the drum are wanted, goes back over the same orders and draws them. */
     async #tell(limit, isAgain, withRows = true) {
         const reply = await this.#say(`trace-data ${limit}`, isAgain, true);
         if (replies.isRefusal(replies.toldOf(reply).end)) return 0;
@@ -495,9 +483,13 @@ export class Laboratory extends EventTarget {
         return orders;
     }
 
-    async #draw(orders) {
-        await this.#ask(`back ${orders}`);
-        this.rows = replies.drumRowsOf(replies.toldOf(await this.#ask(`drum ${orders}`)).told);
+    #draw(orders) {
+        return this.#transcript.aside(async () => {
+            await this.#ask(`back ${orders}`);
+            const { told, end } = replies.toldOf(await this.#ask(`drum ${orders}`));
+            this.rows = replies.drumRowsOf(told);
+            return !replies.isRefusal(end);
+        });
     }
 
     /** Goes back by orders, as far as steps are kept. */
@@ -553,64 +545,48 @@ export class Laboratory extends EventTarget {
         });
     }
 
-    /** Runs in portions: how many orders since Start was last pressed, how often it was pressed, and why the run has ended; where the monitor has refused a portion, its reply. */
+    /** Runs in portions. */
     async #portions(limit, isOperated = false) {
-        const began = performance.now();
-        const run = { orders: 0, starts: 0, end: "limit", began, told: began, printed: this.printed.count, isOperated, isAtRest: false };
-        const sizes = { run: PORTION.first, operate: PORTION.starts };
-        while (run.end === "limit" && run.orders < limit && !this.#stops) {
+        const run = new Run(limit, this.printed.count, isOperated);
+        while (run.goesOn && !this.#stops) {
             const start = performance.now();
-            const verb = run.isAtRest ? "operate" : "run";
-            const most = run.isAtRest ? this.#room.runs : Math.min(limit - run.orders, this.#room.orders);
-            await this.#portion(run, verb, Math.min(sizes[verb], most));
-            sizes[verb] = nextPortion(sizes[verb], performance.now() - start);
+            await this.#portion(run, run.next(this.#room));
+            run.took(performance.now() - start);
             await this.#tellProgress(run);
         }
         return run;
     }
 
-    async #portion(run, verb, size) {
+    async #portion(run, { verb, size }) {
         const line = `${verb} ${size}`;
         this.#said.push(line);
         this.#isTouched = true;
         const reply = await this.#ask(line);
         const starts = replies.startsOf(reply);
         this.#noteStarts(starts, size);
-        run.starts += starts;
         if (replies.isRefusal(reply)) {
             this.#refused(line, reply);
             this.#forgetDeeds();
-            Object.assign(run, { end: "refused", reply });
-            return;
+            return run.refused(reply);
         }
-        this.#notePortion(run, replies.runOf(reply), starts > 0);
-        // only `operate` knows whether a program waits for its typewriter; where it has pressed Start as often as it may, it is asked again
-        if (run.end === "rest" && run.isOperated && (verb === "run" || starts === size)) run.end = "limit";
-        if (this.#room.isUsedUp || this.#room.codesAtMost >= run.printed + ROOM.asksAfter) await this.#lookAtPaper();
-        if (run.end !== "limit") return;
-        if (this.#room.isUsedUp) run.end = "usedUp";
-        else if (this.printed.count >= run.printed + ROOM.asksAfter) run.end = "printed";
-    }
-
-    /** Notes what a portion did; where Start was pressed within it, only the orders after that are known. */
-    #notePortion(run, { orders, end, rule }, isStarted) {
-        this.#noteOrders(orders);
-        Object.assign(run, { orders: isStarted ? orders : run.orders + orders, end, rule, isAtRest: end === "rest" });
-        if (!this.#isInScript) this.#hit = rule;
+        const told = replies.runOf(reply);
+        this.#noteOrders(told.orders);
+        if (!this.#isInScript) this.#hit = told.rule;
+        run.noted(told, starts);
+        if (this.#room.isUsedUp || this.#room.codesAtMost >= run.asksAt) await this.#lookAtPaper();
+        return run.watched(this.#room, this.printed.count);
     }
 
     async #tellProgress(run) {
-        const now = performance.now();
-        if (now - run.told <= TELL_EVERY) return;
-        run.told = now;
-        this.progress = { orders: run.orders, starts: run.starts, milliseconds: now - run.began };
+        if (!run.isToTell) return;
+        this.progress = run.told();
         await this.#look();
         this.dispatchEvent(new Event("change"));
     }
 
     async #ended(line, run) {
-        const { orders, starts, end, began } = run;
-        const milliseconds = performance.now() - began;
+        const { orders, starts, end } = run;
+        const { milliseconds } = run.told();
         const reply = `ran ${orders} ${this.#stops ? "until stopped" : end}\n${startsText(starts)}`;
         this.talk = [...this.talk, { line, reply }].slice(-TALK_KEPT);
         await this.#look();
@@ -622,7 +598,7 @@ export class Laboratory extends EventTarget {
 
     /** Ends when all that was asked for so far is done. */
     settled() {
-        return this.#act(async () => undefined);
+        return this.#act(async () => {});
     }
 
     /** The replies of a new laboratory to a script, all of them. */
@@ -678,7 +654,7 @@ export class Laboratory extends EventTarget {
             return;
         }
         this.assembled = replies.sourceOf(reply);
-        if (this.assembled.faults.length === 0 && this.knows("labels")) this.labels = replies.labelsOf(await this.#ask("labels"));
+        if (this.assembled.faults.length === 0) this.labels = await this.#looks.labels();
     }
 
     /** A new laboratory, with the lines of a script that set a machine up. The others are kept, to be done. The lines of the one before are offered, as by `new`. */
@@ -692,6 +668,17 @@ export class Laboratory extends EventTarget {
             await this.#openScript(name, text, false);
             await this.#scriptTo(Infinity);
             await this.#look();
+        });
+    }
+
+    /** Is where another laboratory was, after all its lines: its script is open as far as it was done. */
+    restore({ lines, script }) {
+        return this.#act(async () => {
+            await this.#openScript("", lines, false);
+            await this.#scriptTo(Infinity);
+            Object.assign(this, { script, comments: commentsIn(script?.lines ?? []) });
+            await this.#look();
+            this.notice = null;
         });
     }
 
@@ -709,7 +696,7 @@ export class Laboratory extends EventTarget {
 
     async #openScript(name, text, isBeforeStart) {
         this.notice = await this.#fresh();
-        this.talk = [];
+        Object.assign(this, { talk: [], source: "" });
         this.script = { name, lines: linesIn(text), at: 0 };
         this.comments = commentsIn(this.script.lines);
         await this.#scriptTo(setUp(this.script.lines, isBeforeStart));
@@ -752,11 +739,9 @@ export class Laboratory extends EventTarget {
         });
     }
 
-    /** What the monitor says of the word at an address; null where it has no such command. */
+    /** What the monitor says of the word at an address. */
     why(address) {
-        return this.#question(async () => {
-            return this.knows("why") ? replies.linesOf(await this.#ask(`why ${address}`)) : null;
-        });
+        return this.#question(async () => replies.linesOf(await this.#link.ask(`why ${address}`)));
     }
 
     /** Asks what the last orders would have taken with a word at each sector: those since the operator's last deed, as far as they are kept. They are gone
@@ -765,12 +750,14 @@ export class Laboratory extends EventTarget {
         return this.#question(async () => {
             if (!this.knows("optimum")) return;
             if (this.#room.isUsedUp) throw new Held({ kind: "usedUp" });
-            const rules = this.rules.map((rule) => rule.split(" ").slice(0, 2).join(" "));
-            await this.#askAll(rules.map(() => "drop 0"));
-            const orders = await this.#backOver(this.deeds.unbroken);
-            const reply = await this.#ask(`optimum ${orders} ${address}`);
-            await this.#askAll(rules);
-            this.costs = costsIn(reply);
+            await this.#transcript.aside(async () => {
+                const rules = this.rules.map((rule) => rule.split(" ").slice(0, 2).join(" "));
+                await this.#askAll(rules.map(() => "drop 0"));
+                const orders = await this.#backOver(this.deeds.unbroken);
+                this.costs = costsIn(await this.#ask(`optimum ${orders} ${address}`));
+                await this.#askAll(rules);
+                return this.costs.refusal === null;
+            });
         });
     }
 
@@ -802,7 +789,7 @@ export class Laboratory extends EventTarget {
 
     /** The script that leads here. */
     transcript() {
-        return this.#question(() => this.#ask("transcript"));
+        return this.#question(() => this.#transcript.script());
     }
 
     /** The address in the order that comes next, or null where its word is not shown. */
@@ -810,25 +797,4 @@ export class Laboratory extends EventTarget {
         const next = this.words.find(({ address }) => address === this.panel?.counter);
         return next === undefined || next.order.startsWith("word") ? null : addressIn(next.order);
     }
-}
-
-/** What a reply of `optimum` tells of one word, and why its run was refused, where that was so. */
-function costsIn(reply) {
-    const { told, end } = replies.toldOf(reply);
-    return { ...replies.costsOf(told), refusal: replies.isRefusal(end) ? end : null };
-}
-
-/** How often Start was pressed in a run, as `operate` tells it; nothing where it was not. */
-const startsText = (starts) => (starts === 0 ? "" : `        started again at a z after a p: ${starts}\n`);
-
-/** What a run asks that has stopped before its end, or null. */
-function questionOf({ end, printed }, count) {
-    if (end === "printed") return { kind: "printedMuch", count: count - printed };
-    return end === "usedUp" ? { kind: "usedUp" } : null;
-}
-
-/** The size of the next portion, so that it takes its time, neither growing nor shrinking by more than four times. */
-export function nextPortion(size, took) {
-    const factor = Math.min(4, Math.max(0.25, PORTION.milliseconds / Math.max(took, 1)));
-    return Math.min(PORTION.most, Math.max(100, Math.round(size * factor)));
 }

@@ -165,6 +165,14 @@ function originOf({ order, at, clock, lost }) {
     return { order: order ?? null, at: at ?? null, clock: BigInt(clock), lost };
 }
 
+const AT_PLACE = /^(?<address>\d{4})(?: \S+)?: (?<digits>\S{8})(?: (?<order>-?[a-z] \d{4})(?: \S+)?)? = /;
+
+/** What replies of `why` say of their words: the address, the digits, and the order, which is null where the word is none. */
+export function heldOf(reply) {
+    const told = linesOf(reply).map((line) => AT_PLACE.exec(line)?.groups).filter((groups) => groups !== undefined);
+    return told.map(({ address, digits, order }) => ({ address, digits, order: order ?? null }));
+}
+
 /** What replies of `why` say of the origins of their words, by the addresses; a word that no kept step has changed has none. */
 export function originsOf(reply) {
     const told = linesOf(reply).map((line) => WHY.exec(line)?.groups).filter((groups) => groups !== undefined);

@@ -2,9 +2,9 @@ import assert from "node:assert/strict";
 import { test } from "node:test";
 import { addressIn, addressOf, isAmong, numberOf, positionOf, windowAt } from "../addresses.mjs";
 import { Deeds } from "../deeds.mjs";
-import { nextPortion } from "../laboratory.mjs";
 import { headOf, linesIn, setUp } from "../lines.mjs";
 import { askedIn } from "../opening.mjs";
+import { nextPortion, ordersUntilAsked } from "../portions.mjs";
 
 test("orders gone back over are ahead, with the presses between them", () => {
     const deeds = new Deeds();

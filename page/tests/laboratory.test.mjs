@@ -176,8 +176,8 @@ live("before memory ends nothing more is begun, and all can be saved", async (la
         await deed();
         assert.equal(laboratory.notice.kind, "usedUp");
     }
-    assert.ok(link.sent.slice(sent).every((line) => /^(panel-data|live|words|show|why|printed|paper|rules)/.test(line)));
-    assert.match(await laboratory.transcript(), /\nput 0000 00083100\n/);
+    assert.ok(link.sent.slice(sent).every((line) => /^(panel-data|live|numbers|why|paper|rules)/.test(line)));
+    assert.match(await laboratory.transcript(), /^put 0000 00083100\n/);
     assert.equal(await laboratory.say("words 0000 1"), "0000 00083100\n");
     const { behind } = laboratory.deeds;
     await laboratory.back(5);
@@ -213,14 +213,60 @@ live("a new laboratory and an example offer the lines of the one before, where s
     assert.equal(laboratory.notice, null);
 });
 
-live("so do lines, and the questions of a long session count", async (laboratory) => {
+live("so do lines, and the page's own questions stand in no script", async (laboratory) => {
     const comment = `; ${"x".repeat(4000)}`;
     await laboratory.say("put 0050 = 3", ...Array(800).fill(comment));
     assert.equal(laboratory.notice.kind, "usedUp");
-    assert.match(await laboratory.transcript(), /^(words|show|printed)[^]*\nput 0050 00000006\n; xx/);
+    assert.match(await laboratory.transcript(), /^put 0050 00000006\n; xx/);
     await laboratory.say("new");
     await laboratory.say(comment);
     assert.equal(laboratory.notice, null);
+});
+
+live("a script has what the reader did: no look, no row of the drum, no ring of costs and no account that was asked for again stands in it", async (laboratory, link) => {
+    await laboratory.say("put 0000 b 0050", "put 0001 a 0050", "put 0002 z 0000", "break 0100", "press start");
+    await laboratory.step();
+    await laboratory.showAt("0050");
+    await laboratory.askCosts("0050");
+    await laboratory.why("0000");
+    await laboratory.say("trace 1");
+    await laboratory.say("profile 1");
+    await laboratory.say("words 0050 1");
+    assert.notEqual(laboratory.profile, null);
+    const script = await laboratory.transcript();
+    assert.equal(script, "put 0000 00010032\nput 0001 000q0032\nput 0002 00000000\nbreak 0100\npress start\nrun 1\nrun 1\nrun 1\nwords 0050 1\n");
+    assert.ok((await link.ask("transcript")).length > script.length);
+    assert.deepEqual(laboratory.lines.slice(4), ["press start", "trace-data 1", "trace 1", "profile 1", "words 0050 1"]);
+    const { clock } = laboratory.panel;
+    await laboratory.openSaved("saved", script);
+    assert.deepEqual([laboratory.panel.clock, laboratory.performed], [clock, 3]);
+});
+
+live("a run that prints asks after 20,000 codes, however fast it prints", async (laboratory) => {
+    for (const words of [["p =h", "u 0000"], ["p =h", "b 0000", "b 0000", "b 0000", "u 0000"], ["b 0000", ...Array(30).fill("b 0000"), "p =h", "u 0000"]]) {
+        await laboratory.new();
+        await laboratory.say(...words.map((word, at) => `put ${String(at).padStart(4, "0")} ${word}`), "press start");
+        await laboratory.run();
+        const { notice: { kind, count } } = laboratory;
+        assert.equal(kind, "printedMuch");
+        assert.ok(count >= ROOM.asksAfter && count < 1.05 * ROOM.asksAfter, `${count}`);
+    }
+}, LINKS.slice(0, 1));
+
+live("a laboratory is restored by its lines, a source that is open and a half-done script with it", async (laboratory) => {
+    await laboratory.openScript("self-modifying", exampleNamed("self-modifying"));
+    await laboratory.step(3);
+    await laboratory.run(5);
+    await laboratory.back(1);
+    await laboratory.say("source", " b 0050");
+    const { lines, script, deeds: { behind } } = laboratory;
+    const saved = { lines: lines.join("\n"), script: { ...script } };
+    await laboratory.new();
+    assert.deepEqual([laboratory.script, laboratory.panel.clock], [null, 0n]);
+    await laboratory.restore(saved);
+    assert.deepEqual([laboratory.lines, laboratory.openSource, laboratory.script, laboratory.deeds.behind], [lines, [" b 0050"], saved.script, behind]);
+    await laboratory.say(".", "new");
+    assert.equal(laboratory.script, null);
 });
 
 live("a line that could print or tell more than memory holds is not begun", async (laboratory) => {

@@ -22,7 +22,8 @@ async function after(...lines) {
         worker.onmessage({ data: { lines: [line] } });
         return worker.last;
     };
-    const laboratory = new Laboratory({ opened: Promise.resolve(), ask });
+    const askAll = async (all) => (await Promise.all(all.map(ask))).join("");
+    const laboratory = new Laboratory({ opened: Promise.resolve(), ask, askAll });
     await laboratory.open();
     await laboratory.say(...lines);
     return laboratory;
