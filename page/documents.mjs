@@ -21,6 +21,13 @@ export function lessonsBelow(folder) {
     return Object.fromEntries(Object.keys(LANGUAGES).map((code) => [code, lessonsOf(code)]));
 }
 
+/** The lessons' sheets to fill in, by their languages and the lessons' names, as page/handouts.mjs has made them. */
+export function sheetsBelow(folder) {
+    const fileOf = (name, code) => join(folder, "handouts", `${name}${code === "en" ? "" : `.${code}`}.html`);
+    const sheetsOf = (code) => LESSONS.map(({ name }) => [name, fileOf(name, code)]).filter(([, file]) => existsSync(file)).map(([name, file]) => [name, readFileSync(file, "utf8")]);
+    return Object.fromEntries(Object.keys(LANGUAGES).map((code) => [code, Object.fromEntries(sheetsOf(code))]));
+}
+
 const read = (...path) => readFileSync(join(...path), "utf8");
 
 /** All scripts below a folder, by their names without the ending. */

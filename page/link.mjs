@@ -1,16 +1,16 @@
 // The page's end of the Worker: lines go out one after another, and each reply belongs to the oldest line that has none yet.
 import { NoMemory } from "./module/session.mjs";
 
-/** A link to a Worker whose source is this text, with a session of the module of these bytes. */
+/** A link to a Worker whose source is this text, with a session of a module, whose bytes are given in base 64. */
 export class Link {
     #worker;
     #waiting = [];
 
-    constructor(workerText, bytes) {
+    constructor(workerText, module) {
         this.#worker = new Worker(URL.createObjectURL(new Blob([workerText], { type: "text/javascript" })));
         this.#worker.onmessage = ({ data }) => this.#settle(data);
         this.#worker.onerror = (event) => this.#settle({ failure: event.message });
-        this.opened = this.#post({ bytes });
+        this.opened = this.#post({ module });
     }
 
     #post(message) {

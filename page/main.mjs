@@ -1,37 +1,43 @@
-// Puts the page together: the laboratory, its views, and what the address asks for.
+// Puts the page together: the machines, their views, what the address asks for, and what is kept.
+import { Drafts } from "./drafts.mjs";
 import { Drive } from "./drive.mjs";
 import { withRemarks } from "./examples.mjs";
-import { Kept, Sources, keepFrom, linkOf } from "./kept.mjs";
+import { Exhibit, KIOSK } from "./exhibit.mjs";
+import { linkOf } from "./files.mjs";
+import { Keeper, Sources, Works, takeOver } from "./keeper.mjs";
 import { Laboratory } from "./laboratory.mjs";
 import { headOf, linesIn, withoutQuestions } from "./lines.mjs";
 import { Link } from "./link.mjs";
 import { version } from "./module/package.json";
-import { askedIn } from "./opening.mjs";
+import { addressOf, askedIn, inLanguage } from "./opening.mjs";
 import { Player } from "./player.mjs";
 import { Sound, follow } from "./sound.mjs";
-import { setUpFor } from "./steps.mjs";
+import { LESSONS, setUpFor } from "./steps.mjs";
+import { openStore } from "./store.mjs";
 import { makeAccounts, makeTime } from "./views/accounts.mjs";
 import { makeCosts } from "./views/costs.mjs";
 import { makeConsole, makeKeyboard } from "./views/console.mjs";
 import { button, h, part } from "./views/dom.mjs";
-import { addressOfDoor, behind, makeDoors, makeHall, showDoor } from "./views/doors.mjs";
+import { behind, makeDoors, makeHall, makeSkip, showDoor } from "./views/doors.mjs";
 import { makeDrum } from "./views/drum.mjs";
-import { GAMES, asksOf, makeHeap } from "./views/game.mjs";
-import { hearDrops, makeOffer, makeOpen, openFile } from "./views/keep.mjs";
-import { KIOSK, makeKiosk, watchIdle } from "./views/kiosk.mjs";
+import { makeHeap } from "./views/game.mjs";
+import { hearDrops, makeOpen, openFile } from "./views/keep.mjs";
+import { isLeaving, makeKiosk, refuseOthers, watchIdle } from "./views/kiosk.mjs";
 import { makeLesson, noLesson } from "./views/lesson.mjs";
 import { makeListing } from "./views/listing.mjs";
-import { makeNotices } from "./views/notice.mjs";
+import { makeNotices, placeNotices } from "./views/notice.mjs";
 import { makePace } from "./views/pace.mjs";
 import { makePanel } from "./views/panel.mjs";
 import { makePaper, makeTape } from "./views/paper.mjs";
 import { makeProfile } from "./views/profile.mjs";
 import { makePlate, makeScope } from "./views/scope.mjs";
+import { linksToSheet, showSheet } from "./views/sheets.mjs";
 import { arrange, makeStage } from "./views/stage.mjs";
 import { makeStory } from "./views/story.mjs";
-import { makeTales } from "./views/tales.mjs";
+import { TALES, makeTales, noTale } from "./views/tales.mjs";
 import { makeTasks } from "./views/tasks.mjs";
 import { makeTurns } from "./views/turns.mjs";
+import { listOfWorks, makeOffer, titleOf } from "./views/works.mjs";
 import { makeLines, makeScript, makeSource } from "./views/writing.mjs";
 import { LANGUAGES, counted, textsIn } from "./words.mjs";
 
@@ -44,29 +50,71 @@ const clocks = { now: () => performance.now(), sleep: (milliseconds) => new Prom
 const inlined = (id) => document.getElementById(id).textContent;
 const examples = new Map(Object.entries(JSON.parse(inlined("examples"))));
 const remarks = JSON.parse(inlined("remarks"));
-const bytesOf = (base64) => Uint8Array.from(atob(base64), (sign) => sign.charCodeAt(0));
-const asked = askedIn(location);
-const kept = new Kept(() => localStorage);
-const sources = new Sources(() => localStorage);
-const openLink = () => new Link(inlined("worker"), bytesOf(inlined("module")));
+const sheets = JSON.parse(inlined("sheets"));
+const tasks = JSON.parse(inlined("tasks"));
+const openLink = () => new Link(inlined("worker"), inlined("module"));
+const drafts = new Drafts();
 
 // lessons have their texts from their documents
 for (const [code, lessons] of Object.entries(JSON.parse(inlined("lessons")))) LANGUAGES[code].lessons = lessons;
 
-let texts = textsIn(asked.language ?? (navigator.language ?? "en").slice(0, 2));
-let isKiosk = asked.isKiosk;
-let door = asked.door;
-let views = [];
-let notices = null;
-let drive = null;
+/** Which work is at hand in this tab of the browser, so that another tab has its own. */
+const TAB = "condugwa-work";
+/** How long after a change the work is kept at most, and the most orders that are done again when the page is loaded again. */
+const [WORK_AFTER, MOST_AGAIN] = [300, 20_000_000];
+
+let asked = askedIn(location);
+let texts = textsIn((navigator.language ?? "en").slice(0, 2));
+let { isKiosk, door } = asked;
+let [views, parts, notices] = [[], {}, null];
+/** The machine that is seen, and its drive. */
+let [laboratory, drive] = [null, null];
+let exhibit = null;
 let picture = { frame: null, views: [], last: 0 };
-let endIdle = () => {};
-let isAttract = false;
-let attractRound = 0;
-let laboratory = null;
+let endExhibit = () => {};
 let hasShortKeys = true;
 let isOperated = false;
-const pupil = noLesson();
+let hasTurns = true;
+let [keeper, works, sources] = [new Keeper(), null, null];
+let keeping = null;
+/** What is done one after another: going through doors, and what begins another laboratory. */
+let going = Promise.resolve();
+let opening = Promise.resolve();
+const [pupil, viewer] = [noLesson(), noTale()];
+
+/** The machines that are open: the visitor's own, and one that the page shows by itself, in the hall and at the kiosk. */
+const machines = { own: null, shown: null };
+
+/** Opens a machine, with its drive. */
+async function openMachine() {
+    const link = openLink();
+    const made = new Laboratory(link);
+    await made.open();
+    const driven = new Drive(made, player, () => run(made), clocks);
+    made.addEventListener("change", () => { if (made === laboratory) show(); });
+    driven.addEventListener("change", () => { if (driven === drive) show(); });
+    driven.addEventListener("play", () => { if (driven === drive) animate(); });
+    return { laboratory: made, drive: driven, link };
+}
+
+/** Opens one of the machines, unless it is open. */
+function machineOf(name) {
+    machines[name] ??= openMachine();
+    return machines[name];
+}
+
+/** From now on this machine is seen. The one that the page has shown by itself is ended with that. */
+async function use(name) {
+    drive?.halt();
+    const machine = await machineOf(name);
+    if (name === "own" && machines.shown !== null) {
+        const { link } = await machines.shown;
+        machines.shown = null;
+        link.end();
+    }
+    player.end();
+    ({ laboratory, drive } = machine);
+}
 
 function progressOf({ orders, starts, milliseconds }) {
     if (starts > 0) return texts.text("startsAgain", { count: counted(starts, texts.code) });
@@ -74,18 +122,20 @@ function progressOf({ orders, starts, milliseconds }) {
     return texts.text("running", { orders: counted(orders, texts.code), speed: counted(speed, texts.code) });
 }
 
-/** What a run has done so far, or all in all. It is read out when the run has ended. */
-function showProgress(progress, isRunning) {
+/** What a run does, or what the last one has done, as long as nothing is done after it. It is read out when the run has ended. */
+function showProgress({ progress, lastRun, notice }) {
     const place = document.getElementById("progress");
-    place.setAttribute("aria-busy", String(isRunning));
-    place.textContent = progress === null ? "" : progressOf(progress);
-    place.hidden = progress === null;
+    const told = isKiosk ? null : progress ?? (notice === null && lastRun !== null && lastRun.orders + lastRun.starts > 0 ? { ...lastRun, milliseconds: Math.max(1, lastRun.milliseconds) } : null);
+    place.setAttribute("aria-busy", String(progress !== null));
+    place.textContent = told === null ? "" : progressOf(told);
+    place.hidden = told === null;
 }
 
 function show() {
-    const { progress, panel } = laboratory;
+    const { panel } = laboratory;
+    if (notices === null) return;
     notices.show();
-    showProgress(progress, progress !== null);
+    showProgress(laboratory);
     if (panel !== null) for (const view of views) view.show();
 }
 
@@ -97,45 +147,174 @@ function goOnIn(code, id) {
     texts = textsIn(code);
     const name = laboratory.script?.name;
     if (examples.has(name)) laboratory.retold(exampleNamed(name));
+    if (!isKiosk) {
+        keeper.keep("language", code);
+        history.replaceState(null, "", inLanguage(code, location));
+    }
     layFor(id);
 }
 
 /** What the hall shows. */
 const HALL_EXAMPLE = "self-modifying";
 
-function openExample(name) {
+/** What of the visitor's is worth to be kept: what was done at the machine, or written in a field, or a step that is done. */
+const isWorth = (own) => own.doings > 0 || Object.values(drafts.all).some((text) => text.trim() !== "") || pupil.isDone.size > 0 || works.of(works.id) !== null;
+
+/** The visitor's work as it is now. */
+const workOf = (own) => ({
+    door: door === "hall" ? "work" : door, title: titleOf(own, pupil, sources, texts), lines: own.lines.join("\n"), script: own.script, performed: own.performed,
+    drafts: drafts.all, task: sources.open, pupil: pupil.lesson === null ? null : { lesson: pupil.lesson.name, at: pupil.at, isDone: [...pupil.isDone] },
+});
+
+/** Keeps the work at hand. */
+async function keepWork() {
+    clearTimeout(keeping);
+    keeping = null;
+    if (works === null || machines.own === null) return;
+    const { laboratory: own } = await machines.own;
+    if (isWorth(own)) works.keep(workOf(own));
+}
+
+/** Something was done or written: the work is kept soon. */
+function noteWork() {
+    if (works !== null) keeping ??= setTimeout(keepWork, WORK_AFTER);
+}
+
+/** Begins another work, with these texts in its fields. Gives the one before, where that is kept. */
+function beginWork(texts) {
+    const before = works.begin();
+    sessionStorageOf()?.setItem(TAB, works.id);
+    drafts.restore(texts);
+    return before;
+}
+
+/** Does what begins another laboratory; what was written in the one before is kept and offered. Its source stays in its field where that is wanted. */
+function beginAnother(deed, { keepsSource = false, isOffered = true } = {}) {
+    opening = opening.then(async () => {
+        drive.halt();
+        await keepWork();
+        const { source, ...others } = drafts.all;
+        const before = beginWork(keepsSource && source !== undefined ? { ...others, source } : others);
+        await deed();
+        const { notice } = laboratory;
+        if (isOffered && before !== null && (notice === null || notice.kind === "before")) await laboratory.tell({ ...notice ?? { kind: "beforeKept" }, work: before.id });
+        noteWork();
+    });
+    return opening;
+}
+
+/** Goes back to a work, with all that stood beside its machine. */
+async function openWork(work) {
+    await keepWork();
+    works.id = work.id;
+    sessionStorageOf()?.setItem(TAB, work.id);
+    await goTo(work.door === "look" ? "work" : work.door, false);
     drive.halt();
-    if (door === "hall") goTo("work");
-    return laboratory.openScript(name, exampleNamed(name));
+    standAt(work);
+    await laboratory.restore(work);
+    lay();
+    parts.lesson.goOn();
+    tellPlace();
+}
+
+/** Has in fields, lesson and task what a work has. */
+function standAt(work) {
+    drafts.restore(work.drafts);
+    const lesson = LESSONS.find(({ name }) => name === work.pupil?.lesson) ?? null;
+    Object.assign(pupil, noLesson(), lesson === null ? {} : { lesson, at: work.pupil.at, isDone: new Set(work.pupil.isDone) });
+    sources.open = work.task !== null && Object.hasOwn(tasks.tasks, work.task) ? work.task : null;
+    Object.assign(viewer, noTale());
+}
+
+async function openExample(name) {
+    if (door !== "work") await goTo("work", false);
+    await beginAnother(() => laboratory.openScript(name, exampleNamed(name)));
+    tellPlace();
 }
 
 /** Opens what was saved: all its lines are done. */
-function openSaved(name, script) {
-    drive.halt();
-    if (door !== "work") goTo("work");
-    return laboratory.openSaved(name, script);
+async function openSaved(name, script) {
+    if (door !== "work") await goTo("work", false);
+    await beginAnother(() => laboratory.openSaved(name, script));
+    tellPlace();
+}
+
+/** A blank machine; the source stays in its field. */
+async function openBlank() {
+    await beginAnother(() => laboratory.new(), { keepsSource: true });
+    tellPlace();
 }
 
 const openDropped = (file) => openFile(file, laboratory, openSaved);
 
 /** Opens an example that the page shows by itself, and sets it going. */
-const openShown = (name) => setUpFor(laboratory, { opens: name }, exampleNamed);
+const openShown = (name) => (laboratory.doings > 0 ? beginAnother(() => setUpFor(laboratory, { opens: name }, exampleNamed)) : setUpShown({ opens: name }));
+
+function setUpShown(step) {
+    opening = opening.then(() => setUpFor(laboratory, step, exampleNamed));
+    return opening;
+}
 
 /** Sets the machine up for a step of a lesson. */
 function openForStep(step) {
     drive.halt();
-    return setUpFor(laboratory, step, exampleNamed);
+    return laboratory.doings > 0 ? beginAnother(() => setUpFor(laboratory, step, exampleNamed), { isOffered: false }) : setUpShown(step);
 }
 
-/** Goes through a door. The machine stays as it is, but that what moves in the hall stops. */
+/** Sets the machine up by a script of a task. */
+const openForTask = (name, script) => beginAnother(() => laboratory.openScript(name, script), { isOffered: false });
+
+/** Loads a source, starts it and runs it; with a fault nothing is run. */
+async function runProgram(source) {
+    drive.halt();
+    await laboratory.load(source);
+    if (laboratory.notice !== null) return undefined;
+    if (laboratory.way.kind === "start") await laboratory.command("press start");
+    return drive.go("fast");
+}
+
+/** Where the visitor is, as addresses name it. */
+const placeNow = () => ({
+    door, lesson: door === "learn" ? pupil.lesson?.name : null, step: Math.min(pupil.at + 1, pupil.lesson?.steps.length ?? 1), task: door === "learn" ? sources.open : null,
+    story: door === "look" && viewer.tale !== null ? TALES.indexOf(viewer.tale) + 1 : null, caption: viewer.at + 1,
+    example: door === "work" && examples.has(laboratory.script?.name) ? laboratory.script.name : null,
+});
+
+/** The address says where the visitor is. */
+function tellPlace() {
+    const [address, before] = [addressOf(placeNow(), location), askedIn(location)];
+    if (isKiosk || address === location.search + location.hash) return;
+    // an address that has asked for the same in fewer words is written out
+    if (before.door === door && isThere(before)) history.replaceState(null, "", address);
+    else history.pushState(null, "", address);
+    noteWork();
+}
+
+/** Goes through a door. The visitor's machine stays as it is. */
 function goTo(wanted, isNew = true) {
-    if (door === "hall") drive.halt();
+    going = going.then(() => pass(wanted, isNew));
+    return going;
+}
+
+async function pass(wanted, isNew) {
+    const isOther = (door === "hall") !== (wanted === "hall");
+    if (isOther) await use(wanted === "hall" ? "shown" : "own");
+    else drive.halt();
     door = wanted;
-    laboratory.isOnShow = door === "hall" || door === "look";
-    showDoor(door);
-    arrange();
+    if (isOther) layFor(null);
+    placeDoor();
     show();
-    if (isNew) history.pushState(null, "", addressOfDoor(door));
+    if (isNew) tellPlace();
+    if (isOther && wanted === "hall") await openHall();
+}
+
+/** Shows what is seen behind the door, and asks of the machine what is seen there. */
+function placeDoor() {
+    laboratory.isOnShow = isKiosk || door === "hall" || door === "look";
+    laboratory.wantsRows = !isKiosk && door === "work" && hasTurns;
+    if (isKiosk) delete document.body.dataset.door;
+    else { showDoor(door); arrange(); }
+    placeNotices(isKiosk || door === "hall" ? null : document.querySelector(".tells"));
 }
 
 function dialog(heading, ...children) {
@@ -200,11 +379,7 @@ function animate() {
 }
 
 /** A run, by `operate` where that is switched on and the switch is seen. */
-async function run() {
-    const ran = await (isOperated && door === "work" && !isKiosk ? laboratory.operate() : laboratory.run());
-    if (ran === undefined || laboratory.notice !== null || ran.orders + ran.starts === 0) return;
-    showProgress({ ...ran, milliseconds: Math.max(1, ran.milliseconds) }, false);
-}
+const run = (machine) => (isOperated && door === "work" && !isKiosk ? machine.operate() : machine.run());
 
 /** The switch of the runs by `operate`. */
 function makeOperated() {
@@ -230,10 +405,17 @@ function makeBar() {
         ...[...examples.keys()].map((name) => h("option", { value: name }, `${name}: ${headOf(exampleNamed(name)).title}`)));
     const language = h("select", { id: "language", "aria-label": "Language, Sprache", onchange: () => goOnIn(language.value, "language") },
         ...Object.entries(LANGUAGES).map(([code, table]) => h("option", { value: code, selected: code === texts.code }, table.language)));
-    const view = { node: h("div", { class: "line choices", role: "toolbar", "aria-label": text("choices") }, choice, behind("work", button(text("new"), () => laboratory.new(), { title: text("newHint") })), behind("work", button(text("save"), save, { title: text("saveHint"), id: "save" })), behind("work", makeOpen(texts, openDropped)),
-        makeSoundSwitch(), button(text("kiosk"), () => setKiosk(true), { id: "kiosk" }), button(text("about"), about, { id: "about" }), language),
+    const view = { node: h("div", { class: "line choices", role: "toolbar", "aria-label": text("choices") }, choice, behind("work", button(text("new"), openBlank, { id: "new", title: text("newHint") })), behind("work", button(text("save"), save, { title: text("saveHint"), id: "save" })), behind("work", makeOpen(texts, openDropped)), behind("learn work", button(text("works"), showWorks, { id: "works", title: text("worksHint") })),
+        makeSoundSwitch(), button(text("kiosk"), openKiosk, { id: "kiosk" }), button(text("about"), about, { id: "about" }), language),
         show: () => { choice.value = examples.has(laboratory.script?.name) ? laboratory.script.name : ""; } };
     return view;
+}
+
+/** The list of the last works. */
+async function showWorks() {
+    await keepWork();
+    const list = listOfWorks(works, texts, (work) => { list.closest("dialog").close(); openWork(work); });
+    dialog(texts.text("works"), list);
 }
 
 function makeExplanation() {
@@ -247,40 +429,56 @@ function makeExplanation() {
     return { node, show: showIt };
 }
 
-/** What the views ask: what is played, what it has not done yet, whether the drum turns too fast to be read, the pace, and whether the costs of a word are seen. */
-const showing = { playing, held, isFast: () => drive.pace === "own" || drive.pace === "fast", pace: () => drive.pace, isAttract: () => isAttract, hasCosts: () => ["learn", "work"].includes(door) };
+/** What the views ask: what is played, what it has not done yet, whether the drum turns too fast to be read, the pace, whether nothing may move, and whether the costs of a word are seen. */
+const showing = { playing, held, isFast: () => drive.pace === "own" || drive.pace === "fast", pace: () => drive.pace, isStill: () => still.matches, isAttract: () => exhibit?.isAttract ?? false, hasCosts: () => ["learn", "work"].includes(door) };
+
+/** The links to a lesson's sheet; its form is what a printer gets. */
+function sheetsOf(name) {
+    const sheet = (sheets[texts.code] ?? sheets.en)[name];
+    return linksToSheet(sheet, texts);
+}
 
 /** All parts but the header, and the element that holds them in the order in which they are seen. */
-function makeWork(tasks) {
+function makeWork() {
+    const open = { sources, openLink, setUp: openForTask, run: () => drive.go("fast") };
+    const madeTasks = makeTasks(texts, tasks, open);
+    const turns = makeTurns(laboratory, texts, hasTurns, (isOpen) => { hasTurns = isOpen; placeDoor(); });
     const made = {
-        hall: makeHall(texts, goTo, drive), tales: makeTales(laboratory, texts, drive, openShown), lesson: makeLesson(laboratory, texts, openForStep, pupil, tasks), tasks, drum: makeDrum(laboratory, texts, showing), plate: makePlate(laboratory, texts), scope: makeScope(laboratory, texts, showing), panel: makePanel(laboratory, texts), console: makeConsole(laboratory, texts),
-        paper: makePaper(laboratory, texts, showing), tape: makeTape(laboratory, texts), keyboard: makeKeyboard(laboratory, texts),
-        pace: makePace(laboratory, texts, drive, makeOperated()), time: makeTime(laboratory, texts, showing), story: makeStory(laboratory, texts, showing), accounts: makeAccounts(laboratory, texts, showing), listing: makeListing(laboratory, texts, showing), costs: makeCosts(laboratory, texts),
-        explanation: makeExplanation(), script: makeScript(laboratory, texts), source: makeSource(laboratory, texts), lines: makeLines(laboratory, texts),
-        profile: makeProfile(laboratory, texts), turns: makeTurns(laboratory, texts),
+        hall: makeHall(texts, goTo, drive), tales: makeTales(laboratory, texts, drive, { open: openShown, viewer, told: tellPlace }), lesson: makeLesson(laboratory, texts, { open: openForStep, pupil, tasks: madeTasks, drafts, told: toldOfLesson, sheets: sheetsOf, isSeen: () => door === "learn" }), tasks: madeTasks,
+        drum: makeDrum(laboratory, texts, showing), plate: makePlate(laboratory, texts), scope: makeScope(laboratory, texts, showing), panel: makePanel(laboratory, texts), console: makeConsole(laboratory, texts),
+        paper: makePaper(laboratory, texts, showing), tape: makeTape(laboratory, texts, drafts), keyboard: makeKeyboard(laboratory, texts),
+        pace: makePace(laboratory, texts, drive, makeOperated()), time: makeTime(laboratory, texts, showing), story: makeStory(laboratory, texts, showing), accounts: makeAccounts(laboratory, texts, showing), listing: makeListing(laboratory, texts, showing, drafts), costs: makeCosts(laboratory, texts),
+        explanation: makeExplanation(), script: makeScript(laboratory, texts), source: makeSource(laboratory, texts, drafts, runProgram), lines: makeLines(laboratory, texts, drafts),
+        profile: makeProfile(laboratory, texts), turns,
     };
+    parts = made;
     return { node: makeStage(made), made: Object.values(made) };
+}
+
+/** Another step or task is reached: its address says so, and a printer gets its sheet. */
+function toldOfLesson() {
+    tellPlace();
+    const name = pupil.lesson?.name;
+    showSheet(name === undefined ? null : (sheets[texts.code] ?? sheets.en)[name]);
 }
 
 function makeOthers() {
     const other = button(texts.code === "de" ? "English" : "Deutsch", () => goOnIn(texts.code === "de" ? "en" : "de", "other-language"), { id: "other-language", lang: texts.code === "de" ? "en" : "de" });
-    return [makeSoundSwitch(), button(texts.text("leaveKiosk"), () => setKiosk(false), { id: "leave-kiosk" }), other];
+    return [makeSoundSwitch(), other];
 }
 
 function makeExhibit() {
-    const game = GAMES.get(asked.example);
-    const shown = game === undefined ? makeScope(laboratory, texts, showing) : makeHeap(laboratory, texts);
+    const shown = exhibit.game === undefined ? makeScope(laboratory, texts, showing) : makeHeap(laboratory, texts);
     const made = { drum: makeDrum(laboratory, texts, showing), shown, paper: makePaper(laboratory, texts, showing) };
     for (const node of [made.drum.node, made.paper.node]) node.querySelector("h2").classList.add("unseen");
-    return makeKiosk(laboratory, texts, { ...showing, drive }, openKiosk, made, makeOthers(), game);
+    return makeKiosk(laboratory, texts, { ...showing, drive }, exhibit, made, makeOthers());
 }
 
 function makePage() {
     const { text } = texts;
-    const tasks = makeTasks(laboratory, texts, JSON.parse(inlined("tasks")), sources, openLink);
     const top = makeBar();
-    const heading = h("header", {}, behind("look learn work", h("a", { class: "skip unseen", href: "#story" }, text("skip"))), h("h1", {}, text("title")), h("p", { class: "subtitle" }, text("subtitle")), makeDoors(texts, goTo), top.node);
-    const { node, made } = makeWork(tasks);
+    const heading = h("header", {}, behind("look learn work", makeSkip(texts)), h("h1", {}, text("title")), h("p", { class: "subtitle" }, text("subtitle")), makeDoors(texts, goTo), top.node);
+    const { node, made } = makeWork();
     return { nodes: [heading, node], views: [top, ...made] };
 }
 
@@ -288,125 +486,197 @@ function lay() {
     document.documentElement.lang = texts.code;
     document.title = texts.text("title");
     document.body.className = isKiosk ? "kiosk" : "";
+    placeNotices(null);
     const made = isKiosk ? makeExhibit() : makePage();
-    notices = makeNotices(laboratory, texts, isKiosk, { run: () => drive.go("fast"), save, anew: () => (isKiosk ? openKiosk() : laboratory.new()), linkTo: (lines) => linkTo(withoutQuestions(lines, laboratory.questions)) });
+    const deeds = { run: () => drive.go("fast"), save, anew: () => (isKiosk ? exhibit.press(4) : openBlank()), linkTo: (lines) => linkTo(withoutQuestions(lines, laboratory.questions)), goBack: (id) => openWork(works.of(id)) };
+    notices = makeNotices(laboratory, texts, isKiosk, deeds);
     views = [...made.views, follow(laboratory, sound, showing)];
     picture.views = views.filter(({ frame }) => frame !== undefined);
     document.getElementById("page").replaceChildren(...made.nodes);
-    makeOffer(kept, texts, !isKiosk, (script) => openSaved(texts.text("lastSession"), script));
-    if (isKiosk) delete document.body.dataset.door;
-    else { showDoor(door); arrange(); }
+    placeDoor();
     show();
 }
 
-/** Lays the page anew. Where a control had the focus, the one of this name has it then. */
+/** Lays the page anew. Where a control had the focus, the one of this name has it then, or the door. */
 function layFor(id) {
     const hadFocus = document.activeElement !== document.body;
     lay();
-    if (hadFocus) document.getElementById(id)?.focus();
+    if (hadFocus) (document.getElementById(id) ?? document.querySelector(".doors [aria-current]"))?.focus();
 }
 
-/** Opens the kiosk's program. An example that is not there is told. */
-async function openKiosk() {
-    drive.halt();
-    const isThere = asked.example === null || examples.has(asked.example);
-    const name = isThere ? asked.example ?? KIOSK.example : KIOSK.example;
-    await laboratory.openForShow(name, exampleNamed(name));
-    const game = GAMES.get(name);
-    laboratory.questionsToo = game === undefined ? [] : asksOf(game, laboratory.labels);
-    if (game !== undefined) await laboratory.command(...game.set);
-    if (!isThere) await laboratory.tell({ kind: "noKioskExample", detail: asked.example, shown: KIOSK.example });
+/** Begins the exhibit, which plays by itself until somebody takes over. */
+async function beginExhibit() {
+    await use("shown");
+    exhibit = new Exhibit(laboratory, drive, asked.example, { scriptOf: (name) => (examples.has(name) ? exampleNamed(name) : undefined), isStill: () => still.matches, sleep: clocks.sleep });
+    exhibit.addEventListener("change", show);
+    const own = texts;
+    layFor("kiosk-start");
+    const endWatch = watchIdle(asked.idleSeconds ?? KIOSK.idleSeconds, () => { if (!exhibit.isAttract) returnToBeginning(own); }, () => exhibit.takeOver());
+    const endRefusing = refuseOthers();
+    endExhibit = () => { endWatch(); endRefusing(); exhibit.end(); exhibit = null; endExhibit = () => {}; };
+    await exhibit.attract();
 }
 
-/** Opens the kiosk's program, which then plays by itself until someone takes over. What has to be told first, or a wish for no motion, leaves it standing. */
-async function attract() {
-    isAttract = true;
-    attractRound += 1;
-    await openKiosk();
-    if (laboratory.notice === null && !still.matches) playOn(attractRound);
+/** Nobody has touched the kiosk for a while: it is as it was for the first visitor, in its own language and without sound. */
+function returnToBeginning(own) {
+    texts = own;
+    if (sound.isOn) sound.switchTo(false);
+    lay();
+    exhibit.attract();
 }
 
-/** Plays the program again and again. */
-async function playOn(round) {
-    const isOn = () => isAttract && round === attractRound;
-    while (isOn()) {
-        if (laboratory.way.kind === "start") await laboratory.command("press start");
-        if (isOn()) await drive.go("show");
-        if (isOn()) await clocks.sleep(KIOSK.restMilliseconds);
-        if (isOn()) await openKiosk();
-    }
+/** The kiosk of the example that is open, with a machine of its own. The address says so. */
+function openKiosk() {
+    const { example } = placeNow();
+    history.pushState(null, "", addressOf({ kiosk: example ?? "" }, location));
+    return followAddress();
 }
 
-/** Someone has touched the kiosk: what plays by itself stops where it is. A touch of no button does nothing else. */
-function takeOver({ target }) {
-    if (!isAttract) return;
-    isAttract = false;
-    drive.halt();
-    if (target.closest?.("button") === null) show();
-}
-
-async function setKiosk(wanted) {
-    isKiosk = wanted;
-    isAttract = false;
-    endIdle();
-    drive.halt();
-    laboratory.questionsToo = [];
-    laboratory.isOnShow = isKiosk || door === "hall" || door === "look";
-    layFor(isKiosk ? "kiosk-start" : "kiosk");
-    if (!isKiosk) return;
-    endIdle = watchIdle(asked.idleSeconds ?? KIOSK.idleSeconds, () => { if (!isAttract) attract(); }, takeOver);
-    await attract();
+/** Leaves the kiosk: the visitor's work is as it was. */
+async function leaveKiosk() {
+    endExhibit();
+    // a page that was opened as a kiosk has nothing else
+    if (works === null) return location.reload();
+    isKiosk = false;
+    texts = textsIn(asked.language ?? keeper.of("language") ?? texts.code);
+    await use(door === "hall" ? "shown" : "own");
+    layFor("kiosk");
+    return door === "hall" ? openHall() : undefined;
 }
 
 function onKey(event) {
+    if (isKiosk) {
+        const number = Number(event.key);
+        if (isLeaving(event)) { history.pushState(null, "", addressOf(placeNow(), location)); followAddress(); }
+        else if (number >= 1 && number <= 4 && !event.repeat) exhibit?.press(number);
+        return;
+    }
     if (event.target.closest("input, textarea, select, dialog") || event.ctrlKey || event.altKey || event.metaKey) return;
     const go = (pace) => () => drive.go(pace);
     const [order, fast] = [go("order"), go("fast")];
     const deed = { s: () => drive.step(), w: order, r: fast, h: () => drive.halt(), "[": () => laboratory.back(1), "]": () => laboratory.forward(1), 1: order, 2: go("slow"), 3: go("own"), 4: fast }[event.key];
-    if (deed !== undefined && !isKiosk && hasShortKeys) deed();
+    if (deed !== undefined && hasShortKeys) deed();
 }
 
 /** In the hall the drum turns, until it is stopped; where no motion is wanted it stands. */
 async function openHall() {
-    await openShown(HALL_EXAMPLE);
-    if (!still.matches) drive.go("slow");
+    await setUpShown({ opens: HALL_EXAMPLE });
+    if (!still.matches && door === "hall" && !isKiosk) drive.go("slow");
 }
 
-/** Begins a lesson that the address names, as its button does. */
-function openLesson(name) {
-    const control = [...document.querySelectorAll("[data-lesson]")].find(({ dataset }) => dataset.lesson === name);
-    return control === undefined ? laboratory.tell({ kind: "noLesson", detail: name }) : control.click();
+/** What of the address names nothing, as a notice; null where all is there. */
+function wrongIn({ lesson, task, story, example, script }) {
+    if (lesson !== null && !LESSONS.some(({ name }) => name === lesson)) return { kind: "noLesson", detail: lesson };
+    if (task !== null && !parts.tasks.has(task)) return { kind: "noTask", detail: task, tasks: Object.keys(tasks.tasks) };
+    if (story !== null && TALES[story - 1] === undefined) return { kind: "noStory", detail: story };
+    return script === null && example !== null && !examples.has(example) ? { kind: "noExample", detail: example } : null;
 }
 
-/** Opens what the address asks for. What it names and is not there is told. */
-async function openAsked() {
-    if (isKiosk) return setKiosk(true);
-    if (asked.lesson !== null) return openLesson(asked.lesson);
-    if (asked.script !== null) return laboratory.openScript("#script", asked.script);
+/** Opens what the address asks for behind its door. What it names and is not there is told. */
+function openAsked() {
+    const wrong = wrongIn(asked);
+    if (wrong !== null) return laboratory.tell(wrong);
+    if (asked.lesson !== null || asked.task !== null) return parts.lesson.openAt(asked);
+    if (asked.story !== null) return parts.tales.openAt(asked.story, asked.caption);
+    if (asked.script !== null) return beginAnother(() => laboratory.openScript("#script", asked.script));
     if (asked.example === null) return door === "hall" ? openHall() : undefined;
-    if (examples.has(asked.example)) return openExample(asked.example);
-    return laboratory.tell({ kind: "noExample", detail: asked.example });
+    return beginAnother(() => laboratory.openScript(asked.example, exampleNamed(asked.example)));
 }
+
+/** Whether what the address asks for is there already. */
+function isThere({ lesson, step, task, story, caption, script, example }) {
+    const now = placeNow();
+    if (story !== null) return now.story === story && now.caption === (caption ?? 1);
+    if (lesson !== null) return now.lesson === lesson && now.step === (step ?? 1);
+    return script === null && (now.task ?? null) === task && (now.lesson ?? null) === null && (example ?? null) === (now.example ?? null);
+}
+
+/** The address has changed: Back, Forward, or a link. The page goes there. */
+async function followAddress() {
+    const before = isKiosk;
+    asked = askedIn(location);
+    if (asked.isKiosk) {
+        await keepWork();
+        endExhibit();
+        isKiosk = true;
+        return beginExhibit();
+    }
+    if (before) await leaveKiosk();
+    if (asked.door !== door) await goTo(asked.door, false);
+    if (door === "hall" || isThere(asked)) return undefined;
+    // a door alone, without what was open behind it, leaves that as it is
+    const isDoorAlone = ["lesson", "task", "story", "script", "example"].every((name) => asked[name] === null);
+    return isDoorAlone ? undefined : openAsked();
+}
+
+const sessionStorageOf = () => {
+    try {
+        return sessionStorage;
+    } catch {
+        return null;
+    }
+};
+
+/** Opens what is kept, and has the work at hand as it was where the page is loaded again. Gives that, or null. */
+async function openKept() {
+    const store = await openStore({ database: () => indexedDB, storage: () => localStorage });
+    keeper = new Keeper(store);
+    const tab = sessionStorageOf();
+    const isAgain = ["reload", "back_forward"].includes(performance.getEntriesByType("navigation")[0]?.type);
+    works = new Works(keeper, isAgain ? tab?.getItem(TAB) ?? null : null);
+    sources = new Sources(keeper);
+    takeOver(() => localStorage, keeper, works);
+    tab?.setItem(TAB, works.id);
+    return isAgain ? works.of(works.id) : null;
+}
+
+/** Goes on with a work where the page was loaded again, or with what the address asks for. A work that would take long is offered. */
+async function goOnWith(work) {
+    if (work === null) return openAsked();
+    standAt(work);
+    sources.open = asked.task ?? null;
+    const { laboratory: own } = await machineOf("own");
+    const isLong = work.performed > MOST_AGAIN;
+    if (!isLong) await own.restore(work);
+    lay();
+    if (isLong) offer(work);
+    if (door === "hall") return openHall();
+    return wrongIn(asked) === null && (isThere(asked) || asked.door === "work" && asked.example === null && asked.script === null) ? parts.lesson.goOn() : openAsked();
+}
+
+/** Offers a work that is kept. */
+const offer = (work) => makeOffer(work, texts, { open: openWork, forget: (id) => works.forget(id) });
 
 async function begin() {
-    laboratory = new Laboratory(openLink());
-    await laboratory.open();
+    if (!isKiosk) await openKept().then((work) => beginWith(work));
+    else await beginWith(null);
+    document.documentElement.dataset.ready = "true";
+}
+
+async function beginWith(work) {
+    texts = textsIn(asked.language ?? keeper.of("language") ?? texts.code);
+    await use(isKiosk || door === "hall" ? "shown" : "own");
     if (laboratory.panel === null) return globalThis.tellLacking(laboratory.notice.detail);
-    drive = new Drive(laboratory, player, run, clocks);
-    laboratory.addEventListener("change", show);
-    drive.addEventListener("change", show);
-    drive.addEventListener("play", animate);
+    hear();
+    if (isKiosk) return beginExhibit();
+    const { laboratory: own } = await machineOf("own");
+    own.addEventListener("change", noteWork);
+    drafts.addEventListener("change", noteWork);
+    const last = work === null ? works.all()[0] : undefined;
+    lay();
+    if (last !== undefined) offer(last);
+    if (!keeper.isKept) await laboratory.tell({ kind: "notKept" });
+    return goOnWith(work);
+}
+
+/** What the page hears. */
+function hear() {
     still.addEventListener("change", () => { player.isStill = still.matches; });
     player.isStill = still.matches;
-    laboratory.isOnShow = door === "hall" || door === "look";
-    lay();
-    keepFrom(laboratory, kept, () => !isKiosk, (script) => withoutQuestions(script, laboratory.questions));
     hearDrops(() => !isKiosk, openDropped);
     addEventListener("keydown", onKey);
-    addEventListener("popstate", () => goTo(askedIn(location).door, false));
-    await openAsked();
-    document.documentElement.dataset.ready = "true";
-    return undefined;
+    addEventListener("popstate", followAddress);
+    for (const kind of ["pagehide", "visibilitychange"]) addEventListener(kind, () => { keepWork().then(() => keeper.leave()); });
 }
 
 globalThis.laboratoryOfPage = () => laboratory;

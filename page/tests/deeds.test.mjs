@@ -3,7 +3,7 @@ import { test } from "node:test";
 import { addressIn, addressOf, isAmong, numberOf, positionOf, windowAt } from "../addresses.mjs";
 import { Deeds } from "../deeds.mjs";
 import { headOf, linesIn, setUp } from "../lines.mjs";
-import { askedIn } from "../opening.mjs";
+import { addressOf as placeOf, askedIn, inLanguage } from "../opening.mjs";
 import { nextPortion, ordersUntilAsked } from "../portions.mjs";
 
 test("orders gone back over are ahead, with the presses between them", () => {
@@ -82,10 +82,29 @@ test("the head of a script, and how far it sets up", () => {
 
 test("what an address asks for", () => {
     assert.deepEqual(askedIn({ search: "?kiosk=games/matches&idle=60&lang=de", hash: "" }),
-        { isKiosk: true, script: null, example: "games/matches", language: "de", door: "hall", idleSeconds: 60, lesson: null });
+        { isKiosk: true, script: null, example: "games/matches", language: "de", door: "hall", idleSeconds: 60, lesson: null, step: null, task: null, story: null, caption: null });
     assert.equal(askedIn({ search: "", hash: "#script=put%200000%2000000000%0Apanel" }).script, "put 0000 00000000\npanel");
     assert.deepEqual([askedIn({ search: "", hash: "#kiosk" }).isKiosk, askedIn({ search: "", hash: "#first-run" }).example], [true, "first-run"]);
     assert.equal(askedIn({ search: "", hash: "#%E0%A4%A" }).example, "%E0%A4%A");
     const doors = [["", ""], ["?door=look", ""], ["?door=learn&lang=de", "#first-run"], ["?door=cellar", ""], ["", "#first-run"], ["", "#script=panel"]];
     assert.deepEqual(doors.map(([search, hash]) => askedIn({ search, hash }).door), ["hall", "look", "learn", "hall", "work", "work"]);
+});
+
+test("an address says where one is, and asks for the same", () => {
+    const places = [
+        [{ door: "learn", lesson: "rewriting", step: 9 }, "?lang=de&lesson=rewriting&step=9"], [{ door: "learn", task: "sum" }, "?lang=de&task=sum"],
+        [{ door: "look", story: 2, caption: 3 }, "?lang=de&story=2&caption=3"], [{ door: "work", example: "tables/primes" }, "?lang=de&door=work#tables/primes"], [{ kiosk: "games/matches" }, "?lang=de&kiosk=games/matches"],
+    ];
+    for (const [place, address] of places) {
+        assert.equal(placeOf(place, { search: "?lang=de&door=work&lesson=other&step=3" }), address);
+        const { search, hash } = new URL(address, "file:///laboratory.html");
+        const asked = askedIn({ search, hash });
+        for (const [name, value] of Object.entries(place)) if (name !== "kiosk") assert.equal(asked[name], value, `${name} of ${address}`);
+    }
+    assert.deepEqual([askedIn({ search: "?kiosk=games/matches", hash: "" }).example, inLanguage("en", { search: "?lang=de&task=sum", hash: "" })], ["games/matches", "?lang=en&task=sum"]);
+    assert.deepEqual(["0", "-1", "x", "9999"].map((step) => askedIn({ search: `?lesson=rewriting&step=${step}`, hash: "" }).step), [null, null, null, null]);
+});
+
+test("a run that prints has as many orders as still print what it may", () => {
+    assert.deepEqual([ordersUntilAsked(1000, 0), ordersUntilAsked(20_000, 10_000), ordersUntilAsked(30_000, 20_000)], [Infinity, 20_000, 1]);
 });

@@ -234,7 +234,7 @@ live("a script has what the reader did: no look, no row of the drum, no ring of 
     await laboratory.say("words 0050 1");
     assert.notEqual(laboratory.profile, null);
     const script = await laboratory.transcript();
-    assert.equal(script, "put 0000 00010032\nput 0001 000q0032\nput 0002 00000000\nbreak 0100\npress start\nrun 1\nrun 1\nrun 1\nwords 0050 1\n");
+    assert.equal(script, "put 0000 000100j8\nput 0001 000q00j8\nput 0002 00000000\nbreak 0100\npress start\nrun 1\nrun 1\nrun 1\nwords 0050 1\n");
     assert.ok((await link.ask("transcript")).length > script.length);
     assert.deepEqual(laboratory.lines.slice(4), ["press start", "trace-data 1", "trace 1", "profile 1", "words 0050 1"]);
     const { clock } = laboratory.panel;

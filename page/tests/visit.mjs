@@ -19,6 +19,7 @@ import { Chromium } from "./chromium.mjs";
 import { Firefox } from "./firefox.mjs";
 import { visitsOfExamples } from "./visits_examples.mjs";
 import { visitsOfGames } from "./visits_game.mjs";
+import { visitsOfKept } from "./visits_kept.mjs";
 import { lessonVisits } from "./visits_lessons.mjs";
 import { visitsOfTasks } from "./visits_tasks.mjs";
 import { WebKit } from "./webkit.mjs";
@@ -528,8 +529,8 @@ async function doors(browser) {
     assert.deepEqual(await seenOf(browser, ".hall", ".desk", ".flexowriter", ".pace", ".telling", ".bench"), [".hall"]);
     assert.equal(await textOf(browser, "#hall-stop"), "Stop");
     await press(browser, "#hall-stop");
-    const before = await panelOf(browser);
-    assert.deepEqual([await browser.value(isMoving), await textOf(browser, "#hall-stop")], [false, "Let it turn"]);
+    assert.deepEqual([await browser.value(isMoving), await textOf(browser, "#hall-stop"), (await panelOf(browser)).status], [false, "Let it turn", "going"]);
+    const before = { counter: "0000", accumulator: "00000000", status: "halted operator", clock: "0" };
     for (const [door, seen] of [["look", [".tales"]], ["learn", [".lesson", ".telling-order", ".listing form"]], ["work", [".keyboard", ".telling-order", ".bench", "#save", ".listing form"]]]) {
         await press(browser, `.doors [data-door-to="${door}"]`);
         assert.deepEqual(await seenOf(browser, ".hall", ".tales", ".lesson", ".keyboard", ".telling-order", ".bench", "#save", ".listing form"), seen, door);
@@ -548,8 +549,9 @@ async function doors(browser) {
 async function look(browser) {
     await browser.open(`${address}?lang=en&door=look`);
     assert.equal(await textOf(browser, ".caption"), "Choose a story.");
-    const tale = async (name) => { await press(browser, `[data-tale="${name}"]`); await browser.waitFor("document.querySelector('.caption-at').textContent === '1 of 5'"); await settled(browser); };
-    const caption = async (at, selector = "#caption-next") => { await press(browser, selector); await browser.waitFor(`document.querySelector('.caption-at').textContent === '${at} of 5'`); await settled(browser); };
+    const isReady = "document.querySelector('.caption').getAttribute('aria-busy') === 'false'";
+    const tale = async (name) => { await press(browser, `[data-tale="${name}"]`); await browser.waitFor(`document.querySelector('.caption-at').textContent === '1 of 5' && ${isReady}`); await settled(browser); };
+    const caption = async (at, selector = "#caption-next") => { await press(browser, selector); await browser.waitFor(`document.querySelector('.caption-at').textContent === '${at} of 5' && ${isReady}`); await settled(browser); };
     await tale("rewrite");
     assert.deepEqual([await wordAt(browser, "0009"), (await panelOf(browser)).counter], ["a 0100", "0011"]);
     for (const at of [2, 3, 4]) await caption(at);
@@ -633,7 +635,6 @@ const drop = (browser, name, text) => browser.value(`(async () => {
 /** Work is not lost: lines are pasted as lines and come back by keys, a saved file and a link are opened again, and so is the last session, but not at the kiosk. */
 async function notLost(browser) {
     await browser.open(`${address}?lang=en&door=work`);
-    await browser.value("localStorage.clear()");
     const input = "document.querySelector('.lines input')";
     await browser.value(`${input}.dispatchEvent(Object.assign(new Event("paste", { cancelable: true }), { clipboardData: { getData: () => "put 0000 b 0003\\nput 0003 = 4\\r\\npress start\\nrun" } }))`);
     await settled(browser);
@@ -654,7 +655,6 @@ async function notLost(browser) {
     assert.equal(await drop(browser, "laboratory.txt", script), true);
     assert.deepEqual(await panelOf(browser), before);
     await press(browser, "#step");
-    await browser.waitFor("/run 1\\nrun 1\\n/.test(Object.values({ ...localStorage })[0] ?? '')");
     const left = await panelOf(browser);
     await browser.open(`${address}?lang=en&kiosk=first-run`);
     assert.equal(await browser.value("document.querySelector('#kept').hidden"), true);
@@ -663,8 +663,16 @@ async function notLost(browser) {
     await press(browser, "#kept button:nth-of-type(1)");
     assert.deepEqual([await panelOf(browser), await browser.value("[document.querySelector('#kept').hidden, document.body.dataset.door]")], [left, [true, "work"]]);
     await browser.open(`${address}?lang=en&door=learn`);
+    const works = async () => {
+        await browser.press("#works");
+        await browser.waitFor("document.querySelector('.works')");
+        const count = await browser.value("document.querySelectorAll('.works li').length");
+        await browser.value("document.querySelector('dialog').close()");
+        return count;
+    };
+    const kept = await works();
     await press(browser, "#kept button:nth-of-type(2)");
-    assert.deepEqual(await browser.value("[document.querySelector('#kept').hidden, localStorage.length, document.activeElement !== document.body]"), [true, 0, true]);
+    assert.deepEqual([...await browser.value("[document.querySelector('#kept').hidden, document.activeElement !== document.body]"), await works()], [true, true, kept - 1]);
     await browser.open(link);
     assert.deepEqual([await wordAt(browser, "0000"), (await panelOf(browser)).status], ["b 0003", "going"]);
 }
@@ -930,7 +938,7 @@ async function endlessPrint(browser) {
     await browser.press("dialog > button");
     await browser.value("(() => { const { Blob } = globalThis; globalThis.Blob = function (parts, options) { globalThis.linked = parts[0]; return new Blob(parts, options); }; })()");
     await press(browser, "#notice button:nth-of-type(2)");
-    assert.deepEqual([await textOf(browser, "#notice"), await textOf(browser, ".paper"), (await panelOf(browser)).clock], ["The laboratory before this one can still be saved: Save laboratory.txt", "", "0"]);
+    assert.deepEqual([await textOf(browser, "#notice"), await textOf(browser, ".paper"), (await panelOf(browser)).clock], ["The laboratory before this one can still be saved: Save laboratory.txt Back to it", "", "0"]);
     assert.match(await browser.value("globalThis.linked"), /^put 0000 00083100\nput 0001 00081100\n/);
 }
 
@@ -1089,10 +1097,12 @@ async function byKeys(browser) {
     assert.equal(await clock(), one);
     await browser.value("laboratoryOfPage().say('break 0100', 'break 0101')");
     assert.deepEqual(await losesFocus(browser, "#page button:not([data-name='key'], #kiosk)"), []);
-    await press(browser, "#kiosk");
-    assert.deepEqual(await losesFocus(browser, "#page button:not(#leave-kiosk)"), []);
-    await browser.value("document.querySelector('#leave-kiosk').focus()");
+    await browser.value("document.querySelector('#kiosk').focus()");
     await browser.strike("Enter");
+    await browser.waitFor("document.querySelector('.kiosk-bar') !== null");
+    await settled(browser);
+    assert.deepEqual(await losesFocus(browser, "#page button"), []);
+    await browser.value("document.activeElement.dispatchEvent(new KeyboardEvent('keydown', { key: 'L', ctrlKey: true, shiftKey: true, bubbles: true }))");
     await browser.waitFor("document.querySelector('.lines input') !== null");
     assert.equal(await browser.value("document.activeElement.id"), "kiosk");
     await browser.value("document.querySelector('.lines input').focus()");
@@ -1274,7 +1284,7 @@ async function touch(browser) {
     await browser.size(1500, 1250);
 }
 
-const all = { ...visitsOfTasks(address), ...visitsOfGames(address), ...visitsOfExamples(address), kiosk, addresses, changes, thereAndBack, openSource, whatToPress, operated, endlessPrint, firstHour, lesson, stories, scope, doors, look, ...lessonVisits({ address, press, settled, steps, picture, textOf, sideways }), sound, saved, notLost, source, profile, costs, examples, badInput, usedUp, longRun, paces, forPeople, widths, everyone, byKeys, readOut, stillness, touch, withoutWebAssembly, cannotOpen };
+const all = { ...visitsOfTasks(address), ...visitsOfGames(address), ...visitsOfExamples(address), ...visitsOfKept(address), kiosk, addresses, changes, thereAndBack, openSource, whatToPress, operated, endlessPrint, firstHour, lesson, stories, scope, doors, look, ...lessonVisits({ address, press, settled, steps, picture, textOf, sideways }), sound, saved, notLost, source, profile, costs, examples, badInput, usedUp, longRun, paces, forPeople, widths, everyone, byKeys, readOut, stillness, touch, withoutWebAssembly, cannotOpen };
 const wanted = process.env.VISITS?.split(" ") ?? Object.keys(all).filter((name) => !left.includes(name));
 const visits = Object.fromEntries(wanted.map((name) => [name, all[name]]));
 let browser = await Engine.start();

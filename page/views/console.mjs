@@ -3,7 +3,7 @@ import { SWITCHES } from "../module/replies.mjs";
 import { button, guarded, h, part, showLive } from "./dom.mjs";
 
 /** The buttons, in the order of the console. */
-const BUTTONS = ["normal", "oneop", "manual", "start", "clear", "fill", "execute", "read", "compute"];
+const BUTTONS = ["manual", "oneop", "normal", "start", "clear", "fill", "execute", "compute", "read"];
 
 /** What the monitor calls the keys that have a sign, and the key of the conditional stop. */
 const KEYS = { sign: "keys", stop: "stop" };

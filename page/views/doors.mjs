@@ -1,5 +1,6 @@
 // The doors of the laboratory: the hall, from which three lead on, and what of the page is seen behind each. A part that is seen behind some alone names them
 // in `data-doors`.
+import { addressOf } from "../opening.mjs";
 import { button, h, tell } from "./dom.mjs";
 
 /** The doors that lead on from the hall. */
@@ -21,18 +22,13 @@ export function showDoor(door) {
     }
 }
 
-/** The address of a door, with all else that the address asks for but an example or a lesson. */
-export function addressOfDoor(door) {
-    const query = new URLSearchParams(location.search);
-    for (const name of ["kiosk", "idle", "lesson"]) query.delete(name);
-    query.set("door", door);
-    return `?${query}`;
-}
-
-const link = (door, goTo, ...children) => h("a", { href: addressOfDoor(door), "data-door-to": door, onclick: (event) => { event.preventDefault(); goTo(door); } }, ...children);
+const link = (door, goTo, ...children) => h("a", { href: addressOf({ door }, location), "data-door-to": door, onclick: (event) => { event.preventDefault(); goTo(door); } }, ...children);
 
 /** The links in the header. */
 export const makeDoors = ({ text }, goTo) => h("nav", { class: "doors", "aria-label": text("doors") }, ...DOORS.map((door) => link(door, goTo, text(door))));
+
+/** The first link of the page, which goes to the story. */
+export const makeSkip = ({ text }) => h("a", { class: "skip unseen", href: "#story", onclick: (event) => { event.preventDefault(); document.getElementById("story")?.focus(); } }, text("skip"));
 
 /** The hall: what is seen here, three doors, and a button that stops the drum. */
 export function makeHall({ text }, goTo, drive) {

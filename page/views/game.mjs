@@ -46,22 +46,10 @@ export function makeHeap(laboratory, { text }) {
     return { node, show };
 }
 
-/** The large buttons. Where it is not the visitor's turn, one lets the machine hurry up to there; `open` begins the program anew, as after a game. */
-export function makeMoves(game, laboratory, { text, table }, drive, open) {
-    const hurry = async () => {
-        if (laboratory.way.kind === "start" && laboratory.deeds.behind > 0) await open();
-        if (laboratory.way.kind === "start") await laboratory.command("press start");
-        await drive.go("fast");
-    };
-    const move = async (line) => {
-        if (laboratory.way.kind !== "keys") return hurry();
-        drive.halt();
-        await laboratory.command(line);
-        // a second press that came meanwhile was of dead keys, and has not to end the pace that the first one set
-        return drive.pace === null && laboratory.way.kind === "go" ? drive.go("own") : undefined;
-    };
+/** The large buttons: three take matches, and one begins anew. */
+export function makeMoves(game, { text, table }, exhibit) {
     // the second press of a double one is not meant for what the first one has led to
-    const moves = game.moves.map((line, place) => button(table.gameTake[place], ({ detail }) => (detail > 1 ? undefined : move(line)), { id: `kiosk-take-${place + 1}` }));
-    const again = button(text("kioskAgain"), async () => { await open(); await hurry(); }, { id: "kiosk-again" });
+    const moves = game.moves.map((unused, place) => button(table.gameTake[place], ({ detail }) => (detail > 1 ? undefined : exhibit.press(place + 1)), { id: `kiosk-take-${place + 1}` }));
+    const again = button(text("kioskAgain"), () => exhibit.press(4), { id: "kiosk-again" });
     return { node: h("div", { class: "kiosk-bar moves" }, ...moves, again), show: () => {} };
 }

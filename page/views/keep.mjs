@@ -1,5 +1,5 @@
-// Opening a file, by a button or dropped on the page, and the offer of the last session that the browser has kept.
-import { unopened } from "../kept.mjs";
+// Opening a file, by a button or dropped on the page.
+import { unopened } from "../files.mjs";
 import { button, h } from "./dom.mjs";
 
 /** Opens a file of the reader's as a script. One that is none is told, and nothing is changed. */
@@ -24,17 +24,4 @@ export function hearDrops(isWanted, opened) {
         const [file] = event.dataTransfer.files;
         if (file !== undefined && isWanted()) opened(file);
     });
-}
-
-/** The offer of the last session. It is there until it is opened or put away, and never at the kiosk. */
-export function makeOffer(kept, { text }, isWanted, opened) {
-    const place = document.getElementById("kept");
-    const end = (deed) => () => {
-        place.hidden = true;
-        document.querySelector("#open, .doors a")?.focus();
-        deed();
-    };
-    const script = kept.offered;
-    place.replaceChildren(text("keptSession"), " ", button(text("openAgain"), end(() => { kept.offered = null; opened(script); })), " ", button(text("forget"), end(() => { kept.offered = null; kept.forget(); })));
-    place.hidden = script === null || !isWanted;
 }

@@ -1,4 +1,5 @@
 // A lesson as steps: one that is done is ticked off, by what the machine shows or by an answer that is compared with it.
+import { bringTo } from "../done.mjs";
 import { LESSONS } from "../steps.mjs";
 import { button, h, part, tell } from "./dom.mjs";
 import { makeLineBox } from "./writing.mjs";
@@ -20,10 +21,11 @@ const marked = (text) => text.split("`").map((piece, place) => (place % 2 === 0 
 const tellMarked = (node, text) => node.replaceChildren(...marked(text));
 
 /** The box for an answer. A wrong one is met by a hint, and the next wrong one by what is right as well. */
-function makeAnswer(laboratory, step, place, { text }, hint, done) {
-    const input = h("input", { size: 8, "aria-label": text("answer", { number: place + 1 }), autocapitalize: "off", autocomplete: "off" });
+function makeAnswer(laboratory, step, place, { text }, hint, done, drafts) {
+    const input = drafts.held(h("input", { size: 8, "aria-label": text("answer", { number: place + 1 }), autocapitalize: "off", autocomplete: "off" }), `answer/${step.lesson}/${place}`);
     let wrong = 0;
     const check = () => {
+        if (plain(input.value) === "") return tell(hint, text("lessonNoAnswer"));
         if (!step.isAsked(laboratory)) return tell(hint, text("lessonNotThere"));
         const answer = step.answer(laboratory);
         const isRight = plain(input.value) === answer;
@@ -35,12 +37,12 @@ function makeAnswer(laboratory, step, place, { text }, hint, done) {
 }
 
 /** What is done with in a step: a box for lines with the last reply, where lines are typed; and a box for an answer, or a button for the hint. */
-function makeControls(laboratory, step, place, texts, hint, done) {
+function makeControls(laboratory, step, place, texts, hint, done, drafts) {
     const { text } = texts;
-    const box = step.types ? makeLineBox(laboratory, texts, text("lineOfStep", { number: place + 1 })) : null;
+    const box = step.types ? makeLineBox(laboratory, texts, drafts, text("lineOfStep", { number: place + 1 }), `line/${step.lesson}/${place}`) : null;
     const reply = step.types ? h("pre", { class: "reply", role: "status" }) : null;
     box?.node.classList.add("types");
-    const control = step.answer === undefined ? button(text("hint"), () => tellMarked(hint, step.hint), { class: "for-hint" }) : makeAnswer(laboratory, step, place, texts, hint, done);
+    const control = step.answer === undefined ? button(text("hint"), () => tellMarked(hint, step.hint), { class: "for-hint" }) : makeAnswer(laboratory, step, place, texts, hint, done, drafts);
     const show = () => {
         const last = laboratory.talk.findLast(({ line }) => !step.lines.includes(line));
         box?.show();
@@ -53,11 +55,11 @@ function makeControls(laboratory, step, place, texts, hint, done) {
 const isAstray = ({ panel, notice }) => panel.status === "halted stop" || notice?.code !== undefined;
 
 /** The step in its row: its number or a tick, what is to be done, the lines that are done for it, and its controls. */
-function makeStep(laboratory, step, place, texts, done) {
+function makeStep(laboratory, step, place, texts, done, drafts) {
     const { text } = texts;
     const [mark, hint] = [h("span", { class: "mark", "aria-hidden": "true" }), h("span", { class: "hint", role: "status" })];
     const lines = step.lines.length === 0 ? null : h("div", { class: "lines-of-step" }, text("lessonLines"), h("pre", { tabindex: "0", role: "group", "aria-label": text("lessonLines") }, step.lines.join("\n")));
-    const controls = makeControls(laboratory, step, place, texts, hint, done);
+    const controls = makeControls(laboratory, step, place, texts, hint, done, drafts);
     const state = h("span", { class: "unseen" });
     const node = h("li", { tabindex: "-1" }, mark, h("div", {}, state, h("span", { class: "what" }, ...marked(step.text)), lines, controls.node, hint));
     const show = (isDone, isNow) => {
@@ -86,8 +88,8 @@ function rowsOf(steps, { text }, begin) {
 /** Where a pupil is: the lesson, or null, the place of its step, and the places of those that are done. It outlasts a change of the language. */
 export const noLesson = () => ({ lesson: null, at: 0, isDone: new Set() });
 
-/** The steps of the pupil's lesson, in a box that is scrolled to the one that is to be done. */
-function makeSteps(laboratory, texts, open, pupil) {
+/** The steps of the pupil's lesson, in a box that is scrolled to the one that is to be done. `told` is called when one is reached. */
+function makeSteps(laboratory, texts, open, pupil, drafts, told) {
     let [steps, round, isReady] = [[], 0, true];
     const [list, ended] = [h("div", { class: "steps" }), h("p", { role: "status", class: "lesson-end", tabindex: "-1" })];
     const growth = new ResizeObserver(() => {
@@ -96,7 +98,7 @@ function makeSteps(laboratory, texts, open, pupil) {
     });
     const layOut = (written) => {
         round += 1;
-        steps = (pupil.lesson?.steps ?? []).map((step, place) => makeStep(laboratory, { ...step, ...written[place] }, place, texts, () => next()));
+        steps = (pupil.lesson?.steps ?? []).map((step, place) => makeStep(laboratory, { ...step, ...written[place], lesson: pupil.lesson.name }, place, texts, () => next(), drafts));
         growth.disconnect();
         for (const { node } of steps) growth.observe(node);
         list.replaceChildren(...rowsOf(steps, texts, again), ended);
@@ -106,12 +108,16 @@ function makeSteps(laboratory, texts, open, pupil) {
         return reach(first);
     };
     const next = () => { pupil.isDone.add(pupil.at); reach(pupil.at + 1); };
-    const reach = async (place) => {
+    const setUp = (step) => (step?.isSetUp ? open(step) : undefined);
+    const bring = (unused, place) => bringTo(laboratory, pupil.lesson.name, steps, place, open);
+    const reach = async (place, prepare = setUp) => {
         const [hadFocus, step] = [list.contains(document.activeElement), steps[place]];
         [pupil.at, round, isReady] = [place, round + 1, false];
         const mine = round;
+        told();
         laboratory.lookedAt = step?.looks ?? [];
-        if (step?.isSetUp) await open(step);
+        await prepare(step, place);
+        if (mine !== round) return;
         if (step?.shows !== undefined) await laboratory.showAt(step.shows);
         if (mine !== round) return;
         isReady = true;
@@ -125,27 +131,41 @@ function makeSteps(laboratory, texts, open, pupil) {
         steps.forEach((step, place) => step.show(pupil.isDone.has(place), isReady && place === pupil.at));
         tell(ended, pupil.at === steps.length ? texts.table.lessons[pupil.lesson.name].end : "");
     };
-    return { node: list, layOut, reach, show };
+    /** Goes on where the pupil is, with the machine as it is. */
+    const goOn = () => reach(pupil.at, () => {});
+    return { node: list, layOut, reach, bring: (place) => reach(place, bring), goOn, show };
 }
 
-/** The part of the page with the choice of a lesson or a task, one of which is open at most, and the lesson where the pupil is. `open` sets the machine up for a step. */
-export function makeLesson(laboratory, texts, open, pupil, tasks) {
+/** The part of the page with the choice of a lesson or a task, one of which is open at most, and the lesson where the pupil is. `open` sets the machine up for a step, `told` is called when
+ * another place is reached, and `sheets` makes links to the sheets of a lesson. */
+export function makeLesson(laboratory, texts, { open, pupil, tasks, drafts, told, sheets, isSeen }) {
     const { text, table } = texts;
-    const about = h("p", { class: "about" });
-    const steps = makeSteps(laboratory, texts, open, pupil);
+    const [about, links] = [h("p", { class: "about" }), h("p", { class: "sheets" })];
+    const steps = makeSteps(laboratory, texts, open, pupil, drafts, told);
     const lessons = LESSONS.map((it) => button(table.lessons[it.name].title, () => begin(it, null), { "data-lesson": it.name }));
     const others = tasks.titles.map(([name, title]) => button(title, () => begin(null, name), { "data-task": name }));
     const chosen = h("summary", {});
     const row = (name, controls) => h("div", { class: "line", role: "group", "aria-label": name }, h("span", { "aria-hidden": "true" }, name), ...controls);
     const choice = h("details", { class: "choice-of-lesson" }, chosen, row(text("lessonsName"), lessons), row(text("tasksName"), others));
     const begin = (lesson, task) => {
+        place(lesson, task);
+        if (lesson !== null) return steps.reach(0);
+        told();
+        return show();
+    };
+    const place = (lesson, task) => {
         tasks.open(task);
         Object.assign(pupil, noLesson(), { lesson });
         layOut();
         if (choice.contains(document.activeElement)) chosen.focus();
-        if (lesson !== null) return steps.reach(0);
         laboratory.lookedAt = [];
-        return show();
+    };
+    /** Opens what an address names: a lesson at a step, or at its first one, with the machine set up for it; or a task. */
+    const openAt = ({ lesson, step, task }) => {
+        const named = LESSONS.find((it) => it.name === lesson) ?? null;
+        const at = Math.min((step ?? 1) - 1, named === null ? 0 : named.steps.length - 1);
+        if (named === null || named !== pupil.lesson) place(named, task);
+        return named === null ? show() : steps.bring(at);
     };
     const layOut = () => {
         const written = table.lessons[pupil.lesson?.name] ?? null;
@@ -153,14 +173,15 @@ export function makeLesson(laboratory, texts, open, pupil, tasks) {
         choice.open = title === undefined;
         tell(chosen, title ?? text("chooseLesson"));
         tell(about, written?.about ?? "");
-        for (const node of [about, steps.node]) node.hidden = written === null;
+        links.replaceChildren(...(written === null ? [] : sheets(pupil.lesson.name)));
+        for (const node of [about, links, steps.node]) node.hidden = written === null;
         steps.layOut(written?.steps ?? []);
     };
     const show = () => {
         for (const control of lessons) control.setAttribute("aria-pressed", String(control.dataset.lesson === pupil.lesson?.name));
         for (const control of others) control.setAttribute("aria-pressed", String(control.dataset.task === tasks.opened()));
-        if (pupil.lesson !== null) steps.show();
+        if (pupil.lesson !== null && isSeen()) steps.show();
     };
     layOut();
-    return { node: part("lesson", text("learn"), choice, about, steps.node), show };
+    return { node: part("lesson", text("learn"), choice, about, links, steps.node), show, openAt, goOn: () => (pupil.lesson === null ? show() : steps.goOn()) };
 }

@@ -67,7 +67,7 @@ function arrow({ start, end, height }) {
 }
 
 /** The part of the page that shows words of the drum. */
-export function makeListing(laboratory, texts, { held, isFast, hasCosts }) {
+export function makeListing(laboratory, texts, { held, isFast, hasCosts }, drafts) {
     const { text } = texts;
     const rewritten = h("p", { class: "rewritten", role: "status" });
     const body = h("tbody");
@@ -83,15 +83,16 @@ export function makeListing(laboratory, texts, { held, isFast, hasCosts }) {
         const lines = await laboratory.why(address);
         if (lines === undefined) return;
         askedOf = laboratory.words;
-        answer.textContent = lines === null ? `${address}: ${toldOf(laboratory.writerOf(address), text) || text("noWhy")}` : lines.join("\n");
+        answer.textContent = lines.join("\n");
         scroll();
     };
-    const place = h("input", { size: 4, maxlength: 4, pattern: "[0-9]{4}", inputmode: "numeric", "aria-label": text("goTo"), value: "0000" });
-    const form = h("form", { class: "line", onsubmit: (event) => event.preventDefault() }, h("label", {}, `${text("address")} `, place), " ",
-        button(text("show"), () => {
-            shownAt = { address: place.value.padStart(4, "0"), counter: laboratory.panel.counter };
-            laboratory.showAt(shownAt.address);
-        }), " ", button(text("startHere"), () => laboratory.command(`go ${place.value}`)), " ",
+    const place = drafts.held(h("input", { size: 4, maxlength: 4, pattern: "[0-9]{4}", inputmode: "numeric", "aria-label": text("goTo"), value: "0000" }), "address");
+    const showIt = () => {
+        shownAt = { address: place.value.padStart(4, "0"), counter: laboratory.panel.counter };
+        laboratory.showAt(shownAt.address);
+    };
+    const form = h("form", { class: "line", onsubmit: (event) => { event.preventDefault(); showIt(); } }, h("label", {}, `${text("address")} `, place), " ",
+        button(text("show"), showIt), " ", button(text("startHere"), () => laboratory.command(`go ${place.value}`)), " ",
         button(text("breakAt"), () => laboratory.command(`break ${place.value}`)), " ", button(text("watchAt"), () => laboratory.command(`watch ${place.value}`)));
     const rules = h("ul", { class: "rules", "aria-label": text("rules") });
     const rowOf = kept((shown) => row(shown, texts, ask));

@@ -17,7 +17,7 @@ function noticeText(notice, laboratory, texts, isKiosk) {
     const { kind, number, detail, line, reason, count, most } = notice;
     const { text, table, code } = texts;
     const way = () => wayText(laboratory, texts, isKiosk);
-    const plain = ["before", "stopped", "noMemory", "sourceIsOpen", "sourceTooLong", "notLoaded", "scriptDone", "noneBehind", "noneAhead"];
+    const plain = ["before", "stopped", "noMemory", "sourceIsOpen", "sourceTooLong", "notLoaded", "scriptDone", "noneBehind", "noneAhead", "beforeKept", "notKept"];
     if (plain.includes(kind)) return text(kind);
     if (kind === "usedUp") return text(isKiosk ? "kioskUsedUp" : "usedUp");
     if (kind === "atRest") return `${text("atRest")} ${way()}`;
@@ -29,6 +29,8 @@ function noticeText(notice, laboratory, texts, isKiosk) {
     if (["fileTooLong", "fileNoText", "fileNoScript"].includes(kind)) return text(kind, { detail });
     if (kind === "noExample") return text("wrongAddress", { name: detail });
     if (kind === "noLesson") return text("wrongLesson", { name: detail, lessons: LESSONS.map(({ name }) => name).join(", ") });
+    if (kind === "noTask") return text("wrongTask", { name: detail, tasks: notice.tasks.join(", ") });
+    if (kind === "noStory") return text("wrongStory", { name: detail });
     if (kind === "noKioskExample") return text("wrongKiosk", { name: detail, shown: notice.shown });
     return `${line}\n${text("refused", { kind, text: `${table.refusals[kind] ?? ""} ${reason ?? ""}` })}`;
 }
@@ -39,13 +41,15 @@ const passing = (label, deed, goesTo) => button(label, () => {
     deed();
 });
 
-/** What can be done about a notice. `deeds` has `run`, `save` and `anew`. */
-function buttonsOf({ kind, number, lines }, laboratory, { text }, isKiosk, deeds) {
+/** What can be done about a notice. `deeds` has `run`, `save`, `anew`, and `goBack`, which goes back to a work. */
+function buttonsOf({ kind, number, lines, work }, laboratory, { text }, isKiosk, deeds) {
     const run = () => document.getElementById(isKiosk ? "kiosk-run" : "run");
     const goOn = passing(text("goOn"), deeds.run, run);
     if (kind === "printedMuch") return [goOn];
     if (kind === "rule") return [goOn, passing(text("takeOut", { number }), () => laboratory.command(`drop ${number}`), run)];
-    if (["broken", "before"].includes(kind)) return [deeds.linkTo(lines)];
+    const back = work === undefined ? [] : [passing(text("goBack"), () => deeds.goBack(work), run)];
+    if (["broken", "before"].includes(kind)) return [deeds.linkTo(lines), ...back];
+    if (kind === "beforeKept") return back;
     if (kind !== "usedUp") return [];
     if (isKiosk) return [passing(text("kioskAgain"), deeds.anew, run)];
     return [button(text("save"), deeds.save), passing(text("new"), deeds.anew, run)];
@@ -92,7 +96,19 @@ function makeLost(laboratory, { text }, linkTo) {
     };
 }
 
-/** What is above the page. `deeds` has `run`, `save`, `anew` and `linkTo`, which makes a link under which lines are saved. */
+/** Where what the reader should know stands: in a place that is kept for it, or, where that is null, above the page. */
+export function placeNotices(slot) {
+    const node = document.getElementById("notices");
+    const where = slot ?? document.body;
+    if (node.parentElement === where) return;
+    const { activeElement } = document;
+    const isWithin = node.contains(activeElement);
+    if (slot === null) where.prepend(node);
+    else where.append(node);
+    if (isWithin) activeElement.focus();
+}
+
+/** What is above the page. `deeds` has `run`, `save`, `anew`, `goBack` and `linkTo`, which makes a link under which lines are saved. */
 export function makeNotices(laboratory, texts, isKiosk, deeds) {
     const parts = [makeNotice(laboratory, texts, isKiosk, deeds), makeOpenSource(laboratory, texts), makeLost(laboratory, texts, deeds.linkTo)];
     return { show: () => parts.forEach((part) => part()) };

@@ -5,7 +5,7 @@ import { wayText } from "./notice.mjs";
 /** The paces by the names of their buttons. */
 const BUTTONS = [["walk", "order"], ["slow", "slow"], ["own", "own"], ["run", "fast"]];
 
-/** The row of buttons, and below it the switch of the runs. The button in whose pace the machine goes on is pressed. */
+/** The row of buttons, below it the place for what the reader should know, and the switch of the runs. The button in whose pace the machine goes on is pressed. */
 export function makePace(laboratory, texts, drive, runs) {
     const { text, table } = texts;
     const wayNow = () => (drive.pace === null ? wayText(laboratory, texts, false) : table.wayOn[drive.pace]);
@@ -18,5 +18,5 @@ export function makePace(laboratory, texts, drive, runs) {
         for (const [place, [, pace]] of BUTTONS.entries()) paces[place].setAttribute("aria-pressed", String(drive.pace === pace));
         tell(way, laboratory.openSource === null ? wayNow() : "");
     };
-    return { node: h("div", { class: "drives" }, h("div", { class: "line", role: "toolbar", "aria-label": text("drives") }, step, ...paces, halt), way, runs), show };
+    return { node: h("div", { class: "drives" }, h("div", { class: "line", role: "toolbar", "aria-label": text("drives") }, step, ...paces, halt), h("div", { class: "tells" }, way), runs), show };
 }

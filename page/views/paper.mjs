@@ -24,7 +24,7 @@ function strip(codes, passed, label) {
     const shown = codes.slice(first, first + ROWS_SHOWN);
     const width = PITCH * (shown.length + 2);
     const at = PITCH * (passed - first) + PITCH / 2;
-    return s("svg", { class: "strip", viewBox: `0 0 ${width} ${PITCH * 8}`, width, height: PITCH * 8, role: "img", "aria-label": label },
+    return s("svg", { class: "tape-strip", viewBox: `0 0 ${width} ${PITCH * 8}`, width, height: PITCH * 8, role: "img", "aria-label": label },
         s("rect", { class: "tape-paper", width, height: PITCH * 8 }),
         ...shown.map((code, place) => holes(code, place, first + place < passed)),
         s("line", { class: "reader", x1: at, x2: at, y1: 0, y2: PITCH * 8 }));
@@ -40,10 +40,10 @@ function readable(tape) {
 }
 
 /** The part of the page with the tape. */
-export function makeTape(laboratory, { text, code }) {
+export function makeTape(laboratory, { text, code }, drafts) {
     const place = h("div", { class: "scroll" });
     const told = h("p");
-    const input = h("input", { class: "wide", "aria-label": text("tapeText"), value: "1'2'3'" });
+    const input = drafts.held(h("input", { class: "wide", "aria-label": text("tapeText"), value: "1'2'3'" }), "tape");
     const mount = button(text("mount"), () => laboratory.command(`mount ${input.value}`));
     const show = () => {
         const { panel, deeds } = laboratory;
@@ -71,7 +71,7 @@ export function makePaper(laboratory, { text, code }, { held }) {
         const isAtEnd = paper.scrollTop + paper.clientHeight >= paper.scrollHeight - 4;
         tellMore(paper, printed.text.slice(-40_000));
         if (isAtEnd) paper.scrollTop = paper.scrollHeight;
-        told.textContent = count === 0 ? text("nothingPrinted") : text("printedCount", { count: counted(count, code) });
+        told.textContent = count === 0 ? text("nothingPrinted") : text(count === 1 ? "printedOne" : "printedCount", { count: counted(count, code) });
     };
     return { node: part("typewriter", text("paper"), h("div", { class: "sheet" }, paper), h("div", { class: "platen", "aria-hidden": "true" }), told), show };
 }

@@ -9,41 +9,70 @@ export const TALES = [
     { name: "who", example: "self-modifying", before: 11, plays: [0, 1, 0, 0, 0], asks: [3, "0009"] },
 ];
 
-/** The part of the page with the stories. `open` opens an example and sets it going. */
-export function makeTales(laboratory, { text, table }, drive, open) {
-    let [tale, at, first] = [null, 0, 0];
-    const caption = h("p", { class: "caption", "aria-live": "polite" });
-    const [place, back, next] = [h("span", { class: "caption-at" }), button(text("captionBack"), () => goTo(at - 1)), button(text("captionNext"), () => (at + 1 < tale.plays.length ? goTo(at + 1) : begin(TALES[(TALES.indexOf(tale) + 1) % TALES.length])), { id: "caption-next" })];
+/** Where a viewer is: the story, or null, its caption, and after how many orders it begins. It outlasts a change of the language. */
+export const noTale = () => ({ tale: null, at: 0, first: 0 });
+
+/** The part of the page with the stories. `open` opens an example and sets it going, and `told` is called when another caption is reached. One story is played at a time: the last that was asked for. */
+export function makeTales(laboratory, { text, table }, drive, { open, viewer, told }) {
+    let round = 0;
+    const caption = h("p", { class: "caption", "aria-live": "polite", "aria-busy": "false" });
+    const next = () => (viewer.at + 1 < viewer.tale.plays.length ? goTo(viewer.at + 1) : begin(TALES[(TALES.indexOf(viewer.tale) + 1) % TALES.length]));
+    const [place, backOne, nextOne] = [h("span", { class: "caption-at" }), button(text("captionBack"), () => goTo(viewer.at - 1)), button(text("captionNext"), next, { id: "caption-next" })];
     const choices = TALES.map((it) => button(table.tales[it.name].title, () => begin(it), { "data-tale": it.name }));
-    const orders = (count) => tale.plays.slice(0, count).reduce((sum, plays) => sum + plays, first);
-    const begin = async (chosen) => {
+    const orders = (count) => viewer.tale.plays.slice(0, count).reduce((sum, plays) => sum + plays, viewer.first);
+    /** Goes to a place, and waits for what leads there. Whether nothing else was asked for meanwhile. */
+    const turnTo = async (tale, at, deed) => {
+        round += 1;
+        const mine = round;
         drive.halt();
-        await open(chosen.example);
-        if (chosen.before > 0) await laboratory.step(chosen.before, false);
-        [tale, first] = [chosen, laboratory.deeds.behind];
-        await goTo(0);
+        Object.assign(viewer, { tale, at: Math.max(0, at) });
+        caption.setAttribute("aria-busy", "true");
+        told();
+        show();
+        await deed(() => mine === round);
+        if (mine === round) caption.setAttribute("aria-busy", "false");
+        return mine === round;
+    };
+    const begin = async (chosen, at = 0) => {
+        const isHere = await turnTo(chosen, at, async (isWanted) => {
+            await open(chosen.example);
+            if (isWanted() && chosen.before > 0) await laboratory.step(chosen.before, false);
+        });
+        if (!isHere) return;
+        viewer.first = laboratory.deeds.behind;
+        await goTo(at);
     };
     const goTo = async (wanted) => {
-        drive.halt();
-        await laboratory.settled();
-        const missing = orders(wanted) - laboratory.deeds.behind;
-        if (missing > 0) await laboratory.step(missing, false);
-        if (missing < 0) await laboratory.back(-missing);
-        at = Math.max(0, wanted);
-        show();
+        const isHere = await turnTo(viewer.tale, wanted, async (isWanted) => {
+            await laboratory.settled();
+            const missing = isWanted() ? orders(wanted) - laboratory.deeds.behind : 0;
+            if (missing > 0) await laboratory.step(missing, false);
+            if (missing < 0) await laboratory.back(-missing);
+        });
+        if (isHere) play();
+    };
+    const play = () => {
+        const { tale, at } = viewer;
         const isLast = at === tale.plays.length - 1;
         if (tale.plays[at] > 0) drive.go("slow", tale.plays[at]);
         else if (isLast && tale.runs) drive.go("own");
         if (tale.asks?.[0] === at) document.querySelector(`tr[data-address="${tale.asks[1]}"] button`)?.click();
     };
     const show = () => {
+        const { tale, at } = viewer;
         for (const control of choices) control.setAttribute("aria-pressed", String(control.dataset.tale === tale?.name));
         tell(caption, tale === null ? text("chooseTale") : table.tales[tale.name].captions[at]);
-        for (const control of [place, back, next]) control.hidden = tale === null;
+        for (const control of [place, backOne, nextOne]) control.hidden = tale === null;
         if (tale === null) return;
         tell(place, text("captionAt", { at: at + 1, of: tale.plays.length }));
-        back.disabled = at === 0;
-        tell(next, text(at + 1 < tale.plays.length ? "captionNext" : "nextTale"));
+        backOne.disabled = at === 0;
+        tell(nextOne, text(at + 1 < tale.plays.length ? "captionNext" : "nextTale"));
     };
-    return { node: part("tales", text("tales"), h("div", { class: "line" }, ...choices), caption, h("div", { class: "line" }, back, next, place)), show };
+    /** Opens the story and the caption that an address names, each by its number. */
+    const openAt = (story, number) => {
+        const tale = TALES[story - 1];
+        const at = Math.min((number ?? 1), tale.plays.length) - 1;
+        return tale === viewer.tale ? goTo(at) : begin(tale, at);
+    };
+    return { node: part("tales", text("talesName"), h("div", { class: "line" }, ...choices), caption, h("div", { class: "line" }, backOne, nextOne, place)), show, openAt };
 }

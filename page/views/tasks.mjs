@@ -41,7 +41,7 @@ function makeAnswer({ text }) {
 }
 
 /** What is done with a source by buttons. `now` gives the task that is open, its name, the name of its file, and the source. */
-function makeDeeds(laboratory, { text }, now, { sentences, code, openLink, answer, begin }) {
+function makeDeeds({ text }, now, { sentences, code, openLink, answer, setUp, run, begin, takeBack }) {
     const say = speaker(sentences);
     const asked = async (deed) => {
         const { file } = now();
@@ -54,6 +54,7 @@ function makeDeeds(laboratory, { text }, now, { sentences, code, openLink, answe
         const { task, file, source } = now();
         return asked((link) => checked(link, task, source, { file, sentences, code }));
     };
+    /** Sets the machine up. Whether the source is in it. */
     const put = async () => {
         const { name, task, file, source } = now();
         const isBlank = source.trim() === "";
@@ -61,20 +62,23 @@ function makeDeeds(laboratory, { text }, now, { sentences, code, openLink, answe
             const { missing } = await assembled(link, source, say);
             return missing.length === 0 ? null : { isRight: false, verdict: say("wrong", file), missing };
         });
-        await laboratory.openScript(`tasks/${name}`, setUpOf(task, isBlank || faulty !== null ? null : source));
+        await setUp(`tasks/${name}`, setUpOf(task, isBlank || faulty !== null ? null : source));
         if (faulty === null && name === now().name) answer.show({ isRight: null, verdict: text("taskIsPut"), missing: [] });
+        return faulty === null && !isBlank;
     };
+    const runIt = async () => { if (await put()) run(); };
     const save = () => {
         const { file, source } = now();
         const href = URL.createObjectURL(new Blob([source], { type: "text/plain" }));
         h("a", { href, download: file }).click();
     };
-    const buttons = Object.entries({ check, put, save, begin }).map(([name, deed]) => button(text(`${name}Task`), deed, { id: `${name}-task`, title: text(`${name}TaskHint`) }));
-    return h("div", { class: "line" }, ...buttons);
+    const buttons = Object.entries({ check, run: runIt, put, save, begin, takeBack }).map(([name, deed]) => button(text(`${name}Task`), deed, { id: `${name === "takeBack" ? "take-back" : name}-task`, title: text(`${name}TaskHint`) }));
+    return { node: h("div", { class: "line" }, ...buttons), showBack: (isThere) => { buttons.at(-1).hidden = !isThere; } };
 }
 
-/** The part of the page with the task that is open, and the names and titles of all. `sources` has what pupils have written, and `openLink` gives a link to a new laboratory. */
-export function makeTasks(laboratory, texts, { tasks, sentences }, sources, openLink) {
+/** The part of the page with the task that is open, and the names and titles of all. `sources` has what pupils have written, `openLink` gives a link to a new laboratory, `setUp` sets
+ * the machine up by a script, and `run` runs it. */
+export function makeTasks(texts, { tasks, sentences }, { sources, openLink, setUp, run }) {
     const { text } = texts;
     const code = texts.code in sentences ? texts.code : "en";
     const titles = Object.entries(tasks).map(([name, it]) => [name, text("taskTitle", { title: /^# (.*)$/m.exec(it.texts[code])[1], minutes: taskIn(it.task).minutes })]);
@@ -90,10 +94,12 @@ export function makeTasks(laboratory, texts, { tasks, sentences }, sources, open
         read.replaceChildren(...nodesOf(tasks[name].texts[code]));
         read.scrollTop = 0;
         area.value = sources.of(name) ?? tasks[name].given[code];
+        buttons.showBack(sources.before(name) !== null);
     };
-    const begin = () => { sources.keep(sources.open, null); open(sources.open); };
-    const buttons = makeDeeds(laboratory, texts, now, { sentences: { ...sentences.en, ...sentences[code] }, code, openLink, answer, begin });
-    const node = part("tasks", text("tasksName"), h("div", { class: "task" }, read, h("div", { class: "task-desk" }, area, buttons, answer.node)));
+    const begin = () => { sources.begin(sources.open); open(sources.open); };
+    const takeBack = () => { sources.takeBack(sources.open); open(sources.open); area.focus(); };
+    const buttons = makeDeeds(texts, now, { sentences: { ...sentences.en, ...sentences[code] }, code, openLink, answer, setUp, run, begin, takeBack });
+    const node = part("tasks", text("tasksName"), h("div", { class: "task" }, read, h("div", { class: "task-desk" }, area, buttons.node, answer.node)));
     open(sources.open);
-    return { node, titles, open, opened: () => sources.open, show: () => {} };
+    return { node, titles, open, opened: () => sources.open, has: (name) => Object.hasOwn(tasks, name), show: () => {} };
 }

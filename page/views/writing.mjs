@@ -1,5 +1,5 @@
 // What is written: the source with its faults, lines for the monitor with their replies, and the lines of a script.
-import { Earlier, pasted } from "../earlier.mjs";
+import { pasted } from "../earlier.mjs";
 import { linesIn } from "../lines.mjs";
 import { counted } from "../words.mjs";
 import { button, guarded, h, part, showLive } from "./dom.mjs";
@@ -8,26 +8,45 @@ const NUMBERED = 5000;
 const LOGGED = 80;
 const REPLY_SHOWN = 20_000;
 
-/** The numbers beside a source's lines, those with a fault marked; of a very long source the first ones. */
+const numbers = (from, to) => Array.from({ length: Math.max(0, to - from) }, (unused, place) => `${from + place}\n`).join("");
+
+/** The numbers beside a source's lines, in as few nodes as can be, those with a fault marked; of a very long source the first ones. */
 function gutterOf(count, faults, { table }) {
-    const kinds = new Map(faults.map(({ line, kind }) => [line, kind]));
-    return Array.from({ length: Math.min(NUMBERED, Math.max(count, faults.at(-1)?.line ?? 1)) }, (unused, place) => {
-        const kind = kinds.get(place + 1);
-        return h("div", { class: kind === undefined ? "" : "fault", title: kind === undefined ? null : table.faultKinds[kind] ?? kind }, String(place + 1));
-    });
+    const kinds = new Map(faults.filter(({ line }) => line <= NUMBERED).map(({ line, kind }) => [line, kind]));
+    const nodes = [];
+    let next = 1;
+    for (const [line, kind] of kinds) {
+        nodes.push(numbers(next, line), h("span", { class: "fault", title: table.faultKinds[kind] ?? kind }, String(line)), "\n");
+        next = line + 1;
+    }
+    return [...nodes, numbers(next, Math.min(NUMBERED, Math.max(count, next - 1)) + 1)];
 }
 
-/** The part of the page with the source. */
-export function makeSource(laboratory, texts) {
+/** How many lines a text has, without making them. */
+function countOfLines(text) {
+    let count = 1;
+    for (let at = text.indexOf("\n"); at >= 0 && at < text.length - 1; at = text.indexOf("\n", at + 1)) count += 1;
+    return count;
+}
+
+/** The part of the page with the source. What is written stays as a draft until it is assembled; `runIt` runs a source. */
+export function makeSource(laboratory, texts, drafts, runIt) {
     const { text, table } = texts;
     const area = h("textarea", { spellcheck: "false", autocapitalize: "off", rows: 14, "aria-label": text("sourceLabel"), wrap: "off" });
     const gutter = h("div", { class: "gutter", "aria-hidden": "true" });
     const told = h("div", { class: "told", role: "status" });
-    let typed = null;
-    const faultsShown = () => (area.value === laboratory.source ? laboratory.assembled?.faults ?? [] : []);
-    const showGutter = () => gutter.replaceChildren(...gutterOf(linesIn(area.value).length, faultsShown(), texts));
+    const now = () => drafts.of("source") ?? laboratory.source;
+    let [shown, numbered] = [null, ""];
+    const showGutter = (isDraft) => {
+        const faults = isDraft ? [] : laboratory.assembled?.faults ?? [];
+        const count = countOfLines(shown);
+        const key = `${count} ${faults.map(({ line, kind }) => line + kind).join(" ")}`;
+        if (key !== numbered) gutter.replaceChildren(...gutterOf(count, faults, texts));
+        numbered = key;
+        gutter.scrollTop = area.scrollTop;
+    };
     area.addEventListener("scroll", () => { gutter.scrollTop = area.scrollTop; });
-    area.addEventListener("input", () => { typed = area.value; show(); });
+    area.addEventListener("input", () => { shown = area.value; drafts.keep("source", shown); show(); });
     const goTo = (line) => {
         const start = linesIn(area.value).slice(0, line - 1).join("\n").length + (line > 1 ? 1 : 0);
         area.focus();
@@ -36,28 +55,35 @@ export function makeSource(laboratory, texts) {
     const faultLine = ({ line, kind }) => h("li", {}, button(text("lineNumber", { line }), () => goTo(line), { class: "plain" }), `: ${table.faultKinds[kind] ?? kind}`);
     const show = () => {
         const { assembled, source } = laboratory;
-        if (typed === null || typed === source) { typed = null; if (area.value !== source) area.value = source; }
-        showGutter();
+        if (drafts.of("source") === source) drafts.keep("source", null);
+        if (now() !== shown) { shown = now(); area.value = shown; }
+        const isDraft = shown !== source;
+        showGutter(isDraft);
         if (assembled === null) return told.replaceChildren();
-        if (area.value !== source) return told.replaceChildren(text("sourceChanged"));
+        if (isDraft) return told.replaceChildren(text("sourceChanged"));
         const { cells, start, faults } = assembled;
         const sum = faults.length > 1 ? text("faults", { count: faults.length }) : text("oneFault");
         const well = start === null ? text("cellsNone", { cells }) : text("cells", { cells, start });
         return told.replaceChildren(faults.length === 0 ? well : sum, h("ul", {}, ...faults.slice(0, 50).map(faultLine)));
     };
     const node = part("source", text("source"), h("div", { class: "editor" }, gutter, area),
-        h("div", { class: "line" }, button(text("assemble"), () => laboratory.assemble(area.value)), button(text("load"), () => laboratory.load(area.value))), told);
+        h("div", { class: "line" }, button(text("assemble"), () => laboratory.assemble(area.value)), button(text("load"), () => laboratory.load(area.value)),
+            button(text("runProgram"), () => runIt(area.value), { id: "run-program", title: text("runProgramHint") })), told);
     return { node, show };
 }
 
-/** A box for lines to the monitor, with its name: lines that were sent come back by the arrow keys, and several may be pasted. */
-export function makeLineBox(laboratory, { text }, name) {
-    const input = h("input", { class: "wide", "aria-label": name, placeholder: "words 0050 2", autocapitalize: "off", autocomplete: "off", spellcheck: "false" });
-    const earlier = new Earlier();
+/** A box for lines to the monitor, with its name and that of its draft: lines that were sent come back by the arrow keys, and several may be pasted. */
+export function makeLineBox(laboratory, { text }, drafts, name, draft) {
+    const input = drafts.held(h("input", { class: "wide", "aria-label": name, placeholder: "words 0050 2", autocapitalize: "off", autocomplete: "off", spellcheck: "false" }), draft);
+    const { earlier } = drafts;
+    const write = (line) => {
+        input.value = line;
+        drafts.keep(draft, line === "" ? null : line);
+    };
     const send = async (event) => {
         event.preventDefault();
         const line = input.value;
-        input.value = "";
+        write("");
         earlier.add(line);
         await laboratory.say(line);
     };
@@ -65,14 +91,14 @@ export function makeLineBox(laboratory, { text }, name) {
         const line = event.key === "ArrowUp" ? earlier.back(input.value) : event.key === "ArrowDown" ? earlier.forward() : null;
         if (line === null) return;
         event.preventDefault();
-        input.value = line;
+        write(line);
     });
     input.addEventListener("paste", (event) => {
         const { value, selectionStart, selectionEnd } = input;
         const text = pasted(event.clipboardData.getData("text"), value.slice(0, selectionStart), value.slice(selectionEnd));
         if (text === null) return;
         event.preventDefault();
-        input.value = text.stays;
+        write(text.stays);
         for (const line of text.lines) earlier.add(line);
         laboratory.say(...text.lines);
     });
@@ -81,10 +107,10 @@ export function makeLineBox(laboratory, { text }, name) {
 }
 
 /** The part of the page with lines and replies. Only what is new is added to the log, so that a screen reader reads that alone. */
-export function makeLines(laboratory, texts) {
+export function makeLines(laboratory, texts, drafts) {
     const { text, code } = texts;
     const log = h("pre", { class: "log", tabindex: "0", role: "log", "aria-label": text("lines") });
-    const box = makeLineBox(laboratory, texts, text("typeLine"));
+    const box = makeLineBox(laboratory, texts, drafts, text("typeLine"), "line");
     const shown = new Map();
     const show = () => {
         const talk = laboratory.talk.slice(-LOGGED);
@@ -105,7 +131,7 @@ export function makeLines(laboratory, texts) {
 
 /** The part of the page with a script's lines. */
 export function makeScript(laboratory, { text }) {
-    const list = h("pre", { class: "script", tabindex: "0", role: "group", "aria-label": text("script") });
+    const list = h("pre", { class: "script-lines", tabindex: "0", role: "group", "aria-label": text("script") });
     const told = h("p");
     const next = guarded(text("nextLine"), {}, () => laboratory.scriptLines(1), () => laboratory.tell({ kind: "scriptDone" }));
     const all = guarded(text("allLines"), {}, () => laboratory.scriptLines(Infinity), () => laboratory.tell({ kind: "scriptDone" }));

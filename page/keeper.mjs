@@ -1,0 +1,173 @@
+// The keeper of all that people write at the page: texts, lines for the machine, the step of a lesson, answers, sources of tasks, the language. It is kept within a second.
+
+/** How long after a change it is written at most. */
+const KEPT_AFTER = 400;
+
+/** How many works are kept, with the one at hand. */
+export const WORKS = 10;
+
+const NEVER = { setTimeout: () => null, clearTimeout: () => {} };
+
+/** Values by their names, over a store. */
+export class Keeper {
+    #store;
+    #changed = new Map();
+    #timer = null;
+    #clocks;
+    #isWriting = false;
+
+    /** A keeper over a store; one without a store has what it is given as long as the page is open. */
+    constructor(store = null, clocks = globalThis) {
+        this.#store = store ?? { values: new Map(), isKept: false, write: async () => {}, writeAtLast: () => {} };
+        this.#clocks = store === null ? NEVER : clocks;
+    }
+
+    /** Whether what it keeps is still there when the page is opened again. */
+    get isKept() {
+        return this.#store.isKept;
+    }
+
+    /** A value, or null. */
+    of(name) {
+        return this.#store.values.get(name) ?? null;
+    }
+
+    /** The names that begin so. */
+    names(beginning) {
+        return [...this.#store.values.keys()].filter((name) => name.startsWith(beginning));
+    }
+
+    /** Keeps a value; null is none. */
+    keep(name, value) {
+        if (value === null) this.#store.values.delete(name);
+        else this.#store.values.set(name, value);
+        this.#changed.set(name, value);
+        this.#timer ??= this.#clocks.setTimeout(() => this.flush(), KEPT_AFTER);
+    }
+
+    /** Writes what has changed. What comes meanwhile is written next. */
+    async flush() {
+        if (this.#isWriting) return;
+        const changes = this.#changed;
+        [this.#changed, this.#timer, this.#isWriting] = [new Map(), null, true];
+        try {
+            await this.#store.write(changes);
+            this.#store.writeAtLast(new Map());
+        } catch {
+            this.#changed = new Map([...changes, ...this.#changed]);
+            this.#store.writeAtLast(this.#changed);
+        } finally {
+            this.#isWriting = false;
+            if (this.#changed.size > 0) this.#timer ??= this.#clocks.setTimeout(() => this.flush(), KEPT_AFTER);
+        }
+    }
+
+    /** The page is left: what has changed is written at once. */
+    leave() {
+        if (this.#changed.size === 0) return;
+        this.#store.writeAtLast(this.#changed);
+        this.flush();
+    }
+}
+
+/** The works: what was written at the machine, each with what stood beside it. One is at hand. */
+export class Works {
+    #keeper;
+    #now;
+    /** The name of the one at hand. */
+    id;
+
+    constructor(keeper, id, now = Date.now) {
+        this.#keeper = keeper;
+        this.#now = now;
+        this.id = id ?? this.#newId();
+    }
+
+    #newId() {
+        return `${this.#now().toString(36)}-${Math.random().toString(36).slice(2, 8)}`;
+    }
+
+    /** A work, or null. */
+    of(id) {
+        return this.#keeper.of(`work/${id}`);
+    }
+
+    /** Keeps the work at hand as it is now, and no more than ten. */
+    keep(work) {
+        this.#keeper.keep(`work/${this.id}`, { ...work, id: this.id, when: this.#now() });
+        for (const { id } of this.all().slice(WORKS)) this.forget(id);
+    }
+
+    /** All works, the newest first. */
+    all() {
+        return this.#keeper.names("work/").map((name) => this.#keeper.of(name)).sort((one, other) => other.when - one.when);
+    }
+
+    forget(id) {
+        this.#keeper.keep(`work/${id}`, null);
+    }
+
+    /** Begins another work. Gives the one before, or null where nothing of it is kept. */
+    begin() {
+        const before = this.of(this.id);
+        this.id = this.#newId();
+        return before;
+    }
+}
+
+/** The sources of tasks by the tasks' names, and those that were there before one was begun anew. */
+export class Sources {
+    /** The name of the task that is open, or null. */
+    open = null;
+
+    #keeper;
+
+    constructor(keeper) {
+        this.#keeper = keeper;
+    }
+
+    /** A task's source, or null where there is none. */
+    of(name) {
+        return this.#keeper.of(`task/${name}`);
+    }
+
+    /** Keeps a task's source. */
+    keep(name, source) {
+        this.#keeper.keep(`task/${name}`, source);
+    }
+
+    /** The source that a task had before it was begun anew, or null. */
+    before(name) {
+        return this.#keeper.of(`before/${name}`);
+    }
+
+    /** Begins a task anew: what was written can be taken back. */
+    begin(name) {
+        const source = this.of(name);
+        if (source !== null && source.trim() !== "") this.#keeper.keep(`before/${name}`, source);
+        this.#keeper.keep(`task/${name}`, null);
+    }
+
+    /** Takes back what was there before: what was written since is then what can be taken back. */
+    takeBack(name) {
+        const [source, before] = [this.of(name), this.before(name)];
+        this.#keeper.keep(`task/${name}`, before);
+        this.#keeper.keep(`before/${name}`, source);
+    }
+}
+
+/** What was kept by the page as it was before it had a keeper: the last session, and sources of tasks. */
+export function takeOver(storage, keeper, works) {
+    const [SESSION, TASK] = ["condugwa-last-session", "condugwa-task-"];
+    try {
+        const shelf = storage();
+        const names = Array.from({ length: shelf.length }, (unused, place) => shelf.key(place));
+        for (const name of names.filter((it) => it.startsWith(TASK))) keeper.keep(`task/${name.slice(TASK.length)}`, shelf.getItem(name));
+        const session = shelf.getItem(SESSION);
+        if (session !== null) works.keep({ door: "work", lines: session.replace(/\n$/, ""), script: null, drafts: {}, pupil: null, title: "" });
+        if (session !== null) works.begin();
+        for (const name of names.filter((it) => it === SESSION || it.startsWith(TASK))) shelf.removeItem(name);
+    } catch {
+        // a browser without a storage has kept nothing
+    }
+}

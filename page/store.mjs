@@ -1,0 +1,123 @@
+// Where the browser keeps what people have written: in its database, or, where it has none, in its storage, or nowhere. Values are kept by their names.
+
+const [DATABASE, SHELF, PREFIX] = ["condugwa", "kept", "condugwa/"];
+
+/** The changes of the last moment, which a database may have no time for any more. */
+const LAST_MOMENT = `${PREFIX}last-moment`;
+
+/** How long is waited for a database to open. */
+const LONGEST_WAIT = 3000;
+
+const answered = (request) => new Promise((resolve, reject) => {
+    request.onsuccess = () => resolve(request.result);
+    request.onerror = () => reject(request.error);
+});
+
+/** Values in the browser's database. */
+class Database {
+    #database;
+
+    constructor(database) {
+        this.#database = database;
+    }
+
+    static async open(factory) {
+        const request = factory.open(DATABASE, 1);
+        request.onupgradeneeded = () => request.result.createObjectStore(SHELF);
+        const late = new Promise((resolve, reject) => { setTimeout(() => reject(new Error("the database does not open")), LONGEST_WAIT); });
+        return new Database(await Promise.race([answered(request), late]));
+    }
+
+    async all() {
+        const shelf = this.#database.transaction(SHELF).objectStore(SHELF);
+        const [names, values] = await Promise.all([answered(shelf.getAllKeys()), answered(shelf.getAll())]);
+        return new Map(names.map((name, place) => [name, values[place]]));
+    }
+
+    write(changes) {
+        const transaction = this.#database.transaction(SHELF, "readwrite");
+        const shelf = transaction.objectStore(SHELF);
+        for (const [name, value] of changes) {
+            if (value === null) shelf.delete(name);
+            else shelf.put(value, name);
+        }
+        transaction.commit?.();
+        return new Promise((resolve, reject) => {
+            transaction.oncomplete = () => resolve();
+            for (const kind of ["onabort", "onerror"]) transaction[kind] = () => reject(transaction.error);
+        });
+    }
+}
+
+/** Values in the browser's storage, as JSON. */
+class Shelf {
+    #storage;
+
+    constructor(storage) {
+        this.#storage = storage;
+    }
+
+    async all() {
+        const names = Array.from({ length: this.#storage.length }, (unused, place) => this.#storage.key(place)).filter((name) => name.startsWith(PREFIX) && name !== LAST_MOMENT);
+        return new Map(names.map((name) => [name.slice(PREFIX.length), JSON.parse(this.#storage.getItem(name))]));
+    }
+
+    async write(changes) {
+        for (const [name, value] of changes) {
+            if (value === null) this.#storage.removeItem(PREFIX + name);
+            else this.#storage.setItem(PREFIX + name, JSON.stringify(value));
+        }
+    }
+}
+
+/** A storage that can be had, or null. */
+function had(storage) {
+    try {
+        return storage() ?? null;
+    } catch {
+        return null;
+    }
+}
+
+/** The first of several that does not fail, or null. */
+async function firstOf(deeds) {
+    for (const deed of deeds) {
+        try {
+            const store = await deed();
+            return { store, values: await store.all() };
+        } catch {
+            // the next one is tried
+        }
+    }
+    return null;
+}
+
+/** What is kept: its values by their names, and what writes changes of them. `database` and `storage` give those of the browser; they may fail. */
+export async function openStore({ database, storage }) {
+    const shelf = had(storage);
+    const found = await firstOf([() => Database.open(database()), () => new Shelf(shelf)]);
+    const values = found?.values ?? new Map();
+    for (const [name, value] of ofLastMoment(shelf)) {
+        if (value === null) values.delete(name);
+        else values.set(name, value);
+    }
+    return { values, isKept: found !== null, write: async (changes) => found?.store.write(changes), writeAtLast: (changes) => writeAtLast(shelf, changes) };
+}
+
+function ofLastMoment(shelf) {
+    try {
+        return JSON.parse(shelf.getItem(LAST_MOMENT)) ?? [];
+    } catch {
+        return [];
+    }
+}
+
+/** Writes changes at once, as far as the storage takes them; none takes away what was written so. */
+function writeAtLast(shelf, changes) {
+    try {
+        if (changes.size === 0) shelf.removeItem(LAST_MOMENT);
+        else shelf.setItem(LAST_MOMENT, JSON.stringify([...changes]));
+    } catch {
+        // the database has been asked as well
+    }
+}
