@@ -18,8 +18,9 @@ export class Keeper {
 
     /** A keeper over a store; one without a store has what it is given as long as the page is open. */
     constructor(store = null, clocks = globalThis) {
-        this.#store = store ?? { values: new Map(), isKept: false, write: async () => {}, writeAtLast: () => {} };
+        this.#store = store ?? { values: new Map(), unwritten: new Map(), isKept: false, write: async () => {}, writeAtLast: () => {} };
         this.#clocks = store === null ? NEVER : clocks;
+        for (const [name, value] of this.#store.unwritten) this.keep(name, value);
     }
 
     /** Whether what it keeps is still there when the page is opened again. */
@@ -92,15 +93,15 @@ export class Works {
         return this.#keeper.of(`work/${id}`);
     }
 
-    /** Keeps the work at hand as it is now, and no more than ten. */
-    keep(work) {
-        this.#keeper.keep(`work/${this.id}`, { ...work, id: this.id, when: this.#now() });
+    /** Keeps the work at hand as it is now, and no more than ten. One in which nothing was done or written is kept only until another one begins. */
+    keep(work, isWorth = true) {
+        this.#keeper.keep(`work/${this.id}`, { ...work, isWorth, id: this.id, when: this.#now() });
         for (const { id } of this.all().slice(WORKS)) this.forget(id);
     }
 
-    /** All works, the newest first. */
+    /** All works in which something was done or written, the newest first. */
     all() {
-        return this.#keeper.names("work/").map((name) => this.#keeper.of(name)).sort((one, other) => other.when - one.when);
+        return this.#keeper.names("work/").map((name) => this.#keeper.of(name)).filter(({ isWorth }) => isWorth).sort((one, other) => other.when - one.when);
     }
 
     forget(id) {
@@ -110,8 +111,9 @@ export class Works {
     /** Begins another work. Gives the one before, or null where nothing of it is kept. */
     begin() {
         const before = this.of(this.id);
+        if (before !== null && !before.isWorth) this.forget(this.id);
         this.id = this.#newId();
-        return before;
+        return before?.isWorth ? before : null;
     }
 }
 

@@ -77,6 +77,9 @@ let isOperated = false;
 let hasTurns = true;
 let [keeper, works, sources] = [new Keeper(), null, null];
 let keeping = null;
+let begunWith = "{}";
+/** Whether a work is being opened: what is there meanwhile is not that work. */
+let isSettling = false;
 /** What is done one after another: going through doors, and what begins another laboratory. */
 let going = Promise.resolve();
 let opening = Promise.resolve();
@@ -157,8 +160,8 @@ function goOnIn(code, id) {
 /** What the hall shows. */
 const HALL_EXAMPLE = "self-modifying";
 
-/** What of the visitor's is worth to be kept: what was done at the machine, or written in a field, or a step that is done. */
-const isWorth = (own) => own.doings > 0 || Object.values(drafts.all).some((text) => text.trim() !== "") || pupil.isDone.size > 0 || works.of(works.id) !== null;
+/** Whether something was done in the work at hand: at the machine, in a field, or in a lesson. What stands in the fields since an earlier one is kept with that. */
+const isWorth = (own) => own.doings > 0 || JSON.stringify(drafts.all) !== begunWith || pupil.isDone.size > 0 || (works.of(works.id)?.isWorth ?? false);
 
 /** The visitor's work as it is now. */
 const workOf = (own) => ({
@@ -170,9 +173,9 @@ const workOf = (own) => ({
 async function keepWork() {
     clearTimeout(keeping);
     keeping = null;
-    if (works === null || machines.own === null) return;
+    if (works === null || machines.own === null || isSettling) return;
     const { laboratory: own } = await machines.own;
-    if (isWorth(own)) works.keep(workOf(own));
+    works.keep(workOf(own), isWorth(own));
 }
 
 /** Something was done or written: the work is kept soon. */
@@ -185,6 +188,7 @@ function beginWork(texts) {
     const before = works.begin();
     sessionStorageOf()?.setItem(TAB, works.id);
     drafts.restore(texts);
+    begunWith = JSON.stringify(drafts.all);
     return before;
 }
 
@@ -206,12 +210,14 @@ function beginAnother(deed, { keepsSource = false, isOffered = true } = {}) {
 /** Goes back to a work, with all that stood beside its machine. */
 async function openWork(work) {
     await keepWork();
+    isSettling = true;
     works.id = work.id;
     sessionStorageOf()?.setItem(TAB, work.id);
     await goTo(work.door === "look" ? "work" : work.door, false);
     drive.halt();
     standAt(work);
     await laboratory.restore(work);
+    isSettling = false;
     lay();
     parts.lesson.goOn();
     tellPlace();
@@ -224,6 +230,7 @@ function standAt(work) {
     Object.assign(pupil, noLesson(), lesson === null ? {} : { lesson, at: work.pupil.at, isDone: new Set(work.pupil.isDone) });
     sources.open = work.task !== null && Object.hasOwn(tasks.tasks, work.task) ? work.task : null;
     Object.assign(viewer, noTale());
+    begunWith = JSON.stringify(drafts.all);
 }
 
 async function openExample(name) {
@@ -248,7 +255,7 @@ async function openBlank() {
 const openDropped = (file) => openFile(file, laboratory, openSaved);
 
 /** Opens an example that the page shows by itself, and sets it going. */
-const openShown = (name) => (laboratory.doings > 0 ? beginAnother(() => setUpFor(laboratory, { opens: name }, exampleNamed)) : setUpShown({ opens: name }));
+const openShown = (name) => (isWorth(laboratory) ? beginAnother(() => setUpFor(laboratory, { opens: name }, exampleNamed)) : setUpShown({ opens: name }));
 
 function setUpShown(step) {
     opening = opening.then(() => setUpFor(laboratory, step, exampleNamed));
@@ -258,7 +265,7 @@ function setUpShown(step) {
 /** Sets the machine up for a step of a lesson. */
 function openForStep(step) {
     drive.halt();
-    return laboratory.doings > 0 ? beginAnother(() => setUpFor(laboratory, step, exampleNamed), { isOffered: false }) : setUpShown(step);
+    return isWorth(laboratory) ? beginAnother(() => setUpFor(laboratory, step, exampleNamed), { isOffered: false }) : setUpShown(step);
 }
 
 /** Sets the machine up by a script of a task. */
@@ -297,6 +304,7 @@ function goTo(wanted, isNew = true) {
 }
 
 async function pass(wanted, isNew) {
+    if (isKiosk) return;
     const isOther = (door === "hall") !== (wanted === "hall");
     if (isOther) await use(wanted === "hall" ? "shown" : "own");
     else drive.halt();
@@ -592,7 +600,12 @@ function isThere({ lesson, step, task, story, caption, script, example }) {
 }
 
 /** The address has changed: Back, Forward, or a link. The page goes there. */
-async function followAddress() {
+function followAddress() {
+    going = going.then(goWhereAsked);
+    return going;
+}
+
+async function goWhereAsked() {
     const before = isKiosk;
     asked = askedIn(location);
     if (asked.isKiosk) {
@@ -602,7 +615,7 @@ async function followAddress() {
         return beginExhibit();
     }
     if (before) await leaveKiosk();
-    if (asked.door !== door) await goTo(asked.door, false);
+    if (asked.door !== door) await pass(asked.door, false);
     if (door === "hall" || isThere(asked)) return undefined;
     // a door alone, without what was open behind it, leaves that as it is
     const isDoorAlone = ["lesson", "task", "story", "script", "example"].every((name) => asked[name] === null);
@@ -633,11 +646,14 @@ async function openKept() {
 /** Goes on with a work where the page was loaded again, or with what the address asks for. A work that would take long is offered. */
 async function goOnWith(work) {
     if (work === null) return openAsked();
+    isSettling = true;
     standAt(work);
     sources.open = asked.task ?? null;
     const { laboratory: own } = await machineOf("own");
     const isLong = work.performed > MOST_AGAIN;
-    if (!isLong) await own.restore(work);
+    if (isLong) works.begin();
+    else await own.restore(work);
+    isSettling = false;
     lay();
     if (isLong) offer(work);
     if (door === "hall") return openHall();

@@ -92,16 +92,17 @@ async function firstOf(deeds) {
     return null;
 }
 
-/** What is kept: its values by their names, and what writes changes of them. `database` and `storage` give those of the browser; they may fail. */
+/** What is kept: its values by their names, those of them that were written in a last moment alone, and what writes changes. `database` and `storage` give those of the browser; they may fail. */
 export async function openStore({ database, storage }) {
     const shelf = had(storage);
     const found = await firstOf([() => Database.open(database()), () => new Shelf(shelf)]);
     const values = found?.values ?? new Map();
-    for (const [name, value] of ofLastMoment(shelf)) {
+    const unwritten = new Map(ofLastMoment(shelf));
+    for (const [name, value] of unwritten) {
         if (value === null) values.delete(name);
         else values.set(name, value);
     }
-    return { values, isKept: found !== null, write: async (changes) => found?.store.write(changes), writeAtLast: (changes) => writeAtLast(shelf, changes) };
+    return { values, unwritten, isKept: found !== null, write: async (changes) => found?.store.write(changes), writeAtLast: (changes) => writeAtLast(shelf, changes) };
 }
 
 function ofLastMoment(shelf) {

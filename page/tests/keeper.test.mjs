@@ -42,9 +42,14 @@ test("what was written in the last moment is kept, though no time was left for t
     const first = await over(shelf, { setTimeout: () => 1, clearTimeout: () => {} });
     first.keep("language", "de");
     first.leave();
-    assert.equal((await over(shelf, clocks())).of("language"), "de");
+    const time = clocks();
+    shelf.removeItem("condugwa/language");
+    shelf.setItem("condugwa/last-moment", JSON.stringify([["language", "de"]]));
+    assert.equal((await over(shelf, time)).of("language"), "de");
+    await time.pass();
+    assert.deepEqual([shelf.getItem("condugwa/last-moment"), (await over(shelf, clocks())).of("language")], [null, "de"]);
     const values = new Map();
-    const slow = new Keeper({ values, isKept: true, write: () => new Promise(() => {}), writeAtLast: (changes) => { for (const [name, value] of changes) shelf.setItem(name, value); } }, clocks());
+    const slow = new Keeper({ values, unwritten: new Map(), isKept: true, write: () => new Promise(() => {}), writeAtLast: (changes) => { for (const [name, value] of changes) shelf.setItem(name, value); } }, clocks());
     slow.keep("one", "1");
     slow.flush();
     slow.keep("two", "2");
@@ -56,7 +61,7 @@ test("what could not be written is tried again, and nothing fails; without a sto
     const time = clocks();
     const written = [];
     let isFull = true;
-    const keeper = new Keeper({ values: new Map(), isKept: true, write: async (changes) => { if (isFull) throw new Error("full"); written.push(...changes); }, writeAtLast: () => {} }, time);
+    const keeper = new Keeper({ values: new Map(), unwritten: new Map(), isKept: true, write: async (changes) => { if (isFull) throw new Error("full"); written.push(...changes); }, writeAtLast: () => {} }, time);
     keeper.keep("one", 1);
     await time.pass();
     assert.deepEqual([written, time.timers.length], [[], 1]);
@@ -84,6 +89,9 @@ test("ten works are kept, the newest first; another one begins, and the one befo
     assert.deepEqual([works.all().length, works.all()[0].title, works.of(id).title], [WORKS, "again", "again"]);
     works.forget(id);
     assert.equal(works.of(id), null);
+    works.begin();
+    works.keep({ title: "only looked at" }, false);
+    assert.deepEqual([works.of(works.id).title, works.all().some(({ title }) => title === "only looked at"), works.begin()], ["only looked at", false, null]);
 });
 
 test("the source of a task that is begun anew is taken back, and the other way", () => {

@@ -20,6 +20,8 @@ import { Firefox } from "./firefox.mjs";
 import { visitsOfExamples } from "./visits_examples.mjs";
 import { visitsOfGames } from "./visits_game.mjs";
 import { visitsOfKept } from "./visits_kept.mjs";
+import { visitsOfKiosk } from "./visits_kiosk.mjs";
+import { visitsOfPoints } from "./visits_points.mjs";
 import { lessonVisits } from "./visits_lessons.mjs";
 import { visitsOfTasks } from "./visits_tasks.mjs";
 import { WebKit } from "./webkit.mjs";
@@ -1284,7 +1286,7 @@ async function touch(browser) {
     await browser.size(1500, 1250);
 }
 
-const all = { ...visitsOfTasks(address), ...visitsOfGames(address), ...visitsOfExamples(address), ...visitsOfKept(address), kiosk, addresses, changes, thereAndBack, openSource, whatToPress, operated, endlessPrint, firstHour, lesson, stories, scope, doors, look, ...lessonVisits({ address, press, settled, steps, picture, textOf, sideways }), sound, saved, notLost, source, profile, costs, examples, badInput, usedUp, longRun, paces, forPeople, widths, everyone, byKeys, readOut, stillness, touch, withoutWebAssembly, cannotOpen };
+const all = { ...visitsOfTasks(address), ...visitsOfGames(address), ...visitsOfExamples(address), ...visitsOfKept(address), ...visitsOfKiosk(address), ...visitsOfPoints(address), kiosk, addresses, changes, thereAndBack, openSource, whatToPress, operated, endlessPrint, firstHour, lesson, stories, scope, doors, look, ...lessonVisits({ address, press, settled, steps, picture, textOf, sideways }), sound, saved, notLost, source, profile, costs, examples, badInput, usedUp, longRun, paces, forPeople, widths, everyone, byKeys, readOut, stillness, touch, withoutWebAssembly, cannotOpen };
 const wanted = process.env.VISITS?.split(" ") ?? Object.keys(all).filter((name) => !left.includes(name));
 const visits = Object.fromEntries(wanted.map((name) => [name, all[name]]));
 let browser = await Engine.start();

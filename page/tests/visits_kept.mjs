@@ -70,21 +70,34 @@ const noteKeys = (browser) => browser.value("void (globalThis.dispatchKeys = () 
 
 /** All that is written is found: in its fields, or, where another work has begun, in the one before. */
 async function isFound(browser, where) {
-    await noteKeys(browser);
-    await backToWork(browser);
-    if ((await areWritten(browser)).length > 0) await backByList(browser);
-    assert.deepEqual(await areWritten(browser), [], where);
+    try {
+        await noteKeys(browser);
+        await backToWork(browser);
+        if ((await areWritten(browser)).length > 0) await backByList(browser);
+        assert.deepEqual(await areWritten(browser), []);
+    } catch (failure) {
+        failure.message = `${where}: ${failure.message}`;
+        throw failure;
+    }
 }
 
-/** The controls that are seen, by which they are found again; of keys that do the same there is one. `Send` sends what is written, and `Open` asks for a file. */
-const CONTROLS = `[...document.querySelectorAll("#page :is(button, summary, a[href])")].map((it, place) => [it.id || it.dataset.name || it.dataset.doorTo || it.dataset.lesson || it.dataset.task || it.dataset.tale || it.getAttribute("aria-label") || it.textContent, place, it.checkVisibility()])
-    .filter(([name, , isSeen], place, all) => isSeen && all.findIndex((it) => it[0] === name && it[2]) === place && !["open", "Send", "sheet-link", "Sheet to print"].includes(name)).map(([name, place]) => [name, place])`;
+/** The controls that are seen, by their names; of keys that do the same there is one. `Send` sends what is written, and `Open` and the sheet ask the browser for something. */
+const CONTROLS = `[...document.querySelectorAll("#page :is(button, summary, a[href]):not(#notices *)")].filter((it) => it.checkVisibility()).map((it) => [it.id || it.dataset.name || it.dataset.doorTo || it.dataset.lesson || it.dataset.task || it.dataset.tale || it.getAttribute("aria-label") || it.textContent, it])
+    .filter(([name], place, all) => all.findIndex((it) => it[0] === name) === place && !["open", "Send", "Sheet to print"].includes(name))`;
+
+/** Goes back; where that leaves the page, forward again. */
+async function goneBack(browser) {
+    await browser.value("void history.back()").catch(() => {});
+    await new Promise((resolve) => { setTimeout(resolve, 300); });
+    if (await browser.value("document.querySelector('#page') === null").catch(() => true)) await browser.value("void history.forward()").catch(() => {});
+    await browser.waitFor(`${isReady}`);
+}
 
 /** The ways to leave the page as it is and to come back. */
 const WAYS = {
     "loading again": again,
     "another language": otherLanguage,
-    "going back": (browser) => browser.value("history.back()").then(() => new Promise((resolve) => { setTimeout(resolve, 100); })),
+    "going back": goneBack,
 };
 
 /** Presses each control that is seen behind a door, one after another, after something was written in Work; and goes each of the ways after each third. */
@@ -92,10 +105,12 @@ async function pressEach(browser, door) {
     const goThere = () => (door === "work" ? undefined : press(browser, `.doors [data-door-to="${door}"]`));
     await backToWork(browser);
     await goThere();
-    const controls = await browser.value(CONTROLS);
-    for (const [round, [name, place]] of controls.entries()) {
+    const controls = await browser.value(`${CONTROLS}.map(([name]) => name)`);
+    for (const [round, name] of controls.entries()) {
+        if (await browser.value("document.documentElement.lang !== 'en'")) await otherLanguage(browser);
         await goThere();
-        await browser.value(`document.querySelectorAll("#page :is(button, summary, a[href])")[${place}]?.click()`);
+        await browser.value(`${CONTROLS}.find(([name]) => name === ${JSON.stringify(name)})?.[1].click()`);
+        if (name === "kiosk") await browser.waitFor("document.querySelector('.kiosk-bar') !== null");
         await settled(browser);
         await isFound(browser, `after ${name} behind ${door}`);
         const [way, go] = Object.entries(WAYS)[round % 3];

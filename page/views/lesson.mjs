@@ -133,14 +133,14 @@ function makeSteps(laboratory, texts, open, pupil, drafts, told) {
     };
     /** Goes on where the pupil is, with the machine as it is. */
     const goOn = () => reach(pupil.at, () => {});
-    return { node: list, layOut, reach, bring: (place) => reach(place, bring), goOn, show };
+    return { node: list, layOut, reach, bring: (place) => { pupil.isDone.delete(place); return reach(place, bring); }, goOn, show };
 }
 
 /** The part of the page with the choice of a lesson or a task, one of which is open at most, and the lesson where the pupil is. `open` sets the machine up for a step, `told` is called when
  * another place is reached, and `sheets` makes links to the sheets of a lesson. */
 export function makeLesson(laboratory, texts, { open, pupil, tasks, drafts, told, sheets, isSeen }) {
     const { text, table } = texts;
-    const [about, links] = [h("p", { class: "about" }), h("p", { class: "sheets" })];
+    const about = h("p", { class: "about" });
     const steps = makeSteps(laboratory, texts, open, pupil, drafts, told);
     const lessons = LESSONS.map((it) => button(table.lessons[it.name].title, () => begin(it, null), { "data-lesson": it.name }));
     const others = tasks.titles.map(([name, title]) => button(title, () => begin(null, name), { "data-task": name }));
@@ -172,9 +172,8 @@ export function makeLesson(laboratory, texts, { open, pupil, tasks, drafts, told
         const title = written?.title ?? tasks.titles.find(([name]) => name === tasks.opened())?.[1];
         choice.open = title === undefined;
         tell(chosen, title ?? text("chooseLesson"));
-        tell(about, written?.about ?? "");
-        links.replaceChildren(...(written === null ? [] : sheets(pupil.lesson.name)));
-        for (const node of [about, links, steps.node]) node.hidden = written === null;
+        about.replaceChildren(written?.about ?? "", " ", ...(written === null ? [] : sheets(pupil.lesson.name)));
+        for (const node of [about, steps.node]) node.hidden = written === null;
         steps.layOut(written?.steps ?? []);
     };
     const show = () => {
@@ -183,5 +182,5 @@ export function makeLesson(laboratory, texts, { open, pupil, tasks, drafts, told
         if (pupil.lesson !== null && isSeen()) steps.show();
     };
     layOut();
-    return { node: part("lesson", text("learn"), choice, about, links, steps.node), show, openAt, goOn: () => (pupil.lesson === null ? show() : steps.goOn()) };
+    return { node: part("lesson", text("learn"), choice, about, steps.node), show, openAt, goOn: () => (pupil.lesson === null ? show() : steps.goOn()) };
 }

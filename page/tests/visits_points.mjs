@@ -1,0 +1,204 @@
+// Visits of what is small at the page, and was wrong once: what is seen is whole and in its place, what is shown is true, and each control does what it says.
+import assert from "node:assert/strict";
+
+const settled = (browser) => browser.value("laboratoryOfPage().settled()");
+const textOf = (browser, selector) => browser.value(`document.querySelector(${JSON.stringify(selector)})?.innerText ?? ""`);
+const isMoving = "document.querySelector('.drum-box').dataset.moving === 'true'";
+
+async function press(browser, selector) {
+    await browser.press(selector);
+    await settled(browser);
+}
+
+const SIZES = [[390, 800], [768, 1024], [1024, 768], [1280, 720], [1440, 900], [1920, 1080]];
+
+/** Lists and texts that may be scrolled. */
+const LISTS = ".scroll, .with-arrows, .steps, .script-lines, .log, .transcript, .rows, .task-text, .task-answer, .explanation-text, .paper, .reply, .lines-of-step pre, .notice, .tells, textarea, .gutter, .lesson, .column, .unseen";
+
+/** Controls and drawings of which an ancestor cuts something off, and drawings that are too small to be seen. */
+const clipped = (browser) => browser.value(`[...document.querySelectorAll("#page :is(button, input, select, textarea, canvas, svg)")].filter((it) => it.checkVisibility() && it.closest(".drum-box") === null).flatMap((it) => {
+    const box = it.getBoundingClientRect();
+    const name = it.tagName + "." + (it.className.baseVal ?? it.className) + it.textContent.trim().slice(0, 20);
+    if (it.matches("svg, canvas") && !it.matches(".arrow, svg svg") && Math.min(box.width, box.height) < 16) return ["small: " + name];
+    for (let at = it.parentElement; at !== document.body && at !== null; at = at.parentElement) {
+        const { overflowX, overflowY, contain } = getComputedStyle(at);
+        if (at.matches(${JSON.stringify(LISTS)})) return [];
+        if (overflowX === "visible" && overflowY === "visible" && !/paint|content|strict/.test(contain)) continue;
+        const outer = at.getBoundingClientRect();
+        if (box.left < outer.left - 1 || box.top < outer.top - 1 || box.right > outer.right + 1 || box.bottom > outer.bottom + 1) return [name + " by " + at.className];
+    }
+    return [];
+})`);
+
+/** No control and no drawing is cut off by what it is in, behind no door and at no size; the tape's holes are seen. */
+async function nothingClipped(browser, address) {
+    for (const behind of ["?lang=de&door=hall", "?lang=de&door=work#input-and-output/checksum", "?lang=de&lesson=rewriting", "?lang=de&task=sum", "?lang=de&story=2"]) {
+        await browser.open(address + behind);
+        await settled(browser);
+        for (const [width, height] of SIZES) {
+            await browser.size(width, height);
+            assert.deepEqual(await clipped(browser), [], `${behind} at ${width} by ${height}`);
+            if (behind.includes("checksum")) assert.ok(await browser.value("document.querySelector('.tape-strip').getBoundingClientRect().height >= 80"), `tape at ${width}`);
+            assert.equal(await browser.value("document.documentElement.scrollWidth <= innerWidth"), true, `${behind} at ${width}`);
+        }
+    }
+    await browser.size(1500, 1250);
+}
+
+/** Two presses on stories, on one or on two, play one; two presses on Next go two on. */
+async function oneStory(browser, address) {
+    await browser.open(`${address}?lang=en&door=look`);
+    const isHere = (tale, at) => browser.waitFor(`document.querySelector('[data-tale][aria-pressed=true]')?.dataset.tale === "${tale}" && document.querySelector('.caption-at').textContent === '${at} of 5' && document.querySelector('.caption').getAttribute('aria-busy') === 'false'`);
+    for (const [one, other] of [["wait", "wait"], ["wait", "rewrite"], ["type", "wait"]]) {
+        await browser.value(`(() => { for (const name of ["${one}", "${other}"]) document.querySelector('[data-tale="' + name + '"]').click(); })()`);
+        await isHere(other, 1);
+        await browser.waitFor(`!(${isMoving})`);
+        await settled(browser);
+        assert.deepEqual(await browser.value("[laboratoryOfPage().deeds.behind, laboratoryOfPage().lines.filter((line) => line === 'press start').length]"), [{ wait: 1, rewrite: 9 }[other], 1], `${one}, ${other}`);
+    }
+    await browser.value("(() => { for (let pressed = 0; pressed < 2; pressed += 1) document.querySelector('#caption-next').click(); })()");
+    await isHere("wait", 3);
+    await browser.waitFor(`!(${isMoving})`);
+    await settled(browser);
+    assert.equal(await browser.value("laboratoryOfPage().deeds.behind"), 3);
+}
+
+/** The hall has a machine of its own: the visitor's does not work there, and where it rests the hall turns all the same. */
+async function hallBeside(browser, address) {
+    await browser.open(`${address}?lang=en&door=work`);
+    await browser.value("laboratoryOfPage().say('put 0000 b 0050', 'put 0001 z', 'press start', 'run 5')");
+    const before = await browser.value("JSON.stringify(laboratoryOfPage().lines)");
+    await browser.value("(() => { history.pushState(null, '', '?lang=en&door=hall'); dispatchEvent(new PopStateEvent('popstate')); })()");
+    await browser.waitFor(`document.body.dataset.door === 'hall' && ${isMoving}`);
+    assert.equal(await textOf(browser, "#notice"), "");
+    await press(browser, "#hall-stop");
+    await press(browser, "#hall-stop");
+    await browser.waitFor(isMoving);
+    await press(browser, ".hall [data-door-to='work']");
+    await browser.waitFor("document.body.dataset.door === 'work'");
+    assert.equal(await browser.value("JSON.stringify(laboratoryOfPage().lines)"), before);
+}
+
+/** What a run has done stands there until something else is done, and no press of Run moves what lies under the pointer. */
+async function runStays(browser, address) {
+    await browser.open(`${address}?lang=en#self-modifying`);
+    await browser.size(1280, 900);
+    const places = () => browser.value("JSON.stringify([...document.querySelectorAll('#run, .drum-box, .words-table')].map((it) => { const { x, y, width } = it.getBoundingClientRect(); return [x, y, width].map(Math.round); }))");
+    const [before, seen] = [await places(), []];
+    await browser.value("(() => { globalThis.tops = new Set(); const look = () => { tops.add(document.querySelector('#run').getBoundingClientRect().top); if (globalThis.tops !== null) requestAnimationFrame(look); }; look(); })()");
+    await press(browser, "#run");
+    for (let looks = 0; looks < 3; looks += 1) {
+        seen.push(await textOf(browser, "#progress"), await places());
+        await browser.value("new Promise((resolve) => requestAnimationFrame(() => requestAnimationFrame(resolve)))");
+    }
+    for (const told of seen.filter((unused, place) => place % 2 === 0)) assert.match(told, /^4\d orders, [\d,]+ a second$/);
+    assert.deepEqual([...new Set(seen.filter((unused, place) => place % 2 === 1))], [before]);
+    assert.equal(await browser.value("tops.size"), 1);
+    await browser.value("laboratoryOfPage().say('panel')");
+    assert.equal(await textOf(browser, "#progress"), "");
+    await browser.size(1500, 1250);
+}
+
+/** A saved script has what the reader did, and of the page's own questions none; a step is one run of one order, also where the rows of the drum are seen. */
+async function ownQuestions(browser, address) {
+    await browser.open(`${address}?lang=en&door=work`);
+    await browser.value("laboratoryOfPage().say('put 0000 b 0050', 'put 0001 z', 'press start')");
+    await press(browser, "#step");
+    await press(browser, "tr[data-address='0000'] button");
+    assert.ok(await browser.value("document.querySelectorAll('.rows > *').length > 0"));
+    await browser.press("#save");
+    await browser.waitFor("document.querySelector('#with-questions')");
+    await browser.press("#with-questions");
+    assert.equal(await browser.value("document.querySelector('.transcript').textContent"), "put 0000 000100j8\nput 0001 00000000\npress start\nrun 1\n");
+    await browser.press("dialog > button");
+}
+
+/** Nothing has a name that is no text, in no language and behind no door. */
+async function names(browser, address) {
+    for (const code of ["en", "de"]) for (const behind of ["door=hall", "story=1", "lesson=rewriting", "task=sum", "door=work", "kiosk=message", "kiosk=games/matches"]) {
+        await browser.open(`${address}?lang=${code}&${behind}`);
+        assert.deepEqual(await browser.value("[...document.querySelectorAll('*')].filter((it) => /\\[object |undefined|NaN/.test([it.getAttribute('aria-label'), it.title, it.children.length === 0 && !it.matches('script, style') ? it.textContent : ''].join(' '))).map((it) => it.outerHTML.slice(0, 100))"), [], behind);
+    }
+}
+
+/** Enter in the field for addresses shows the words there, as its button does. */
+async function enterShows(browser, address) {
+    await browser.open(`${address}?lang=en&door=work`);
+    await browser.value("(() => { const it = document.querySelector('.listing form input'); it.value = '0220'; it.dispatchEvent(new Event('input')); it.form.requestSubmit(); })()");
+    await settled(browser);
+    assert.equal(await browser.value("document.querySelector(`tr[data-address='0220']`) !== null"), true);
+}
+
+/** In a lesson what the reader should know lies on nothing, and a refusal is seen whole beside its hint; an empty answer is none. */
+async function lessonTells(browser, address) {
+    await browser.size(1366, 768);
+    await browser.open(`${address}?lang=de&lesson=rewriting`);
+    await browser.value("(() => { const form = document.querySelector('.lesson li.now .types'); form.querySelector('input').value = 'put 0000 1004'; form.requestSubmit(); })()");
+    await settled(browser);
+    await browser.press(".lesson li.now .for-hint");
+    const trouble = await browser.value(`(() => {
+        const boxOf = (selector) => document.querySelector(selector).getBoundingClientRect();
+        const notice = boxOf("#notice");
+        const upon = ["h1", ".lesson summary", ".lesson li.now", "#step", "#run", ".drum-box", ".listing form", ".story"].filter((it) => { const box = boxOf(it); return notice.left < box.right && box.left < notice.right && notice.top < box.bottom - 1 && box.top < notice.bottom - 1; });
+        const reply = document.querySelector(".lesson li.now .reply");
+        return [notice.height > 0, upon, reply.scrollHeight <= reply.clientHeight + 1, /Form/.test(reply.textContent)];
+    })()`);
+    assert.deepEqual(trouble, [true, [], true, true]);
+    await browser.open(`${address}?lang=en&lesson=a-computer-on-a-drum`);
+    const answer = (text) => browser.value(`(() => { const form = document.querySelector(".lesson li.now .answer"); form.querySelector("input").value = "${text}"; form.requestSubmit(); return document.querySelector(".lesson li.now .hint").textContent; })()`);
+    for (let pressed = 0; pressed < 3; pressed += 1) assert.equal(await answer(" "), "Write your answer first.");
+    assert.doesNotMatch(await answer("99"), /Right is/);
+    await browser.size(1500, 1250);
+}
+
+/** With forced colours the bar of an order, lamps, levers, drum and tape keep what they show. */
+async function forcedColours(browser, address) {
+    if (browser.media === undefined) return "but not looked at, since this browser cannot be told of forced colours";
+    await browser.open(`${address}?lang=en#self-modifying`);
+    for (const selector of ["#step", "#halt"]) await press(browser, selector);
+    await browser.media({ "forced-colors": "active" });
+    const colours = await browser.value("[...document.querySelectorAll('.piece i')].map((it) => getComputedStyle(it).backgroundColor)");
+    assert.ok(new Set(colours).size >= 3 && colours.every((colour) => !/^rgba.*, 0\)$/.test(colour)), colours.join(" "));
+    assert.deepEqual(await browser.value("['.piece', '.strip', '.drum-box', '.scope', '.timeline', '.lever i'].filter((it) => getComputedStyle(document.querySelector(it)).forcedColorAdjust !== 'none')"), []);
+    await browser.media({});
+    return undefined;
+}
+
+/** The console's buttons in their order; one code is one; a long source has few nodes beside it, and none is made anew by a letter. */
+async function small(browser, address) {
+    await browser.open(`${address}?lang=en&door=work`);
+    assert.deepEqual(await browser.value("[...document.querySelectorAll('.console .square')].map((it) => it.dataset.name)"), ["manual", "oneop", "normal", "start", "clear", "fill", "execute", "compute", "read"]);
+    await browser.value("laboratoryOfPage().say('put 0000 p =h', 'put 0001 z', 'press start', 'run 1')");
+    assert.match(await textOf(browser, ".typewriter"), /1 code printed/);
+    const write = (text) => browser.value(`(() => { const it = document.querySelector(".source textarea"); it.value = ${text}; it.dispatchEvent(new Event("input")); })()`);
+    await write("Array(5000).fill(' b 0050').join('\\n')");
+    await browser.value("void (globalThis.made = 0, new MutationObserver((changes) => { made += changes.length; }).observe(document.querySelector('.gutter'), { childList: true, subtree: true, characterData: true }))");
+    await write("Array(5000).fill(' b 0050').join('\\n') + 'x'");
+    assert.deepEqual(await browser.value("[made, document.querySelector('.gutter').childNodes.length < 5, document.querySelector('.gutter').textContent.split('\\n').length]"), [0, true, 5001]);
+}
+
+/** A teacher's: each lesson has a link to its sheet, which is what a printer gets; a task is set up, and run, by buttons that say so; and so is a source in Work. */
+async function teachers(browser, address) {
+    for (const [code, title] of [["en", "The program that rewrites itself"], ["de", "Das Programm, das sich umschreibt"]]) {
+        await browser.open(`${address}?lang=${code}&lesson=rewriting`);
+        assert.equal(await browser.value("document.querySelector('.lesson .sheet-link').checkVisibility()"), true);
+        const sheet = await browser.value("(async () => { const it = document.querySelector('.sheet-link'); it.removeAttribute('target'); it.addEventListener('click', (event) => event.preventDefault()); it.click(); return it.href.startsWith('blob:') && document.getElementById('printed-sheet').shadowRoot.querySelector('h1').textContent; })()");
+        assert.equal(sheet, title);
+        if (browser.ask === undefined) continue;
+        await browser.ask("Emulation.setEmulatedMedia", { media: "print" });
+        assert.deepEqual(await browser.value("[document.getElementById('page').checkVisibility(), document.getElementById('printed-sheet').checkVisibility()]"), [false, true]);
+        await browser.ask("Emulation.setEmulatedMedia", { media: "" });
+    }
+    await browser.open(`${address}?lang=en&task=sum`);
+    assert.equal(await browser.value("document.getElementById('printed-sheet').shadowRoot?.childNodes.length ?? 0"), 0);
+    assert.deepEqual(await browser.value("['run-task', 'put-task'].map((id) => document.getElementById(id).textContent)"), ["Run my program", "Set up the machine"]);
+    await browser.open(`${address}?lang=en&door=work`);
+    await browser.value("(() => { const it = document.querySelector('.source textarea'); it.value = 'start p =h\\n z\\n end start'.replaceAll('\\n', '\\n'); it.dispatchEvent(new Event('input')); })()");
+    await browser.press("#run-program");
+    await browser.waitFor("laboratoryOfPage().printed.text === 'h' && laboratoryOfPage().panel.status === 'halted stop'");
+}
+
+const VISITS = { nothingClipped, oneStory, hallBeside, runStays, ownQuestions, names, enterShows, lessonTells, forcedColours, small, teachers };
+
+/** The visits of the page at an address, by their names. */
+export const visitsOfPoints = (address) => Object.fromEntries(Object.entries(VISITS).map(([name, visit]) => [name, (browser) => visit(browser, address)]));
