@@ -457,7 +457,7 @@ function makeWork() {
         paper: makePaper(laboratory, texts, showing), tape: makeTape(laboratory, texts, drafts), keyboard: makeKeyboard(laboratory, texts),
         pace: makePace(laboratory, texts, drive, makeOperated()), time: makeTime(laboratory, texts, showing), story: makeStory(laboratory, texts, showing), accounts: makeAccounts(laboratory, texts, showing), listing: makeListing(laboratory, texts, showing, drafts), costs: makeCosts(laboratory, texts),
         explanation: makeExplanation(), script: makeScript(laboratory, texts), source: makeSource(laboratory, texts, drafts, runProgram), lines: makeLines(laboratory, texts, drafts),
-        profile: makeProfile(laboratory, texts), turns,
+        profile: makeProfile(laboratory, texts, drafts), turns,
     };
     parts = made;
     return { node: makeStage(made), made: Object.values(made) };

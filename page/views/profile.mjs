@@ -12,8 +12,8 @@ function bar({ name, times, percent }, most, label, kind, code) {
 const PHASES = ["find", "take", "seek", "act", "none"];
 
 /** The part of the page with the profile. */
-export function makeProfile(laboratory, { text, table, code }) {
-    const limit = h("input", { type: "number", min: 1, max: 1000000, value: 10000 });
+export function makeProfile(laboratory, { text, table, code }, drafts) {
+    const limit = drafts.held(h("input", { type: "number", min: 1, max: 1000000, value: 10000 }), "limit");
     const place = h("div", { class: "bars" });
     const show = () => {
         const { profile } = laboratory;
