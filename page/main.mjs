@@ -69,6 +69,8 @@ let { isKiosk, door } = asked;
 let [views, parts, notices] = [[], {}, null];
 /** The machine that is seen, and its drive. */
 let [laboratory, drive] = [null, null];
+/** The visitor's own laboratory, where it is open. */
+let visitors = null;
 let exhibit = null;
 let picture = { frame: null, views: [], last: 0 };
 let endExhibit = () => {};
@@ -170,12 +172,10 @@ const workOf = (own) => ({
 });
 
 /** Keeps the work at hand. */
-async function keepWork() {
+function keepWork() {
     clearTimeout(keeping);
     keeping = null;
-    if (works === null || machines.own === null || isSettling) return;
-    const { laboratory: own } = await machines.own;
-    works.keep(workOf(own), isWorth(own));
+    if (works !== null && visitors !== null && !isSettling) works.keep(workOf(visitors), isWorth(visitors));
 }
 
 /** Something was done or written: the work is kept soon. */
@@ -196,7 +196,7 @@ function beginWork(texts) {
 function beginAnother(deed, { keepsSource = false, isOffered = true } = {}) {
     opening = opening.then(async () => {
         drive.halt();
-        await keepWork();
+        keepWork();
         const { source, ...others } = drafts.all;
         const before = beginWork(keepsSource && source !== undefined ? { ...others, source } : others);
         await deed();
@@ -209,7 +209,7 @@ function beginAnother(deed, { keepsSource = false, isOffered = true } = {}) {
 
 /** Goes back to a work, with all that stood beside its machine. */
 async function openWork(work) {
-    await keepWork();
+    keepWork();
     isSettling = true;
     works.id = work.id;
     sessionStorageOf()?.setItem(TAB, work.id);
@@ -420,8 +420,8 @@ function makeBar() {
 }
 
 /** The list of the last works. */
-async function showWorks() {
-    await keepWork();
+function showWorks() {
+    keepWork();
     const list = listOfWorks(works, texts, (work) => { list.closest("dialog").close(); openWork(work); });
     dialog(texts.text("works"), list);
 }
@@ -555,7 +555,7 @@ async function leaveKiosk() {
 function onKey(event) {
     if (isKiosk) {
         const number = Number(event.key);
-        if (isLeaving(event)) { history.pushState(null, "", addressOf(placeNow(), location)); followAddress(); }
+        if (isLeaving(event)) { history.replaceState(null, "", addressOf(placeNow(), location)); followAddress(); }
         else if (number >= 1 && number <= 4 && !event.repeat) exhibit?.press(number);
         return;
     }
@@ -609,7 +609,7 @@ async function goWhereAsked() {
     const before = isKiosk;
     asked = askedIn(location);
     if (asked.isKiosk) {
-        await keepWork();
+        keepWork();
         endExhibit();
         isKiosk = true;
         return beginExhibit();
@@ -649,10 +649,9 @@ async function goOnWith(work) {
     isSettling = true;
     standAt(work);
     sources.open = asked.task ?? null;
-    const { laboratory: own } = await machineOf("own");
     const isLong = work.performed > MOST_AGAIN;
     if (isLong) works.begin();
-    else await own.restore(work);
+    else await visitors.restore(work);
     isSettling = false;
     lay();
     if (isLong) offer(work);
@@ -675,8 +674,8 @@ async function beginWith(work) {
     if (laboratory.panel === null) return globalThis.tellLacking(laboratory.notice.detail);
     hear();
     if (isKiosk) return beginExhibit();
-    const { laboratory: own } = await machineOf("own");
-    own.addEventListener("change", noteWork);
+    ({ laboratory: visitors } = await machineOf("own"));
+    visitors.addEventListener("change", noteWork);
     drafts.addEventListener("change", noteWork);
     const last = work === null ? works.all()[0] : undefined;
     lay();
@@ -692,7 +691,7 @@ function hear() {
     hearDrops(() => !isKiosk, openDropped);
     addEventListener("keydown", onKey);
     addEventListener("popstate", followAddress);
-    for (const kind of ["pagehide", "visibilitychange"]) addEventListener(kind, () => { keepWork().then(() => keeper.leave()); });
+    for (const kind of ["pagehide", "visibilitychange"]) addEventListener(kind, () => { keepWork(); keeper.leave(); });
 }
 
 globalThis.laboratoryOfPage = () => laboratory;

@@ -119,6 +119,7 @@ async function names(browser, address) {
         await browser.open(`${address}?lang=${code}&${behind}`);
         assert.deepEqual(await browser.value("[...document.querySelectorAll('*')].filter((it) => /\\[object |undefined|NaN/.test([it.getAttribute('aria-label'), it.title, it.children.length === 0 && !it.matches('script, style') ? it.textContent : ''].join(' '))).map((it) => it.outerHTML.slice(0, 100))"), [], behind);
     }
+    await browser.open(`${address}?lang=en&door=work`);
 }
 
 /** Enter in the field for addresses shows the words there, as its button does. */
