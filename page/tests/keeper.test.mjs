@@ -42,6 +42,7 @@ test("what was written in the last moment is kept, though no time was left for t
     const first = await over(shelf, { setTimeout: () => 1, clearTimeout: () => {} });
     first.keep("language", "de");
     first.leave();
+    await new Promise((resolve) => { setTimeout(resolve); });
     const time = clocks();
     shelf.removeItem("condugwa/language");
     shelf.setItem("condugwa/last-moment", JSON.stringify([["language", "de"]]));
