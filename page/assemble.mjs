@@ -1,8 +1,8 @@
-// Puts the one file together: node assemble.mjs TEMPLATE STYLE LACKING MAIN WORKER MODULE EXAMPLES LESSONS TASKS, written to standard output.
+// Puts the one file together: node assemble.mjs TEMPLATE STYLE LACKING MAIN WORKER MODULE EXAMPLES LESSONS TASKS NOTICES, written to standard output.
 import { readFileSync } from "node:fs";
 import { lessonsBelow, remarksBelow, scriptsBelow, sheetsBelow, tasksBelow } from "./documents.mjs";
 
-const [template, style, lacking, main, worker, module, shelf, lessons, tasks] = process.argv.slice(2);
+const [template, style, lacking, main, worker, module, shelf, lessons, tasks, notices] = process.argv.slice(2);
 const text = (path) => readFileSync(path, "utf8");
 
 /** Text that may stand within a script element: nothing in it ends that element. */
@@ -13,6 +13,6 @@ const inertJson = (value) => inert(JSON.stringify(value)).replaceAll("<\\!--", "
 
 const parts = {
     STYLE: text(style), LACKING: inert(text(lacking)), MAIN: inert(text(main)), WORKER: inert(text(worker)), MODULE: readFileSync(module).toString("base64"),
-    EXAMPLES: inertJson(Object.fromEntries(scriptsBelow(shelf))), REMARKS: inertJson(remarksBelow(shelf)), LESSONS: inertJson(lessonsBelow(lessons)), SHEETS: inertJson(sheetsBelow(lessons)), TASKS: inertJson(tasksBelow(tasks, shelf)),
+    EXAMPLES: inertJson(Object.fromEntries(scriptsBelow(shelf))), REMARKS: inertJson(remarksBelow(shelf)), LESSONS: inertJson(lessonsBelow(lessons)), SHEETS: inertJson(sheetsBelow(lessons)), TASKS: inertJson(tasksBelow(tasks, shelf)), NOTICES: inertJson(text(notices)),
 };
 process.stdout.write(text(template).replace(/@([A-Z]+)@/g, (whole, name) => parts[name] ?? whole));

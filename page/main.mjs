@@ -52,6 +52,7 @@ const examples = new Map(Object.entries(JSON.parse(inlined("examples"))));
 const remarks = JSON.parse(inlined("remarks"));
 const sheets = JSON.parse(inlined("sheets"));
 const tasks = JSON.parse(inlined("tasks"));
+const licences = JSON.parse(inlined("licences"));
 const openLink = () => new Link(inlined("worker"), inlined("module"));
 const drafts = new Drafts();
 
@@ -356,7 +357,8 @@ async function save() {
 
 function about() {
     const wanted = h("input", { type: "checkbox", id: "short-keys", checked: hasShortKeys, onchange: () => { hasShortKeys = wanted.checked; } });
-    dialog(texts.text("about"), ...texts.table.aboutText.map((paragraph) => h("p", {}, paragraph)), h("p", {}, texts.text("version", { version })), h("p", {}, h("label", {}, wanted, ` ${texts.text("shortKeys")}`)));
+    const ours = h("details", { id: "notices-of-all" }, h("summary", {}, texts.text("licences")), h("pre", { class: "transcript", lang: "en", tabindex: "0", role: "group", "aria-label": texts.text("licences") }, licences));
+    dialog(texts.text("about"), ...texts.table.aboutText.map((paragraph) => h("p", {}, paragraph)), ours, h("p", {}, texts.text("version", { version })), h("p", {}, h("label", {}, wanted, ` ${texts.text("shortKeys")}`)));
 }
 
 /** What is played, as long as it leads to where the machine stands; in slow motion up to the next order. */
@@ -492,7 +494,7 @@ function makePage() {
 
 function lay() {
     document.documentElement.lang = texts.code;
-    document.title = texts.text("title");
+    document.title = texts.text("documentTitle");
     document.body.className = isKiosk ? "kiosk" : "";
     placeNotices(null);
     const made = isKiosk ? makeExhibit() : makePage();

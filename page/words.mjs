@@ -3,11 +3,11 @@
 
 const en = {
     language: "English",
-    title: "The LGP-30, proved", choices: "Page", drives: "Machine",
+    title: "The LGP-30, proved", documentTitle: "Condugwa: the LGP-30, proved", choices: "Page", drives: "Machine",
     subtitle: "A laboratory for the drum computer of 1956",
     examples: "Examples", openExample: "Open an example", chooseExample: "choose …",
     example: "Example", explanation: "What it is about",
-    about: "About", version: "Version {version}", shortKeys: "The keys s, w, r, h, [ and ] step, walk, run, stop, and go one order back and forward; 1 to 4 go on in the four paces", sound: "Sound", soundHint: "The strokes of the typewriter, and a hum while the drum works", kiosk: "Kiosk", save: "Save", saveHint: "Saves all that was done as a script, which lgp_lab runs to the same panel", withQuestions: "with the lines that only ask", lineCount: "{count} lines",
+    about: "About", licences: "Licence and notices", version: "Version {version}", shortKeys: "The keys s, w, r, h, [ and ] step, walk, run, stop, and go one order back and forward; 1 to 4 go on in the four paces", sound: "Sound", soundHint: "The strokes of the typewriter, and a hum while the drum works", kiosk: "Kiosk", save: "Save", saveHint: "Saves all that was done as a script, which lgp_lab runs to the same panel", withQuestions: "with the lines that only ask", lineCount: "{count} lines",
     open: "Open", openHint: "Opens a script from a file, as Save gives it; a file may be dropped on the page as well", lastSession: "the last session", keptSession: "This browser has kept the last session on this machine:", openAgain: "Open it again", forget: "Forget it",
     linkThat: "A link that opens this script", noLink: "The script is too long for a link.",
     fileTooLong: "{detail} is longer than memory holds. Nothing was done.", fileNoText: "{detail} is no text. Nothing was done.", fileNoScript: "{detail} does not begin with a command of the monitor, so it is no script. Nothing was done.",
@@ -160,19 +160,20 @@ const en = {
     },
     aboutText: [
         "Inside this page works a program whose every function was proved to meet its contract: machine, assembler, debugger and monitor of the laboratory Condugwa for the Royal McBee LGP-30. The page sends it lines, and shows its replies.",
-        "Proved is that the module answers each line exactly as its definitions say, and that the whole transcript leads to the same machine. Not proved, but trusted: the script of this page that draws the replies and, when it saves, leaves out the lines that only ask, the browser, its WebAssembly with 64-bit addresses, and the linking of the module.",
+        "Proved is that the module answers each line exactly as its definitions say, and that the whole transcript leads to the same machine. Not proved, but trusted: the script of this page that draws the replies and, when it saves, leaves out the lines that only ask, the browser and its WebAssembly, the program wasm-opt, which has given the proved module memory addresses of 32 bits, and the linking of the module.",
         "The words, orders, drum and waits are those of the LGP-30 Programming Manual of 1957. What the manuals leave open is this project's own choice; docs/MACHINE.md marks each of them.",
         "The page needs no network. What is written here the browser keeps on this machine, where it can: the last ten works, with their texts, lines, steps and answers, and the sources of tasks. Last works has them. The kiosk keeps nothing.",
+        "Condugwa is under the MIT licence or the Apache License 2.0, as you choose. The module also contains code of other crates; their notices are below.",
     ],
 };
 
 const de = {
     language: "Deutsch",
-    title: "Die LGP-30, bewiesen", choices: "Seite", drives: "Maschine",
+    title: "Die LGP-30, bewiesen", documentTitle: "Condugwa: die LGP-30, bewiesen", choices: "Seite", drives: "Maschine",
     subtitle: "Ein Labor für den Trommelrechner von 1956",
     examples: "Beispiele", openExample: "Beispiel öffnen", chooseExample: "auswählen …",
     example: "Beispiel", explanation: "Worum es geht",
-    about: "Über", version: "Version {version}", shortKeys: "Die Tasten s, w, r, h, [ und ] tun einen Schritt, gehen, laufen, halten an und gehen einen Befehl zurück und vor; 1 bis 4 gehen in den vier Tempos weiter", sound: "Ton", soundHint: "Die Anschläge der Schreibmaschine, und ein Summen, während die Trommel arbeitet", kiosk: "Kiosk", save: "Sichern", saveHint: "Sichert alles Getane als Skript, das lgp_lab zum selben Stand führt", withQuestions: "mit den Zeilen, die nur fragen", lineCount: "{count} Zeilen",
+    about: "Über", licences: "Lizenz und Hinweise", version: "Version {version}", shortKeys: "Die Tasten s, w, r, h, [ und ] tun einen Schritt, gehen, laufen, halten an und gehen einen Befehl zurück und vor; 1 bis 4 gehen in den vier Tempos weiter", sound: "Ton", soundHint: "Die Anschläge der Schreibmaschine, und ein Summen, während die Trommel arbeitet", kiosk: "Kiosk", save: "Sichern", saveHint: "Sichert alles Getane als Skript, das lgp_lab zum selben Stand führt", withQuestions: "mit den Zeilen, die nur fragen", lineCount: "{count} Zeilen",
     open: "Öffnen", openHint: "Öffnet ein Skript aus einer Datei, wie Sichern es gibt; man kann eine Datei auch auf die Seite ziehen", lastSession: "die letzte Sitzung", keptSession: "Dieser Browser hat die letzte Sitzung auf diesem Rechner aufbewahrt:", openAgain: "Wieder öffnen", forget: "Vergessen",
     linkThat: "Ein Link, der dieses Skript öffnet", noLink: "Für einen Link ist das Skript zu lang.",
     fileTooLong: "{detail} ist länger, als der Speicher fasst. Nichts wurde getan.", fileNoText: "{detail} ist kein Text. Nichts wurde getan.", fileNoScript: "{detail} beginnt mit keinem Befehl des Monitors und ist darum kein Skript. Nichts wurde getan.",
@@ -325,9 +326,10 @@ const de = {
     },
     aboutText: [
         "In dieser Seite arbeitet ein Programm, von dem für jede Funktion bewiesen ist, dass sie ihren Vertrag erfüllt: Maschine, Übersetzer, Debugger und Monitor des Labors Condugwa für die Royal McBee LGP-30. Die Seite schickt ihm Zeilen und zeigt seine Antworten.",
-        "Bewiesen ist, dass das Modul jede Zeile genau so beantwortet, wie seine Definitionen sagen, und dass das ganze Protokoll der Zeilen, als Skript, zur selben Maschine führt. Nicht bewiesen, nur vertraut: das Skript dieser Seite, das die Antworten zeichnet und beim Sichern die Zeilen weglässt, die nur fragen, der Browser, sein WebAssembly mit 64-Bit-Adressen und das Binden des Moduls.",
+        "Bewiesen ist, dass das Modul jede Zeile genau so beantwortet, wie seine Definitionen sagen, und dass das ganze Protokoll der Zeilen, als Skript, zur selben Maschine führt. Nicht bewiesen, nur vertraut: das Skript dieser Seite, das die Antworten zeichnet und beim Sichern die Zeilen weglässt, die nur fragen, der Browser und sein WebAssembly, das Programm wasm-opt, das dem bewiesenen Modul Speicheradressen von 32 Bit gegeben hat, und das Binden des Moduls.",
         "Wörter, Befehle, Trommel und Wartezeiten sind die des LGP-30 Programming Manual von 1957. Was die Handbücher offen lassen, ist eine Wahl dieses Projekts; docs/MACHINE.md bezeichnet jede.",
         "Die Seite braucht kein Netz. Was hier geschrieben wird, bewahrt der Browser auf diesem Rechner auf, wo er kann: die letzten zehn Arbeiten, mit ihren Texten, Zeilen, Schritten und Antworten, und die Quelltexte der Aufgaben. Unter Letzte Arbeiten sind sie zu finden. Der Kiosk behält nichts.",
+        "Condugwa steht unter der MIT-Lizenz oder der Apache-Lizenz 2.0, nach Ihrer Wahl. Das Modul enthält auch Code anderer Crates; deren Lizenzhinweise stehen unten, auf Englisch.",
     ],
 };
 

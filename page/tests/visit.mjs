@@ -67,6 +67,13 @@ async function moment(browser, name) {
     await browser.picture(join(pictures, `page-${name}.png`));
 }
 
+/** About has the notices of the repository, closed until they are wanted; the name of the document begins with that of the project. */
+async function noticesSeen(browser) {
+    const [isOpen, text, title] = await browser.value("(({ open }, { textContent }) => [open, textContent, document.title])(document.querySelector('#notices-of-all'), document.querySelector('#notices-of-all pre'))");
+    assert.deepEqual([isOpen, text, title.split(":")[0]], [false, readFileSync(join(top, "NOTICES"), "utf8"), "Condugwa"]);
+    await browser.press("#notices-of-all summary");
+}
+
 /** Whether an order is played. */
 const isMoving = "document.querySelector('.drum-box').dataset.moving === 'true'";
 
@@ -1058,6 +1065,7 @@ async function everyone(browser) {
         for (const opener of ["#save", "#about"]) {
             await browser.press(opener);
             await browser.waitFor("document.querySelector('dialog')");
+            if (opener === "#about") await noticesSeen(browser);
             assert.deepEqual([...await nameless(browser), ...await faint(browser)], []);
             await browser.strike("Escape");
         }
