@@ -1,12 +1,12 @@
 // Visitors at the kiosk, without a browser: they press at random, walk away and come back, and the paper is always a beginning of what its program prints. No time passes but that of the test's own clock.
-// TOUCHES says how many touches each example gets; the one that the kiosk shows and the game get 10,000.
+// TOUCHES says how many touches each example gets; the one that the kiosk shows and the game get 1,000.
 import assert from "node:assert/strict";
 import { test } from "node:test";
 import { KIOSK } from "../exhibit.mjs";
 import { GAMES } from "../views/game.mjs";
 import { chance, checkOf, examples, exhibited, printedBy, skip, tick } from "./exhibited.mjs";
 
-const TOUCHES = Number(process.env.TOUCHES ?? 150);
+const TOUCHES = Number(process.env.TOUCHES ?? 40);
 
 /** Visitors touch so often; each time that the machine has changed the paper is looked at. Now and then nobody is there, and it begins anew. */
 async function visited(name, touches) {
@@ -31,7 +31,7 @@ async function visited(name, touches) {
 const isLong = (name) => name === KIOSK.example || GAMES.has(name);
 
 for (const name of examples) {
-    test(`${name}: whatever is pressed at the kiosk, the paper is a beginning of the right text`, { skip }, () => visited(name, isLong(name) ? Math.max(TOUCHES, 10_000) : TOUCHES));
+    test(`${name}: whatever is pressed at the kiosk, the paper is a beginning of the right text`, { skip }, () => visited(name, isLong(name) ? Math.max(TOUCHES, 1000) : TOUCHES));
 }
 
 test("a program that has ended begins anew by each of the buttons", { skip }, async () => {
