@@ -58,7 +58,7 @@ export class Exhibit extends EventTarget {
         if (this.#asked !== null && this.#asked !== this.name) await laboratory.tell({ kind: "noKioskExample", detail: this.#asked, shown: this.name });
     }
 
-    /** Presses Start where the machine stands still. A program that has ended begins anew: what lies behind its end is no program. */
+    /** Presses Start where the machine stands still. A program that has ended begins anew, since the words after its end are not part of it. */
     async #start() {
         if (this.#laboratory.way.kind === "start" && this.#isBegun) await this.#open();
         if (this.#laboratory.way.kind !== "start") return;

@@ -61,7 +61,7 @@ export class Run {
         return this.#portion;
     }
 
-    /** The portion has taken so many milliseconds. */
+    /** The portion has taken this many milliseconds. */
     took(milliseconds) {
         this.#sizes[this.#portion.verb] = nextPortion(this.#sizes[this.#portion.verb], milliseconds);
     }
@@ -80,7 +80,7 @@ export class Run {
         if (end === "rest" && this.#isOperated && (verb === "run" || starts === size)) this.end = "limit";
     }
 
-    /** So many codes were printed when the paper was looked at last. It ends where that are many, and the next portion has as many orders as may print what is left. */
+    /** This many codes were printed when the paper was looked at last. The run ends where they are too many, and the next portion has as many orders as may print what is left. */
     watched(room, count) {
         const unasked = room.codesAtMost - count;
         const known = ordersUntilAsked(this.#performed - unasked, count - this.printed) - unasked;

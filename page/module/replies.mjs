@@ -280,7 +280,7 @@ export function costsOf(lines) {
     return { orders, times, turns, ...placeOf(lines[1] ?? ""), sectors, saved: Number(free?.[1] ?? 0), ...(free === null ? reasonOf(last) : { kind: "free", reason: null }) };
 }
 
-/** What a run tells of its orders, and the line that ends it. What the monitor says behind that line begins with a blank, or for programs with
+/** What a run tells of its orders, and the line that ends it. What the monitor says after that line begins with a blank, or for programs with
  * the key `state`. */
 export function toldOf(reply) {
     const lines = linesOf(reply);

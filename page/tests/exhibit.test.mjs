@@ -1,5 +1,5 @@
 // Visitors at the kiosk, without a browser: they press at random, walk away and come back, and the paper is always a beginning of what its program prints. No time passes but that of the test's own clock.
-// TOUCHES says how many touches each example gets; the one that the kiosk shows and the game get 1,000.
+// TOUCHES says how many touches each example gets; the one that the kiosk shows and the game get 1,000 at least. PART says which examples are visited: 2/3 is the second of three parts of them.
 import assert from "node:assert/strict";
 import { test } from "node:test";
 import { KIOSK } from "../exhibit.mjs";
@@ -7,6 +7,7 @@ import { GAMES } from "../views/game.mjs";
 import { chance, checkOf, examples, exhibited, printedBy, skip, tick } from "./exhibited.mjs";
 
 const TOUCHES = Number(process.env.TOUCHES ?? 40);
+const [part, parts] = (process.env.PART ?? "1/1").split("/").map(Number);
 
 /** Visitors touch so often; each time that the machine has changed the paper is looked at. Now and then nobody is there, and it begins anew. */
 async function visited(name, touches) {
@@ -30,7 +31,7 @@ async function visited(name, touches) {
 
 const isLong = (name) => name === KIOSK.example || GAMES.has(name);
 
-for (const name of examples) {
+for (const name of examples.filter((unused, place) => place % parts === part - 1)) {
     test(`${name}: whatever is pressed at the kiosk, the paper is a beginning of the right text`, { skip }, () => visited(name, isLong(name) ? Math.max(TOUCHES, 1000) : TOUCHES));
 }
 
