@@ -12,9 +12,11 @@ const NEVER = { setTimeout: () => null, clearTimeout: () => {} };
 export class Keeper {
     #store;
     #changed = new Map();
+    /** What is being written; null where nothing is. */
+    #writing = null;
     #timer = null;
     #clocks;
-    #isWriting = false;
+    #isLeft = false;
 
     /** A keeper over a store; one without a store has what it is given as long as the page is open. */
     constructor(store = null, clocks = globalThis) {
@@ -43,30 +45,33 @@ export class Keeper {
         if (value === null) this.#store.values.delete(name);
         else this.#store.values.set(name, value);
         this.#changed.set(name, value);
+        this.#isLeft = false;
         this.#timer ??= this.#clocks.setTimeout(() => this.flush(), KEPT_AFTER);
     }
 
-    /** Writes what has changed. What comes meanwhile is written next. */
+    /** Writes what has changed. What comes meanwhile is written next; where the page was left meanwhile, that is still written at last. */
     async flush() {
-        if (this.#isWriting) return;
+        if (this.#writing !== null) return;
         const changes = this.#changed;
-        [this.#changed, this.#timer, this.#isWriting] = [new Map(), null, true];
+        [this.#changed, this.#timer, this.#writing] = [new Map(), null, changes];
         try {
             await this.#store.write(changes);
-            this.#store.writeAtLast(new Map());
+            this.#store.writeAtLast(this.#isLeft ? this.#changed : new Map());
         } catch {
             this.#changed = new Map([...changes, ...this.#changed]);
             this.#store.writeAtLast(this.#changed);
         } finally {
-            this.#isWriting = false;
+            this.#writing = null;
             if (this.#changed.size > 0) this.#timer ??= this.#clocks.setTimeout(() => this.flush(), KEPT_AFTER);
         }
     }
 
-    /** The page is left: what has changed is written at once. */
+    /** The page is left: what has changed is written at once, and so is what is being written, since that may not come to its end. */
     leave() {
-        if (this.#changed.size === 0) return;
-        this.#store.writeAtLast(this.#changed);
+        const unwritten = new Map([...this.#writing ?? [], ...this.#changed]);
+        if (unwritten.size === 0) return;
+        this.#isLeft = true;
+        this.#store.writeAtLast(unwritten);
         this.flush();
     }
 }

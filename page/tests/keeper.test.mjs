@@ -95,6 +95,21 @@ test("ten works are kept, the newest first; another one begins, and the one befo
     assert.deepEqual([works.of(works.id).title, works.all().some(({ title }) => title === "only looked at"), works.begin()], ["only looked at", false, null]);
 });
 
+test("what is being written when the page is left is kept, and so is what came after it", async () => {
+    let [last, end] = [null, null];
+    const keeper = new Keeper({ values: new Map(), unwritten: new Map(), isKept: true, write: () => new Promise((resolve) => { end = resolve; }), writeAtLast: (changes) => { last = Object.fromEntries(changes); } }, clocks());
+    keeper.keep("one", "1");
+    const written = keeper.flush();
+    keeper.leave();
+    assert.deepEqual(last, { one: "1" });
+    keeper.keep("two", "2");
+    keeper.leave();
+    assert.deepEqual(last, { one: "1", two: "2" });
+    end();
+    await written;
+    assert.deepEqual(last, { two: "2" });
+});
+
 test("the source of a task that is begun anew is taken back, and the other way", () => {
     const sources = new Sources(new Keeper());
     assert.deepEqual([sources.open, sources.of("sum"), sources.before("sum")], [null, null, null]);
