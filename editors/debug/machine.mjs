@@ -1,0 +1,256 @@
+// The laboratory of a debugger: what it asks of the monitor, and what an operator does at the console for it. What is known of the machine is in the replies.
+import { bytesFrom, textFrom, wordsOf } from "../../page/module/lines.mjs";
+import { Recorded } from "../../page/module/recorded.mjs";
+import * as replies from "../../page/module/replies.mjs";
+
+/** What could not be done, as a client shows it. */
+export class Refused extends Error {}
+
+const typed = (text) => textFrom(new TextEncoder().encode(text));
+const shown = (text) => new TextDecoder().decode(bytesFrom(text));
+
+/** The reply, or where it is a refusal the line that says so. */
+function granted(reply) {
+    const refusal = replies.linesOf(reply).find(replies.isRefusal);
+    if (refusal !== undefined) throw new Refused(refusal);
+    return reply;
+}
+
+/** The words of a record of `show-data`, as one line. */
+export const valueOf = (record) => ["digits", "order", "number", "fraction"].flatMap((key) => record.get(key)?.trim() ?? []).join("  ");
+
+export class Machine {
+    #openSession;
+    #recorded;
+    #console;
+    #beside = null;
+    #commands = null;
+    /** How many orders were performed since something else was done: these can be gone back over and performed again. */
+    #orders = 0;
+
+    /** A laboratory in a session, with what types lines that may name files: where there is none, the session types them. */
+    constructor(openSession, consoleOver = null) {
+        this.#openSession = openSession;
+        this.#recorded = new Recorded(openSession());
+        this.#console = consoleOver?.(this.#recorded, () => new Recorded(openSession())) ?? null;
+    }
+
+    /** The reply to a line that does something. */
+    does(line) {
+        this.#orders = 0;
+        return granted(shown(this.#recorded.answer(typed(line))));
+    }
+
+    /** The reply to a line that may be refused. */
+    tries(line) {
+        return shown(this.#recorded.answer(typed(line)));
+    }
+
+    /** The reply to a line that only asks. */
+    asks(line) {
+        return granted(shown(this.#recorded.ask(typed(line))));
+    }
+
+    /** The reply to a question of programs, which no transcript has. */
+    #told(line) {
+        return granted(shown(this.#recorded.answer(typed(line))));
+    }
+
+    #records(line, first) {
+        return replies.recordsOf(replies.linesOf(this.#told(line)), first);
+    }
+
+    /** Whether a line only asks, by its command; undefined where it has none. */
+    isQuestion(line) {
+        this.#commands ??= new Map(this.#records("commands-data", "command").map((record) => [record.get("command"), record.get("asks") === "yes"]));
+        return this.#commands.get(wordsOf(line)[0]);
+    }
+
+    /** What a console line is answered, a refusal too. */
+    async types(line) {
+        if (!this.isQuestion(line)) this.#orders = 0;
+        return shown(this.#console === null ? this.#recorded.answer(typed(line)) : await this.#console.type(typed(line)));
+    }
+
+    /** What the lines of a source are answered, each with a sign for each of its bytes. */
+    assemble(lines) {
+        this.#orders = 0;
+        return lines.map((line) => shown(this.#recorded.answer(line))).join("");
+    }
+
+    get hasLeft() {
+        return this.#console?.hasLeft ?? false;
+    }
+
+    transcript() {
+        return this.#recorded.answer("transcript");
+    }
+
+    /** The fields of `state-data`. */
+    state() {
+        return this.#records("state-data", "counter")[0];
+    }
+
+    /** The words from an address on, as `show-data` has them. */
+    words(address, count = 1) {
+        return this.#records(`show-data ${address} ${count}`, "address");
+    }
+
+    /** The word at what may be an address; the monitor says whether it is, and a refused line leaves no trace. */
+    word(address) {
+        if (/\s/.test(address) || address === "") throw new Refused(`${JSON.stringify(address)} is no address and no label`);
+        return replies.recordsOf(replies.linesOf(this.asks(`show-data ${address} 1`)), "address")[0];
+    }
+
+    why(address) {
+        return this.#records(`why-data ${address}`, "address")[0];
+    }
+
+    labels() {
+        return this.#records("labels-data", "name");
+    }
+
+    rules() {
+        return this.#records("rules-data", "rule");
+    }
+
+    tape() {
+        return new Map(replies.linesOf(this.#told("tape-data")).map((line) => [wordsOf(line)[0], line.slice(wordsOf(line)[0].length + 1)]));
+    }
+
+
+    paper() {
+        const { count, text: rows } = replies.paperOf(this.#told("paper"));
+        return { count, rows };
+    }
+
+    source() {
+        return this.#told("source-data");
+    }
+
+    /** Performs orders, and says how many, and why that ended. */
+    run(limit) {
+        const before = this.#orders;
+        const run = replies.runOf(this.does(`run ${limit}`));
+        this.#orders = before + run.orders;
+        return run;
+    }
+
+    /** Starts the machine again where it has halted for its typewriter, and performs an order: the run, or null where it waits for nothing. */
+    operate() {
+        const reply = this.does("operate 1");
+        return replies.startsOf(reply) === 0 ? null : replies.runOf(reply);
+    }
+
+    back(orders) {
+        const before = this.#orders;
+        this.does(`back ${orders}`);
+        this.#orders = Math.max(0, before - orders);
+    }
+
+    /** Goes back to the latest order that a rule hits: what the monitor says of it, or null where there is none. */
+    last() {
+        const before = this.#orders;
+        const reply = this.tries("last");
+        if (replies.isRefusal(reply)) return null;
+        const last = replies.lastOf(reply);
+        this.#orders = Math.max(0, before - last.orders);
+        return last;
+    }
+
+    /** Goes back as far as steps are kept; the monitor's sentence that says how far. */
+    toFirst() {
+        const refusal = this.tries("last").trim();
+        const { number } = replies.refusalOf(refusal);
+        if (number === 0) throw new Refused(refusal);
+        this.back(number);
+        return refusal;
+    }
+
+    /** Lets the machine go on, as the monitor says that it can; whether it goes. One that waits for keys does not. */
+    wake() {
+        const way = this.state().get("way");
+        if (way === "keys") return false;
+        if (way !== "orders") for (const button of way.split(" ")) this.does(`press ${button}`);
+        return true;
+    }
+
+    /** Does what the console allows only at rest: a machine that is going is halted for it, and started again. */
+    atRest(work) {
+        const before = this.state();
+        if (before.get("way") !== "orders") return work();
+        this.does("press manual");
+        try {
+            return work();
+        } finally {
+            this.does(`press ${before.get("mode")}`);
+            this.does("press start");
+        }
+    }
+
+    /** The digits of what `put` takes as a word. A laboratory beside this one works them out. */
+    digitsOf(value) {
+        this.#beside ??= new Recorded(this.#openSession());
+        granted(shown(this.#beside.answer(typed(`put 0000 ${value}`))));
+        return replies.placesOf(this.#beside.answer("words 0000 1"))[0].text;
+    }
+
+    /** Types digits into the accumulator, as an operator does. */
+    #keyIn(digits) {
+        const isSix = this.state().get("sixbit") === "down";
+        this.does("press manual");
+        if (isSix) this.does("press sixbit up");
+        this.does(`type ${digits}`);
+        if (isSix) this.does("press sixbit down");
+    }
+
+    /** The accumulator, keyed in. */
+    setAccumulator(digits) {
+        this.#keyedIn(() => this.#keyIn(digits));
+    }
+
+    /** The instruction register, which is filled from the accumulator. */
+    setRegister(digits) {
+        this.#keyedIn((before) => {
+            this.#keyIn(digits);
+            this.does("press fill");
+            this.#keyIn(before.get("accumulator"));
+        });
+    }
+
+    #keyedIn(work) {
+        const before = this.state();
+        if (!["orders", "start", "normal start"].includes(before.get("way"))) throw new Refused(before.get("way-sentence"));
+        work(before);
+        this.does(`press ${before.get("mode")}`);
+        if (before.get("way") === "orders") this.does("press start");
+    }
+
+    /** The counter: a jump is keyed in and performed, and then the accumulator as it was. */
+    goTo(address) {
+        const before = this.state().get("accumulator");
+        this.does(`go ${address}`);
+        this.setAccumulator(before);
+    }
+
+    /** The accounts of the last orders, at most so many: it goes back over them and performs them again, which leaves no trace. */
+    lastOrders(most) {
+        const orders = Math.min(most, this.#orders, Number(this.state().get("kept")));
+        if (orders === 0) return [];
+        this.asks(`back ${orders}`);
+        return Array.from({ length: orders }, () => replies.toldOf(this.asks("trace-data 1")).told);
+    }
+
+    /** What was said of a word before the last order was performed. */
+    whyBefore(address) {
+        if (this.#orders === 0) return null;
+        this.asks("back 1");
+        const said = this.asks(`why ${address}`);
+        this.asks("run 1");
+        return said.trim();
+    }
+
+    sayWhy(address) {
+        return this.asks(`why ${address}`).trim();
+    }
+}

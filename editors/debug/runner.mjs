@@ -1,0 +1,128 @@
+// Runs of the machine, in portions so that a pause is heard, up to a point at which a client wants it to stop.
+import { nextPortion } from "../../page/portions.mjs";
+import { Refused } from "./machine.mjs";
+
+const FIRST_PORTION = 2000;
+/** After how many milliseconds others have their turn. */
+const TURN = 20;
+
+/** Lets what waits be done. */
+const letOthersGo = () => new Promise((resume) => { setTimeout(resume); });
+
+export class Runner {
+    #machine;
+    #rules;
+    #printing;
+    #log;
+    #isOperated;
+    #isPausing = false;
+    isRunning = false;
+
+    constructor(machine, rules, printing, log, isOperated) {
+        this.#machine = machine;
+        this.#rules = rules;
+        this.#printing = printing;
+        this.#log = log;
+        this.#isOperated = isOperated;
+    }
+
+    pause() {
+        this.#isPausing = true;
+    }
+
+    /** Runs until there is a reason to stop, and gives that. Where the program is entered, a breakpoint at its first order is one. */
+    async run(isEntering) {
+        this.isRunning = true;
+        this.#isPausing = false;
+        this.#printing.begin();
+        try {
+            return (isEntering ? this.#stopFor(this.#rules.hitAtEntry()) : null) ?? await this.#portions();
+        } catch (refusal) {
+            if (!(refusal instanceof Refused)) throw refusal;
+            return { reason: "exception", sentence: refusal.message };
+        } finally {
+            this.isRunning = false;
+        }
+    }
+
+    async #portions() {
+        if (!this.#machine.wake()) return this.#halted();
+        let [size, turn] = [FIRST_PORTION, performance.now()];
+        for (;;) {
+            const begun = performance.now();
+            const stop = this.#portion(size);
+            if (stop !== null) return stop;
+            this.#printing.show();
+            if (this.#printing.left === 0) return { reason: "pause", sentence: `${this.#printing.sinceAsked} codes were printed since the run began: continue lets it print on` };
+            size = this.#sizeAfter(size, performance.now() - begun);
+            if (performance.now() - turn < TURN) continue;
+            await letOthersGo();
+            turn = performance.now();
+            if (this.#isPausing) return { reason: "pause" };
+        }
+    }
+
+    /** The size of the next portion. One that prints is short, so that it prints no more than is wanted. */
+    #sizeAfter(size, took) {
+        const next = nextPortion(size, took);
+        return this.#printing.sinceAsked === 0 ? next : Math.min(next, Math.max(1, this.#printing.left));
+    }
+
+    /** Performs some orders; why it is to stop, or null. */
+    #portion(size) {
+        const run = this.#machine.run(size);
+        if (run.end === "limit") return null;
+        return run.end === "rule" ? this.#stopAt(run.rule) : this.#rest();
+    }
+
+    #rest() {
+        const again = this.#isOperated ? this.#machine.operate() : null;
+        if (again === null) return this.#halted();
+        if (again.end === "limit") return null;
+        return again.end === "rule" ? this.#stopAt(again.rule) : this.#rest();
+    }
+
+    /** The machine has stopped itself. */
+    #halted() {
+        const state = this.#machine.state();
+        const status = state.get("status");
+        const sentence = `${state.get("state-sentence")}: ${state.get("way-sentence")}`;
+        return { reason: status === "halted overflow" ? "exception" : status, sentence };
+    }
+
+    /** What a rule's stop is for the client: null where all that was hit only counts or writes. */
+    #stopAt(number) {
+        const { stopped, hit, isOfConsole } = this.#rules.hitNow(number);
+        return this.#stopFor(hit, stopped, isOfConsole);
+    }
+
+    /** The stop for points that were hit, and for the rule that has stopped the machine. */
+    #stopFor(hit, stopped = null, isOfConsole = false) {
+        const counted = hit.filter((point) => point.hit());
+        for (const { log } of counted) if (log !== null) this.#log(log);
+        const points = counted.filter(({ log }) => log === null);
+        if (points.length === 0 && !isOfConsole) return null;
+        const { kind, address } = points.find((point) => point.kind === stopped?.kind) ?? points[0] ?? stopped;
+        if (kind === "break") return { reason: "breakpoint", points };
+        return { reason: "data breakpoint", points, sentence: this.#machine.sayWhy(address), text: this.#machine.whyBefore(address) ?? undefined };
+    }
+
+    /** Performs one order. */
+    step() {
+        if (!this.#machine.wake()) return this.#halted();
+        this.#printing.begin();
+        const run = this.#machine.run(1);
+        if (run.end === "rule") return this.#stopAt(run.rule) ?? { reason: "step" };
+        return run.end === "rest" ? this.#halted() : { reason: "step" };
+    }
+
+    /** Goes back to the latest order that a breakpoint hits, or to the first that is kept. */
+    runBack() {
+        for (;;) {
+            const said = this.#machine.last();
+            if (said === null) return { reason: "entry", sentence: this.#machine.toFirst() };
+            const points = this.#rules.stopsBack(said.rule);
+            if (points !== null) return { reason: this.#rules.rule(said.rule).kind === "break" ? "breakpoint" : "data breakpoint", points };
+        }
+    }
+}

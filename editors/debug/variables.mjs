@@ -1,0 +1,142 @@
+// What a debugger shows of the machine: scopes of variables, each asked of the monitor when it is opened.
+import { SWITCHES } from "../../page/module/replies.mjs";
+import { Refused, valueOf } from "./machine.mjs";
+
+/** How many of the last orders are shown. */
+const LAST_ORDERS = 12;
+const SCOPES = ["Registers", "Switches", "Tape", "Labels", "Kept steps"];
+const [REGISTERS, WAY, TAPE, LABELS, STEPS] = SCOPES.map((_, at) => at + 1);
+/** What the console can set besides switches, and how. */
+const SET = {
+    counter: (machine, value) => machine.goTo(value),
+    accumulator: (machine, value) => machine.setAccumulator(machine.digitsOf(value)),
+    register: (machine, value) => machine.setRegister(machine.digitsOf(value)),
+    mode: (machine, value) => machine.does(`press ${value}`),
+};
+/** What is said of a value beside it. */
+const BESIDE = ["label", "order", "number"];
+
+const leaf = (name, value, more = {}) => ({ name, value, variablesReference: 0, ...more });
+const pairsOf = (record) => [...record].map(([name, value]) => leaf(name, value));
+
+export class Variables {
+    #machine;
+    /** What can be opened besides the scopes, by its number less that of the scopes. */
+    #opened = [];
+
+    constructor(machine) {
+        this.#machine = machine;
+    }
+
+    scopes() {
+        this.#opened = [];
+        return SCOPES.map((name, at) => ({ name, variablesReference: at + 1, expensive: at + 1 === STEPS, ...(at === 0 ? { presentationHint: "registers" } : {}) }));
+    }
+
+    /** The number by which variables can be opened. */
+    #reference(variables) {
+        this.#opened.push(variables);
+        return SCOPES.length + this.#opened.length;
+    }
+
+    variables(reference) {
+        switch (reference) {
+            case REGISTERS: return this.#registers();
+            case WAY: return this.#switches();
+            case TAPE: return [...this.#machine.tape()].map(([name, value]) => leaf(name, value));
+            case LABELS: return this.#machine.labels().map((label) => this.#labelled(label.get("name"), label.get("place")));
+            case STEPS: return this.#steps();
+            default: return this.#openedAt(reference);
+        }
+    }
+
+    #openedAt(reference) {
+        const variables = this.#opened[reference - SCOPES.length - 1];
+        if (variables === undefined) throw new Refused(`there are no variables ${reference}: the machine has gone on since`);
+        return variables();
+    }
+
+    #registers() {
+        const state = this.#machine.state();
+        const isBeside = (key) => BESIDE.some((end) => key.endsWith(`-${end}`));
+        const names = [...state.keys()].filter((key) => !isBeside(key) && !SWITCHES.includes(key) && !key.startsWith("live-"));
+        return names.map((name) => leaf(name, [state.get(name), ...BESIDE.flatMap((end) => state.get(`${name}-${end}`) ?? [])].join("  "), {
+            evaluateName: name, ...(name === "counter" ? { memoryReference: state.get(name) } : {}), ...(name in SET ? {} : { presentationHint: { attributes: ["readOnly"] } }) }));
+    }
+
+    #switches() {
+        const state = this.#machine.state();
+        const live = [...state].filter(([key, value]) => key.startsWith("live-") && value === "yes").map(([key]) => key.slice("live-".length));
+        return [...SWITCHES.map((name) => leaf(name, state.get(name), { evaluateName: name })), leaf("live", live.join(" "), { presentationHint: { attributes: ["readOnly"] } })];
+    }
+
+    #labelled(name, place) {
+        try {
+            return this.word(name, place === undefined ? this.#machine.word(name) : this.#machine.words(place)[0]);
+        } catch (refusal) {
+            if (!(refusal instanceof Refused)) throw refusal;
+            return leaf(name, refusal.message, { presentationHint: { attributes: ["readOnly"] } });
+        }
+    }
+
+    /** A word of the drum as a variable; opened it says what put it there. */
+    word(name, record) {
+        const address = record.get("address");
+        return { name, value: valueOf(record), evaluateName: name, memoryReference: address, variablesReference: this.#reference(() => pairsOf(this.#machine.why(address))) };
+    }
+
+    #steps() {
+        const orders = this.#machine.lastOrders(LAST_ORDERS);
+        const shown = orders.map((lines) => new Map(lines.map((line) => [line.slice(0, line.indexOf(" ")), line.slice(line.indexOf(" ") + 1)])));
+        const kept = leaf("kept", this.#machine.state().get("kept"));
+        return [kept, ...shown.reverse().map((account, ago) => ({
+            name: `${ago + 1} ago`, value: `${account.get("at")}  ${account.get("order") ?? account.get("status")}  ${account.get("after")}`,
+            variablesReference: this.#reference(() => pairsOf(account)) }))];
+    }
+
+    /** Sets what a scope shows, as far as the console can; the value that it has then. */
+    set(reference, name, value) {
+        if (reference === LABELS) return this.setWord(name, value);
+        if (reference === TAPE && name === "left") this.#machine.atRest(() => this.#machine.does(`mount ${value}`));
+        else if ([REGISTERS, WAY].includes(reference)) this.#setState(name, value);
+        else throw new Refused(`the console cannot set ${name} here`);
+        return this.variables(reference).find((it) => it.name === name).value;
+    }
+
+    #setState(name, value) {
+        if (SWITCHES.includes(name)) this.#machine.does(`press ${name} ${value}`);
+        else if (name in SET) SET[name](this.#machine, value);
+        else throw new Refused(`the console sets ${Object.keys(SET).join(", ")} and the switches, not ${name}`);
+    }
+
+    /** Puts a word on the drum. */
+    setWord(address, value) {
+        this.#machine.word(address);
+        this.#machine.atRest(() => this.#machine.does(`put ${address} ${value}`));
+        return valueOf(this.#machine.word(address));
+    }
+
+    /** Sets what an expression names. */
+    setNamed(name, value) {
+        if (!this.#machine.state().has(name)) return this.setWord(name, value);
+        this.#setState(name, value);
+        return this.#machine.state().get(name);
+    }
+
+    /** What an expression is: a field of the state, a word, or the reply to a line that only asks. */
+    evaluated(expression, takesLines) {
+        const state = this.#machine.state();
+        if (state.has(expression)) return leaf(expression, state.get(expression));
+        try {
+            return this.word(expression, this.#machine.word(expression));
+        } catch (refusal) {
+            if (!(refusal instanceof Refused) || !takesLines || !this.#machine.isQuestion(expression)) throw refusal;
+            return leaf(expression, this.#machine.asks(expression).trimEnd());
+        }
+    }
+
+    /** The label whose variable this is, or null. */
+    addressOf(reference, name) {
+        return reference === LABELS ? this.#machine.word(name).get("address") : null;
+    }
+}

@@ -1,0 +1,4 @@
+// The bytes of the proved module, as they lie in the repository.
+import { readFileSync } from "node:fs";
+
+export const bytes = readFileSync(new URL("../page/module/lgp_c_region.wasm", import.meta.url));

@@ -1,0 +1,32 @@
+// A server of messages at standard input and output.
+import { bytes } from "#module";
+import { Framing, framed } from "./framing.mjs";
+import { Session, compiled } from "../page/module/session.mjs";
+
+const VERSION = "0.1.0";
+
+/** Says what the words of a command line ask for, and whether that is all. */
+function isAnswered(name, does, words) {
+    const [word] = words.filter((it) => it !== "--stdio");
+    if (word === undefined) return false;
+    if (["--version", "-V"].includes(word)) process.stdout.write(`${name} ${VERSION}\n`);
+    else if (["--help", "-h"].includes(word)) process.stdout.write(`${name} ${does}\n\n  --stdio          the same as without words: messages come and go by standard input and output\n  -h, --help       this help\n  -V, --version    the version\n`);
+    else {
+        process.stderr.write(`${name}: ${word} is no word of this program; --help lists them\n`);
+        process.exitCode = 64;
+    }
+    return true;
+}
+
+/** Serves what `make` makes of the opening of sessions and of the sending of messages, until the input ends. */
+export function serve(name, does, make) {
+    if (isAnswered(name, does, process.argv.slice(2))) return;
+    // compiled when it is first asked, so that the first answer does not wait for it
+    let module = null;
+    const server = make(() => new Session(module ??= compiled(bytes)), (message) => process.stdout.write(framed(message)), (status) => process.exit(status));
+    const framing = new Framing((message) => server.take(message), (why) => server.refuse(why));
+    process.stdin.on("data", (piece) => framing.push(piece));
+    process.stdin.on("end", () => server.end());
+    // an editor that has gone away takes no more messages
+    process.stdout.on("error", () => server.end());
+}

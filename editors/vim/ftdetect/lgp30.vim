@@ -1,0 +1,1 @@
+autocmd BufRead,BufNewFile *.source,*.lgp30 setfiletype lgp30
