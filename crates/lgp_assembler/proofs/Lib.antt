@@ -11,3 +11,4 @@ pub mod OwnPlaces
 pub mod CellWords
 pub mod Assembled
 pub mod CellLaws
+pub mod SurveySteps

@@ -14,3 +14,4 @@ pub mod Answers
 pub mod Laws
 pub mod Patch
 pub mod Marks
+pub mod Survey

@@ -1,6 +1,6 @@
 -- Part of the public promise: a faulty line of a source as it is shown, with a mark below the part
 -- that the fault speaks of.
-use Rattle.std.specs.Prelude.{ℕ, ◌-◌, ◌==◌, nat_lt, if◌then◌else◌, Bool, true, false, Option, Some}
+use Rattle.std.specs.Prelude.{ℕ, ◌+◌, ◌-◌, ◌==◌, nat_lt, if◌then◌else◌, Bool, true, false, Option, Some}
 use Rattle.std.specs.Prelude.{None, List, [], ◌∷◌, ◌++◌, codes, drop, length, map, option_map}
 use Rattle.std.specs.Prelude.{slice_get, take}
 use Rattle.std.specs.Option.{option_map_or, option_or}
@@ -9,14 +9,15 @@ use Rattle.lgp_source.specs.Source.{SourceLine, SourceToken, is_bad, lines_of}
 use Rattle.lgp_assembler.specs.declared.refusal.FaultKind.{FaultKind}
 use Rattle.lgp_assembler.specs.declared.refusal.FaultKind.TheVariants as kinds
 
--- ---- the part of a line that a fault speaks of: where it begins, and how many bytes it has
+-- ---- the part of a line that a fault speaks of: the place of its first byte, and the one after its
+-- last
 
 abbrev pub token_part : Option SourceToken → Option (ℕ × ℕ)
-token_part token = option_map (λ it. (it.first, it.past - it.first)) token
+token_part token = option_map (λ it. (it.first, it.past)) token
 
 -- from the first operand to the second, if there is one
 abbrev pub operands_part : List (Option SourceToken) → Option (ℕ × ℕ)
-operands_part (Some one ∷ Some two ∷ more) = Some (one.first, two.past - one.first)
+operands_part (Some one ∷ Some two ∷ more) = Some (one.first, two.past)
 operands_part (first ∷ more) = token_part first
 operands_part [] = None
 
@@ -24,8 +25,12 @@ operands_part [] = None
 abbrev pub head_part : SourceLine → Option (ℕ × ℕ)
 head_part line = token_part (option_or line.label line.operation)
 
+-- the byte of a text at a place, which it has
+abbrev pub byte_part : List ℕ → ℕ → ℕ × ℕ
+byte_part text place = (place, if nat_lt place (length text) then place + 1 else place)
+
 unfoldable pub part_of : FaultKind → SourceLine → Option (ℕ × ℕ)
-part_of kinds.BadByte line = option_map (λ place. (place, 1)) line.bad_byte
+part_of kinds.BadByte line = option_map (byte_part line.text) line.bad_byte
 part_of kinds.AfterEnd line = head_part line
 part_of kinds.BadLabel line = head_part line
 part_of kinds.LabelTwice line = head_part line
@@ -68,7 +73,7 @@ abbrev pub marked_line : FaultKind → SourceLine → List ℕ
 marked_line kind line =
     let shown = take 200 line.text in
     shown_line line.text
-    ++ option_map_or (λ part. mark_line (take part.0 shown) (take part.1 (drop part.0 shown)))
+    ++ option_map_or (λ part. mark_line (take part.0 shown) (take (part.1 - part.0) (drop part.0 shown)))
     (part_of kind line) []
 
 unfoldable pub marked_text : FaultKind → List ℕ → List ℕ

@@ -117,7 +117,7 @@ fn sign_place(text: &[u8]) -> Option<usize>
 
 /// How many bytes come before the first sign.
 #[tactic(auto, using(lgp_source::proofs::Places::run_lengths))]
-fn base_len(text: &[u8]) -> usize
+pub fn base_len(text: &[u8]) -> usize
     ensures value { result ≡ position_or_len spec.is_sign text.now }
     ensures within { result ≤ length text.now }
 {

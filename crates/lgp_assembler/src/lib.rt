@@ -14,7 +14,7 @@ pub use laws::{
     places_count_from_orgs,
 };
 pub use line_fields::has_word;
-pub use marks::push_marked;
+pub use marks::{part_of, push_marked};
 pub use name_table::NameValues;
 pub use operands::OperandFault;
 pub use output::{Image, LOADER_PLACES, Name};
@@ -22,6 +22,7 @@ use passes::scan_source;
 pub use patch::{Symbols, operation_word};
 pub use refusal::{AssembleError, Fault, FaultKind, FaultList};
 use std::alloc::{AllocError, Allocator};
+pub use surveying::{LineSurvey, survey};
 
 mod address_operands;
 mod conditions;
@@ -37,6 +38,7 @@ mod output;
 mod passes;
 mod patch;
 mod refusal;
+mod surveying;
 mod taken_places;
 
 /// Adds the fault of a source of a given number of lines that has not ended.

@@ -1,9 +1,9 @@
 //! A faulty line of a source, with a mark below the part that its fault speaks of.
 
-ghost use Rattle.std.specs.Prelude.{◌≡◌, ◌++◌, [], OnOk, drop, map, option_map, take};
+ghost use Rattle.std.specs.Prelude.{◌≡◌, ◌-◌, ◌++◌, [], OnOk, drop, map, option_map, take};
 ghost use Rattle.std.specs.Option.{option_map_or};
 ghost use Rattle.lgp_source.specs.Seen.{line_seen, token_seen};
-ghost use Rattle.lgp_assembler.specs.Marks.{byte_below, shown_line, mark_line, marked_line, marked_text, operands_part, part_of, shown_byte, token_part};
+ghost use Rattle.lgp_assembler.specs.Marks.{byte_below, byte_part, shown_line, mark_line, marked_line, marked_text, operands_part, part_of, shown_byte, token_part};
 
 use crate::refusal::FaultKind;
 use lgp_source::{Line, Lines, Token};
@@ -15,31 +15,50 @@ const MOST_SHOWN: usize = 200;
 /// What comes before a line and before its mark.
 const INDENT: &[u8] = b"        ";
 
-/// The place and length of a token.
+/// The span of a token.
 fn token_part(token: Option<Token>) -> Option<(usize, usize)>
     ensures { result ≡ token_part (option_map token_seen token.entry) }
 {
     let token = token?;
-    Some((token.first, token.past.saturating_sub(token.first)))
+    Some((token.first, token.past))
 }
 
-/// The place of the first operand, and the length up to the end of the second.
+/// From the first operand to the second, if there is one.
 fn operands_part(operands: [Option<Token>; 2]) -> Option<(usize, usize)>
     ensures { result ≡ operands_part (map (option_map token_seen) operands.entry) }
 {
     match operands {
-        [Some(one), Some(two)] => Some((one.first, two.past.saturating_sub(one.first))),
+        [Some(one), Some(two)] => Some((one.first, two.past)),
         [first, _] => token_part(first),
     }
 }
 
-/// The place and length of the part that a fault speaks of.
+/// The span of the byte at a place.
+fn byte_part(text: &[u8], place: usize) -> (usize, usize)
+    ensures { result ≡ byte_part text.now place }
+{
+    if place < text.len() {
+        (place, place + 1)
+    } else {
+        (place, place)
+    }
+}
+
+/// The byte that a line may not have.
+fn bad_part(line: &Line) -> Option<(usize, usize)>
+    ensures { result ≡ option_map (byte_part line.now.text.now) line.now.bad_byte }
+{
+    let place = line.bad_byte?;
+    Some(byte_part(line.text, place))
+}
+
+/// The part of a line that a fault of a kind speaks of: the place of its first byte, and the one after its last.
 #[tactic(auto, unfolding(crate::specs::Marks::part_of))]
-fn part_of(kind: FaultKind, line: &Line) -> Option<(usize, usize)>
+pub fn part_of(kind: FaultKind, line: &Line) -> Option<(usize, usize)>
     ensures { result ≡ part_of kind (line_seen line.now) }
 {
     match kind {
-        FaultKind::BadByte => line.bad_byte.map(|place| (place, 1)),
+        FaultKind::BadByte => bad_part(line),
         FaultKind::AfterEnd | FaultKind::BadLabel | FaultKind::LabelTwice => {
             token_part(line.label.or(line.operation))
         }
@@ -161,8 +180,8 @@ fn push_mark<A: Allocator>(
     part: Option<(usize, usize)>,
     shown: &[u8],
 ) -> Result<(), AllocError>
-    ensures { OnOk result (text.new.items ≡ text.old.items ++ option_map_or
-        (λ it. mark_line (take it.0 shown.now) (take it.1 (drop it.0 shown.now))) part []) }
+    ensures { OnOk result (text.new.items ≡ text.old.items ++ option_map_or (λ it.
+        mark_line (take it.0 shown.now) (take (it.1 - it.0) (drop it.0 shown.now))) part []) }
 {
     let Some(part) = part else {
         return Ok(());
@@ -170,7 +189,7 @@ fn push_mark<A: Allocator>(
     push_mark_line(
         text,
         front_of(shown, part.0),
-        front_of(rest_of(shown, part.0), part.1),
+        front_of(rest_of(shown, part.0), part.1.saturating_sub(part.0)),
     )
 }
 

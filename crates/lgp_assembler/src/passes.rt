@@ -37,7 +37,7 @@ fn org_address(operation: Option<Operation>, first: Option<&[u8]>) -> Option<Add
 }
 
 /// Adds a label that is new, with its place, where the source has not ended.
-fn add_label<'a, A: Allocator + Clone>(
+pub fn add_label<'a, A: Allocator + Clone>(
     names: &mut Names<'a, A>,
     label: Option<&'a [u8]>,
     place: u64,

@@ -12,6 +12,7 @@ mod bytes;
 pub mod marks;
 mod patches;
 mod sizes;
+pub mod surveys;
 
 pub use sizes::{FULL_SOURCE, are_named};
 

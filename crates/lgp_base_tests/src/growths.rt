@@ -1,7 +1,9 @@
 //! Calls with each growth refused in turn: each time the answer is that there is no memory, and at last it is what there is with
 //! ample memory.
 
-use crate::assembler::{FAULTY_SOURCE, FIRST_PROGRAM, OPERATIONS, are_named, is_symbol, marks};
+use crate::assembler::{
+    FAULTY_SOURCE, FIRST_PROGRAM, OPERATIONS, are_named, is_symbol, marks, surveys,
+};
 use crate::exchange::{codes_of, drums, paper_of};
 use crate::expect_eq;
 use crate::listing::dumps;
@@ -30,6 +32,8 @@ enum Call<'a> {
     Listing(&'a [u8], &'a Result<Vec<u8>, AssembleError>),
     /// A line with the mark of its fault, that of an unknown name.
     Marked(&'a [u8], &'a [u8]),
+    /// What is known of the lines of a source.
+    Survey(&'a [u8], &'a [surveys::Row]),
     /// A form of a drum or of codes.
     Written(Form<'a>, &'a [u8]),
     /// The drum of a dump.
@@ -172,6 +176,7 @@ fn is_same<A: Allocator + Copy>(alloc: A, call: Call) -> Option<bool> {
         Call::Assembly(source, ample) => is_assembled(alloc, source, ample),
         Call::Listing(source, ample) => is_listed(alloc, source, ample),
         Call::Marked(line, ample) => marks::is_shown(alloc, line, FaultKind::UnknownName, ample),
+        Call::Survey(source, rows) => surveys::is_surveyed(alloc, source, rows),
         Call::Written(form, ample) => is_written(alloc, form, ample),
         Call::ReadDump(text, ample) => is_dumped_drum(alloc, text, ample),
         Call::ReadBytes(bytes, ample) => is_tape_of_bytes(alloc, bytes, ample),
@@ -268,6 +273,20 @@ fn each_growth_of_an_assembly_and_of_a_listing_is_refused(rt: HostRuntime) {
     let found = (fewer_over_heap(rt.alloc()), growths_of_words(rt.alloc()));
     let wanted = (Some((10, 0)), (true, 0));
     expect_eq(&rt, found, wanted);
+}
+
+/// How many growths a survey has, and how many blocks are out at last. The marks of the places that are taken, the names with their places and with their lines, and
+/// the lines take memory.
+fn growths_of_survey(global: Global) -> (bool, u64) {
+    let limited = Limited::new(global);
+    let rows = surveys::rows();
+    let found = growths(&limited, Call::Survey(surveys::SURVEYED, &rows));
+    (found >= 4, limited.blocks_out())
+}
+
+#[test]
+fn each_growth_of_a_survey_is_refused(rt: HostRuntime) {
+    expect_eq(&rt, growths_of_survey(rt.alloc()), (true, 0));
 }
 
 /// How long the dump of a drum is, and whether it and the drum read from it have growths.

@@ -35,7 +35,10 @@ json_string text = codes "\"" ++ (json_bytes text ++ codes "\"")
 abbrev pub keyed_commands : List (List ℕ)
 keyed_commands =
     codes "live" ∷ codes "commands" ∷ codes "panel-data" ∷ codes "trace-data"
-    ∷ codes "profile-data" ∷ []
+    ∷ codes "profile-data" ∷ codes "state-data" ∷ codes "show-data" ∷ codes "why-data"
+    ∷ codes "labels-data" ∷ codes "rules-data" ∷ codes "paper-data" ∷ codes "tape-data"
+    ∷ codes "source-data" ∷ codes "cost"
+    ∷ codes "commands-data" ∷ codes "operations-data" ∷ codes "faults-data" ∷ []
 
 unfoldable pub has_keys : List ℕ → List ℕ → Bool
 has_keys line reply =

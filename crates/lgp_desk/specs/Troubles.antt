@@ -8,22 +8,22 @@ abbrev pub fixed_trouble : FileTrouble → List ℕ
 fixed_trouble troubles.NotOpened = codes "it cannot be opened"
 fixed_trouble troubles.NotRead = codes "it cannot be read"
 fixed_trouble troubles.TooLong = codes "it has more than 16777216 bytes"
-fixed_trouble troubles.NotNamed = codes "this is no name of a file"
-fixed_trouble troubles.TooDeep = codes "16 files are open within one another"
-fixed_trouble troubles.HasPoint = codes "a line that is a point alone would end the source"
+fixed_trouble troubles.NotNamed = codes "this is not a file name"
+fixed_trouble troubles.TooDeep = codes "16 files are already open, each from the one before"
+fixed_trouble troubles.HasPoint = codes "a line with only a point would end the source"
 fixed_trouble troubles.LongTape = codes "it has more than 1048576 codes"
-fixed_trouble troubles.NotWritten = codes "it cannot be written, and is as it was"
+fixed_trouble troubles.NotWritten = codes "it cannot be written, and is unchanged"
 fixed_trouble trouble = []
 
 abbrev pub counted_trouble : FileTrouble → List ℕ
 counted_trouble (troubles.BadSign place line) =
-    codes "the byte at place " ++ (decimal place ++ (codes ", counted from 0, in line "
-    ++ (decimal line ++ codes ", begins no sign of a tape")))
+    codes "the byte at place " ++ (decimal place ++ (codes ", counting from 0, in line "
+    ++ (decimal line ++ codes ", does not begin a tape sign")))
 counted_trouble (troubles.NoCode place) =
-    codes "the byte at place " ++ (decimal place ++ codes ", counted from 0, is above 63")
+    codes "the byte at place " ++ (decimal place ++ codes ", counting from 0, is above 63")
 counted_trouble (troubles.BadLine line) =
     codes "line " ++ (decimal line
-    ++ codes " is neither a word that SIMH shows nor one that it is given")
+    ++ codes " is not a word in the form that SIMH shows or accepts")
 counted_trouble (troubles.LowAddress line) =
     codes "the address of line " ++ (decimal line
     ++ codes " is not above that of the line before it")

@@ -18,13 +18,13 @@ pub enum FileTrouble {
     TooLong,
     /// The name is no text.
     NotNamed,
-    /// As many files are open within one another as can be.
+    /// As many files are already open, each from the one before as can be.
     TooDeep,
     /// It is a source with a line that would end it.
     HasPoint,
     /// It is no tape text: the byte at this place, counted from 0, in this line, counted from 1, begins no sign.
     BadSign(u64, u64),
-    /// It is no tape of bytes: the byte at this place, counted from 0, is above 63.
+    /// It is no tape of bytes: the byte at this place, counting from 0, is above 63.
     NoCode(u64),
     /// It is no drum of SIMH: the line of this number, counted from 1, is in no form.
     BadLine(u64),

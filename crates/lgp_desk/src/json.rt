@@ -68,7 +68,19 @@ fn has_keys(line: &[u8], reply: &[u8]) -> bool
             || word == b"commands".as_slice()
             || word == b"panel-data".as_slice()
             || word == b"trace-data".as_slice()
-            || word == b"profile-data".as_slice())
+            || word == b"profile-data".as_slice()
+            || word == b"state-data".as_slice()
+            || word == b"show-data".as_slice()
+            || word == b"why-data".as_slice()
+            || word == b"labels-data".as_slice()
+            || word == b"rules-data".as_slice()
+            || word == b"paper-data".as_slice()
+            || word == b"tape-data".as_slice()
+            || word == b"source-data".as_slice()
+            || word == b"cost".as_slice()
+            || word == b"commands-data".as_slice()
+            || word == b"operations-data".as_slice()
+            || word == b"faults-data".as_slice())
 }
 
 /// The key of a line that has this first word.

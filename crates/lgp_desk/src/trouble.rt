@@ -22,9 +22,9 @@ fn push_bad_sign<A: Allocator>(
         &[
             Piece::Text(b"the byte at place "),
             Piece::Number(place),
-            Piece::Text(b", counted from 0, in line "),
+            Piece::Text(b", counting from 0, in line "),
             Piece::Number(line),
-            Piece::Text(b", begins no sign of a tape"),
+            Piece::Text(b", does not begin a tape sign"),
         ],
     )
 }
@@ -53,15 +53,15 @@ fn fixed_trouble(trouble: FileTrouble) -> &'static [u8]
         FileTrouble::NotOpened => b"it cannot be opened",
         FileTrouble::NotRead => b"it cannot be read",
         FileTrouble::TooLong => b"it has more than 16777216 bytes",
-        FileTrouble::NotNamed => b"this is no name of a file",
-        FileTrouble::TooDeep => b"16 files are open within one another",
-        FileTrouble::HasPoint => b"a line that is a point alone would end the source",
+        FileTrouble::NotNamed => b"this is not a file name",
+        FileTrouble::TooDeep => b"16 files are already open, each from the one before",
+        FileTrouble::HasPoint => b"a line with only a point would end the source",
         FileTrouble::BadSign(_, _)
         | FileTrouble::NoCode(_)
         | FileTrouble::BadLine(_)
         | FileTrouble::LowAddress(_) => b"",
         FileTrouble::LongTape => b"it has more than 1048576 codes",
-        FileTrouble::NotWritten => b"it cannot be written, and is as it was",
+        FileTrouble::NotWritten => b"it cannot be written, and is unchanged",
     }
 }
 
@@ -78,13 +78,13 @@ fn push_counted_trouble<A: Allocator>(
             text,
             b"the byte at place ",
             place,
-            b", counted from 0, is above 63",
+            b", counting from 0, is above 63",
         ),
         FileTrouble::BadLine(line) => push_between(
             text,
             b"line ",
             line,
-            b" is neither a word that SIMH shows nor one that it is given",
+            b" is not a word in the form that SIMH shows or accepts",
         ),
         FileTrouble::LowAddress(line) => push_between(
             text,

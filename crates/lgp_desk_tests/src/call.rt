@@ -22,12 +22,12 @@ static ROWS: [Row; 12] = [
     (
         b"back 2",
         1,
-        b"? 7 TooFar 0: no more orders than this are kept\n",
+        b"? 7 TooFar 0: only this many orders are kept\n",
     ),
     (
         b"jump",
         1,
-        b"? 1 Form: there is no such command, help lists them\n",
+        b"? 1 Form: there is no such command; help lists them all\n",
     ),
     (b"source", 0, b""),
     (b" z ", 0, b""),
@@ -141,7 +141,7 @@ fn reported_of_odd_lines(alloc: Global) -> [Reported; 3] {
 #[test]
 fn a_line_may_be_long_and_have_any_bytes(rt: HostRuntime) {
     let reported = reported_of_odd_lines(rt.alloc());
-    expect_eq(&rt, reported, [(1, 1, 62), (1, 1, 52), (1, 1, 56)]);
+    expect_eq(&rt, reported, [(1, 1, 75), (1, 1, 56), (1, 1, 56)]);
 }
 
 /// What is reported of the end of a session after these lines, or status 3 where memory is refused.
@@ -186,12 +186,14 @@ fn refused_line<A: Allocator + Copy>(session: &mut Session<A>) -> u32 {
 /// The status of a session's lines and its end: 3 where a growth was refused, and nothing reported.
 fn answered_by<A: Allocator + Copy>(mut session: Session<A>) -> u32 {
     let status = refused_line(&mut session);
-    if status == 0 {
-        let mut room = [b'.'; 64];
-        ask(&mut session, b"source", &mut room);
-        end(session, &mut room).0
-    } else {
-        status
+    if status != 0 {
+        return status;
+    }
+    let mut room = [b'.'; 64];
+    match ask(&mut session, b"source", &mut room) {
+        (3, 0, 0) => 3,
+        (3, _, _) => 9,
+        _ => end(session, &mut room).0,
     }
 }
 
@@ -221,5 +223,5 @@ fn refused_in_turn(limited: &Limited<Global>) -> u64 {
 fn each_growth_refused_is_reported(rt: HostRuntime) {
     let limited = Limited::new(rt.alloc());
     let growths = refused_in_turn(&limited);
-    expect_eq(&rt, (growths > 20, limited.blocks_out()), (true, 0));
+    expect_eq(&rt, (growths > 8, limited.blocks_out()), (true, 0));
 }

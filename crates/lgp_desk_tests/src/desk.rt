@@ -169,7 +169,7 @@ static LINES: [Row; 7] = [
     (
         Manner::Prompting,
         b"panels\n",
-        b"0000 halted operator> ? 1 Form: there is no such command, help lists them\n0000 halted operator> \n",
+        b"0000 halted operator> ? 1 Form: there is no such command; help lists them all\n0000 halted operator> \n",
         1,
     ),
     (Manner::Prompting, b"quit", b"0000 halted operator> ", 0),
@@ -177,7 +177,7 @@ static LINES: [Row; 7] = [
     (
         Manner::Echoing,
         b"put 0000 = 1\npanels\n quit \nlabels\n",
-        b"> put 0000 = 1\nok\n? panels\n? 1 Form: there is no such command, help lists them\n>  quit \n",
+        b"> put 0000 = 1\nok\n? panels\n? 1 Form: there is no such command; help lists them all\n>  quit \n",
         1,
     ),
 ];
@@ -204,7 +204,7 @@ static LINES_AND_SOURCES: [Row; 10] = [
     (
         Manner::Echoing,
         b"do outer\nfoo\n",
-        b"> put 0001 = 1\nok\n> put 0000 = 1\nok\n> words 0000 1\n0000 00000002\n> words 0001 1\n0001 00000002\n? foo\n? 1 Form: there is no such command, help lists them\n        line 4 of outer\n? foo\n? 1 Form: there is no such command, help lists them\n",
+        b"> put 0001 = 1\nok\n> put 0000 = 1\nok\n> words 0000 1\n0000 00000002\n> words 0001 1\n0001 00000002\n? foo\n? 1 Form: there is no such command; help lists them all\n        line 4 of outer\n? foo\n? 1 Form: there is no such command; help lists them all\n",
         2,
     ),
     (
@@ -216,13 +216,13 @@ static LINES_AND_SOURCES: [Row; 10] = [
     (
         Manner::Bare,
         b"do none\ndo \xff\nlist\n",
-        b"? 13 File none: it cannot be opened\n? 13 File \xff: this is no name of a file\n? 10 NoImage: no source has assembled yet\n",
+        b"? 13 File none: it cannot be opened\n? 13 File \xff: this is not a file name\n? 10 NoImage: no source has been assembled yet\n",
         3,
     ),
     (
         Manner::Bare,
         b"do itself\n",
-        b"? 13 File itself: 16 files are open within one another\n        line 1 of itself\n",
+        b"? 13 File itself: 16 files are already open, each from the one before\n        line 1 of itself\n",
         1,
     ),
     // What leaves in a file leaves all.
@@ -242,14 +242,14 @@ static LINES_AND_SOURCES: [Row; 10] = [
     (
         Manner::Bare,
         b"source program\ntranscript\nsource pointed\nsource empty\n",
-        b"cells 1 start 0000\nsource\nstart z\n end start\n.\n? 13 File pointed: a line that is a point alone would end the source\n? 9 Faults\nline 1 NoEnd\n        empty\n",
+        b"cells 1 start 0000\nsource\nstart z\n end start\n.\n? 13 File pointed: a line with only a point would end the source\n? 9 Faults\nline 1 NoEnd\n        empty\n",
         2,
     ),
     // A refusal says where its line comes from.
     (
         Manner::Bare,
         b"do naming\nsource faulty\n",
-        b"? 1 Form: there is no such command, help lists them\n        line 1 of naming\ncells 1 start 0000\n? 1 Form: line 1 is no line of a dump\n        torn, line 3 of naming\n? 13 File torn: the byte at place 2, counted from 0, in line 1, begins no sign of a tape\n        line 4 of naming\nok 3\n? 9 Faults\nline 1 UnknownOrder\n         foo\n         ^^^\nline 2 NoEnd\n        faulty, line 6 of naming\n? 1 Form: there is no such command, help lists them\n        line 7 of naming\n? 9 Faults\nline 1 UnknownOrder\n         foo\n         ^^^\nline 2 NoEnd\n        faulty\n",
+        b"? 1 Form: there is no such command; help lists them all\n        line 1 of naming\ncells 1 start 0000\n? 1 Form: line 1 is not a line of a dump\n        torn, line 3 of naming\n? 13 File torn: the byte at place 2, counting from 0, in line 1, does not begin a tape sign\n        line 4 of naming\nok 3\n? 9 Faults\nline 1 UnknownOrder\n         foo\n         ^^^\nline 2 NoEnd\n        faulty, line 6 of naming\n? 1 Form: there is no such command; help lists them all\n        line 7 of naming\n? 9 Faults\nline 1 UnknownOrder\n         foo\n         ^^^\nline 2 NoEnd\n        faulty\n",
         6,
     ),
 ];
@@ -264,13 +264,13 @@ static TAPES_AND_DRUMS: [Row; 11] = [
     (
         Manner::Bare,
         b"tape tape\ntape torn\ntape later\narchive torn\narchive strange\ntranscript\n",
-        b"ok 5\n? 13 File torn: the byte at place 2, counted from 0, in line 1, begins no sign of a tape\n? 13 File later: the byte at place 9, counted from 0, in line 3, begins no sign of a tape\nok 3\n? 13 File strange: the byte at place 2, counted from 0, in line 1, begins no sign of a tape\nmount 12[16]3'\nmount 12a\n",
+        b"ok 5\n? 13 File torn: the byte at place 2, counting from 0, in line 1, does not begin a tape sign\n? 13 File later: the byte at place 9, counting from 0, in line 3, does not begin a tape sign\nok 3\n? 13 File strange: the byte at place 2, counting from 0, in line 1, does not begin a tape sign\nmount 12[16]3'\nmount 12a\n",
         3,
     ),
     (
         Manner::Echoing,
         b"put 0100 = 1\nrestore drum\nwords 0100 2\nrestore two lines\ntranscript\n",
-        b"> put 0100 = 1\nok\n> restore drum\nrestored 2\n> words 0100 2\n0100 00000004\n0101 00000008\n? restore two lines\n? 1 Form: line 1 is no line of a dump\n        two lines\n> transcript\nput 0100 00000002\nput 0100 00000004\nput 0101 00000008\nwords 0100 2\n",
+        b"> put 0100 = 1\nok\n> restore drum\nrestored 2\n> words 0100 2\n0100 00000004\n0101 00000008\n? restore two lines\n? 1 Form: line 1 is not a line of a dump\n        two lines\n> transcript\nput 0100 00000002\nput 0100 00000004\nput 0101 00000008\nwords 0100 2\n",
         1,
     ),
     (
@@ -283,14 +283,14 @@ static TAPES_AND_DRUMS: [Row; 11] = [
     (
         Manner::Bare,
         b"press start\nrestore drum\ntape tape\ntape longer\n",
-        b"live\n? 2 Moving: the machine is at work, press manual halts it\n        drum\n? 2 Moving: the machine is at work, press manual halts it\n        tape\n? 2 Moving: the machine is at work, press manual halts it\n        longer\n",
+        b"live\n? 2 Moving: the machine is running; press manual halts it\n        drum\n? 2 Moving: the machine is running; press manual halts it\n        tape\n? 2 Moving: the machine is running; press manual halts it\n        longer\n",
         3,
     ),
     // A tape of bytes, one with a byte that is no code, and one that is longer than a line.
     (
         Manner::Echoing,
         b"bytes coded\nbytes strange\nbytes none\nbytes blank\ntranscript\n",
-        b"> mount 12[16]3'\nok 5\n? 13 File strange: the byte at place 2, counted from 0, is above 63\n? 13 File none: it cannot be opened\n> tape blank\nok 1024\n> transcript\nmount 12[16]3'\ntape blank\n",
+        b"> mount 12[16]3'\nok 5\n? 13 File strange: the byte at place 2, counting from 0, is above 63\n? 13 File none: it cannot be opened\n> tape blank\nok 1024\n> transcript\nmount 12[16]3'\ntape blank\n",
         2,
     ),
     // What SIMH shows, and what it is given; the first line that is neither.
@@ -303,13 +303,13 @@ static TAPES_AND_DRUMS: [Row; 11] = [
     (
         Manner::Bare,
         b"put 0100 = 1\nrestore-simh drum\nrestore-simh backwards\nrestore-simh none\nwords 0100 2\nrestore-simh empty\nwords 0100 1\n",
-        b"ok\n? 13 File drum: line 1 is neither a word that SIMH shows nor one that it is given\n? 13 File backwards: the address of line 2 is not above that of the line before it\n? 13 File none: it cannot be opened\n0100 00000002\n0101 00000000\nrestored 1\n0100 00000000\n",
+        b"ok\n? 13 File drum: line 1 is not a word in the form that SIMH shows or accepts\n? 13 File backwards: the address of line 2 is not above that of the line before it\n? 13 File none: it cannot be opened\n0100 00000002\n0101 00000000\nrestored 1\n0100 00000000\n",
         3,
     ),
     (
         Manner::Echoing,
         b"press start\nrestore-simh shown\nbytes coded\n",
-        b"> press start\nlive\n? restore-simh shown\n? 2 Moving: the machine is at work, press manual halts it\n        shown\n? mount 12[16]3'\n? 2 Moving: the machine is at work, press manual halts it\n        coded\n",
+        b"> press start\nlive\n? restore-simh shown\n? 2 Moving: the machine is running; press manual halts it\n        shown\n? mount 12[16]3'\n? 2 Moving: the machine is running; press manual halts it\n        coded\n",
         2,
     ),
     // A tape for which a line has room, one that is longer, and one whose text is: their names are in the transcript.
@@ -323,14 +323,14 @@ static TAPES_AND_DRUMS: [Row; 11] = [
     (
         Manner::Bare,
         b"put 0100 00000004\nsave kept\npress start\nsave locked\ntranscript\n",
-        b"ok\nsaved kept\nlive\n? 13 File locked: it cannot be written, and is as it was\nput 0100 00000004\npress start\n",
+        b"ok\nsaved kept\nlive\n? 13 File locked: it cannot be written, and is unchanged\nput 0100 00000004\npress start\n",
         1,
     ),
     // Nothing is said to be kept that is not.
     (
         Manner::Bare,
         b"punch locked\ncopy-archive locked\ntranscript\n",
-        b"? 13 File locked: it cannot be written, and is as it was\n? 13 File locked: it cannot be written, and is as it was\n",
+        b"? 13 File locked: it cannot be written, and is unchanged\n? 13 File locked: it cannot be written, and is unchanged\n",
         2,
     ),
 ];

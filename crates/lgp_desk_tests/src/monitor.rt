@@ -26,10 +26,10 @@ static ROWS: [Row; 4] = [
         b"cells 1 start none\n? 9 Faults\nline 1 UnknownName\n        start b none\n                ^^^^\nline 3 UnknownOrder\n         q 0100 ; no such order\n         ^\nline 4 LabelTwice\n        start\tz\n        ^^^^^\nold 0000\nsource\nold z\n end\n.\nsource\nstart b none\n\n q 0100 ; no such order\nstart\tz\n end\n.\n",
         1,
     ),
-    // No order, one that a rule stops after, one before rest, and none at rest. The operands are in the transcript as they were typed.
+    // No order, one that a rule stops after, one before rest, and none at rest. The transcript has one space before each operand.
     (
         b"put 0000 b 0003\nput 0001 z 0000\nbreak 0001\npress start\ntrace 0\ntrace   9  \ntrace 9999999999\ntrace 3\ntranscript\n",
-        b"ok\nok\nrule 0\nlive\n  clock  at           order           find take seek  act   sum  accumulator\nran 0 limit\n  clock  at           order           find take seek  act   sum  accumulator\n      0  0000         b 0003            64    1   26    1    92  00000000\n        this order was put there by hand, clock 0; before it was z 0000\nran 1 rule 0\n        the machine is still going: run goes on, press manual halts it\n  clock  at           order           find take seek  act   sum  accumulator\n     92  0001         z 0000            45    1    1    1    48  00000000\nran 1 rest\n  clock  at           order           find take seek  act   sum  accumulator\nran 0 rest\n        a stop order halted the machine: press start lets it go on\nput 0000 0001000j\nput 0001 00000000\nbreak 0001\npress start\nrun 0\nrun   9  \nrun 9999999999\nrun 3\n",
+        b"ok\nok\nrule 0\nlive\n  clock  at           order           find take seek  act   sum  accumulator\nran 0 limit\n  clock  at           order           find take seek  act   sum  accumulator\n      0  0000         b 0003            64    1   26    1    92  00000000\n        this order was put there by hand, clock 0; before it was z 0000\nran 1 rule 0\n        the machine is still going: run continues, press manual halts it\n  clock  at           order           find take seek  act   sum  accumulator\n     92  0001         z 0000            45    1    1    1    48  00000000\nran 1 rest\n  clock  at           order           find take seek  act   sum  accumulator\nran 0 rest\n        a stop order halted the machine: press start continues\nput 0000 0001000j\nput 0001 00000000\nbreak 0001\npress start\nrun 0\nrun 9\nrun 9999999999\nrun 3\n",
         0,
     ),
     // The last line of a listing that reads like a run.
@@ -103,7 +103,7 @@ const TOO_LONG: [u8; 4097] = [b' '; 4097];
 #[test]
 fn a_source_that_is_too_long_has_no_marks(rt: HostRuntime) {
     let marked = b"? 9 Faults\nline 1 UnknownOrder\n         q\n         ^\nline 3 NoEnd\n";
-    let refused = b"? 11 TooLong: a line has at most 4096 bytes, a source 1048576\n";
+    let refused = b"? 11 TooLong: a line may have at most 4096 bytes, a source at most 1048576\n";
     let answered = [
         is_marked(rt.alloc(), &LONGEST, marked),
         is_marked(rt.alloc(), &TOO_LONG, refused),
@@ -114,6 +114,10 @@ fn a_source_that_is_too_long_has_no_marks(rt: HostRuntime) {
 /// Runs that are reported in each way, with labels.
 const EACH: &[u8] =
     b"source\nfirst z\n end\n.\nput 0000 b 0003\npress start\ntrace 1\nprofile 1\npress start\ndrum 2\nback 2\ntrace-data 1\nprofile-data 1\npanel-data\nlive\npress start\noptimum 1\npress start\noptimum 1 0000\noperate 1\nnew\nput 0000 p 0600\npress start\nrun 1\npaper\n";
+
+/// Questions of programs, each of which is answered by records.
+const ASKED: &[u8] =
+    b"source\nfirst y 0005\n p =a\n z\n end first\n.\nload\nbreak first\nrun 1\nrun 9\nmount 12'\nstate-data\nshow-data first 3\nwhy-data 0005\nlabels-data\nrules-data\npaper-data 0\ntape-data\ncommands-data\noperations-data\nfaults-data\n";
 
 /// Two sources with faults.
 const FAULTY: &[u8] = b"source\n q\n b none\n end\n.\nsource\n z\n.\n";
@@ -146,7 +150,8 @@ fn each_growth_of_reported_runs_and_of_marked_faults_is_refused(rt: HostRuntime)
     let limited = Limited::new(rt.alloc());
     let are_refused = [
         refusals(&limited, rt.alloc(), EACH, 0) > 20,
+        refusals(&limited, rt.alloc(), ASKED, 0) > 40,
         refusals(&limited, rt.alloc(), FAULTY, 2) > 20,
     ];
-    expect_eq(&rt, (are_refused, limited.blocks_out()), ([true; 2], 0));
+    expect_eq(&rt, (are_refused, limited.blocks_out()), ([true; 3], 0));
 }

@@ -1,9 +1,7 @@
 pub mod GoLemmas
 pub mod LineLemmas
-pub mod RunLine
-pub mod ScriptRun
+pub mod PerformingLemmas
 pub mod Pictures
-pub mod LastLine
 pub mod RestoreLemmas
 pub mod OperatingLemmas
 pub mod Decimals

@@ -1,18 +1,27 @@
 -- What typed lines stand for are lines, so that a transcript's lines are those.
-use Rattle.std.proofs.Common.{◌≡◌, ℕ, zero, suc, ◌+◌, ◌&&◌, not, Bool, true, false, cond, List, [], ◌∷◌, ◌++◌, take, drop, get_or, refl, codes, arith}
+use Rattle.std.proofs.Common.{◌≡◌, ℕ, zero, suc, ◌+◌, ◌&&◌, not, Bool, true, false, cond, is_some, List, [], ◌∷◌, ◌++◌, take, drop, get_or, refl, codes, arith}
 use Rattle.std.proofs.lemmas.Bool.Decides.{nat_tests}
 use Rattle.std.specs.List.{AllByRecursion, list_all}
 use Rattle.std.specs.Str.Lines.{lines}
-use Rattle.lgp_word.specs.Digits.{address_digits, digit_byte, digits, digits_of, four_digits}
+use Rattle.lgp_word.specs.Digits.{digit_byte, digits, digits_of, four_digits}
 use Rattle.lgp_stream.specs.KeptLine.{kept_of, line_limit}
 use Rattle.lgp_stream.specs.Language.{is_line_feed, state_after}
-use Rattle.lgp_stream.specs.LineWords.{after_word, first_word, has_no_word, without_spaces}
-use Rattle.lgp_stream.specs.Transcript.{AreLines, IsLine, IsReportedByTranscript, Recorded, stand_in, untouched}
+use Rattle.lgp_stream.specs.LineWords.{after_word, without_spaces}
+use Rattle.lgp_stream.specs.Transcript.{AreLines, IsLine, Lines, IsReportedByTranscript, Recorded, stand_in, untouched}
 use Rattle.lgp_stream.proofs.LineLaws.{reported_by_transcript}
 use Rattle.lgp_script.specs.Script.{script_language}
 use Rattle.lgp_script.specs.LabState.{LabState, opening_state}
-use Rattle.lgp_monitor.specs.Monitor.{go_lines, jump_line, meaning_at, meaning_of, monitor_language, placed_line, put_line, run_line, run_operands}
-use Rattle.lgp_monitor.specs.Operating.{Operated, ended_with, once_more, operated, operated_on, waits_for_typewriter}
+use Rattle.lgp_command.specs.Command.{text_after_word}
+use Rattle.lgp_command.specs.CommandText.{command_text}
+use Rattle.lgp_command.specs.declared.command.Command.TheVariants as commands
+use Rattle.lgp_command.proofs.CommandLines.{one_line}
+use Rattle.lgp_script.specs.HistoryCommands.{replied_to_run}
+use Rattle.lgp_script.specs.Reply.{Replied}
+use Rattle.lgp_table.specs.declared.action.Action.TheVariants as actions
+use Rattle.lgp_word.specs.Order.{plain_order}
+use Rattle.lgp_word.specs.declared.order.Op.TheVariants.{U}
+use Rattle.lgp_monitor.specs.Monitor.{entry_at, go_lines, meaning_at, meaning_of, monitor_language}
+use Rattle.lgp_monitor.specs.Operating.{Operated, ended_with, once_more, operated, operated_on, run_again, run_line, waits_for_typewriter}
 use Rattle.lgp_monitor.specs.declared.entry.Entry.{Entry}
 use Rattle.lgp_monitor.specs.declared.entry.Entry.TheVariants as entry
 
@@ -51,18 +60,10 @@ free-digits : (bits : ℕ) → IsLine (digits_of bits)
 unfolding digits_of
 free-digits bits = grind (arith, free-append, free-four)
 
-free-decimal : (value : ℕ) → is_line_feed (48 + value) ≡ false
-free-decimal value = grind (arith, nat_tests)
+pub free-put : (address word : ℕ) → IsLine (command_text (commands.Put address word) [])
+free-put address word = one_line (commands.Put address word) [] tt
 
-free-address : (address : ℕ) → IsLine (address_digits address)
-free-address address = grind (arith, free-decimal)
-
-pub free-put : (address word : ℕ) → IsLine (put_line address word)
-unfolding put_line
-free-put address word = grind (arith, free-append, free-address, free-digits)
-
-free-jump : (address : ℕ) → IsLine (jump_line address)
-unfolding jump_line
+free-jump : (address : ℕ) → IsLine (codes "type " ++ digits_of (plain_order U address))
 free-jump address = (refl, (refl, (refl, (refl, (refl, free-digits _)))))
 
 -- fixed lines are checked by computing
@@ -91,10 +92,6 @@ free-without : (line : List ℕ) → IsLine line → IsLine (without_spaces line
 unfolding without_spaces
 free-without line free = free-drop _ _ free
 
-free-first : (line : List ℕ) → IsLine line → IsLine (first_word line)
-unfolding first_word
-free-first line free = grind (arith, free-take, free-without)
-
 free-after : (line : List ℕ) → IsLine line → IsLine (after_word line)
 unfolding after_word
 free-after line free = grind (arith, free-drop, free-without)
@@ -103,45 +100,33 @@ free-front : (line : List ℕ) → IsLine line → IsLine (kept_of line).front
 unfolding kept_of
 free-front line free = free-take line_limit _ free
 
-free-operands : (operands : List ℕ) → IsLine operands → IsLine (run_operands operands)
-free-operands operands free = by_test (has_no_word (after_word operands)) where
-  by_test : (test : Bool) → IsLine (cond test operands (codes " " ++ first_word operands))
-  by_test true = free
-  by_test false = (refl, free-first operands free)
+free-text : (line : List ℕ) → IsLine line → IsLine (text_after_word (kept_of line).front)
+unfolding text_after_word
+free-text line free = free-drop 1 _ (free-after _ (free-front line free))
 
-free-run : (line : List ℕ) → IsLine line → IsLine (run_line (kept_of line).front)
+free-run : (limit : ℕ) → IsLine (run_line limit)
 unfolding run_line
-free-run line free = (refl, (refl, (refl, free-operands _ (free-after _ (free-front line free)))))
+free-run limit = one_line (commands.Run limit) [] tt
 
-free-placed : (address : ℕ) (line : List ℕ) → IsLine line → IsLine (placed_line address (kept_of line).front)
-unfolding placed_line
-free-placed address line free =
-    grind (arith, free-front, free-append, free-first, free-address, free-after)
+free-operated_on : (limit starts : ℕ) (ran : Replied) → AllByRecursion IsLine (operated_on limit starts ran).lines
+free-operated_on limit zero ran = tt
+free-operated_on limit (suc starts) ran =
+    by_test (waits_for_typewriter ran.after) (operated_on limit starts (run_again limit ran.after)) (free-operated_on limit starts (run_again limit ran.after)) where
+      by_test : (waits : Bool) (more : Operated) → AllByRecursion IsLine more.lines → AllByRecursion IsLine (cond waits (once_more limit more) (ended_with ran)).lines
+      by_test true more later = (one_line (commands.Press actions.Start) [] tt, (free-run limit, later))
+      by_test false more later = tt
 
-free-operated_on : (run : List ℕ) (limit : ℕ) (reply : List ℕ) (lab : LabState) → IsLine run → AllByRecursion IsLine (operated_on run limit reply lab).lines
-free-operated_on run zero reply lab free = tt
-free-operated_on run (suc limit) reply lab free =
-    by_test (waits_for_typewriter lab)
-    (free-operated_on run limit (script_language.reply (script_language.after lab (codes "press start")) run) (script_language.after (script_language.after lab (codes "press start")) run) free) where
-      more : Operated
-      more = operated_on run limit (script_language.reply (script_language.after lab (codes "press start")) run) (script_language.after (script_language.after lab (codes "press start")) run)
-
-      by_test : (waits : Bool) → AllByRecursion IsLine more.lines → AllByRecursion IsLine (cond waits (once_more run more) (ended_with reply)).lines
-      by_test true later = (checked (codes "press start") refl, (free, later))
-      by_test false later = tt
-
-free-operated : (run : List ℕ) (limit : ℕ) (lab : LabState) → IsLine run → AllByRecursion IsLine (operated run limit lab).lines
+free-operated : (limit : ℕ) (lab : LabState) → AllByRecursion IsLine (operated limit lab).lines
 unfolding operated
-free-operated run limit lab free = (free, free-operated_on run limit _ _ free)
+free-operated limit lab = (free-run limit, free-operated_on limit limit (replied_to_run lab limit))
 
 free-meaning : (recorded : Recorded LabState) (asked : Entry) (line : List ℕ) → IsLine line → AreLines (meaning_of recorded asked (kept_of line))
 free-meaning recorded entry.Itself line free = (free-stand_in _ free, tt)
 free-meaning recorded entry.Misformed line free = (free-stand_in _ free, tt)
-free-meaning recorded (entry.Placed address) line free = (free-placed _ _ free, tt)
+free-meaning recorded (entry.Script command) line free = (one_line command _ (free-text line free), tt)
 free-meaning recorded (entry.Go address) line free = free-go _
-free-meaning recorded (entry.Put address word) line free = (free-put _ _, tt)
-free-meaning recorded (entry.Reported telling limit) line free = (free-run _ free, tt)
-free-meaning recorded (entry.Operate limit) line free = free-operated (run_line (kept_of line).front) limit recorded.state (free-run _ free)
+free-meaning recorded (entry.Reported telling limit) line free = (free-run limit, tt)
+free-meaning recorded (entry.Operate limit) line free = free-operated limit recorded.state
 free-meaning recorded (entry.Asked question) line free = tt
 free-meaning recorded entry.Transcript line free = tt
 free-meaning recorded entry.New line free = tt
@@ -150,7 +135,10 @@ free-meaning recorded (entry.HelpOf verb) line free = tt
 
 pub free-at : (recorded : Recorded LabState) (line : List ℕ) → IsLine line → AreLines (meaning_at recorded line)
 unfolding meaning_at
-free-at recorded line free = free-meaning recorded _ _ free
+free-at recorded line free = by_source (is_some recorded.state.opened) where
+  by_source : (opened : Bool) → AreLines (cond opened (Lines (stand_in (kept_of line) ∷ [])) (meaning_of recorded (entry_at recorded line) (kept_of line)))
+  by_source true = (free-stand_in _ free, tt)
+  by_source false = free-meaning recorded (entry_at recorded line) line free
 
 pub reported_by_script : (text : List ℕ) → IsReportedByTranscript script_language opening_state (state_after monitor_language (untouched opening_state) (lines text))
 reported_by_script text = reported_by_transcript script_language opening_state meaning_at monitor_language (λ recorded line. refl) (λ recorded line free. free-at recorded _ free) text

@@ -16,7 +16,8 @@ use Rattle.lgp_listing.proofs.DumpsReadBack.{dump_faultless, one_drum}
 use Rattle.lgp_script.specs.Script.{script_language}
 use Rattle.lgp_script.specs.LabState.{LabState}
 use Rattle.lgp_monitor.specs.FileTexts.{cells_changed, changed_cells, dump_fault_text, dumped_words, put_cell, restore_lines, restore_reply, rests_at}
-use Rattle.lgp_monitor.specs.Reasons.{reasoned}
+use Rattle.lgp_script.specs.declared.refusal.Refusal.TheVariants.{Moving}
+use Rattle.lgp_monitor.specs.Reasons.{refused_text}
 use Rattle.lgp_monitor.proofs.LineLemmas.{free-put}
 
 -- ---- the words of a dump
@@ -108,7 +109,7 @@ not_put recorded rests cells e =
 -- ---- a text that is a drum's dump, and one that is none
 
 abbrev restored_text : Bool → ℕ → List ℕ
-restored_text rests count = cond rests (codes "restored " ++ (decimal count ++ codes "\n")) (reasoned (codes "? 2 Moving\n"))
+restored_text rests count = cond rests (codes "restored " ++ (decimal count ++ codes "\n")) (refused_text Moving)
 
 abbrev words_at : Recorded LabState → List ℕ
 words_at recorded = recorded.state.debugger.state.core.words

@@ -1,6 +1,6 @@
 -- Part of the public promise: what is answered where a point closes a source with faults: each
 -- fault with its line of the source and a mark below the part that is at fault.
-use Rattle.std.specs.Prelude.{ℕ, ◌-◌, not, ◌&&◌, ◌||◌, ◌==◌, if◌then◌else◌, Option, Some, None}
+use Rattle.std.specs.Prelude.{ℕ, ◌-◌, false, not, ◌&&◌, ◌||◌, ◌==◌, if◌then◌else◌, Option, Some, None}
 use Rattle.std.specs.Prelude.{option_map, List, [], ◌++◌, codes, flat_map, length, slice_get}
 use Rattle.std.specs.Option.{option_map_or}
 use Rattle.std.specs.Str.{bytes_eq}
@@ -12,6 +12,8 @@ use Rattle.lgp_stream.specs.KeptLine.{Kept}
 use Rattle.lgp_script.specs.SourceCommands.{fault_line}
 use Rattle.lgp_script.specs.SourceText.{SourceText}
 use Rattle.lgp_script.specs.LabState.{opened_text}
+use Rattle.lgp_script.specs.declared.refusal.Refusal.TheVariants.{TooLong}
+use Rattle.lgp_monitor.specs.Reasons.{refused_text}
 
 -- the text of the line at a place, counted from 0; after the last line there is none
 abbrev pub text_at : List SourceLine → ℕ → Option (List ℕ)
@@ -29,8 +31,11 @@ shown_faults source =
     if (length source == 0) || (length (faults_of source) == 0) then None
     else Some (codes "? 9 Faults\n" ++ flat_map (marked_fault (lines_of source)) (faults_of source))
 
--- the reply to a line that closes a source with faults, a point alone; None to any other
+-- the reply to a line that closes a source with faults, or one that is too long: a point alone;
+-- None to any other
 unfoldable pub closing_reply : Option SourceText → Kept → Option (List ℕ)
 closing_reply opened kept =
-    if not kept.longer && bytes_eq kept.front (codes ".") then shown_faults (opened_text opened)
+    if not kept.longer && bytes_eq kept.front (codes ".")
+    then (if option_map_or (λ source. source.too_long) opened false
+    then Some (refused_text TooLong) else shown_faults (opened_text opened))
     else None

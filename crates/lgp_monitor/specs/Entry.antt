@@ -13,10 +13,12 @@ use Rattle.lgp_assembler.specs.Patch.{operation_word}
 use Rattle.lgp_stream.specs.KeptLine.{Kept}
 use Rattle.lgp_stream.specs.LineWords.{after_word, first_word, has_no_word}
 use Rattle.lgp_text.specs.NamedValues.{named}
-use Rattle.lgp_script.specs.Command.{command_of, lone_number}
-use Rattle.lgp_script.specs.Span.{WordRange, range_of}
+use Rattle.lgp_command.specs.Command.{command_of, is_comment, lone_number}
+use Rattle.lgp_command.specs.Span.{WordRange, range_of}
+use Rattle.lgp_command.specs.declared.command.Command.TheVariants as commands
 use Rattle.lgp_monitor.specs.Scaled.{point_of}
 use Rattle.lgp_monitor.specs.Verbs.{verb_names}
+use Rattle.lgp_monitor.specs.declared.data_question.DataQuestion.TheVariants as data_questions
 use Rattle.lgp_monitor.specs.declared.question.Question.TheVariants as questions
 use Rattle.lgp_monitor.specs.declared.telling.Telling.TheVariants as tellings
 use Rattle.lgp_monitor.specs.declared.verb.AddressCommand.{AddressCommand}
@@ -25,6 +27,8 @@ use Rattle.lgp_monitor.specs.declared.verb.LoneCommand.{LoneCommand}
 use Rattle.lgp_monitor.specs.declared.verb.LoneCommand.TheVariants as lone_commands
 use Rattle.lgp_monitor.specs.declared.verb.NumberCommand.{NumberCommand}
 use Rattle.lgp_monitor.specs.declared.verb.NumberCommand.TheVariants as number_commands
+use Rattle.lgp_monitor.specs.declared.verb.RangeCommand.{RangeCommand}
+use Rattle.lgp_monitor.specs.declared.verb.RangeCommand.TheVariants as range_commands
 use Rattle.lgp_monitor.specs.declared.verb.Verb.{Verb}
 use Rattle.lgp_monitor.specs.declared.verb.Verb.TheVariants as verbs
 use Rattle.lgp_monitor.specs.declared.entry.Entry.{Entry}
@@ -82,30 +86,48 @@ module _ (names : List (List ℕ × ℕ)) (place : ℕ) where
 abbrev pub asked_by : {T : Type 0} → (T → Entry) → Option T → Entry
 asked_by ask read = option_map_or ask read entry.Misformed
 
--- what a command asks for with an address; one of scripts has there its `ttss`
+-- what a command asks for with an address
 abbrev pub asked_at : AddressCommand → ℕ → Entry
-asked_at address_commands.Script address = entry.Placed address
+asked_at address_commands.Break address = entry.Script (commands.Break address)
+asked_at address_commands.Watch address = entry.Script (commands.Watch address)
 asked_at address_commands.Go address = entry.Go address
 asked_at address_commands.Why address = entry.Asked (questions.Why address)
+asked_at address_commands.WhyData address = entry.Asked (questions.Data (data_questions.Why address))
+asked_at address_commands.Cost address = entry.Asked (questions.Data (data_questions.Cost address))
 
--- what a command asks for with a number; one of scripts as it is
+-- what a command asks for with a number; those of scripts are read as scripts have them
 abbrev pub asked_with : NumberCommand → ℕ → Entry
-asked_with number_commands.Script number = entry.Itself
+asked_with number_commands.Script number = entry.Misformed
 asked_with (number_commands.Trace form) limit = entry.Reported (tellings.Trace form) limit
 asked_with (number_commands.Profile form) limit = entry.Reported (tellings.Profile form) limit
 asked_with number_commands.Drum limit = entry.Reported tellings.Drum limit
 asked_with number_commands.Operate limit = entry.Operate limit
+asked_with number_commands.PaperData from = entry.Asked (questions.Data (data_questions.Paper from))
 
--- what a command asks for by itself; one of scripts as it is
+-- what a command asks for with a range of words
+abbrev pub asked_of : RangeCommand → WordRange → Entry
+asked_of range_commands.Words range = entry.Script (commands.Words range)
+asked_of range_commands.Show range = entry.Script (commands.Show range)
+asked_of range_commands.ShowData range = entry.Asked (questions.Data (data_questions.Show range))
+
+-- what a command asks for by itself; those of scripts are read as scripts have them
 abbrev pub asked_alone : LoneCommand → Entry
-asked_alone lone_commands.Script = entry.Itself
-asked_alone lone_commands.ScriptQuestion = entry.Itself
+asked_alone lone_commands.Script = entry.Misformed
+asked_alone lone_commands.ScriptQuestion = entry.Misformed
 asked_alone lone_commands.Paper = entry.Asked questions.Paper
 asked_alone lone_commands.Rules = entry.Asked questions.Rules
 asked_alone lone_commands.Labels = entry.Asked questions.Labels
 asked_alone lone_commands.Live = entry.Asked questions.Live
 asked_alone lone_commands.Commands = entry.Asked questions.Commands
 asked_alone lone_commands.PanelData = entry.Asked questions.PanelData
+asked_alone lone_commands.CommandsData = entry.Asked questions.CommandsData
+asked_alone lone_commands.OperationsData = entry.Asked questions.OperationsData
+asked_alone lone_commands.FaultsData = entry.Asked questions.FaultsData
+asked_alone lone_commands.StateData = entry.Asked (questions.Data data_questions.State)
+asked_alone lone_commands.LabelsData = entry.Asked (questions.Data data_questions.Labels)
+asked_alone lone_commands.RulesData = entry.Asked (questions.Data data_questions.Rules)
+asked_alone lone_commands.TapeData = entry.Asked (questions.Data data_questions.Tape)
+asked_alone lone_commands.SourceData = entry.Asked (questions.Data data_questions.Source)
 asked_alone lone_commands.Transcript = entry.Transcript
 asked_alone lone_commands.New = entry.New
 
@@ -152,22 +174,21 @@ module _ (names : List (List ℕ × ℕ)) (counter : ℕ) where
       asked_by (asked_at command) (option_and_then address_at (lone_word operands))
   entry_by operands (verbs.Number command) = asked_by (asked_with command) (lone_number operands)
   entry_by operands verbs.NumberAddress = optimum_entry operands
-  entry_by operands verbs.Range =
-      asked_by (λ range. entry.Placed range.first)
-      (range_at (first_word operands) (after_word operands))
+  entry_by operands (verbs.Range command) =
+      asked_by (asked_of command) (range_at (first_word operands) (after_word operands))
   entry_by operands verbs.ScaledRange = numbers_entry operands
   entry_by operands verbs.Word =
-      asked_by (λ place. asked_by (entry.Put place) (value_at names place (after_word operands)))
-      (address_at (first_word operands))
+      asked_by (λ place. asked_by (λ word. entry.Script (commands.Put place word))
+      (value_at names place (after_word operands))) (address_at (first_word operands))
   entry_by operands verbs.Command =
       if has_no_word operands then entry.Help
       else asked_by entry.HelpOf (option_and_then (named verb_names) (lone_word operands))
   entry_by operands verb = entry.Misformed
 
-  -- what a line asks for: those are taken as they are that are an open source's, too long, in the
-  -- form of a script's command, or without anything that is asked
-  unfoldable pub entry_of : Bool → Kept → Entry
-  entry_of is_open kept =
-      if is_open || kept.longer || kept.blank || (slice_index kept.front 0 == byte ";")
-      || is_some (command_of kept.front) then entry.Itself
-      else asked_by (entry_by (after_word kept.front)) (named verb_names (first_word kept.front))
+  -- what a line asks for where no source is open: one that is too long, a comment and a blank one
+  -- stand for themselves, then come the commands of scripts
+  unfoldable pub entry_of : Kept → Entry
+  entry_of kept =
+      if kept.longer || kept.blank || is_comment kept.front then entry.Itself
+      else option_map_or entry.Script (command_of kept.front)
+      (asked_by (entry_by (after_word kept.front)) (named verb_names (first_word kept.front)))

@@ -9,13 +9,16 @@ use Rattle.lgp_word.specs.Drum.{blank_words}
 use Rattle.lgp_table.specs.Console.{is_at_rest}
 use Rattle.lgp_stream.specs.Language.{Answer}
 use Rattle.lgp_stream.specs.Transcript.{Recorded, with_line, with_state}
+use Rattle.lgp_command.specs.CommandText.{command_text}
+use Rattle.lgp_command.specs.declared.command.Command.TheVariants as commands
 use Rattle.lgp_listing.specs.Dump.{cell_in, first_fault}
 use Rattle.lgp_listing.specs.declared.reading.DumpFault.{DumpFault}
 use Rattle.lgp_listing.specs.declared.reading.DumpFault.TheVariants as faults
 use Rattle.lgp_script.specs.LabState.{LabState}
-use Rattle.lgp_script.specs.TapeCommands.{answer_to_tape_text}
-use Rattle.lgp_monitor.specs.Monitor.{answered_with, panel_at, put_line}
-use Rattle.lgp_monitor.specs.Reasons.{reasoned}
+use Rattle.lgp_script.specs.TapeCommands.{replied_to_tape_text}
+use Rattle.lgp_script.specs.declared.refusal.Refusal.TheVariants.{Moving}
+use Rattle.lgp_monitor.specs.Monitor.{answered_with, panel_at}
+use Rattle.lgp_monitor.specs.Reasons.{explained_text, refused_text}
 
 -- ---- restore
 
@@ -31,13 +34,14 @@ changed_cells address (old ∷ before) (new ∷ after) =
     (if old == new then [] else (address, new) ∷ []) ++ changed_cells (address + 1) before after
 changed_cells address before after = []
 
+-- the line of a script that puts a word
 abbrev pub put_cell : ℕ × ℕ → List ℕ
-put_cell cell = put_line cell.0 cell.1
+put_cell cell = command_text (commands.Put cell.0 cell.1) []
 
 -- why a text is no dump
 unfoldable pub dump_fault_text : DumpFault → List ℕ
 dump_fault_text (faults.Form line) =
-    codes "? 1 Form: line " ++ (decimal line ++ codes " is no line of a dump\n")
+    codes "? 1 Form: line " ++ (decimal line ++ codes " is not a line of a dump\n")
 dump_fault_text (faults.Order line) =
     codes "? 1 Form: the address of line "
     ++ (decimal line ++ codes " is not above that of the line before it\n")
@@ -56,7 +60,7 @@ module _ (recorded : Recorded LabState) where
   restore_reply dump =
       option_map_or dump_fault_text (first_fault dump) (if rests_at
       then codes "restored " ++ (decimal (length (cells_changed dump)) ++ codes "\n")
-      else reasoned (codes "? 2 Moving\n"))
+      else refused_text Moving)
 
   -- the lines of a script that it stands for
   unfoldable pub restore_lines : List ℕ → List (List ℕ)
@@ -70,12 +74,14 @@ module _ (recorded : Recorded LabState) where
   -- name is in the transcript
 
   unfoldable pub tape_reply : List ℕ → List ℕ
-  tape_reply text = reasoned (answer_to_tape_text recorded.state text).reply
+  tape_reply text =
+      let replied = replied_to_tape_text recorded.state text in
+      explained_text replied.after replied.reply
 
   unfoldable pub after_tape : List ℕ → List ℕ → Recorded LabState
   after_tape name text =
       with_state (with_line recorded (codes "tape " ++ name))
-      (answer_to_tape_text recorded.state text).after
+      (replied_to_tape_text recorded.state text).after
 
   abbrev pub answer_to_tape : List ℕ → List ℕ → Answer (Recorded LabState)
   answer_to_tape name text = record { reply = tape_reply text; after = after_tape name text }

@@ -2,7 +2,7 @@
 -- word of it is wrong, and what would be right.
 use Rattle.std.specs.Prelude.{ℕ, ◌==◌, ◌&&◌, ◌||◌, nat_lt, not, Bool, false, if◌then◌else◌}
 use Rattle.std.specs.Prelude.{is_none, is_some, Result, Ok, Err}
-use Rattle.std.specs.Prelude.{List, ◌++◌, codes, drop, flat_map, length, slice_get, take}
+use Rattle.std.specs.Prelude.{List, [], ◌++◌, codes, drop, flat_map, length, slice_get, take}
 use Rattle.std.specs.Prelude.{slice_index}
 use Rattle.std.specs.Char.{is_ascii_digit, is_ascii_uppercase}
 use Rattle.std.specs.List.{list_all, list_any}
@@ -17,7 +17,7 @@ use Rattle.lgp_assembler.specs.declared.operands.OperandFault.TheVariants.{Misfo
 use Rattle.lgp_assembler.specs.declared.operands.OperandFault.TheVariants.{Outside}
 use Rattle.lgp_stream.specs.LineWords.{after_word, first_word, has_no_word}
 use Rattle.lgp_text.specs.NamedValues.{named}
-use Rattle.lgp_script.specs.Command.{lone_number}
+use Rattle.lgp_command.specs.Command.{lone_number}
 use Rattle.lgp_monitor.specs.Verbs.{only_asks, operands_form, operands_kind, takes_address}
 use Rattle.lgp_monitor.specs.Verbs.{verb_names}
 use Rattle.lgp_monitor.specs.declared.verb.Verb.{Verb}
@@ -46,19 +46,33 @@ commands_text = flat_map (λ name. command_line name.0 name.1) verb_names
 
 -- what is said of a word, after it
 abbrev pub mistake_text : Mistake → List ℕ
-mistake_text mistakes.Capital = codes " has a capital letter, and all letters are small"
-mistake_text mistakes.Digits = codes " is no address: two digits are the track, and two the sector"
-mistake_text mistakes.Track = codes " is no address: tracks are 00 to 63"
-mistake_text mistakes.Sector = codes " is no address: sectors are 00 to 63"
+mistake_text mistakes.Capital = codes " has a capital letter, and only small letters are accepted"
+mistake_text mistakes.Digits = codes " is not an address, which is two digits for the track and two for the sector"
+mistake_text mistakes.Track = codes " is not an address: tracks run from 00 to 63"
+mistake_text mistakes.Sector = codes " is not an address: sectors run from 00 to 63"
 mistake_text mistakes.Address =
-    codes " is no address: a track and a sector, each 00 to 63, or a label"
-mistake_text mistakes.Label = codes " names no label of the last source"
+    codes " is not an address, which is a label, or a track and a sector, each from 00 to 63"
+mistake_text mistakes.Label = codes " is not a label in the last source"
 mistake_text mistakes.Drum = codes " is not on the drum"
-mistake_text mistakes.Blank = codes " has no blank between the order and its address"
+mistake_text mistakes.Blank = codes " needs a space between the order and its address"
 mistake_text mistakes.LetterDigit =
-    codes " has l or o, which stand for 1 and 0 on a tape and not here"
-mistake_text mistakes.Odd = codes " is odd, and the last bit of a word is 0"
-mistake_text mistakes.Value = codes " is neither eight digits nor a fraction nor an operation"
+    codes " has l or o, which mean 1 and 0 only on a tape"
+mistake_text mistakes.Odd = codes " is odd, but the last bit of a word is always 0"
+mistake_text mistakes.Equals = codes " needs a space after the ="
+mistake_text mistakes.Number = codes " is a plain number and not eight digits: did you mean = "
+mistake_text mistakes.Whole =
+    codes " is not a whole number that fits with its point; a fraction is put without ="
+mistake_text mistakes.Point = codes " needs a number and the place of its point, as in int 5 30"
+mistake_text mistakes.Value = codes " is not eight digits, a fraction or an operation"
+
+-- what a plain number may have been meant as: a whole number or a fraction
+abbrev pub meant_text : List ℕ → Mistake → List ℕ
+meant_text word mistakes.Number = word ++ (codes " or ." ++ word)
+meant_text word mistake = []
+
+-- a word, and what is said of it
+abbrev pub said_of : List ℕ → Mistake → List ℕ
+said_of word mistake = word ++ (mistake_text mistake ++ meant_text word mistake)
 
 abbrev pub has_capital : List ℕ → Bool
 has_capital word = list_any is_ascii_uppercase word
@@ -105,13 +119,19 @@ abbrev pub are_word_digits : List ℕ → Bool
 are_word_digits word = list_all is_word_digit word
 
 -- of a word that is no value of `put`; eight digits that are no word are those of an odd number
+-- of a word that is none of the words with which a value may begin
+abbrev pub number_mistake : List ℕ → Mistake
+number_mistake word =
+    if are_digits word then mistakes.Number
+    else (if slice_index word 0 == byte "=" then mistakes.Equals else mistakes.Value)
+
 abbrev pub value_mistake : List ℕ → Mistake
 value_mistake word =
     if has_capital word then mistakes.Capital
     else (if is_order_with_digits word then mistakes.Blank
     else (if length word == 8 && has_l_or_o word then mistakes.LetterDigit
     else (if length word == 8 && are_word_digits word && is_none (word_of_digits word)
-    then mistakes.Odd else mistakes.Value)))
+    then mistakes.Odd else number_mistake word)))
 
 -- ---- why a line is in no command's form
 
@@ -127,12 +147,20 @@ takes_numbers word =
     bytes_eq word (codes "=") || bytes_eq word (codes "word") || bytes_eq word (codes "frac")
     || bytes_eq word (codes "int") || bytes_eq word (codes "org") || bytes_eq word (codes "end")
 
+-- what is wrong with the operands of `=` or of an operation without an address, or else the form
+abbrev pub numbers_reason : List ℕ → List ℕ → List ℕ → List ℕ
+numbers_reason form operation operands =
+    if bytes_eq operation (codes "=") && not (has_no_word operands)
+    then said_of (first_word operands) mistakes.Whole
+    else (if bytes_eq operation (codes "int") && has_no_word (after_word operands)
+    then said_of operation mistakes.Point else form)
+
 module _ (names : List (List ℕ × ℕ)) (form : List ℕ) where
   -- of a first operand that should be an address, which `*` may name, and where it is one, of what
   -- comes after it
   abbrev pub by_address : List ℕ → Result ℕ OperandFault → (ℕ → List ℕ) → List ℕ
   by_address operand (Ok address) more = more address
-  by_address operand (Err fault) more = operand ++ mistake_text (address_mistake fault operand)
+  by_address operand (Err fault) more = said_of operand (address_mistake fault operand)
 
   abbrev pub operand_reason : ℕ → List ℕ → (ℕ → List ℕ) → List ℕ
   operand_reason place operands more =
@@ -145,8 +173,9 @@ module _ (names : List (List ℕ × ℕ)) (form : List ℕ) where
       if has_no_word value then form
       else (if takes_place (first_word value)
       then operand_reason place (after_word value) (λ address. form)
-      else (if takes_numbers (first_word value) then form
-      else first_word value ++ mistake_text (value_mistake (first_word value))))
+      else (if takes_numbers (first_word value)
+      then numbers_reason form (first_word value) (after_word value)
+      else said_of (first_word value) (value_mistake (first_word value))))
 
   -- of an address that comes after a number
   abbrev pub second_reason : ℕ → List ℕ → List ℕ
@@ -155,7 +184,7 @@ module _ (names : List (List ℕ × ℕ)) (form : List ℕ) where
       then operand_reason place (after_word operands) (λ address. form) else form
 
 -- what is said of a line whose command is known: the first word that is wrong, or else the form
-abbrev pub verb_reason : List (List ℕ × ℕ) → ℕ → List ℕ → Verb → List ℕ
+unfoldable pub verb_reason : List (List ℕ × ℕ) → ℕ → List ℕ → Verb → List ℕ
 verb_reason names counter line verbs.Word =
     let form = first_word line ++ operands_form verbs.Word in
     operand_reason names form counter (after_word line)
@@ -171,8 +200,8 @@ verb_reason names counter line verb =
 -- and of one whose command is not known
 abbrev pub no_command_reason : List ℕ → List ℕ
 no_command_reason word =
-    if has_capital word then word ++ mistake_text mistakes.Capital
-    else codes "there is no such command, help lists them"
+    if has_capital word then said_of word mistakes.Capital
+    else codes "there is no such command; help lists them all"
 
 unfoldable pub misformed_text : List (List ℕ × ℕ) → ℕ → List ℕ → List ℕ
 misformed_text names counter line =

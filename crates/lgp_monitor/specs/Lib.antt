@@ -6,10 +6,14 @@ pub mod TellingInside
 pub mod Scaled
 pub mod Forms
 pub mod PanelData
+pub mod DataQuestions
 pub mod Questions
 pub mod Entry
 pub mod Closing
 pub mod ClosingInside
 pub mod Operating
+pub mod OperatingInside
 pub mod Monitor
+pub mod GoInside
+pub mod PerformingInside
 pub mod FileTexts

@@ -6,11 +6,16 @@ use Rattle.std.specs.Prelude.{if◌then◌else◌, slice_index, List, [], ◌∷
 use Rattle.lgp_word.specs.Order.{op_at}
 use Rattle.lgp_word.specs.declared.order.Op.{Op}
 use Rattle.lgp_word.specs.declared.order.Op.TheVariants.{Z, P}
+use Rattle.lgp_command.specs.CommandText.{command_text}
+use Rattle.lgp_command.specs.declared.command.Command.TheVariants as commands
+use Rattle.lgp_table.specs.declared.action.Action.TheVariants as actions
 use Rattle.lgp_table.specs.declared.panel.Cause.TheVariants.{Stop}
 use Rattle.lgp_table.specs.declared.panel.Status.{Status}
 use Rattle.lgp_table.specs.declared.panel.Status.TheVariants.{Halted}
 use Rattle.lgp_script.specs.LabState.{LabState}
-use Rattle.lgp_script.specs.Script.{script_language}
+use Rattle.lgp_script.specs.HistoryCommands.{replied_to_run}
+use Rattle.lgp_script.specs.MachineCommands.{replied_to_press}
+use Rattle.lgp_script.specs.Reply.{Replied}
 
 -- ---- when Start is pressed
 
@@ -40,37 +45,47 @@ waits_for_typewriter lab =
 
 -- ---- what is done
 
--- lines of a script, the reply to the last run, and how often Start is pressed
+-- the line of a run
+unfoldable pub run_line : ℕ → List ℕ
+run_line limit = command_text (commands.Run limit) []
+
+abbrev pub start_line : List ℕ
+start_line = command_text (commands.Press actions.Start) []
+
+-- lines of a script, the reply to the last run with the state after it, and how often Start is
+-- pressed
 pub record Operated : Type 0 where
   pub lines : List (List ℕ)
-  pub reply : List ℕ
+  pub last : Replied
   pub starts : ℕ
 
-abbrev pub ended_with : List ℕ → Operated
-ended_with reply = record { lines = []; reply = reply; starts = 0 }
+abbrev pub ended_with : Replied → Operated
+ended_with ran = record { lines = []; last = ran; starts = 0 }
 
-abbrev pub once_more : List ℕ → Operated → Operated
-once_more run more = record {
-  lines = codes "press start" ∷ run ∷ more.lines;
-  reply = more.reply;
+abbrev pub once_more : ℕ → Operated → Operated
+once_more limit more = record {
+  lines = start_line ∷ run_line limit ∷ more.lines;
+  last = more.last;
   starts = more.starts + 1;
 }
 
--- after a run with this reply, where Start may be pressed a number of times
-abbrev pub operated_on : List ℕ → ℕ → List ℕ → LabState → Operated
-operated_on run zero reply lab = ended_with reply
-operated_on run (suc starts) reply lab =
-    let started = script_language.after lab (codes "press start") in
-    if waits_for_typewriter lab
-    then once_more run (operated_on run starts (script_language.reply started run)
-    (script_language.after started run)) else ended_with reply
+-- where Start is pressed after a run, and the run is asked for again
+abbrev pub run_again : ℕ → LabState → Replied
+run_again limit lab = replied_to_run (replied_to_press lab actions.Start).after limit
 
--- the line of a run, and what follows
-unfoldable pub operated : List ℕ → ℕ → LabState → Operated
-operated run limit lab =
-    let more = operated_on run limit (script_language.reply lab run)
-    (script_language.after lab run) in
-    record more { lines = run ∷ more.lines }
+-- after a run that left this, where Start may be pressed a number of times
+abbrev pub operated_on : ℕ → ℕ → Replied → Operated
+operated_on limit zero ran = ended_with ran
+operated_on limit (suc starts) ran =
+    if waits_for_typewriter ran.after
+    then once_more limit (operated_on limit starts (run_again limit ran.after))
+    else ended_with ran
+
+-- a run, and what follows
+unfoldable pub operated : ℕ → LabState → Operated
+operated limit lab =
+    let more = operated_on limit limit (replied_to_run lab limit) in
+    record more { lines = run_line limit ∷ more.lines }
 
 -- how often Start was pressed
 unfoldable pub starts_text : ℕ → List ℕ

@@ -7,10 +7,12 @@ use Rattle.lgp_word.specs.Digits.{address_digits, digits_of}
 use Rattle.lgp_fraction.specs.Arithmetic.{half}
 use Rattle.lgp_fraction.specs.Decimal.{decimal_text}
 use Rattle.lgp_exchange.specs.Paper.{paper_of}
+use Rattle.lgp_fields.specs.declared.records.Form.TheVariants.{Lines}
+use Rattle.lgp_help.specs.Tables.{commands_text as help_commands, faults_text, operations_text}
 use Rattle.lgp_history.specs.declared.rule.Rule.{Rule}
 use Rattle.lgp_history.specs.declared.rule.Rule.TheVariants.{At, Changed}
 use Rattle.lgp_script.specs.DrumCommands.{lines_text}
-use Rattle.lgp_script.specs.Names.{button_names}
+use Rattle.lgp_command.specs.Names.{button_names}
 use Rattle.lgp_script.specs.LabState.{LabState, labels_of}
 use Rattle.lgp_table.specs.Console.{is_halted, is_live, is_manual, is_waiting, takes_codes}
 use Rattle.lgp_table.specs.declared.action.Action.{Action}
@@ -18,6 +20,7 @@ use Rattle.lgp_table.specs.declared.panel.Mode.{Mode}
 use Rattle.lgp_table.specs.declared.panel.Panel.{Panel}
 use Rattle.lgp_table.specs.declared.panel.Status.{Status}
 use Rattle.lgp_trace.specs.OriginLines.{why_text}
+use Rattle.lgp_monitor.specs.DataQuestions.{data_for}
 use Rattle.lgp_monitor.specs.Forms.{commands_text}
 use Rattle.lgp_monitor.specs.PanelData.{panel_data}
 use Rattle.lgp_monitor.specs.Scaled.{scaled_text}
@@ -102,3 +105,7 @@ answer_to questions.Rules lab =
 answer_to questions.Live lab = live_text lab.debugger.state.core.panel
 answer_to questions.Commands lab = commands_text
 answer_to questions.PanelData lab = panel_data lab.debugger.state
+answer_to questions.CommandsData lab = help_commands Lines
+answer_to questions.OperationsData lab = operations_text Lines
+answer_to questions.FaultsData lab = faults_text Lines
+answer_to (questions.Data asked) lab = data_for asked lab

@@ -1,74 +1,60 @@
 -- Part of the public promise: what is said after replies: the reasons of refusals, and the
 -- machine's state after a run that is reported.
-use Rattle.std.specs.Prelude.{ℕ, zero, suc, ◌-◌, ◌==◌, if◌then◌else◌, Option, None, List, []}
-use Rattle.std.specs.Prelude.{◌∷◌, ◌++◌, codes, drop, length, slice_index, take}
-use Rattle.std.specs.Option.{option_map_or}
-use Rattle.std.specs.Str.{bytes_eq}
-use Rattle.lgp_stream.specs.LineWords.{after_word, first_word}
-use Rattle.lgp_table.specs.declared.panel.Mode.{Mode}
-use Rattle.lgp_table.specs.declared.panel.Status.{Status}
-use Rattle.lgp_text.specs.NamedValues.{named}
+use Rattle.std.specs.Prelude.{ℕ, ◌==◌, ◌||◌, ◌&&◌, Bool, true, false, if◌then◌else◌, List, []}
+use Rattle.std.specs.Prelude.{◌++◌, codes}
+use Rattle.lgp_debugger.specs.declared.fault.Reason.{Reason}
+use Rattle.lgp_debugger.specs.declared.fault.Reason.TheVariants.{Rest, Rule as ByRule}
+use Rattle.lgp_script.specs.LabState.{LabState}
+use Rattle.lgp_script.specs.Refusal.{refusal_words}
+use Rattle.lgp_script.specs.ReplyText.{reply_text}
+use Rattle.lgp_script.specs.declared.refusal.Refusal.{Refusal}
+use Rattle.lgp_script.specs.declared.refusal.Refusal.TheVariants as refusals
+use Rattle.lgp_script.specs.declared.reply.Reply.{Reply}
+use Rattle.lgp_script.specs.declared.reply.Reply.TheVariants as replies
 use Rattle.lgp_trace.specs.declared.form.Form.{Form}
-use Rattle.lgp_monitor.specs.RunEnds.{stand_text, tells_standstill}
-use Rattle.lgp_monitor.specs.declared.reason.RefusalKind.{RefusalKind}
-use Rattle.lgp_monitor.specs.declared.reason.RefusalKind.TheVariants as kinds
+use Rattle.lgp_monitor.specs.RunEnds.{stand_text}
 
--- the refusals that do not say all by themselves, by their numbers
-abbrev pub refusal_numbers : List (List ℕ × RefusalKind)
-refusal_numbers =
-    (codes "2", kinds.Moving)
-    ∷ (codes "3", kinds.AtWork)
-    ∷ (codes "4", kinds.ClockEnd)
-    ∷ (codes "5", kinds.Full)
-    ∷ (codes "6", kinds.NoRule)
-    ∷ (codes "7", kinds.TooFar)
-    ∷ (codes "8", kinds.NoHit)
-    ∷ (codes "10", kinds.NoImage)
-    ∷ (codes "11", kinds.TooLong)
-    ∷ (codes "12", kinds.BadSign)
-    ∷ []
+-- why a command is refused
+unfoldable pub reason_of : Refusal → List ℕ
+reason_of refusals.Form = codes "it is in no command's form"
+reason_of refusals.Moving = codes "the machine is running; press manual halts it"
+reason_of refusals.AtWork = codes "the machine is running, and turn needs it at rest"
+reason_of refusals.ClockEnd = codes "the clock would pass its limit, 4611686018427387904"
+reason_of refusals.Full = codes "there are 64 rules already; drop removes one"
+reason_of refusals.NoRule = codes "no rule has this number; rules lists them"
+reason_of (refusals.TooFar kept) = codes "only this many orders are kept"
+reason_of (refusals.NoHit kept) =
+    codes "no rule hits any of the kept orders, of which there are this many"
+reason_of refusals.NoImage = codes "no source has been assembled yet"
+reason_of refusals.TooLong = codes "a line may have at most 4096 bytes, a source at most 1048576"
+reason_of (refusals.BadSign place) =
+    codes "the byte at this position in the text, counting from 0, does not begin a tape sign"
 
-unfoldable pub reason_of : RefusalKind → List ℕ
-reason_of kinds.Moving = codes "the machine is at work, press manual halts it"
-reason_of kinds.AtWork = codes "the machine is at work, and turn is for one at rest"
-reason_of kinds.ClockEnd = codes "the clock would pass its end, 4611686018427387904"
-reason_of kinds.Full = codes "there are 64 rules, drop takes one away"
-reason_of kinds.NoRule = codes "no rule has this number, rules lists them"
-reason_of kinds.TooFar = codes "no more orders than this are kept"
-reason_of kinds.NoHit = codes "no rule hits one of the kept orders, and this is their number"
-reason_of kinds.NoImage = codes "no source has assembled yet"
-reason_of kinds.TooLong = codes "a line has at most 4096 bytes, a source 1048576"
-reason_of kinds.BadSign =
-    codes "the byte at this place of the text, counted from 0, begins no sign of a tape"
+-- a refusal as scripts have it, and after it the reason
+unfoldable pub refused_text : Refusal → List ℕ
+refused_text refusal =
+    refusal_words refusal ++ (codes ": " ++ (reason_of refusal ++ codes "\n"))
 
--- where the line begins in which a place lies
-unfoldable pub line_start : List ℕ → ℕ → ℕ
-line_start text zero = 0
-line_start text (suc place) =
-    if slice_index text place == 10 then suc place else line_start text place
+-- a reply as scripts have it, but a refusal with its reason
+unfoldable pub explained_text : LabState → Reply → List ℕ
+explained_text lab (replies.Refused refusal) = refused_text refusal
+explained_text lab reply = reply_text lab reply
 
--- the last line of a text, with the line feed that ends it
-unfoldable pub last_line : List ℕ → List ℕ
-last_line text = drop (line_start text (length text - 1)) text
+-- whether a run found the machine at rest, or was stopped by a rule, so that its reply leaves open in
+-- which state the machine is
+abbrev pub ends_open : ℕ → Reason → Bool
+ends_open orders Rest = orders == 0
+ends_open orders (ByRule number) = true
+ends_open orders reason = false
 
--- the kind of a refusal; None of any other line
-unfoldable pub refusal_in : List ℕ → Option RefusalKind
-refusal_in line =
-    if bytes_eq (first_word line) (codes "?")
-    then named refusal_numbers (first_word (after_word line)) else None
+abbrev pub leaves_open : Reply → Bool
+leaves_open (replies.Ran ran) = ends_open ran.orders ran.reason
+leaves_open reply = false
 
--- a reply with the reason after its last line
-abbrev pub with_reason : List ℕ → RefusalKind → List ℕ
-with_reason reply kind =
-    take (length reply - 1) reply ++ (codes ": " ++ (reason_of kind ++ codes "\n"))
-
--- a reply, of which the last line has its reason after it where that is a refusal
-unfoldable pub reasoned : List ℕ → List ℕ
-reasoned reply = option_map_or (with_reason reply) (refusal_in (last_line reply)) reply
-
--- what is reported of a run in a form after which the machine is in this state: where the reply at
--- its end leaves open in which state the machine is, with a line that says it
-unfoldable pub explained : Form → Status → Mode → List ℕ → List ℕ
-explained form status mode reported =
-    if tells_standstill (last_line reported) then reported ++ stand_text form status mode
-    else reasoned reported
+-- the reply to a run that is reported in a form; after one that leaves the state open, a line that
+-- says it
+unfoldable pub run_end_text : Form → LabState → Reply → List ℕ
+run_end_text form lab reply =
+    let panel = lab.debugger.state.core.panel in
+    explained_text lab reply
+    ++ (if leaves_open reply then stand_text form panel.status panel.mode else [])

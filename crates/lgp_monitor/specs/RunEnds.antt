@@ -1,9 +1,6 @@
 -- Part of the public promise: what is said after a run that found the machine at rest, and after
 -- one that a rule stopped: the machine's state, and what lets it go on.
-use Rattle.std.specs.Prelude.{ℕ, ◌&&◌, ◌||◌, Bool, List, ◌++◌, codes, nat_eq}
-use Rattle.std.specs.List.{starts_with}
-use Rattle.std.specs.Str.{bytes_eq}
-use Rattle.lgp_stream.specs.LineWords.{after_word, first_word}
+use Rattle.std.specs.Prelude.{ℕ, List, ◌++◌, codes}
 use Rattle.lgp_table.specs.declared.panel.Cause.{Cause}
 use Rattle.lgp_table.specs.declared.panel.Cause.TheVariants.{Operator, Stop, Overflow, Step}
 use Rattle.lgp_table.specs.declared.panel.Mode.{Mode}
@@ -22,21 +19,21 @@ halt_text Step = codes "the machine halted after one operation"
 
 -- what starts it again
 abbrev pub start_text : Mode → List ℕ
-start_text Normal = codes ": press start lets it go on\n"
-start_text OneOperation = codes ": press start lets it do one order\n"
-start_text Manual = codes ": press normal, then press start lets it go on\n"
+start_text Normal = codes ": press start continues\n"
+start_text OneOperation = codes ": press start performs one order\n"
+start_text Manual = codes ": press normal, then press start continues\n"
 
 -- the machine's state
 abbrev pub state_text : Status → List ℕ
 state_text (Halted cause) = halt_text cause
-state_text Waiting = codes "an input waits for codes"
+state_text Waiting = codes "an input is waiting for codes"
 state_text status = codes "the machine is still going"
 
 -- what lets it go on
 abbrev pub way_text : Status → Mode → List ℕ
 way_text (Halted cause) mode = start_text mode
-way_text Waiting mode = codes ": press read lets the tape pass, press compute ends the input\n"
-way_text status mode = codes ": run goes on, press manual halts it\n"
+way_text Waiting mode = codes ": press read starts the tape, press compute ends the input\n"
+way_text status mode = codes ": run continues, press manual halts it\n"
 
 -- in front of them: blanks for people, and for programs a key
 abbrev pub front_of_state : Form → List ℕ
@@ -45,10 +42,3 @@ front_of_state forms.Data = codes "state "
 
 unfoldable pub stand_text : Form → Status → Mode → List ℕ
 stand_text form status mode = front_of_state form ++ (state_text status ++ way_text status mode)
-
--- whether a line tells of a run that found the machine at rest, or that a rule stopped
-unfoldable pub tells_standstill : List ℕ → Bool
-tells_standstill line =
-    bytes_eq line (codes "ran 0 rest\n")
-    || (starts_with nat_eq line (codes "ran ")
-    && bytes_eq (first_word (after_word (after_word line))) (codes "rule"))

@@ -6,6 +6,7 @@ use Rattle.lgp_trace.specs.declared.form.Form.TheVariants as forms
 use Rattle.lgp_monitor.specs.declared.verb.AddressCommand.TheVariants as address_commands
 use Rattle.lgp_monitor.specs.declared.verb.LoneCommand.TheVariants as lone_commands
 use Rattle.lgp_monitor.specs.declared.verb.NumberCommand.TheVariants as number_commands
+use Rattle.lgp_monitor.specs.declared.verb.RangeCommand.TheVariants as range_commands
 use Rattle.lgp_monitor.specs.declared.verb.Verb.{Verb}
 use Rattle.lgp_monitor.specs.declared.verb.Verb.TheVariants as verbs
 
@@ -29,8 +30,8 @@ verb_names =
     ∷ (codes "back", verbs.Number number_commands.Script)
     ∷ (codes "last", verbs.Lone lone_commands.Script)
     ∷ (codes "panel", verbs.Lone lone_commands.ScriptQuestion)
-    ∷ (codes "words", verbs.Range)
-    ∷ (codes "show", verbs.Range)
+    ∷ (codes "words", verbs.Range range_commands.Words)
+    ∷ (codes "show", verbs.Range range_commands.Show)
     ∷ (codes "numbers", verbs.ScaledRange)
     ∷ (codes "printed", verbs.Lone lone_commands.ScriptQuestion)
     ∷ (codes "paper", verbs.Lone lone_commands.Paper)
@@ -52,14 +53,26 @@ verb_names =
     ∷ (codes "restore-simh", verbs.File)
     ∷ (codes "list", verbs.Lone lone_commands.ScriptQuestion)
     ∷ (codes "load", verbs.Lone lone_commands.Script)
-    ∷ (codes "break", verbs.Address address_commands.Script)
-    ∷ (codes "watch", verbs.Address address_commands.Script)
+    ∷ (codes "break", verbs.Address address_commands.Break)
+    ∷ (codes "watch", verbs.Address address_commands.Watch)
     ∷ (codes "drop", verbs.Number number_commands.Script)
     ∷ (codes "rules", verbs.Lone lone_commands.Rules)
     ∷ (codes "labels", verbs.Lone lone_commands.Labels)
     ∷ (codes "live", verbs.Lone lone_commands.Live)
     ∷ (codes "commands", verbs.Lone lone_commands.Commands)
     ∷ (codes "panel-data", verbs.Lone lone_commands.PanelData)
+    ∷ (codes "commands-data", verbs.Lone lone_commands.CommandsData)
+    ∷ (codes "operations-data", verbs.Lone lone_commands.OperationsData)
+    ∷ (codes "faults-data", verbs.Lone lone_commands.FaultsData)
+    ∷ (codes "state-data", verbs.Lone lone_commands.StateData)
+    ∷ (codes "show-data", verbs.Range range_commands.ShowData)
+    ∷ (codes "why-data", verbs.Address address_commands.WhyData)
+    ∷ (codes "labels-data", verbs.Lone lone_commands.LabelsData)
+    ∷ (codes "rules-data", verbs.Lone lone_commands.RulesData)
+    ∷ (codes "paper-data", verbs.Number number_commands.PaperData)
+    ∷ (codes "tape-data", verbs.Lone lone_commands.TapeData)
+    ∷ (codes "source-data", verbs.Lone lone_commands.SourceData)
+    ∷ (codes "cost", verbs.Address address_commands.Cost)
     ∷ (codes "trace-data", verbs.Number (number_commands.Trace forms.Data))
     ∷ (codes "profile-data", verbs.Number (number_commands.Profile forms.Data))
     ∷ (codes "transcript", verbs.Lone lone_commands.Transcript)
@@ -74,14 +87,14 @@ operands_form (verbs.Lone _) = []
 operands_form (verbs.Address command) = codes " ttss"
 operands_form (verbs.Number command) = codes " NUMBER"
 operands_form verbs.NumberAddress = codes " NUMBER or optimum NUMBER ttss"
-operands_form verbs.Range = codes " ttss NUMBER, at most 64"
+operands_form (verbs.Range command) = codes " ttss NUMBER, at most 64"
 operands_form verbs.ScaledRange = codes " ttss NUMBER, at most 64, or numbers ttss NUMBER POINT"
 operands_form verbs.Word =
     codes " ttss WORD, FRACTION or OPERATION as in a source, or put ttss = NUMBER or = NUMBER POINT"
 operands_form verbs.Text = codes " TEXT"
 operands_form verbs.Key = codes " normal, oneop, manual, start, clear, fill, execute, compute or read, or bp32, bp16, bp8, bp4, transfer or sixbit with up or down"
 operands_form verbs.Source =
-    codes ", then its lines, then a point alone; in the program lgp_monitor also source FILE"
+    codes ", then its lines, then a line with only a point; in the program lgp_monitor also source FILE"
 operands_form verbs.File = codes " FILE, in the program lgp_monitor"
 operands_form verbs.Command = codes " or help COMMAND"
 operands_form verbs.End = codes ", which ends the program lgp_monitor"
@@ -92,7 +105,7 @@ operands_kind (verbs.Lone _) = codes " alone\n"
 operands_kind (verbs.Address command) = codes " address\n"
 operands_kind (verbs.Number command) = codes " number\n"
 operands_kind verbs.NumberAddress = codes " number\n"
-operands_kind verbs.Range = codes " range\n"
+operands_kind (verbs.Range command) = codes " range\n"
 operands_kind verbs.ScaledRange = codes " range\n"
 operands_kind verbs.Word = codes " address word\n"
 operands_kind verbs.Text = codes " text\n"
@@ -111,9 +124,20 @@ only_asks (verbs.Lone lone_commands.Labels) = true
 only_asks (verbs.Lone lone_commands.Live) = true
 only_asks (verbs.Lone lone_commands.Commands) = true
 only_asks (verbs.Lone lone_commands.PanelData) = true
+only_asks (verbs.Lone lone_commands.CommandsData) = true
+only_asks (verbs.Lone lone_commands.OperationsData) = true
+only_asks (verbs.Lone lone_commands.FaultsData) = true
+only_asks (verbs.Lone lone_commands.StateData) = true
+only_asks (verbs.Lone lone_commands.LabelsData) = true
+only_asks (verbs.Lone lone_commands.RulesData) = true
+only_asks (verbs.Lone lone_commands.TapeData) = true
+only_asks (verbs.Lone lone_commands.SourceData) = true
 only_asks (verbs.Lone lone_commands.Transcript) = true
 only_asks (verbs.Address address_commands.Why) = true
-only_asks verbs.Range = true
+only_asks (verbs.Range command) = true
+only_asks (verbs.Address address_commands.WhyData) = true
+only_asks (verbs.Address address_commands.Cost) = true
+only_asks (verbs.Number number_commands.PaperData) = true
 only_asks verbs.ScaledRange = true
 only_asks verbs.Command = true
 only_asks _ = false
@@ -121,7 +145,7 @@ only_asks _ = false
 -- whether an address comes first after a command's name
 abbrev pub takes_address : Verb → Bool
 takes_address (verbs.Address command) = true
-takes_address verbs.Range = true
+takes_address (verbs.Range command) = true
 takes_address verbs.ScaledRange = true
 takes_address verbs.Word = true
 takes_address verb = false

@@ -6,10 +6,12 @@ ghost use Rattle.std.specs.Option.{option_copied, option_map_or};
 ghost use Rattle.lgp_assembler.specs.Image.{faults_of};
 ghost use Rattle.lgp_assembler.specs.Marks.{marked_text};
 ghost use Rattle.lgp_source.specs.Source.{lines_of};
+ghost use Rattle.lgp_monitor.specs.Reasons.{refused_text};
 ghost use Rattle.lgp_monitor.specs.Closing.{closing_reply, marked_fault, shown_faults, text_at};
 
+use crate::reason::push_refused;
 use lgp_assembler::{AssembleError, Fault, FaultKind, assemble, push_marked};
-use lgp_script::{Laboratory, push_fault_line};
+use lgp_script::{Laboratory, Refusal, push_fault_line};
 use lgp_source::Lines;
 use lgp_stream::LineBytes;
 use std::alloc::{AllocError, Allocator};
@@ -220,7 +222,17 @@ fn shown_faults<A: Allocator + Copy>(
     faulty_reply(alloc, source)
 }
 
-/// The reply to a line that closes a source with faults; None to any other.
+/// That a source is too long.
+fn too_long<A: Allocator + Copy>(alloc: A) -> Result<Option<Vec<u8, A>>, AllocError>
+    ensures { IfOk result (λ reply. option_map (λ it. it.items) reply
+        ≡ Some (refused_text Refusal.TooLong)) }
+{
+    let mut reply = Vec::new(alloc);
+    push_refused(&mut reply, &Refusal::TooLong)?;
+    Ok(Some(reply))
+}
+
+/// The reply to a line that closes a source with faults, or one that is too long; None to any other.
 #[tactic(auto, unfolding(crate::specs::Closing::closing_reply))]
 pub fn closing_reply<A: Allocator + Copy>(
     alloc: A,
@@ -232,6 +244,9 @@ pub fn closing_reply<A: Allocator + Copy>(
 {
     if !is_source_end(line) {
         return Ok(None);
+    }
+    if laboratory.has_too_long_source() {
+        return too_long(alloc);
     }
     shown_faults(alloc, laboratory.source_so_far())
 }

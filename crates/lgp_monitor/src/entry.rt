@@ -1,45 +1,44 @@
 //! What a typed line asks for.
 
 ghost use Rattle.std.specs.Prelude.{◌≡◌, ◌==◌, ◌||◌, ◌*ℤ◌, if◌then◌else◌, is_some, option_and_then, option_map, pos, slice_index};
-ghost use Rattle.std.specs.Option.{option_copied};
+ghost use Rattle.std.specs.Option.{option_copied, option_map_or};
 ghost use Rattle.std.specs.Result.{result_ok};
 ghost use Rattle.std.specs.Str.{byte};
 ghost use Rattle.lgp_fraction.specs.Arithmetic.{low_bits};
 ghost use Rattle.lgp_fraction.specs.Decimal.{decimal_fraction};
-ghost use Rattle.lgp_script.specs.Command.{command_of, lone_number};
-ghost use Rattle.lgp_script.specs.Span.{range_of};
+ghost use Rattle.lgp_command.specs.Command.{command_of, is_comment, lone_number};
+ghost use Rattle.lgp_command.specs.Span.{range_of};
 ghost use Rattle.lgp_stream.specs.LineWords.{after_word, first_word, has_no_word};
 ghost use Rattle.lgp_text.specs.NamedValues.{named};
 ghost use Rattle.lgp_monitor.specs.Verbs.{verb_names};
-ghost use Rattle.lgp_monitor.specs.Entry.{address_at, asked_alone, asked_at, asked_by, asked_with, digits_or_fraction, lone_word, numbers_entry, operand_at, operation_at, point_at, optimum_entry, range_at, entry_by, entry_of, value_at, whole_at};
+ghost use Rattle.lgp_monitor.specs.Entry.{address_at, asked_alone, asked_at, asked_by, asked_of, asked_with, digits_or_fraction, lone_word, numbers_entry, operand_at, operation_at, point_at, optimum_entry, range_at, entry_by, entry_of, value_at, whole_at};
 
+use crate::data_question::DataQuestion;
 use crate::question::Question;
 use crate::scaled::Point;
 use crate::telling::Telling;
-use crate::verb::{AddressCommand, LoneCommand, NumberCommand, Verb, verb_named};
+use crate::verb::{AddressCommand, LoneCommand, NumberCommand, RangeCommand, Verb, verb_named};
 use lgp_assembler::{Name, OperandFault, Symbols, address_operand, operation_word};
+use lgp_command::{Asked, Command, Count, Span, asked_in, is_comment, lone_count};
 use lgp_fraction::Fraction;
-use lgp_script::{Span, is_command, is_comment, lone_number};
 use lgp_stream::{LineBytes, Split, has_no_word, split_word};
 use lgp_word::{Address, Word, read_digits};
 
 /// What a typed line asks for.
 #[derive(Clone, Copy)]
 pub enum Entry {
-    /// What it says as a line of a script.
+    /// Nothing: it is blank or a comment, or it is too long.
     Itself,
     /// It is in no command's form.
     Misformed,
-    /// What it says as a line of a script, with this address in the place of its first operand.
-    Placed(Address),
+    /// A command of scripts.
+    Script(Command),
     /// The machine started at an address.
     Go(Address),
-    /// A word put at an address.
-    Put(Address, Word),
     /// A run of at most a given number of orders that is reported.
-    Reported(Telling, u64),
+    Reported(Telling, Count),
     /// Runs of at most a given number of orders, with Start pressed where the machine has halted at a z after a p, as often at most.
-    Operate(u64),
+    Operate(Count),
     /// Something that is shown and changes nothing.
     Asked(Question),
     /// The script lines so far.
@@ -175,21 +174,21 @@ fn value_at(names: &[(Name, u16)], place: Address, operands: &[u8]) -> Option<Wo
 
 /// A word for an address.
 fn put_by(names: &[(Name, u16)], address: Option<Address>, operands: &[u8]) -> Entry
-    ensures { result ≡ asked_by (λ place. asked_by (Entry.Put place)
+    ensures { result ≡ asked_by (λ place. asked_by (λ word. Entry.Script (Command.Put place word))
         (value_at names.now place operands.now)) address }
 {
     let Some(address) = address else {
         return Entry::Misformed;
     };
     match value_at(names, address, operands) {
-        Some(word) => Entry::Put(address, word),
+        Some(word) => Entry::Script(Command::Put(address, word)),
         None => Entry::Misformed,
     }
 }
 
 /// The operands of `put`.
 fn put_typed(names: &[(Name, u16)], counter: Address, operands: &[u8]) -> Entry
-    ensures { result ≡ asked_by (λ place. asked_by (Entry.Put place)
+    ensures { result ≡ asked_by (λ place. asked_by (λ word. Entry.Script (Command.Put place word))
         (value_at names.now place (after_word operands.now)))
         (address_at names.now counter (first_word operands.now)) }
 {
@@ -202,9 +201,12 @@ fn asked_at(command: AddressCommand, address: Address) -> Entry
     ensures { result ≡ asked_at command address }
 {
     match command {
-        AddressCommand::Script => Entry::Placed(address),
+        AddressCommand::Break => Entry::Script(Command::Break(address)),
+        AddressCommand::Watch => Entry::Script(Command::Watch(address)),
         AddressCommand::Go => Entry::Go(address),
         AddressCommand::Why => Entry::Asked(Question::Why(address)),
+        AddressCommand::WhyData => Entry::Asked(Question::Data(DataQuestion::Why(address))),
+        AddressCommand::Cost => Entry::Asked(Question::Data(DataQuestion::Cost(address))),
     }
 }
 
@@ -229,12 +231,12 @@ fn address_typed(
 }
 
 /// A given number of words from an address on.
-fn range_by(address: Option<Address>, count: Option<u64>) -> Option<Span>
+fn range_by(address: Option<Address>, count: Option<Count>) -> Option<Span>
     ensures { result
         ≡ option_and_then (λ first. option_and_then (range_of first) count) address }
 {
     match (address, count) {
-        (Some(address), Some(count)) => Span::new(address, count),
+        (Some(address), Some(count)) => Span::new(address, count.get()),
         _ => None,
     }
 }
@@ -246,16 +248,32 @@ fn range_at(names: &[(Name, u16)], counter: Address, operands: &[u8]) -> Option<
         (first_word operands.now) (after_word operands.now) }
 {
     let Split { word, rest } = split_word(operands);
-    range_by(address_at(names, counter, word), lone_number(rest))
+    range_by(address_at(names, counter, word), lone_count(rest))
 }
 
-/// The operands of a script's command that takes a range of words.
-fn placed_range(names: &[(Name, u16)], counter: Address, operands: &[u8]) -> Entry
-    ensures { result ≡ asked_by (λ range. Entry.Placed range.first)
+/// What a command asks for with a range of words.
+fn asked_of(command: RangeCommand, range: Span) -> Entry
+    ensures { result ≡ asked_of command range }
+{
+    match command {
+        RangeCommand::Words => Entry::Script(Command::Words(range)),
+        RangeCommand::Show => Entry::Script(Command::Show(range)),
+        RangeCommand::ShowData => Entry::Asked(Question::Data(DataQuestion::Show(range))),
+    }
+}
+
+/// The operands of a command that takes a range of words.
+fn range_typed(
+    names: &[(Name, u16)],
+    counter: Address,
+    command: RangeCommand,
+    operands: &[u8],
+) -> Entry
+    ensures { result ≡ asked_by (asked_of command)
         (range_at names.now counter (first_word operands.now) (after_word operands.now)) }
 {
     match range_at(names, counter, operands) {
-        Some(range) => Entry::Placed(range.first()),
+        Some(range) => asked_of(command, range),
         None => Entry::Misformed,
     }
 }
@@ -269,7 +287,7 @@ fn first_range(names: &[(Name, u16)], counter: Address, operands: &[u8]) -> Opti
     let Split { word, rest } = split_word(operands);
     range_by(
         address_at(names, counter, word),
-        lone_number(split_word(rest).word),
+        lone_count(split_word(rest).word),
     )
 }
 
@@ -302,15 +320,16 @@ fn numbers_entry(names: &[(Name, u16)], counter: Address, operands: &[u8]) -> En
 }
 
 /// What a command asks for with a number.
-fn asked_with(command: NumberCommand, number: u64) -> Entry
+fn asked_with(command: NumberCommand, number: Count) -> Entry
     ensures { result ≡ asked_with command number }
 {
     match command {
-        NumberCommand::Script => Entry::Itself,
+        NumberCommand::Script => Entry::Misformed,
         NumberCommand::Trace(form) => Entry::Reported(Telling::Trace(form), number),
         NumberCommand::Profile(form) => Entry::Reported(Telling::Profile(form), number),
         NumberCommand::Drum => Entry::Reported(Telling::Drum, number),
         NumberCommand::Operate => Entry::Operate(number),
+        NumberCommand::PaperData => Entry::Asked(Question::Data(DataQuestion::Paper(number.get()))),
     }
 }
 
@@ -318,7 +337,7 @@ fn asked_with(command: NumberCommand, number: u64) -> Entry
 fn number_typed(command: NumberCommand, operands: &[u8]) -> Entry
     ensures { result ≡ asked_by (asked_with command) (lone_number operands.now) }
 {
-    match lone_number(operands) {
+    match lone_count(operands) {
         Some(number) => asked_with(command, number),
         None => Entry::Misformed,
     }
@@ -343,7 +362,7 @@ fn help_typed(operands: &[u8]) -> Entry
 }
 
 /// A run that is reported in this way, where its number is known.
-fn reported_so(telling: Telling, limit: Option<u64>) -> Entry
+fn reported_so(telling: Telling, limit: Option<Count>) -> Entry
     ensures { result ≡ asked_by (Entry.Reported telling) limit }
 {
     match limit {
@@ -358,7 +377,7 @@ fn reported_word(names: &[(Name, u16)], counter: Address, word: &[u8], number: &
         (lone_number number.now)) (address_at names.now counter word.now) }
 {
     match address_at(names, counter, word) {
-        Some(place) => reported_so(Telling::OptimumOf(place), lone_number(number)),
+        Some(place) => reported_so(Telling::OptimumOf(place), lone_count(number)),
         None => Entry::Misformed,
     }
 }
@@ -370,7 +389,7 @@ fn optimum_entry(names: &[(Name, u16)], counter: Address, operands: &[u8]) -> En
 {
     let number = split_word(operands);
     if has_no_word(number.rest) {
-        return reported_so(Telling::Optimum, lone_number(operands));
+        return reported_so(Telling::Optimum, lone_count(operands));
     }
     let place = split_word(number.rest);
     if !has_no_word(place.rest) {
@@ -384,13 +403,21 @@ fn asked_alone(command: LoneCommand) -> Entry
     ensures { result ≡ asked_alone command }
 {
     match command {
-        LoneCommand::Script | LoneCommand::ScriptQuestion => Entry::Itself,
+        LoneCommand::Script | LoneCommand::ScriptQuestion => Entry::Misformed,
         LoneCommand::Paper => Entry::Asked(Question::Paper),
         LoneCommand::Rules => Entry::Asked(Question::Rules),
         LoneCommand::Labels => Entry::Asked(Question::Labels),
         LoneCommand::Live => Entry::Asked(Question::Live),
         LoneCommand::Commands => Entry::Asked(Question::Commands),
         LoneCommand::PanelData => Entry::Asked(Question::PanelData),
+        LoneCommand::CommandsData => Entry::Asked(Question::CommandsData),
+        LoneCommand::OperationsData => Entry::Asked(Question::OperationsData),
+        LoneCommand::FaultsData => Entry::Asked(Question::FaultsData),
+        LoneCommand::StateData => Entry::Asked(Question::Data(DataQuestion::State)),
+        LoneCommand::LabelsData => Entry::Asked(Question::Data(DataQuestion::Labels)),
+        LoneCommand::RulesData => Entry::Asked(Question::Data(DataQuestion::Rules)),
+        LoneCommand::TapeData => Entry::Asked(Question::Data(DataQuestion::Tape)),
+        LoneCommand::SourceData => Entry::Asked(Question::Data(DataQuestion::Source)),
         LoneCommand::Transcript => Entry::Transcript,
         LoneCommand::New => Entry::New,
     }
@@ -408,7 +435,7 @@ fn lone_typed(command: LoneCommand, operands: &[u8]) -> Entry
     }
 }
 
-/// A command with its operands, by what comes after its name. Of some the script's own form is the only one.
+/// A command with its operands, by what comes after its name, in the forms that scripts do not have.
 #[tactic(auto, unfolding(crate::specs::Entry::entry_by))]
 fn entry_by(names: &[(Name, u16)], counter: Address, verb: Option<Verb>, operands: &[u8]) -> Entry
     ensures { result ≡ asked_by (entry_by names.now counter operands.now) verb }
@@ -418,7 +445,7 @@ fn entry_by(names: &[(Name, u16)], counter: Address, verb: Option<Verb>, operand
         Some(Verb::Address(command)) => address_typed(names, counter, command, operands),
         Some(Verb::Number(command)) => number_typed(command, operands),
         Some(Verb::NumberAddress) => optimum_entry(names, counter, operands),
-        Some(Verb::Range) => placed_range(names, counter, operands),
+        Some(Verb::Range(command)) => range_typed(names, counter, command, operands),
         Some(Verb::ScaledRange) => numbers_entry(names, counter, operands),
         Some(Verb::Word) => put_typed(names, counter, operands),
         Some(Verb::Command) => help_typed(operands),
@@ -428,33 +455,35 @@ fn entry_by(names: &[(Name, u16)], counter: Address, verb: Option<Verb>, operand
     }
 }
 
-/// What a line asks for where it is not taken as it is.
+/// What a line asks for: a command of scripts, or one of the monitor.
 fn typed_line(names: &[(Name, u16)], counter: Address, line: &[u8]) -> Entry
-    ensures { result ≡ (if is_some (command_of line.now) then Entry.Itself
-        else asked_by (entry_by names.now counter (after_word line.now))
+    ensures { result ≡ option_map_or Entry.Script (command_of line.now)
+        (asked_by (entry_by names.now counter (after_word line.now))
         (named verb_names (first_word line.now))) }
 {
-    if is_command(line) {
-        return Entry::Itself;
+    let Asked { command, text: _ } = asked_in(line);
+    match command {
+        Some(command) => Entry::Script(command),
+        None => {
+            let Split { word, rest } = split_word(line);
+            entry_by(names, counter, verb_named(word), rest)
+        }
     }
-    let Split { word, rest } = split_word(line);
-    entry_by(names, counter, verb_named(word), rest)
 }
 
-/// Whether a line is taken as it is.
-fn stands_for_itself(is_open: bool, line: &LineBytes) -> bool
-    ensures { result ≡ (is_open || line.now.longer || line.now.blank
-        || (slice_index line.now.front 0 == byte ";")) }
+/// Whether nothing is asked by a line.
+fn stands_for_itself(line: &LineBytes) -> bool
+    ensures { result ≡ (line.now.longer || line.now.blank || is_comment line.now.front) }
 {
-    is_open || line.is_longer() || line.has_no_word() || is_comment(line.front())
+    line.is_longer() || line.has_no_word() || is_comment(line.front())
 }
 
-/// What a line asks for, where a source is open and where none is, with the names of the last source and the counter.
+/// What a line asks for where no source is open, with the names of the last source and the counter.
 #[tactic(auto, unfolding(crate::specs::Entry::entry_of))]
-pub fn entry_of(is_open: bool, names: &[(Name, u16)], counter: Address, line: &LineBytes) -> Entry
-    ensures { result ≡ entry_of names.now counter is_open line.now }
+pub fn entry_of(names: &[(Name, u16)], counter: Address, line: &LineBytes) -> Entry
+    ensures { result ≡ entry_of names.now counter line.now }
 {
-    if stands_for_itself(is_open, line) {
+    if stands_for_itself(line) {
         return Entry::Itself;
     }
     typed_line(names, counter, line.front())

@@ -4,17 +4,17 @@ ghost use Rattle.std.specs.Prelude.{◌≡◌, ◌++◌, ◌==◌, ◌∷◌, []
 ghost use Rattle.lgp_monitor.specs.Monitor.{answered_with};
 ghost use Rattle.lgp_stream.specs.Language.{IsAnswered};
 ghost use Rattle.lgp_stream.specs.Transcript.{after_lines, with_line, with_state};
-ghost use Rattle.lgp_script.specs.TapeCommands.{answer_to_tape_text};
+ghost use Rattle.lgp_script.specs.TapeCommands.{replied_to_tape_text};
 ghost use Rattle.lgp_script.specs.Script.{script_language};
 ghost use Rattle.lgp_monitor.specs.FileTexts.{answer_to_dump, answer_to_tape, changed_cells, dump_fault_text, put_cell, rests_at};
-ghost use Rattle.lgp_monitor.specs.Reasons.{reasoned};
+ghost use Rattle.lgp_monitor.specs.Reasons.{explained_text, refused_text};
 
-use crate::monitor::put_line;
-use crate::reason::push_reasoned;
+use crate::reason::{push_explained, push_refused};
+use lgp_command::{Command, push_command};
 use lgp_drum::Drum;
 use lgp_listing::{DumpFault, read_dump};
 use lgp_machine::Machine;
-use lgp_script::Laboratory;
+use lgp_script::{Laboratory, Refusal};
 use lgp_stream::Recorder;
 use lgp_text::{Piece, push_pieces};
 use lgp_word::{Address, Word};
@@ -31,7 +31,7 @@ fn push_dump_fault<A: Allocator>(text: &mut Vec<u8, A>, fault: DumpFault) -> Res
             &[
                 Piece::Text(b"? 1 Form: line "),
                 Piece::Number(line),
-                Piece::Text(b" is no line of a dump\n"),
+                Piece::Text(b" is not a line of a dump\n"),
             ],
         ),
         DumpFault::Order(line) => push_pieces(
@@ -95,7 +95,8 @@ fn put_cell<A: Allocator + Copy>(
     ensures { OnOk result (recorder.new
         ≡ after_lines script_language recorder.old (put_cell cell.now ∷ [])) }
 {
-    let line = put_line(alloc, cell.0, cell.1)?;
+    let mut line = Vec::new(alloc);
+    push_command(&mut line, &Command::Put(cell.0, cell.1), b"")?;
     recorder.answer_line(&line, reply)
 }
 
@@ -149,12 +150,12 @@ fn restore_drum<A: Allocator + Copy, B: Allocator>(
         (answered_with recorder.old (if rests_at recorder.old
         then codes "restored " ++ (decimal (length
         (changed_cells 0 recorder.old.state.debugger.state.core.words drum.now)) ++ codes "\n")
-        else reasoned (codes "? 2 Moving\n")) (if rests_at recorder.old then map put_cell
+        else refused_text Refusal.Moving) (if rests_at recorder.old then map put_cell
         (changed_cells 0 recorder.old.state.debugger.state.core.words drum.now) else []))) }
 {
     let debugger = recorder.answers().debugger();
     if !debugger.look().status.is_at_rest() {
-        return push_reasoned(reply, b"? 2 Moving\n");
+        return push_refused(reply, &Refusal::Moving);
     }
     let cells = changed_cells(alloc, debugger.machine(), drum)?;
     restore_cells(alloc, recorder, &cells, reply)
@@ -201,14 +202,16 @@ fn mount_text<A: Allocator + Copy, B: Allocator>(
     reply: &mut Vec<u8, B>,
 ) -> Result<(), AllocError>
     ensures { OnOk result (IsAnswered reply.old.items reply.new.items recorder.new (record {
-      reply = reasoned (answer_to_tape_text recorder.old.state text.now).reply;
+      reply = explained_text (replied_to_tape_text recorder.old.state text.now).after
+          (replied_to_tape_text recorder.old.state text.now).reply;
       after = with_state recorder.old
-          (answer_to_tape_text recorder.old.state text.now).after;
+          (replied_to_tape_text recorder.old.state text.now).after;
     })) }
 {
-    let mut said = Vec::new(alloc);
-    recorder.answers_mut().mount_text(text, &mut said)?;
-    push_reasoned(reply, &said)
+    let said = recorder.answers_mut().mount_tape(text)?;
+    let mut written = Vec::new(alloc);
+    push_explained(&mut written, recorder.answers(), &said)?;
+    reply.extend_from_slice(&written)
 }
 
 /// Mounts a tape, with its name in the transcript.

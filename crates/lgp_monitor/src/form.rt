@@ -6,7 +6,7 @@ ghost use Rattle.lgp_stream.specs.LineWords.{after_word, first_word, has_no_word
 ghost use Rattle.lgp_assembler.specs.AddressOperands.{address_operand};
 ghost use Rattle.lgp_word.specs.Digits.{word_of_digits};
 ghost use Rattle.lgp_text.specs.NamedValues.{named, pairs_of};
-ghost use Rattle.lgp_monitor.specs.Forms.{address_mistake, are_digits, are_word_digits, command_line, commands_text, form_line, has_capital, has_l_or_o, help_text, is_beyond_63, is_order_with_digits, is_word_digit, misformed_address, misformed_text, mistake_text, no_command_reason, operand_reason, second_reason, takes_numbers, takes_place, value_mistake, value_reason, verb_reason};
+ghost use Rattle.lgp_monitor.specs.Forms.{address_mistake, are_digits, are_word_digits, command_line, commands_text, form_line, has_capital, has_l_or_o, help_text, is_beyond_63, is_order_with_digits, is_word_digit, misformed_address, misformed_text, meant_text, mistake_text, no_command_reason, number_mistake, numbers_reason, operand_reason, said_of, second_reason, takes_numbers, takes_place, value_mistake, value_reason, verb_reason};
 ghost use Rattle.lgp_monitor.specs.Verbs.{operands_form, operands_kind, verb_names};
 
 use crate::verb::{
@@ -42,6 +42,14 @@ pub enum Mistake {
     LetterDigit,
     /// It is the digits of an odd number.
     Odd,
+    /// It begins with `=`, and no space is after that.
+    Equals,
+    /// It is a plain number.
+    Number,
+    /// It comes after `=`, and is no whole number that fits.
+    Whole,
+    /// It is `int` without all of its operands.
+    Point,
     /// It is no value.
     Value,
 }
@@ -51,17 +59,24 @@ fn mistake_text(mistake: Mistake) -> &'static [u8]
     ensures { result.now ≡ mistake_text mistake }
 {
     match mistake {
-        Mistake::Capital => b" has a capital letter, and all letters are small",
-        Mistake::Digits => b" is no address: two digits are the track, and two the sector",
-        Mistake::Track => b" is no address: tracks are 00 to 63",
-        Mistake::Sector => b" is no address: sectors are 00 to 63",
-        Mistake::Address => b" is no address: a track and a sector, each 00 to 63, or a label",
-        Mistake::Label => b" names no label of the last source",
+        Mistake::Capital => b" has a capital letter, and only small letters are accepted",
+        Mistake::Digits =>
+            b" is not an address, which is two digits for the track and two for the sector",
+        Mistake::Track => b" is not an address: tracks run from 00 to 63",
+        Mistake::Sector => b" is not an address: sectors run from 00 to 63",
+        Mistake::Address =>
+            b" is not an address, which is a label, or a track and a sector, each from 00 to 63",
+        Mistake::Label => b" is not a label in the last source",
         Mistake::Drum => b" is not on the drum",
-        Mistake::Blank => b" has no blank between the order and its address",
-        Mistake::LetterDigit => b" has l or o, which stand for 1 and 0 on a tape and not here",
-        Mistake::Odd => b" is odd, and the last bit of a word is 0",
-        Mistake::Value => b" is neither eight digits nor a fraction nor an operation",
+        Mistake::Blank => b" needs a space between the order and its address",
+        Mistake::LetterDigit => b" has l or o, which mean 1 and 0 only on a tape",
+        Mistake::Odd => b" is odd, but the last bit of a word is always 0",
+        Mistake::Equals => b" needs a space after the =",
+        Mistake::Number => b" is a plain number and not eight digits: did you mean = ",
+        Mistake::Whole =>
+            b" is not a whole number that fits with its point; a fraction is put without =",
+        Mistake::Point => b" needs a number and the place of its point, as in int 5 30",
+        Mistake::Value => b" is not eight digits, a fraction or an operation",
     }
 }
 
@@ -176,9 +191,21 @@ fn value_mistake(word: &[u8]) -> Mistake
         return Mistake::LetterDigit;
     }
     if word.len() == 8 && are_word_digits(word) && is_odd(word) {
-        Mistake::Odd
-    } else {
-        Mistake::Value
+        return Mistake::Odd;
+    }
+    number_mistake(word)
+}
+
+/// What is wrong with a word that is none of the words with which a value may begin.
+fn number_mistake(word: &[u8]) -> Mistake
+    ensures { result ≡ number_mistake word.now }
+{
+    if are_digits(word) {
+        return Mistake::Number;
+    }
+    match word {
+        [b'=', ..] => Mistake::Equals,
+        _ => Mistake::Value,
     }
 }
 
@@ -204,16 +231,34 @@ fn takes_numbers(word: &[u8]) -> bool
         || word == b"end".as_slice()
 }
 
+/// What a plain number may have been meant as, after the words that ask so.
+fn push_meant<A: Allocator>(
+    text: &mut Vec<u8, A>,
+    word: &[u8],
+    mistake: Mistake,
+) -> Result<(), AllocError>
+    ensures { OnOk result (text.new.items ≡ text.old.items ++ meant_text word.now mistake) }
+{
+    if !matches!(mistake, Mistake::Number) {
+        return Ok(());
+    }
+    push_pieces(
+        text,
+        &[Piece::Text(word), Piece::Text(b" or ."), Piece::Text(word)],
+    )
+}
+
 /// Appends a word and what is wrong with it.
 fn push_mistake<A: Allocator>(
     text: &mut Vec<u8, A>,
     word: &[u8],
     mistake: Mistake,
 ) -> Result<(), AllocError>
-    ensures { OnOk result (text.new.items ≡ text.old.items ++ (word.now ++ mistake_text mistake)) }
+    ensures { OnOk result (text.new.items ≡ text.old.items ++ said_of word.now mistake) }
 {
     text.extend_from_slice(word)?;
-    text.extend_from_slice(mistake_text(mistake))
+    text.extend_from_slice(mistake_text(mistake))?;
+    push_meant(text, word, mistake)
 }
 
 /// Appends the form of a command.
@@ -350,9 +395,30 @@ fn push_value_reason<A: Allocator>(
         return push_operand_reason(text, said, place, split.rest);
     }
     if takes_numbers(split.word) {
-        return push_form(text, said.name, said.verb);
+        return push_numbers_reason(text, said, split.word, split.rest);
     }
     push_mistake(text, split.word, value_mistake(split.word))
+}
+
+/// Appends what is wrong with the operands of `=` or of an operation without an address, or the command's form.
+fn push_numbers_reason<A: Allocator>(
+    text: &mut Vec<u8, A>,
+    said: &Said<'_>,
+    operation: &[u8],
+    operands: &[u8],
+) -> Result<(), AllocError>
+    ensures { OnOk result (text.new.items ≡ text.old.items
+        ++ numbers_reason (said.now.name.now ++ operands_form said.now.verb)
+        operation.now operands.now) }
+{
+    let first = split_word(operands);
+    if operation == b"=".as_slice() && !has_no_word(operands) {
+        return push_mistake(text, first.word, Mistake::Whole);
+    }
+    if operation == b"int".as_slice() && has_no_word(first.rest) {
+        return push_mistake(text, operation, Mistake::Point);
+    }
+    push_form(text, said.name, said.verb)
 }
 
 /// Appends what is wrong with the operands of `put`, or its form.
@@ -398,6 +464,7 @@ fn push_second_reason<A: Allocator>(
 }
 
 /// Appends why a line of a known command is in no form.
+#[tactic(auto, unfolding(crate::specs::Forms::verb_reason))]
 fn push_verb_reason<A: Allocator>(
     text: &mut Vec<u8, A>,
     names: &[(Name, u16)],
@@ -429,7 +496,7 @@ fn push_no_command<A: Allocator>(text: &mut Vec<u8, A>, word: &[u8]) -> Result<(
     if has_capital(word) {
         return push_mistake(text, word, Mistake::Capital);
     }
-    text.extend_from_slice(b"there is no such command, help lists them")
+    text.extend_from_slice(b"there is no such command; help lists them all")
 }
 
 /// Appends why a line is in no command's form.

@@ -1,29 +1,32 @@
 //! The monitor: the program through which a person works the machine.
 #![tactic(auto)]
 
+pub use data_question::DataQuestion;
 pub use entry::Entry;
 pub use monitor::Monitor;
 pub use progress::{Progress, Silence};
 pub use question::Question;
 pub use scaled::Point;
 pub use telling::Telling;
-pub use verb::{AddressCommand, LoneCommand, NumberCommand, Verb};
+pub use verb::{AddressCommand, LoneCommand, NumberCommand, RangeCommand, Verb};
 
 mod closing;
+mod data_question;
 mod entry;
 mod file_texts;
 mod form;
+mod going;
 mod labels;
 pub mod laws;
 mod monitor;
 mod operating;
 mod panel_data;
+mod performing;
 mod portions;
 mod progress;
 mod question;
 mod reason;
 mod run_end;
 mod scaled;
-mod script_line;
 mod telling;
 mod verb;

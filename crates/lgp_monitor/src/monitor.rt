@@ -1,35 +1,37 @@
 //! The monitor: typed lines, each answered by the script lines that it stands for.
 
-ghost use Rattle.std.specs.Prelude.{◌≡◌, ◌++◌, ◌∷◌, [], List, ℕ, IfOk, OnOk, codes, is_some};
+ghost use Rattle.std.specs.Prelude.{◌≡◌, ◌++◌, ◌||◌, ◌∷◌, [], List, ℕ, IfOk, None, OnOk, codes, if◌then◌else◌};
+ghost use Rattle.lgp_command.specs.Command.{is_comment};
+ghost use Rattle.lgp_debugger.specs.Debugging.{order_origins};
 ghost use Rattle.lgp_stream.specs.Language.{IsAnswered};
 ghost use Rattle.lgp_stream.specs.LineWords.{after_word, first_word};
 ghost use Rattle.lgp_stream.specs.KeptLine.{kept_of};
-ghost use Rattle.lgp_stream.specs.Transcript.{lines_answered, stand_in, untouched};
-ghost use Rattle.lgp_script.specs.Script.{script_language};
+ghost use Rattle.lgp_stream.specs.Transcript.{stand_in, untouched};
+ghost use Rattle.lgp_script.specs.HistoryCommands.{orders_run};
 ghost use Rattle.lgp_script.specs.LabState.{labels_of, opening_state};
 ghost use Rattle.lgp_monitor.specs.FileTexts.{answer_to_dump, answer_to_tape};
-ghost use Rattle.lgp_monitor.specs.Closing.{closing_reply};
 ghost use Rattle.lgp_monitor.specs.Entry.{entry_of};
 ghost use Rattle.lgp_monitor.specs.Forms.{form_line};
-ghost use Rattle.lgp_monitor.specs.Monitor.{answer_of, answer_to_operating, answered_with, entry_at, explained_line, go_lines, jump_line, monitor_language, panel_at, placed_line, put_line, reported_reply, run_line, run_operands};
-ghost use Rattle.lgp_monitor.specs.Reasons.{explained};
+ghost use Rattle.lgp_monitor.specs.Monitor.{answer_at, answer_in_source, answer_of, answered_with, entry_at, monitor_language, told_run};
+ghost use Rattle.lgp_monitor.specs.PerformingInside.{IsPerformed};
+ghost use Rattle.lgp_monitor.specs.Reasons.{refused_text};
+ghost use Rattle.lgp_monitor.specs.Telling.{reported_text};
 
 use crate::closing::closing_reply;
 use crate::entry::{Entry, entry_of};
 use crate::file_texts::{mount_tape, restore};
 use crate::form::{push_form_line, push_help, push_misformed};
+use crate::going::go;
 use crate::operating::operate;
+use crate::performing::{explain, keep_command};
 use crate::progress::{Progress, Silence};
 use crate::question::push_answer;
-use crate::reason::{push_explained, push_reasoned};
-use crate::script_line::answer_kept;
-use crate::telling::{Telling, run_reported};
+use crate::reason::{push_refused, push_run_end};
+use crate::telling::{Telling, run_told};
 use crate::verb::Verb;
-use lgp_script::Laboratory;
-use lgp_stream::{Answers, LineBytes, Recorder, has_no_word, split_word};
-use lgp_text::{Piece, push_pieces};
-use lgp_trace::Form;
-use lgp_word::{Address, Op, Word, plain_order};
+use lgp_command::{Command, Count, is_comment, text_after_word};
+use lgp_script::{Laboratory, Refusal, Reply};
+use lgp_stream::{Answers, LineBytes, Recorder, split_word};
 use std::alloc::{AllocError, Allocator};
 use std::marker::Model;
 
@@ -60,100 +62,72 @@ impl<L, A: Allocator, P: Progress> Model for Monitor<L, A, P> {
     ghost view = { λ monitor. monitor.recorder };
 }
 
-/// The script lines after the jump.
-const BEHIND_JUMP: [&[u8]; 6] = [
-    b"press fill",
-    b"press oneop",
-    b"press execute",
-    b"orders 1",
-    b"press normal",
-    b"press start",
-];
-
-/// The script line that puts a word.
-#[tactic(auto, unfolding(crate::specs::Monitor::put_line))]
-pub(crate) fn put_line<A: Allocator>(
-    alloc: A,
-    address: Address,
-    word: Word,
-) -> Result<Vec<u8, A>, AllocError>
-    ensures { IfOk result (λ line. line.items ≡ put_line address word) }
-{
-    let mut line = Vec::new(alloc);
-    push_pieces(
-        &mut line,
-        &[
-            Piece::Text(b"put "),
-            Piece::Place(address),
-            Piece::Text(b" "),
-            Piece::Digits(word.get()),
-        ],
-    )?;
-    Ok(line)
-}
-
-/// The script line that keys in the jump to an address.
-#[tactic(auto, unfolding(crate::specs::Monitor::jump_line))]
-fn jump_line<A: Allocator>(alloc: A, address: Address) -> Result<Vec<u8, A>, AllocError>
-    ensures { IfOk result (λ line. line.items ≡ jump_line address) }
-{
-    let jump = plain_order(Op::U, address);
-    let mut line = Vec::new(alloc);
-    push_pieces(
-        &mut line,
-        &[Piece::Text(b"type "), Piece::Digits(jump.get())],
-    )?;
-    Ok(line)
-}
-
-/// Appends what is reported of a run in a form, with what is said after it in the state that the laboratory then has.
-fn push_reported<A: Allocator + Copy>(
-    text: &mut Vec<u8, A>,
-    reported: &[u8],
-    form: Form,
-    laboratory: &Laboratory<A>,
-) -> Result<(), AllocError>
-    ensures { OnOk result (text.new.items ≡ text.old.items
-        ++ explained form (panel_at laboratory.now).status (panel_at laboratory.now).mode
-        reported.now) }
-{
-    let look = laboratory.debugger().look();
-    push_explained(text, reported, form, look.status, look.mode)
-}
-
-/// Answers a script's line, a refusal with its reason.
-fn explain<A: Allocator + Copy>(
+/// Performs a run whose orders are reported, and keeps the line of the run.
+fn tell<A: Allocator + Copy>(
     alloc: A,
     recorder: &mut Recorder<Laboratory<A>, A>,
-    line: &[u8],
-    reply: &mut Vec<u8, A>,
-) -> Result<(), AllocError>
-    ensures { OnOk result (IsAnswered reply.old.items reply.new.items recorder.new
-        (explained_line recorder.old line.now)) }
+    telling: Telling,
+    limit: Count,
+    text: &mut Vec<u8, A>,
+) -> Result<Reply, AllocError>
+    requires { recorder.old.state.opened ≡ None }
+    ensures performed { IfOk result (λ reply. IsPerformed recorder.old recorder.new
+        (Command.Run limit) [] reply) }
+    ensures text { OnOk result (text.new.items ≡ text.old.items
+        ++ reported_text telling (labels_of recorder.old.state.source)
+        recorder.old.state.debugger.state (order_origins recorder.old.state.debugger)
+        (orders_run limit recorder.old.state.debugger)) }
 {
-    let mut said = Vec::new(alloc);
-    recorder.answer_line(line, &mut said)?;
-    push_reasoned(reply, &said)
+    keep_command(alloc, recorder, &Command::Run(limit), b"")?;
+    run_told(recorder.answers_mut(), telling, limit.get(), text)
 }
 
-/// Answers a script's line of which this was kept, a refusal with its reason.
-fn explain_kept<A: Allocator + Copy, P: Progress>(
+/// Performs a run that is reported, with what is said after it.
+#[tactic(auto, unfolding(crate::specs::Operating::run_line))]
+fn explain_run<A: Allocator + Copy>(
+    alloc: A,
+    recorder: &mut Recorder<Laboratory<A>, A>,
+    telling: Telling,
+    limit: Count,
+    reply: &mut Vec<u8, A>,
+) -> Result<(), AllocError>
+    requires { recorder.old.state.opened ≡ None }
+    ensures { OnOk result (IsAnswered reply.old.items reply.new.items recorder.new
+        (told_run recorder.old telling limit)) }
+{
+    let form = telling.form();
+    let said = tell(alloc, recorder, telling, limit, reply)?;
+    push_run_end(reply, form, recorder.answers(), &said)
+}
+
+/// Hands a line that asks for nothing to the laboratory.
+fn pass_over<A: Allocator + Copy>(
     alloc: A,
     recorder: &mut Recorder<Laboratory<A>, A>,
     line: &LineBytes,
-    progress: &P,
     reply: &mut Vec<u8, A>,
 ) -> Result<(), AllocError>
     ensures { (text : List ℕ) → line.now ≡ kept_of text
         → OnOk result (IsAnswered reply.old.items reply.new.items recorder.new
-        (explained_line recorder.old (stand_in line.now))) }
+        (answer_of recorder.old Entry.Itself line.now)) }
 {
     let mut said = Vec::new(alloc);
-    answer_kept(recorder, line, progress, &mut said)?;
-    push_reasoned(reply, &said)
+    recorder.answer_kept(line, &mut said)?;
+    push_passed(reply, line)
 }
 
-/// Hands a line that closes a source with faults to the laboratory, whose reply is replaced by the one that has marks.
+/// Appends the reply to a line that asks for nothing.
+fn push_passed<A: Allocator>(text: &mut Vec<u8, A>, line: &LineBytes) -> Result<(), AllocError>
+    ensures { OnOk result (text.new.items ≡ text.old.items ++ (if line.now.blank
+        || is_comment line.now.front then [] else refused_text Refusal.TooLong)) }
+{
+    if line.has_no_word() || is_comment(line.front()) {
+        return Ok(());
+    }
+    push_refused(text, &Refusal::TooLong)
+}
+
+/// Hands a line that closes a source with faults, or one that is too long, to the laboratory, whose reply is replaced by this one.
 fn tell_faults<A: Allocator + Copy>(
     alloc: A,
     recorder: &mut Recorder<Laboratory<A>, A>,
@@ -170,132 +144,21 @@ fn tell_faults<A: Allocator + Copy>(
     recorder.answer_kept(line, &mut said)
 }
 
-/// Answers a line that is one of a script.
-fn answer_itself<A: Allocator + Copy, P: Progress>(
+/// Answers a line of an open source.
+fn answer_in_source<A: Allocator + Copy>(
     alloc: A,
     recorder: &mut Recorder<Laboratory<A>, A>,
     line: &LineBytes,
-    progress: &P,
     reply: &mut Vec<u8, A>,
 ) -> Result<(), AllocError>
     ensures { (text : List ℕ) → line.now ≡ kept_of text
         → OnOk result (IsAnswered reply.old.items reply.new.items recorder.new
-        (answer_of recorder.old Entry.Itself line.now)) }
+        (answer_in_source recorder.old line.now)) }
 {
     match closing_reply(alloc, recorder.answers(), line)? {
         Some(marked) => tell_faults(alloc, recorder, line, &marked, reply),
-        None => explain_kept(alloc, recorder, line, progress, reply),
+        None => recorder.answer_kept(line, reply),
     }
-}
-
-/// Puts a word by a script's line.
-fn put<A: Allocator + Copy>(
-    alloc: A,
-    recorder: &mut Recorder<Laboratory<A>, A>,
-    address: Address,
-    word: Word,
-    reply: &mut Vec<u8, A>,
-) -> Result<(), AllocError>
-    ensures { OnOk result (IsAnswered reply.old.items reply.new.items recorder.new
-        (explained_line recorder.old (put_line address word))) }
-{
-    let line = put_line(alloc, address, word)?;
-    explain(alloc, recorder, &line, reply)
-}
-
-/// Starts the machine at an address by a script's lines.
-#[tactic(auto, unfolding(crate::specs::Monitor::go_lines))]
-fn go<A: Allocator + Copy>(
-    alloc: A,
-    recorder: &mut Recorder<Laboratory<A>, A>,
-    address: Address,
-    reply: &mut Vec<u8, A>,
-) -> Result<(), AllocError>
-    ensures { OnOk result (IsAnswered reply.old.items reply.new.items recorder.new
-        (lines_answered script_language recorder.old (go_lines address))) }
-{
-    let jump = jump_line(alloc, address)?;
-    recorder.answer_line(b"press manual", reply)?;
-    recorder.answer_line(&jump, reply)?;
-    recorder.answer_lines(&BEHIND_JUMP, reply)
-}
-
-/// Appends the number of orders, the first of some operands.
-fn push_run_operands<A: Allocator>(text: &mut Vec<u8, A>, operands: &[u8]) -> Result<(), AllocError>
-    ensures { OnOk result (text.new.items ≡ text.old.items ++ run_operands operands.now) }
-{
-    let number = split_word(operands);
-    if has_no_word(number.rest) {
-        return text.extend_from_slice(operands);
-    }
-    text.extend_from_slice(b" ")?;
-    text.extend_from_slice(number.word)
-}
-
-/// The script line of a run that is reported.
-#[tactic(auto, unfolding(crate::specs::Monitor::run_line))]
-fn run_line<A: Allocator>(alloc: A, line: &[u8]) -> Result<Vec<u8, A>, AllocError>
-    ensures { IfOk result (λ text. text.items ≡ run_line line.now) }
-{
-    let mut text = Vec::new(alloc);
-    text.extend_from_slice(b"run")?;
-    push_run_operands(&mut text, split_word(line).rest)?;
-    Ok(text)
-}
-
-/// Performs a run that is reported, and keeps the script line of the run.
-fn tell<A: Allocator + Copy>(
-    alloc: A,
-    recorder: &mut Recorder<Laboratory<A>, A>,
-    telling: Telling,
-    limit: u64,
-    line: &LineBytes,
-    reply: &mut Vec<u8, A>,
-) -> Result<(), AllocError>
-    ensures { (text : List ℕ) → line.now ≡ kept_of text
-        → Entry.Reported telling limit ≡ entry_at recorder.old text
-        → OnOk result (IsAnswered reply.old.items reply.new.items recorder.new
-        (answered_with recorder.old (reported_reply recorder.old telling limit line.now.front)
-        (run_line line.now.front ∷ []))) }
-{
-    let run = run_line(alloc, line.front())?;
-    recorder.keep_line(&run)?;
-    run_reported(recorder.answers_mut(), telling, limit, reply)
-}
-
-/// Performs a run that is reported, with what is said after its reply.
-fn explain_reported<A: Allocator + Copy>(
-    alloc: A,
-    recorder: &mut Recorder<Laboratory<A>, A>,
-    telling: Telling,
-    limit: u64,
-    line: &LineBytes,
-    reply: &mut Vec<u8, A>,
-) -> Result<(), AllocError>
-    ensures { (text : List ℕ) → line.now ≡ kept_of text
-        → Entry.Reported telling limit ≡ entry_at recorder.old text
-        → OnOk result (IsAnswered reply.old.items reply.new.items recorder.new
-        (answer_of recorder.old (Entry.Reported telling limit) line.now)) }
-{
-    let form = telling.form();
-    let mut said = Vec::new(alloc);
-    tell(alloc, recorder, telling, limit, line, &mut said)?;
-    push_reported(reply, &said, form, recorder.answers())
-}
-
-/// Performs the runs of an operator whose typewriter starts the machine again.
-fn operate_by<A: Allocator + Copy>(
-    alloc: A,
-    recorder: &mut Recorder<Laboratory<A>, A>,
-    limit: u64,
-    line: &[u8],
-    reply: &mut Vec<u8, A>,
-) -> Result<(), AllocError>
-    ensures { OnOk result (IsAnswered reply.old.items reply.new.items recorder.new
-        (answer_to_operating recorder.old limit (run_line line.now))) }
-{
-    let run = run_line(alloc, line)?;
-    operate(alloc, recorder, limit, &run, reply)
 }
 
 /// Appends the form of the command that comes after another.
@@ -309,44 +172,6 @@ fn push_form_after<A: Allocator>(
 {
     let command = split_word(line);
     push_form_line(text, split_word(command.rest).word, verb)
-}
-
-/// The script line that names an address in the place of a line's first operand.
-#[tactic(auto, unfolding(crate::specs::Monitor::placed_line))]
-fn placed_line<A: Allocator>(
-    alloc: A,
-    address: Address,
-    line: &[u8],
-) -> Result<Vec<u8, A>, AllocError>
-    ensures { IfOk result (λ text. text.items ≡ placed_line address line.now) }
-{
-    let command = split_word(line);
-    let mut text = Vec::new(alloc);
-    push_pieces(
-        &mut text,
-        &[
-            Piece::Text(command.word),
-            Piece::Text(b" "),
-            Piece::Place(address),
-            Piece::Text(split_word(command.rest).rest),
-        ],
-    )?;
-    Ok(text)
-}
-
-/// Does what a script's command asks for with an address in the place of its first operand.
-fn place<A: Allocator + Copy>(
-    alloc: A,
-    recorder: &mut Recorder<Laboratory<A>, A>,
-    address: Address,
-    line: &[u8],
-    reply: &mut Vec<u8, A>,
-) -> Result<(), AllocError>
-    ensures { OnOk result (IsAnswered reply.old.items reply.new.items recorder.new
-        (explained_line recorder.old (placed_line address line.now))) }
-{
-    let line = placed_line(alloc, address, line)?;
-    explain(alloc, recorder, &line, reply)
 }
 
 /// Hands a line that is in no command's form to the laboratory, whose refusal is replaced by one with a reason.
@@ -388,10 +213,9 @@ fn begin_anew<A: Allocator + Copy>(
 /// What a line asks for in the state of a laboratory.
 fn entry_at<A: Allocator + Copy>(laboratory: &Laboratory<A>, line: &LineBytes) -> Entry
     ensures { result ≡ entry_of (labels_of laboratory.now.source)
-        laboratory.now.debugger.state.core.panel.counter (is_some laboratory.now.opened) line.now }
+        laboratory.now.debugger.state.core.panel.counter line.now }
 {
     entry_of(
-        laboratory.has_open_source(),
         laboratory.labels(),
         laboratory.debugger().look().counter,
         line,
@@ -407,27 +231,63 @@ fn perform<A: Allocator + Copy, P: Progress>(
     progress: &P,
     reply: &mut Vec<u8, A>,
 ) -> Result<(), AllocError>
+    requires { recorder.old.state.opened ≡ None }
     ensures { (text : List ℕ) → line.now ≡ kept_of text
-        → entry ≡ entry_at recorder.old text
         → OnOk result (IsAnswered reply.old.items reply.new.items recorder.new
         (answer_of recorder.old entry line.now)) }
 {
     match entry {
-        Entry::Itself => answer_itself(alloc, recorder, line, progress, reply),
+        Entry::Itself => pass_over(alloc, recorder, line, reply),
         Entry::Misformed => misform(alloc, recorder, line, reply),
-        Entry::Placed(address) => place(alloc, recorder, address, line.front(), reply),
+        Entry::Script(command) => {
+            let text = text_after_word(line.front());
+            explain(alloc, recorder, &command, text, progress, reply)
+        }
         Entry::Go(address) => go(alloc, recorder, address, reply),
-        Entry::Put(address, word) => put(alloc, recorder, address, word, reply),
-        Entry::Reported(telling, limit) => explain_reported(
-            alloc, recorder, telling, limit, line, reply,
-        ),
-        Entry::Operate(limit) => operate_by(alloc, recorder, limit, line.front(), reply),
+        Entry::Reported(telling, limit) => explain_run(alloc, recorder, telling, limit, reply),
+        Entry::Operate(limit) => operate(alloc, recorder, limit, reply),
         Entry::Asked(question) => push_answer(alloc, reply, &question, recorder.answers()),
         Entry::Transcript => reply.extend_from_slice(recorder.transcript()),
         Entry::New => begin_anew(alloc, recorder, reply),
         Entry::Help => push_help(reply),
         Entry::HelpOf(verb) => push_form_after(reply, line.front(), verb),
     }
+}
+
+/// Answers a line of which this was kept where no source is open.
+fn answer_outside<A: Allocator + Copy, P: Progress>(
+    alloc: A,
+    recorder: &mut Recorder<Laboratory<A>, A>,
+    line: &LineBytes,
+    progress: &P,
+    reply: &mut Vec<u8, A>,
+) -> Result<(), AllocError>
+    requires { recorder.old.state.opened ≡ None }
+    ensures { (text : List ℕ) → line.now ≡ kept_of text
+        → OnOk result (IsAnswered reply.old.items reply.new.items recorder.new
+        (answer_of recorder.old (entry_at recorder.old text) line.now)) }
+{
+    let entry = entry_at(recorder.answers(), line);
+    perform(alloc, recorder, entry, line, progress, reply)
+}
+
+/// Answers a line of which this was kept.
+#[tactic(auto, unfolding(crate::specs::Monitor::meaning_at, crate::specs::Monitor::reply_at))]
+fn answer_line<A: Allocator + Copy, P: Progress>(
+    alloc: A,
+    recorder: &mut Recorder<Laboratory<A>, A>,
+    line: &LineBytes,
+    progress: &P,
+    reply: &mut Vec<u8, A>,
+) -> Result<(), AllocError>
+    ensures { (text : List ℕ) → line.now ≡ kept_of text
+        → OnOk result (IsAnswered reply.old.items reply.new.items recorder.new
+        (answer_at recorder.old text)) }
+{
+    if recorder.answers().has_open_source() {
+        return answer_in_source(alloc, recorder, line, reply);
+    }
+    answer_outside(alloc, recorder, line, progress, reply)
 }
 
 impl<A: Allocator + Copy> Monitor<Laboratory<A>, A> {
@@ -490,15 +350,7 @@ impl<A: Allocator + Copy, P: Progress> Answers<A> for Monitor<Laboratory<A>, A, 
     ghost language = { monitor_language };
 
     fn answer(&mut self, line: &LineBytes, reply: &mut Vec<u8, A>) -> Result<(), AllocError> {
-        let entry = entry_at(self.recorder.answers(), line);
-        perform(
-            self.alloc,
-            &mut self.recorder,
-            entry,
-            line,
-            &self.progress,
-            reply,
-        )
+        answer_line(self.alloc, &mut self.recorder, line, &self.progress, reply)
     }
 
     fn close(&mut self, reply: &mut Vec<u8, A>) -> Result<(), AllocError> {

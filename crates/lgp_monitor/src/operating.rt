@@ -1,16 +1,19 @@
 //! The monitor as an operator whose typewriter starts the machine again when it has struck.
 
-ghost use Rattle.std.specs.Prelude.{◌≡◌, ◌++◌, ◌∷◌, ◌≤◌, [], OnOk, codes};
+ghost use Rattle.std.specs.Prelude.{◌≡◌, ◌++◌, ◌≤◌, [], IfOk, OnOk, None};
 ghost use Rattle.lgp_stream.specs.Language.{IsAnswered};
-ghost use Rattle.lgp_stream.specs.Transcript.{after_lines};
-ghost use Rattle.lgp_script.specs.Script.{script_language};
 ghost use Rattle.lgp_monitor.specs.Monitor.{answer_to_operating};
 ghost use Rattle.lgp_monitor.specs.Operating.{has_stopped, is_print, is_stop, op_before, starts_text, waits_for_typewriter};
+ghost use Rattle.lgp_monitor.specs.OperatingInside.{HasRun, HasRunAgain};
+ghost use Rattle.lgp_monitor.specs.PerformingInside.{IsPerformed};
 
-use crate::reason::push_reasoned;
-use lgp_script::Laboratory;
+use crate::performing::{perform, pressing};
+use crate::progress::Silence;
+use crate::reason::push_explained;
+use lgp_command::{Command, Count};
+use lgp_script::{Laboratory, Reply};
 use lgp_stream::Recorder;
-use lgp_table::{Cause, Status};
+use lgp_table::{Action, Cause, Status};
 use lgp_text::{Piece, push_pieces};
 use lgp_word::{Address, Op, parts};
 use std::alloc::{AllocError, Allocator};
@@ -56,20 +59,41 @@ fn waits_for_typewriter<A: Allocator + Copy>(laboratory: &Laboratory<A>) -> bool
         && (is_stop(op_before(laboratory, 1)) && is_print(op_before(laboratory, 2)))
 }
 
-/// Presses Start and asks for the run again; its reply takes the place of the one before.
-fn start_again<A: Allocator + Copy>(
+/// Presses Start.
+fn start<A: Allocator + Copy>(
+    alloc: A,
     recorder: &mut Recorder<Laboratory<A>, A>,
-    run: &[u8],
-    said: &mut Vec<u8, A>,
-) -> Result<(), AllocError>
-    ensures reply { OnOk result (said.new.items ≡ script_language.reply
-        (script_language.after recorder.old.state (codes "press start")) run.now) }
-    ensures after { OnOk result (recorder.new
-        ≡ after_lines script_language recorder.old (codes "press start" ∷ run.now ∷ [])) }
+) -> Result<Reply, AllocError>
+    requires { recorder.old.state.opened ≡ None }
+    ensures { IfOk result (λ reply. IsPerformed recorder.old recorder.new
+        (Command.Press Action.Start) [] reply) }
 {
-    recorder.answer_line(b"press start", said)?;
-    said.clear();
-    recorder.answer_line(run, said)
+    perform(alloc, recorder, &pressing(Action::Start), b"", &Silence)
+}
+
+/// Asks for a run.
+fn run<A: Allocator + Copy>(
+    alloc: A,
+    recorder: &mut Recorder<Laboratory<A>, A>,
+    limit: Count,
+) -> Result<Reply, AllocError>
+    requires { recorder.old.state.opened ≡ None }
+    ensures { IfOk result (λ reply. HasRun limit recorder.old recorder.new reply) }
+{
+    perform(alloc, recorder, &Command::Run(limit), b"", &Silence)
+}
+
+/// Presses Start and asks for the run again.
+fn start_again<A: Allocator + Copy>(
+    alloc: A,
+    recorder: &mut Recorder<Laboratory<A>, A>,
+    limit: Count,
+) -> Result<Reply, AllocError>
+    requires { recorder.old.state.opened ≡ None }
+    ensures { IfOk result (λ reply. HasRunAgain limit recorder.old recorder.new reply) }
+{
+    start(alloc, recorder)?;
+    run(alloc, recorder, limit)
 }
 
 /// Appends how often Start was pressed.
@@ -90,25 +114,26 @@ fn push_starts<A: Allocator>(text: &mut Vec<u8, A>, starts: u64) -> Result<(), A
     )
 }
 
-/// Asks for a run by its line, presses Start where the machine has halted at a z after a p, at most a given number of times, and asks
-/// for the run again.
+/// Asks for a run, presses Start where the machine has halted at a z after a p, at most a given number of times, and asks for the
+/// run again.
 pub fn operate<A: Allocator + Copy>(
     alloc: A,
     recorder: &mut Recorder<Laboratory<A>, A>,
-    limit: u64,
-    run: &[u8],
+    limit: Count,
     reply: &mut Vec<u8, A>,
 ) -> Result<(), AllocError>
+    requires { recorder.old.state.opened ≡ None }
     ensures { OnOk result (IsAnswered reply.old.items reply.new.items recorder.new
-        (answer_to_operating recorder.old limit run.now)) }
+        (answer_to_operating recorder.old limit)) }
 {
-    let mut said = Vec::new(alloc);
-    recorder.answer_line(run, &mut said)?;
+    let mut said = run(alloc, recorder, limit)?;
+    let most = limit.get();
     let mut starts = 0;
-    while starts < limit && waits_for_typewriter(recorder.answers()) {
-        start_again(recorder, run, &mut said)?;
+    while starts < most && waits_for_typewriter(recorder.answers()) {
+        let again = start_again(alloc, recorder, limit)?;
+        said = again;
         starts += 1;
     }
-    push_reasoned(reply, &said)?;
+    push_explained(reply, recorder.answers(), &said)?;
     push_starts(reply, starts)
 }

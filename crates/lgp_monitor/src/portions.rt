@@ -1,16 +1,16 @@
 //! Runs that tell how far they are.
 
-ghost use Rattle.std.specs.Prelude.{◌≡◌, [], OnOk, true};
-ghost use Rattle.lgp_stream.specs.Language.{IsAnswered};
+ghost use Rattle.std.specs.Prelude.{◌≡◌, [], IfOk, true};
 ghost use Rattle.lgp_debugger.specs.Run.{IsRun};
 ghost use Rattle.lgp_debugger.specs.Watching.{rules_in_force};
-ghost use Rattle.lgp_script.specs.HistoryCommands.{answer_to_run};
+ghost use Rattle.lgp_script.specs.HistoryCommands.{replied_to_run};
+ghost use Rattle.lgp_script.specs.Reply.{IsReplied};
 
 use crate::progress::Progress;
 use lgp_assembler::Name;
 use lgp_debugger::{Debugger, Quiet, Ran, RunFault, WatchFault, Watcher};
 use lgp_history::{History, Records};
-use lgp_script::{Laboratory, Teller};
+use lgp_script::{Laboratory, Reply, Teller};
 use std::alloc::{AllocError, Allocator};
 
 /// Counts the orders of a run in portions.
@@ -130,13 +130,14 @@ impl<P: Progress> Teller for InPortions<'_, P> {
 
 /// Does what the command `run` does, and tells how far it is.
 pub fn run_shown<A: Allocator + Copy, P: Progress>(
+    alloc: A,
     laboratory: &mut Laboratory<A>,
     limit: u64,
     progress: &P,
-    reply: &mut Vec<u8, A>,
-) -> Result<(), AllocError>
-    ensures { OnOk result (IsAnswered reply.old.items reply.new.items laboratory.new
-        (answer_to_run laboratory.old limit)) }
+) -> Result<Reply, AllocError>
+    ensures { IfOk result (λ reply. IsReplied reply laboratory.new
+        (replied_to_run laboratory.old limit)) }
 {
-    laboratory.run_reported(&InPortions { progress }, limit, reply)
+    let mut nothing = Vec::new(alloc);
+    laboratory.run_told(&InPortions { progress }, limit, &mut nothing)
 }

@@ -3,13 +3,14 @@
 ghost use Rattle.std.specs.Prelude.{◌≡◌, ◌++◌, ◌+◌, ◌<◌, OnOk, codes, flat_map, if◌then◌else◌, nat_lt};
 ghost use Rattle.lgp_word.specs.Digits.{address_digits};
 ghost use Rattle.lgp_script.specs.DrumCommands.{lines_text};
-ghost use Rattle.lgp_script.specs.Names.{button_names};
+ghost use Rattle.lgp_command.specs.Names.{button_names};
 ghost use Rattle.lgp_script.specs.LabState.{labels_of};
 ghost use Rattle.lgp_trace.specs.OriginLines.{why_text};
 ghost use Rattle.lgp_monitor.specs.Telling.{label_of};
 ghost use Rattle.lgp_text.specs.NamedValues.{pairs_of};
 ghost use Rattle.lgp_monitor.specs.Questions.{answer_to, label_line, live_keys, live_name, live_text, number_line, paper_text, rule_address, rule_command, rule_line, rule_lines, way_text};
 
+use crate::data_question::{DataQuestion, push_data};
 use crate::form::push_commands;
 use crate::labels::{NamedAddresses, push_name};
 use crate::panel_data::push_panel_data;
@@ -17,6 +18,7 @@ use crate::scaled::{Point, push_scaled};
 use lgp_assembler::Name;
 use lgp_debugger::Debugger;
 use lgp_exchange::push_paper;
+use lgp_fields::Form;
 use lgp_flexo::Code;
 use lgp_fraction::Fraction;
 use lgp_history::{Records, Rule};
@@ -47,6 +49,14 @@ pub enum Question {
     Commands,
     /// What the panel shows, as lines of a key and a value.
     PanelData,
+    /// What is told about each command, as records for programs.
+    CommandsData,
+    /// What is told about each operation of the source language, as records for programs.
+    OperationsData,
+    /// What is told about each kind of fault, as records for programs.
+    FaultsData,
+    /// What a program reads.
+    Data(DataQuestion),
 }
 
 /// Appends a word by its digits, as a fraction and as a number whose point is after a place.
@@ -347,5 +357,9 @@ pub fn push_answer<A: Allocator + Copy>(
         Question::Live => push_live(text, laboratory.debugger()),
         Question::Commands => push_commands(text),
         Question::PanelData => push_panel_data(text, laboratory.debugger().machine()),
+        Question::CommandsData => lgp_help::push_commands(text, Form::Lines),
+        Question::OperationsData => lgp_help::push_operations(text, Form::Lines),
+        Question::FaultsData => lgp_help::push_faults(text, Form::Lines),
+        Question::Data(asked) => push_data(alloc, text, asked, laboratory),
     }
 }

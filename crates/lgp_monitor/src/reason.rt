@@ -1,152 +1,108 @@
 //! What is said after replies: the reasons of refusals, and the machine's state after a run that is reported.
 
-ghost use Rattle.std.specs.Prelude.{◌≡◌, ◌++◌, ◌-◌, ◌≤◌, length, OnOk};
-ghost use Rattle.lgp_text.specs.NamedValues.{named};
-ghost use Rattle.lgp_monitor.specs.Reasons.{explained, last_line, line_start, reason_of, reasoned, refusal_in, refusal_numbers, with_reason};
+ghost use Rattle.std.specs.Prelude.{◌≡◌, ◌++◌, OnOk};
+ghost use Rattle.lgp_monitor.specs.Reasons.{ends_open, explained_text, leaves_open, reason_of, refused_text, run_end_text};
 
-use crate::run_end::{push_stand, tells_standstill};
-use lgp_stream::split_word;
-use lgp_table::{Mode, Status};
-use lgp_text::{Named, Piece, push_pieces, value_named};
+use crate::run_end::push_stand;
+use lgp_debugger::{Ran, Reason};
+use lgp_script::{Laboratory, Refusal, Reply, push_refusal_words};
+use lgp_text::{Piece, push_pieces};
 use lgp_trace::Form;
 use std::alloc::{AllocError, Allocator};
 
-/// Which refusal a reply is: those that do not say all by themselves.
-#[derive(Clone, Copy)]
-pub enum RefusalKind {
-    Moving,
-    AtWork,
-    ClockEnd,
-    Full,
-    NoRule,
-    TooFar,
-    NoHit,
-    NoImage,
-    TooLong,
-    BadSign,
-}
-
-/// The refusals that do not say all by themselves, by their numbers.
-const NUMBERS: [Named<RefusalKind>; 10] = [
-    (b"2", RefusalKind::Moving),
-    (b"3", RefusalKind::AtWork),
-    (b"4", RefusalKind::ClockEnd),
-    (b"5", RefusalKind::Full),
-    (b"6", RefusalKind::NoRule),
-    (b"7", RefusalKind::TooFar),
-    (b"8", RefusalKind::NoHit),
-    (b"10", RefusalKind::NoImage),
-    (b"11", RefusalKind::TooLong),
-    (b"12", RefusalKind::BadSign),
-];
-
-/// The refusal that has a number.
-fn kind_numbered(number: &[u8]) -> Option<RefusalKind>
-    ensures { result ≡ named refusal_numbers number.now }
-{
-    value_named(&NUMBERS, number)
-}
-
-/// Why lines are refused so.
+/// Why a command is refused.
 #[tactic(auto, unfolding(crate::specs::Reasons::reason_of))]
-fn reason_of(kind: RefusalKind) -> &'static [u8]
-    ensures { result.now ≡ reason_of kind }
+fn reason_of(refusal: &Refusal) -> &'static [u8]
+    ensures { result.now ≡ reason_of refusal.now }
 {
-    match kind {
-        RefusalKind::Moving => b"the machine is at work, press manual halts it",
-        RefusalKind::AtWork => b"the machine is at work, and turn is for one at rest",
-        RefusalKind::ClockEnd => b"the clock would pass its end, 4611686018427387904",
-        RefusalKind::Full => b"there are 64 rules, drop takes one away",
-        RefusalKind::NoRule => b"no rule has this number, rules lists them",
-        RefusalKind::TooFar => b"no more orders than this are kept",
-        RefusalKind::NoHit => b"no rule hits one of the kept orders, and this is their number",
-        RefusalKind::NoImage => b"no source has assembled yet",
-        RefusalKind::TooLong => b"a line has at most 4096 bytes, a source 1048576",
-        RefusalKind::BadSign => {
-            b"the byte at this place of the text, counted from 0, begins no sign of a tape"
+    match refusal {
+        Refusal::Form => b"it is in no command's form",
+        Refusal::Moving => b"the machine is running; press manual halts it",
+        Refusal::AtWork => b"the machine is running, and turn needs it at rest",
+        Refusal::ClockEnd => b"the clock would pass its limit, 4611686018427387904",
+        Refusal::Full => b"there are 64 rules already; drop removes one",
+        Refusal::NoRule => b"no rule has this number; rules lists them",
+        Refusal::TooFar(_) => b"only this many orders are kept",
+        Refusal::NoHit(_) => b"no rule hits any of the kept orders, of which there are this many",
+        Refusal::NoImage => b"no source has been assembled yet",
+        Refusal::TooLong => b"a line may have at most 4096 bytes, a source at most 1048576",
+        Refusal::BadSign(_) => {
+            b"the byte at this position in the text, counting from 0, does not begin a tape sign"
         }
     }
 }
 
-/// Where the line begins in which a place lies.
-fn line_start(text: &[u8], place: usize) -> usize
-    requires { place ≤ length text.now }
-    ensures value { result ≡ line_start text.now place }
-    ensures bound { result ≤ place }
-{
-    let mut start = place;
-    while start > 0 && text[start - 1] != b'\n' {
-        start -= 1;
-    }
-    start
-}
-
-/// The last line of a text.
-#[tactic(auto, unfolding(crate::specs::Reasons::last_line))]
-fn last_line(text: &[u8]) -> &[u8]
-    ensures { result.now ≡ last_line text.now }
-{
-    &text[line_start(text, text.len().saturating_sub(1))..]
-}
-
-/// The kind of a refusal.
-#[tactic(auto, unfolding(crate::specs::Reasons::refusal_in))]
-fn refusal_in(line: &[u8]) -> Option<RefusalKind>
-    ensures { result ≡ refusal_in line.now }
-{
-    let mark = split_word(line);
-    if mark.word == b"?".as_slice() {
-        kind_numbered(split_word(mark.rest).word)
-    } else {
-        None
-    }
-}
-
-/// Appends a reply with the reason after its last line.
-fn push_with_reason<A: Allocator>(
+/// Appends a refusal with its reason.
+#[tactic(auto, unfolding(crate::specs::Reasons::refused_text))]
+pub fn push_refused<A: Allocator>(
     text: &mut Vec<u8, A>,
-    kind: RefusalKind,
-    reply: &[u8],
+    refusal: &Refusal,
 ) -> Result<(), AllocError>
-    ensures { OnOk result (text.new.items ≡ text.old.items ++ with_reason reply.now kind) }
+    ensures { OnOk result (text.new.items ≡ text.old.items ++ refused_text refusal.now) }
 {
+    push_refusal_words(text, refusal)?;
     push_pieces(
         text,
         &[
-            Piece::Text(&reply[..reply.len().saturating_sub(1)]),
             Piece::Text(b": "),
-            Piece::Text(reason_of(kind)),
+            Piece::Text(reason_of(refusal)),
             Piece::Text(b"\n"),
         ],
     )
 }
 
-/// Appends a reply, of which the last line has its reason after it where that is a refusal.
-#[tactic(auto, unfolding(crate::specs::Reasons::reasoned))]
-pub fn push_reasoned<A: Allocator>(text: &mut Vec<u8, A>, reply: &[u8]) -> Result<(), AllocError>
-    ensures { OnOk result (text.new.items ≡ text.old.items ++ reasoned reply.now) }
+/// Appends a reply, a refusal with its reason.
+#[tactic(auto, unfolding(crate::specs::Reasons::explained_text))]
+pub fn push_explained<A: Allocator + Copy>(
+    text: &mut Vec<u8, A>,
+    laboratory: &Laboratory<A>,
+    reply: &Reply,
+) -> Result<(), AllocError>
+    ensures { OnOk result (text.new.items
+        ≡ text.old.items ++ explained_text laboratory.now reply.now) }
 {
-    match refusal_in(last_line(reply)) {
-        Some(kind) => push_with_reason(text, kind, reply),
-        None => text.extend_from_slice(reply),
+    match reply {
+        Reply::Refused(refusal) => push_refused(text, refusal),
+        _ => laboratory.push_reply(text, reply),
     }
 }
 
-/// Appends what is reported of a run in a form after which the machine is in this state, with what is said after it.
-#[tactic(auto, unfolding(crate::specs::Reasons::explained))]
-pub fn push_explained<A: Allocator>(
+/// Whether a run leaves open in which state the machine is.
+fn ends_open(ran: &Ran) -> bool
+    ensures { result ≡ ends_open ran.now.orders ran.now.reason }
+{
+    match ran.reason {
+        Reason::Rest => ran.orders == 0,
+        Reason::Rule(_) => true,
+        Reason::Limit => false,
+    }
+}
+
+/// Whether a reply leaves open in which state the machine is.
+fn leaves_open(reply: &Reply) -> bool
+    ensures { result ≡ leaves_open reply.now }
+{
+    match reply {
+        Reply::Ran(ran) => ends_open(ran),
+        _ => false,
+    }
+}
+
+/// Appends the reply to a run that is reported in a form, with what is said after it.
+#[tactic(auto, unfolding(crate::specs::Reasons::run_end_text))]
+pub fn push_run_end<A: Allocator + Copy>(
     text: &mut Vec<u8, A>,
-    reported: &[u8],
     form: Form,
-    status: Status,
-    mode: Mode,
+    laboratory: &Laboratory<A>,
+    reply: &Reply,
 ) -> Result<(), AllocError>
     ensures { OnOk result (text.new.items
-        ≡ text.old.items ++ explained form status mode reported.now) }
+        ≡ text.old.items ++ run_end_text form laboratory.now reply.now) }
 {
-    if tells_standstill(last_line(reported)) {
-        text.extend_from_slice(reported)?;
-        return push_stand(text, form, status, mode);
+    push_explained(text, laboratory, reply)?;
+    if !leaves_open(reply) {
+        return Ok(());
     }
-    push_reasoned(text, reported)
+    let look = laboratory.debugger().look();
+    push_stand(text, form, look.status, look.mode)
 }

@@ -1,9 +1,8 @@
 //! What is said after a run that leaves the machine's state open.
 
 ghost use Rattle.std.specs.Prelude.{◌≡◌, ◌++◌, OnOk};
-ghost use Rattle.lgp_monitor.specs.RunEnds.{front_of_state, halt_text, stand_text, start_text, state_text, tells_standstill, way_text};
+ghost use Rattle.lgp_monitor.specs.RunEnds.{front_of_state, halt_text, stand_text, start_text, state_text, way_text};
 
-use lgp_stream::split_word;
 use lgp_table::{Cause, Mode, Status};
 use lgp_text::{Piece, push_pieces};
 use lgp_trace::Form;
@@ -26,9 +25,9 @@ fn start_text(mode: Mode) -> &'static [u8]
     ensures { result.now ≡ start_text mode }
 {
     match mode {
-        Mode::Normal => b": press start lets it go on\n",
-        Mode::OneOperation => b": press start lets it do one order\n",
-        Mode::Manual => b": press normal, then press start lets it go on\n",
+        Mode::Normal => b": press start continues\n",
+        Mode::OneOperation => b": press start performs one order\n",
+        Mode::Manual => b": press normal, then press start continues\n",
     }
 }
 
@@ -48,7 +47,7 @@ fn state_text(status: Status) -> &'static [u8]
 {
     match status {
         Status::Halted(cause) => halt_text(cause),
-        Status::Waiting => b"an input waits for codes",
+        Status::Waiting => b"an input is waiting for codes",
         Status::Going | Status::Executing | Status::Reading => b"the machine is still going",
     }
 }
@@ -59,9 +58,9 @@ fn way_text(status: Status, mode: Mode) -> &'static [u8]
 {
     match status {
         Status::Halted(_) => start_text(mode),
-        Status::Waiting => b": press read lets the tape pass, press compute ends the input\n",
+        Status::Waiting => b": press read starts the tape, press compute ends the input\n",
         Status::Going | Status::Executing | Status::Reading => {
-            b": run goes on, press manual halts it\n"
+            b": run continues, press manual halts it\n"
         }
     }
 }
@@ -84,14 +83,4 @@ pub fn push_stand<A: Allocator>(
             Piece::Text(way_text(status, mode)),
         ],
     )
-}
-
-/// Whether a line tells of a run that found the machine at rest, or that a rule stopped.
-#[tactic(auto, unfolding(crate::specs::RunEnds::tells_standstill))]
-pub fn tells_standstill(line: &[u8]) -> bool
-    ensures { result ≡ tells_standstill line.now }
-{
-    let count = split_word(split_word(line).rest);
-    line == b"ran 0 rest\n".as_slice()
-        || (line.starts_with(b"ran ") && split_word(count.rest).word == b"rule".as_slice())
 }

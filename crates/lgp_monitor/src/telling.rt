@@ -1,14 +1,14 @@
 //! Runs that are reported: order by order, added up, along the drum, or by where their words would have cost less.
 
-ghost use Rattle.std.specs.Prelude.{◌≡◌, ◌++◌, ℕ, OnOk, Option};
+ghost use Rattle.std.specs.Prelude.{◌≡◌, ◌++◌, ℕ, IfOk, OnOk, Option};
 ghost use Rattle.lgp_table.specs.State.{State};
 ghost use Rattle.lgp_history.specs.declared.origin.Origin.{Origin};
 ghost use Rattle.lgp_trace.specs.OptimumKept.{IsOptimumOf};
-ghost use Rattle.lgp_stream.specs.Language.{IsAnswered};
 ghost use Rattle.lgp_debugger.specs.Debugging.{order_origins, performed};
 ghost use Rattle.lgp_debugger.specs.Run.{UnlessMemory, orders_of, run_of};
-ghost use Rattle.lgp_script.specs.HistoryCommands.{answer_to_run, orders_run};
-ghost use Rattle.lgp_script.specs.LabState.{after_text, labels_of};
+ghost use Rattle.lgp_script.specs.HistoryCommands.{orders_run, replied_to_run};
+ghost use Rattle.lgp_script.specs.LabState.{labels_of};
+ghost use Rattle.lgp_script.specs.Reply.{IsReplied};
 ghost use Rattle.lgp_monitor.specs.Telling.{form_of, reported_text};
 ghost use Rattle.lgp_monitor.specs.TellingInside.{sectors_told};
 
@@ -16,7 +16,7 @@ use crate::labels::NamedAddresses;
 use lgp_assembler::Name;
 use lgp_debugger::{Debugger, Ran, RunFault, RunRefusal};
 use lgp_history::Records;
-use lgp_script::{Laboratory, Teller};
+use lgp_script::{Laboratory, Reply, Teller};
 use lgp_trace::{
     Form, Optimum, Profile, draw_run, optimum_run, profile_run, push_heading_in, push_optimum,
     push_profile_in, push_rows_begun, push_rows_ended, push_word_optimum, trace_run,
@@ -233,25 +233,26 @@ impl Teller for BySectors {
     }
 }
 
-/// Does what the command `run` does, and reports it in this way.
-pub fn run_reported<A: Allocator + Copy>(
+/// Does what the command `run` does, and appends what is reported of its orders in this way.
+pub fn run_told<A: Allocator + Copy>(
     laboratory: &mut Laboratory<A>,
     telling: Telling,
     limit: u64,
-    reply: &mut Vec<u8, A>,
-) -> Result<(), AllocError>
-    ensures { OnOk result (IsAnswered reply.old.items reply.new.items laboratory.new (after_text
-        (reported_text telling (labels_of laboratory.old.source) laboratory.old.debugger.state
-        (order_origins laboratory.old.debugger) (orders_run limit laboratory.old.debugger))
-        (answer_to_run laboratory.old limit))) }
+    text: &mut Vec<u8, A>,
+) -> Result<Reply, AllocError>
+    ensures reply { IfOk result (λ reply. IsReplied reply laboratory.new
+        (replied_to_run laboratory.old limit)) }
+    ensures text { OnOk result (text.new.items ≡ text.old.items
+        ++ reported_text telling (labels_of laboratory.old.source) laboratory.old.debugger.state
+        (order_origins laboratory.old.debugger) (orders_run limit laboratory.old.debugger)) }
 {
     match telling {
-        Telling::Trace(form) => laboratory.run_reported(&OrderByOrder { form }, limit, reply),
-        Telling::Profile(form) => laboratory.run_reported(&AddedUp { form }, limit, reply),
-        Telling::Drum => laboratory.run_reported(&AlongTheDrum, limit, reply),
-        Telling::Optimum => laboratory.run_reported(&BySectors { word: None }, limit, reply),
+        Telling::Trace(form) => laboratory.run_told(&OrderByOrder { form }, limit, text),
+        Telling::Profile(form) => laboratory.run_told(&AddedUp { form }, limit, text),
+        Telling::Drum => laboratory.run_told(&AlongTheDrum, limit, text),
+        Telling::Optimum => laboratory.run_told(&BySectors { word: None }, limit, text),
         Telling::OptimumOf(word) => {
-            laboratory.run_reported(&BySectors { word: Some(word) }, limit, reply)
+            laboratory.run_told(&BySectors { word: Some(word) }, limit, text)
         }
     }
 }

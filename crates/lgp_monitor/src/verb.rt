@@ -20,6 +20,14 @@ pub enum LoneCommand {
     Live,
     Commands,
     PanelData,
+    CommandsData,
+    OperationsData,
+    FaultsData,
+    StateData,
+    LabelsData,
+    RulesData,
+    TapeData,
+    SourceData,
     Transcript,
     New,
 }
@@ -27,10 +35,22 @@ pub enum LoneCommand {
 /// A command with an address after its name.
 #[derive(Clone, Copy)]
 pub enum AddressCommand {
-    /// One of scripts.
-    Script,
+    /// Rules, as scripts have them.
+    Break,
+    Watch,
     Go,
     Why,
+    WhyData,
+    Cost,
+}
+
+/// A command with a range of words after its name.
+#[derive(Clone, Copy)]
+pub enum RangeCommand {
+    Words,
+    Show,
+    /// Words as records for programs.
+    ShowData,
 }
 
 /// A command with a number after its name.
@@ -44,6 +64,8 @@ pub enum NumberCommand {
     Drum,
     /// Runs that an operator's typewriter starts again.
     Operate,
+    /// Shows what was printed after the first codes.
+    PaperData,
 }
 
 /// What a line's first word says: what comes after it, and what is done.
@@ -58,7 +80,7 @@ pub enum Verb {
     /// A number, and perhaps an address.
     NumberAddress,
     /// An address, and how many words from it on.
-    Range,
+    Range(RangeCommand),
     /// The same, and perhaps the place after which their point is.
     ScaledRange,
     /// An address and a word.
@@ -78,7 +100,7 @@ pub enum Verb {
 }
 
 /// The commands by their first word.
-const VERBS: [Named<Verb>; 54] = [
+const VERBS: [Named<Verb>; 66] = [
     (b"put", Verb::Word),
     (b"go", Verb::Address(AddressCommand::Go)),
     (b"mount", Verb::Text),
@@ -99,8 +121,8 @@ const VERBS: [Named<Verb>; 54] = [
     (b"back", Verb::Number(NumberCommand::Script)),
     (b"last", Verb::Lone(LoneCommand::Script)),
     (b"panel", Verb::Lone(LoneCommand::ScriptQuestion)),
-    (b"words", Verb::Range),
-    (b"show", Verb::Range),
+    (b"words", Verb::Range(RangeCommand::Words)),
+    (b"show", Verb::Range(RangeCommand::Show)),
     (b"numbers", Verb::ScaledRange),
     (b"printed", Verb::Lone(LoneCommand::ScriptQuestion)),
     (b"paper", Verb::Lone(LoneCommand::Paper)),
@@ -122,14 +144,26 @@ const VERBS: [Named<Verb>; 54] = [
     (b"restore-simh", Verb::File),
     (b"list", Verb::Lone(LoneCommand::ScriptQuestion)),
     (b"load", Verb::Lone(LoneCommand::Script)),
-    (b"break", Verb::Address(AddressCommand::Script)),
-    (b"watch", Verb::Address(AddressCommand::Script)),
+    (b"break", Verb::Address(AddressCommand::Break)),
+    (b"watch", Verb::Address(AddressCommand::Watch)),
     (b"drop", Verb::Number(NumberCommand::Script)),
     (b"rules", Verb::Lone(LoneCommand::Rules)),
     (b"labels", Verb::Lone(LoneCommand::Labels)),
     (b"live", Verb::Lone(LoneCommand::Live)),
     (b"commands", Verb::Lone(LoneCommand::Commands)),
     (b"panel-data", Verb::Lone(LoneCommand::PanelData)),
+    (b"commands-data", Verb::Lone(LoneCommand::CommandsData)),
+    (b"operations-data", Verb::Lone(LoneCommand::OperationsData)),
+    (b"faults-data", Verb::Lone(LoneCommand::FaultsData)),
+    (b"state-data", Verb::Lone(LoneCommand::StateData)),
+    (b"show-data", Verb::Range(RangeCommand::ShowData)),
+    (b"why-data", Verb::Address(AddressCommand::WhyData)),
+    (b"labels-data", Verb::Lone(LoneCommand::LabelsData)),
+    (b"rules-data", Verb::Lone(LoneCommand::RulesData)),
+    (b"paper-data", Verb::Number(NumberCommand::PaperData)),
+    (b"tape-data", Verb::Lone(LoneCommand::TapeData)),
+    (b"source-data", Verb::Lone(LoneCommand::SourceData)),
+    (b"cost", Verb::Address(AddressCommand::Cost)),
     (
         b"trace-data",
         Verb::Number(NumberCommand::Trace(Form::Data)),
@@ -168,7 +202,7 @@ pub fn operands_form(verb: Verb) -> &'static [u8]
         Verb::Address(_) => b" ttss",
         Verb::Number(_) => b" NUMBER",
         Verb::NumberAddress => b" NUMBER or optimum NUMBER ttss",
-        Verb::Range => b" ttss NUMBER, at most 64",
+        Verb::Range(_) => b" ttss NUMBER, at most 64",
         Verb::ScaledRange => b" ttss NUMBER, at most 64, or numbers ttss NUMBER POINT",
         Verb::Word => {
             b" ttss WORD, FRACTION or OPERATION as in a source, or put ttss = NUMBER or = NUMBER POINT"
@@ -178,7 +212,7 @@ pub fn operands_form(verb: Verb) -> &'static [u8]
             b" normal, oneop, manual, start, clear, fill, execute, compute or read, or bp32, bp16, bp8, bp4, transfer or sixbit with up or down"
         }
         Verb::Source => {
-            b", then its lines, then a point alone; in the program lgp_monitor also source FILE"
+            b", then its lines, then a line with only a point; in the program lgp_monitor also source FILE"
         }
         Verb::File => b" FILE, in the program lgp_monitor",
         Verb::Command => b" or help COMMAND",
@@ -195,7 +229,7 @@ pub fn operands_kind(verb: Verb) -> &'static [u8]
         Verb::Lone(_) | Verb::End => b" alone\n",
         Verb::Address(_) => b" address\n",
         Verb::Number(_) | Verb::NumberAddress => b" number\n",
-        Verb::Range | Verb::ScaledRange => b" range\n",
+        Verb::Range(_) | Verb::ScaledRange => b" range\n",
         Verb::Word => b" address word\n",
         Verb::Text => b" text\n",
         Verb::Key => b" button\n",
@@ -211,8 +245,14 @@ pub fn only_asks(verb: Verb) -> bool
 {
     match verb {
         Verb::Lone(command) => !matches!(command, LoneCommand::Script | LoneCommand::New),
-        Verb::Address(command) => matches!(command, AddressCommand::Why),
-        Verb::Range | Verb::ScaledRange | Verb::Command => true,
+        Verb::Address(command) => {
+            matches!(
+                command,
+                AddressCommand::Why | AddressCommand::WhyData | AddressCommand::Cost
+            )
+        }
+        Verb::Number(command) => matches!(command, NumberCommand::PaperData),
+        Verb::Range(_) | Verb::ScaledRange | Verb::Command => true,
         _ => false,
     }
 }
@@ -223,6 +263,6 @@ pub fn takes_address(verb: Verb) -> bool
 {
     matches!(
         verb,
-        Verb::Address(_) | Verb::Range | Verb::ScaledRange | Verb::Word
+        Verb::Address(_) | Verb::Range(_) | Verb::ScaledRange | Verb::Word
     )
 }

@@ -1,16 +1,22 @@
 -- What lines that only ask leave.
-use Rattle.std.proofs.Common.{◌≡◌, ◌∙◌, ap, Bool, true, false, if◌then◌else◌, ℕ, List, Option, Some, None, IsTrue, length, nat_lt, refl, sym}
+use Rattle.std.proofs.Common.{◌≡◌, ◌∙◌, ap, Bool, true, false, if◌then◌else◌, ℕ, List, Option, Some, None, IsTrue, is_some, length, nat_lt, refl, sym}
 use Rattle.std.proofs.lemmas.Bool.{true≢false}
 use Rattle.std.specs.Option.{option_map_or}
 use Rattle.lgp_stream.specs.KeptLine.{line_limit}
-use Rattle.lgp_script.specs.Command.{command_of, text_after_word}
-use Rattle.lgp_script.specs.declared.command.Command.{Command}
-use Rattle.lgp_script.specs.declared.command.Command.TheVariants as commands
-use Rattle.lgp_script.specs.declared.refusal.Refusal.TheVariants.{TooLong}
+use Rattle.lgp_command.specs.Command.{command_of, text_after_word}
+use Rattle.lgp_command.specs.declared.command.Command.{Command}
+use Rattle.lgp_command.specs.declared.command.Command.TheVariants as commands
+use Rattle.lgp_script.specs.declared.refusal.Refusal.TheVariants.{NoImage, TooLong}
+use Rattle.lgp_script.specs.declared.reply.Reply.TheVariants as replies
+use Rattle.lgp_script.specs.Reply.{refusing, replying}
 use Rattle.lgp_script.specs.Script.{answer_by, answer_to_command, answer_to_line, is_passed_over, only_asks, script_language}
 use Rattle.lgp_script.specs.SourceCommands.{answer_in_source}
 use Rattle.lgp_script.specs.SourceText.{SourceText}
 use Rattle.lgp_script.specs.LabState.{Answer, LabState, refused, silent}
+
+list_leaves : (lab : LabState) (some : Bool) → (if some then replying replies.List lab else refusing NoImage lab).after ≡ lab
+list_leaves lab true = refl
+list_leaves lab false = refl
 
 unmoved_by : (lab : LabState) (command : Option Command) (text : List ℕ) → IsTrue (only_asks command)
     → (answer_by lab command text).after ≡ lab
@@ -19,7 +25,7 @@ unmoved_by lab (Some (commands.Words range)) text asks = refl
 unmoved_by lab (Some (commands.Show range)) text asks = refl
 unmoved_by lab (Some commands.Printed) text asks = refl
 unmoved_by lab (Some commands.Dump) text asks = refl
-unmoved_by lab (Some commands.List) text asks = refl
+unmoved_by lab (Some commands.List) text asks = list_leaves lab (is_some lab.source)
 unmoved_by lab (Some (commands.Put address word)) text asks = absurd (true≢false (sym asks))
 unmoved_by lab (Some commands.Mount) text asks = absurd (true≢false (sym asks))
 unmoved_by lab (Some (commands.Press action)) text asks = absurd (true≢false (sym asks))

@@ -1,16 +1,17 @@
 -- What is kept of a line tells as much of it as its answer depends on.
-use Rattle.std.proofs.Common.{◌≡◌, ℕ, ◌==◌, ◌||◌, ◌++◌, true, false, Some, None, List, [], codes, get_or, refl, sym, ap, ◌∙◌, arith}
+use Rattle.std.proofs.Common.{◌≡◌, ◌≢◌, ◌∷◌, ℕ, ◌==◌, ◌||◌, ◌++◌, true, false, Some, None, List, [], codes, get_or, refl, sym, ap, ◌∙◌, arith}
 use Rattle.std.specs.Str.{byte, bytes_eq}
 use Rattle.lgp_stream.specs.KeptLine.{Kept, kept_of}
 use Rattle.lgp_stream.specs.LineWords.{has_no_word}
 use Rattle.lgp_stream.proofs.FrontLemmas.{first-take, front_kept, front_whole, longer_kept}
-use Rattle.lgp_script.specs.Command.{command_of, text_after_word}
+use Rattle.lgp_command.specs.Command.{command_of, text_after_word}
 use Rattle.lgp_script.specs.Script.{answer_by, answer_to, answer_to_command, answer_to_line, is_passed_over}
-use Rattle.lgp_script.specs.SourceCommands.{answer_in_source, answer_to_end, closed}
+use Rattle.lgp_assembler.specs.declared.refusal.Fault.{Fault}
+use Rattle.lgp_script.specs.SourceCommands.{answer_in_source, answer_to_end, assembled, closed, faults_text}
 use Rattle.lgp_script.specs.SourceText.{SourceText, with_bytes, with_line}
 use Rattle.lgp_script.specs.LabState.{LabState, refused, silent}
 use Rattle.lgp_script.specs.declared.refusal.Refusal.TheVariants.{Form, TooLong}
-use Rattle.lgp_script.specs.declared.command.Command.{Command}
+use Rattle.lgp_command.specs.declared.command.Command.{Command}
 
 passed_over : (line : List ℕ) → ((kept_of line).blank || (get_or (kept_of line).front 0 0 == byte ";")) ≡ is_passed_over line
 unfolding kept_of has_no_word
@@ -63,6 +64,11 @@ closed_some s source e = rw e refl
 pub closed_none : (s : LabState) → s.opened ≡ None → closed s ≡ silent s
 unfolding closed
 closed_none s e = rw e refl
+
+-- the end of a source with faults
+pub assembled_faulty : (lab : LabState) (text : List ℕ) (faults : List Fault) → faults ≢ [] → assembled lab text faults ≡ record { reply = codes "? 9 Faults\n" ++ faults_text faults; after = record lab { faulty = Some text } }
+assembled_faulty lab text [] some = absurd (some refl)
+assembled_faulty lab text (fault ∷ more) some = refl
 
 -- a point, and any other line
 pub point_ends : (s : LabState) (source : SourceText) (line : List ℕ) → bytes_eq line (codes ".") ≡ true → answer_to_end s source ≡ answer_in_source s source line

@@ -4,3 +4,5 @@ pub mod SourceLemmas
 pub mod FileLemmas
 pub mod LoadLaws
 pub mod AskingLaws
+pub mod CommandLaws
+pub mod OpenedLaws

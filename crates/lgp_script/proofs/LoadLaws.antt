@@ -10,20 +10,20 @@ use Rattle.lgp_loader.specs.Loading.{loading_cost, loading_stopped}
 use Rattle.lgp_loader.proofs.Program.{loading_clock}
 use Rattle.lgp_loader.proofs.SourceLoaded.{longest_source}
 use Rattle.lgp_script.specs.Files.{loaded_new}
-use Rattle.lgp_script.specs.LoadCommand.{answer_to_load}
+use Rattle.lgp_script.specs.LoadCommand.{replied_to_load}
 use Rattle.lgp_script.specs.LabState.{LabState}
 
 pub load_words : (lab : LabState) (source : List ℕ) → lab.source ≡ Some source → faults_of source ≡ []
     → length lab.debugger.state.core.words ≡ 4096 → loading_stopped lab.debugger.state (longest_load (image_of source)) ≡ None
-    → IsLoadedOver 22 lab.debugger.state.core.words (answer_to_load lab).after.debugger.state.core.words (image_of source).cells
-unfolding answer_to_load
+    → IsLoadedOver 22 lab.debugger.state.core.words (replied_to_load lab).after.debugger.state.core.words (image_of source).cells
+unfolding replied_to_load
 load_words lab source at_hand none long within =
     rw (at_hand, within) (longest_source lab.debugger.state _ long none)
 
 pub load_time : (lab : LabState) (source : List ℕ) → lab.source ≡ Some source
     → loading_stopped lab.debugger.state (longest_load (image_of source)) ≡ None
-    → (answer_to_load lab).after.debugger.state.clock ≡ lab.debugger.state.clock + loading_cost lab.debugger.state (longest_load (image_of source))
-unfolding answer_to_load
+    → (replied_to_load lab).after.debugger.state.clock ≡ lab.debugger.state.clock + loading_cost lab.debugger.state (longest_load (image_of source))
+unfolding replied_to_load
 load_time lab source at_hand within =
     rw (at_hand, within) (loading_clock _ _)
 

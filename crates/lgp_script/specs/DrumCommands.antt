@@ -5,8 +5,6 @@ use Rattle.lgp_word.specs.Digits.{address_digits}
 use Rattle.lgp_listing.specs.Disassembly.{disassembly}
 use Rattle.lgp_listing.specs.Dump.{dump_of, is_used}
 use Rattle.lgp_table.specs.State.{State, word_at}
-use Rattle.lgp_script.specs.Span.{WordRange}
-use Rattle.lgp_script.specs.LabState.{Answer, LabState, answer_showing}
 
 -- ---- words, show
 
@@ -19,11 +17,6 @@ abbrev pub lines_text : (ℕ → ℕ → List ℕ) → State → ℕ → ℕ →
 lines_text line s address zero = []
 lines_text line s address (suc count) =
     lines_text line s address count ++ line (address + count) (word_at s.core (address + count))
-
--- by their digits, or by their disassembly
-abbrev pub answer_to_words : (ℕ → ℕ → List ℕ) → LabState → WordRange → Answer
-answer_to_words line lab range =
-    answer_showing (lines_text line lab.debugger.state range.first range.count) lab
 
 -- ---- dump
 

@@ -11,12 +11,14 @@ use Rattle.lgp_debugger.specs.Run.{orders_of, run_of}
 use Rattle.lgp_debugger.specs.declared.fault.Ran.{Ran}
 use Rattle.lgp_debugger.specs.declared.fault.Reason.{Reason}
 use Rattle.lgp_debugger.specs.declared.fault.Reason.TheVariants.{Rest, Limit, Rule as ByRule}
-use Rattle.lgp_script.specs.Refusal.{counted_text, outcome_text, refusal_text}
-use Rattle.lgp_script.specs.LabState.{Answer, LabState, answer_leaving, refused}
+use Rattle.lgp_script.specs.Refusal.{counted_text}
+use Rattle.lgp_script.specs.LabState.{LabState}
+use Rattle.lgp_script.specs.Reply.{Replied, leaving, outcome_reply, refusing}
 use Rattle.lgp_script.specs.declared.refusal.Refusal.TheVariants as refusals
+use Rattle.lgp_script.specs.declared.reply.Reply.TheVariants as replies
 
-abbrev pub hit_text : ℕ × ℕ → List ℕ
-hit_text hit = codes "back " ++ (decimal hit.0 ++ counted_text (codes " rule ") hit.1)
+abbrev pub hit_text : ℕ → ℕ → List ℕ
+hit_text orders rule = codes "back " ++ (decimal orders ++ counted_text (codes " rule ") rule)
 
 -- how many orders a run performed, and why it ended
 abbrev pub reason_text : Reason → List ℕ
@@ -29,32 +31,32 @@ ran_text ran = codes "ran " ++ (decimal ran.orders ++ reason_text ran.reason)
 
 -- ---- break, watch: one rule more, which has the next number
 
-unfoldable pub answer_to_rule : LabState → Rule → Answer
-answer_to_rule lab rule =
+unfoldable pub replied_to_rule : LabState → Rule → Replied
+replied_to_rule lab rule =
     let rules = lab.debugger.rules in
-    if length rules == rule_limit then refused refusals.Full lab
-    else answer_leaving (counted_text (codes "rule ") (length rules)) lab
+    if length rules == rule_limit then refusing refusals.Full lab
+    else leaving (replies.Rule (length rules)) lab
     (record lab.debugger { rules = rules ++ rule ∷ [] })
 
 -- ---- drop: the rule of a number goes, and later ones move down
 
-unfoldable pub answer_to_drop : LabState → ℕ → Answer
-answer_to_drop lab number =
+unfoldable pub replied_to_drop : LabState → ℕ → Replied
+replied_to_drop lab number =
     let rules = lab.debugger.rules in
     if nat_lt number rule_limit
-    then answer_leaving
-    (if is_some (slice_get rules number) then codes "ok\n" else refusal_text refusals.NoRule)
+    then leaving
+    (if is_some (slice_get rules number) then replies.Done else replies.Refused refusals.NoRule)
     lab (record lab.debugger { rules = remove rules number })
-    else refused refusals.NoRule lab
+    else refusing refusals.NoRule lab
 
 -- ---- run: a run of the debugger; where its next order would pass the clock's end it is broken
 -- off, and the orders before it remain
 
-unfoldable pub answer_to_run : LabState → ℕ → Answer
-answer_to_run lab limit =
+unfoldable pub replied_to_run : LabState → ℕ → Replied
+replied_to_run lab limit =
     let d = lab.debugger in
     let outcome = run_of d.rules limit d.state in
-    answer_leaving (outcome_text ran_text outcome) lab (performed d (orders_of outcome))
+    leaving (outcome_reply replies.Ran outcome) lab (performed d (orders_of outcome))
 
 -- how many orders it performs, broken off or not
 unfoldable pub orders_run : ℕ → Debugging → ℕ
@@ -62,17 +64,17 @@ orders_run limit d = orders_of (run_of d.rules limit d.state)
 
 -- ---- back: a given number of orders
 
-unfoldable pub answer_to_back : LabState → ℕ → Answer
-answer_to_back lab orders =
+unfoldable pub replied_to_back : LabState → ℕ → Replied
+replied_to_back lab orders =
     let d = lab.debugger in
     let after = if orders == 0 then d else after_back d orders in
-    if nat_lt (orders_in d.steps) orders then refused (refusals.TooFar (orders_in d.steps)) lab
-    else answer_leaving (counted_text (codes "clock ") after.state.clock) lab after
+    if nat_lt (orders_in d.steps) orders then refusing (refusals.TooFar (orders_in d.steps)) lab
+    else leaving (replies.Clock after.state.clock) lab after
 
 -- ---- last: back to the latest kept order that a rule hits
 
-unfoldable pub answer_to_last : LabState → Answer
-answer_to_last lab =
+unfoldable pub replied_to_last : LabState → Replied
+replied_to_last lab =
     let d = lab.debugger in
-    option_map_or (λ hit. answer_leaving (hit_text hit) lab (after_back d hit.0))
-    (last_hit d.rules d.steps) (refused (refusals.NoHit (orders_in d.steps)) lab)
+    option_map_or (λ hit. leaving (replies.Hit hit.0 hit.1) lab (after_back d hit.0))
+    (last_hit d.rules d.steps) (refusing (refusals.NoHit (orders_in d.steps)) lab)

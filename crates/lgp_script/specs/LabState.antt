@@ -1,30 +1,32 @@
 -- Part of the public promise: the script language, the state of a laboratory between two lines of a
 -- script, and what an answer is.
-use Rattle.std.specs.Prelude.{ℕ, if◌then◌else◌, Option, None, List, [], ◌++◌}
-use Rattle.std.specs.Option.{option_map_or}
+use Rattle.std.specs.Prelude.{ℕ, Option, None, List, [], ◌++◌, unwrap_or}
+use Rattle.std.specs.Option.{option_map_or, option_or}
 use Rattle.lgp_word.specs.Drum.{blank_words}
 use Rattle.lgp_assembler.specs.Image.{image_of}
 use Rattle.lgp_stream.specs.Language.{Answer as AnswerOf}
 use Rattle.lgp_table.specs.State.{opening}
-use Rattle.lgp_table.specs.Console.{is_at_rest}
-use Rattle.lgp_history.specs.Step.{Step}
-use Rattle.lgp_debugger.specs.Debugging.{Debugging, after_step}
+use Rattle.lgp_debugger.specs.Debugging.{Debugging}
 use Rattle.lgp_script.specs.Limits.{kept_limit}
 use Rattle.lgp_script.specs.Refusal.{refusal_text}
 use Rattle.lgp_script.specs.SourceText.{SourceText}
 use Rattle.lgp_script.specs.declared.refusal.Refusal.{Refusal}
-use Rattle.lgp_script.specs.declared.refusal.Refusal.TheVariants.{Moving}
 
--- the machine with its kept steps and its rules, the last source that assembled, and the source
--- whose lines are being taken
+-- the machine with its kept steps and its rules, the last source that assembled, the source that was
+-- closed after it and has faults, and the source whose lines are being taken
 pub record LabState : Type 0 where
   pub debugger : Debugging
   pub source : Option (List ℕ)
+  pub faulty : Option (List ℕ)
   pub opened : Option SourceText
 
 -- the names of the last source that assembled, with their values
 unfoldable pub labels_of : Option (List ℕ) → List (List ℕ × ℕ)
 labels_of source = option_map_or (λ text. (image_of text).symbols) source []
+
+-- the source at hand: the one that was closed last, if it was not too long
+unfoldable pub source_at_hand : LabState → List ℕ
+source_at_hand lab = unwrap_or (option_or lab.faulty lab.source) []
 
 -- the bytes of the source whose lines are being taken
 unfoldable pub opened_text : Option SourceText → List ℕ
@@ -39,6 +41,7 @@ unfoldable pub opening_state : LabState
 opening_state = record {
   debugger = record { state = opening blank_words; steps = []; capacity = kept_limit; rules = [] };
   source = None;
+  faulty = None;
   opened = None;
 }
 
@@ -56,15 +59,3 @@ after_text text answer = record { reply = text ++ answer.reply; after = answer.a
 -- no reply, and nothing changes
 abbrev pub silent : LabState → Answer
 silent lab = answer_showing [] lab
-
--- an answer that leaves the machine, its kept steps and its rules so
-abbrev pub answer_leaving : List ℕ → LabState → Debugging → Answer
-answer_leaving reply lab debugger =
-    record { reply = reply; after = record lab { debugger = debugger } }
-
--- an answer to a step that is done at rest alone
-abbrev pub answer_to_step : List ℕ → LabState → Step → Answer
-answer_to_step reply lab step =
-    if is_at_rest lab.debugger.state.core.panel.status
-    then answer_leaving reply lab (after_step lab.debugger step)
-    else refused Moving lab

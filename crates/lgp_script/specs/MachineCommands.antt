@@ -15,9 +15,10 @@ use Rattle.lgp_history.specs.Step.{Press, Idle}
 use Rattle.lgp_debugger.specs.Debugging.{Debugging, after_step, performed}
 use Rattle.lgp_debugger.specs.Run.{orders_of, run_of}
 use Rattle.lgp_text.specs.PanelWords.{mode_text, on_text, status_text, switches_text}
-use Rattle.lgp_script.specs.Refusal.{counted_text, outcome_text}
-use Rattle.lgp_script.specs.LabState.{Answer, LabState, answer_leaving, refused}
+use Rattle.lgp_script.specs.LabState.{LabState}
+use Rattle.lgp_script.specs.Reply.{Replied, leaving, outcome_reply, refusing}
 use Rattle.lgp_script.specs.declared.refusal.Refusal.TheVariants as refusals
+use Rattle.lgp_script.specs.declared.reply.Reply.TheVariants as replies
 
 -- ---- press, type, turn and orders, each of which is one step or several
 
@@ -40,10 +41,9 @@ abbrev pub after_pressing : Debugging → Action → Debugging
 after_pressing d action =
     if is_live d.state.core.panel action then after_step d (Press action) else d
 
-abbrev pub answer_to_press : LabState → Action → Answer
-answer_to_press lab action =
-    answer_leaving
-    (if is_live lab.debugger.state.core.panel action then codes "live\n" else codes "dead\n")
+abbrev pub replied_to_press : LabState → Action → Replied
+replied_to_press lab action =
+    leaving (if is_live lab.debugger.state.core.panel action then replies.Live else replies.Dead)
     lab (after_pressing lab.debugger action)
 
 abbrev pub key_struck : StruckKeys → ℕ → StruckKeys
@@ -58,29 +58,28 @@ key_struck so_far code =
 unfoldable pub typed : Debugging → List ℕ → StruckKeys
 typed d keys = fold key_struck (record { live = 0; dead = 0; after = d }) keys
 
-abbrev pub answer_to_keys : LabState → Result (List ℕ) ℕ → Answer
-answer_to_keys lab (Err place) = refused (refusals.BadSign place) lab
-answer_to_keys lab (Ok keys) =
+abbrev pub replied_to_keys : LabState → Result (List ℕ) ℕ → Replied
+replied_to_keys lab (Err place) = refusing (refusals.BadSign place) lab
+replied_to_keys lab (Ok keys) =
     let struck = typed lab.debugger keys in
-    answer_leaving (typed_text struck.live struck.dead) lab struck.after
+    leaving (replies.Struck struck.live struck.dead) lab struck.after
 
 -- word times at rest are one step, none of them is none
-unfoldable pub answer_to_turn : LabState → ℕ → Answer
-answer_to_turn lab times =
+unfoldable pub replied_to_turn : LabState → ℕ → Replied
+replied_to_turn lab times =
     let d = lab.debugger in
-    if not (is_at_rest d.state.core.panel.status) then refused refusals.AtWork lab
-    else (if nat_lt clock_end (d.state.clock + times) then refused refusals.ClockEnd lab
-    else answer_leaving (counted_text (codes "clock ") (d.state.clock + times)) lab
+    if not (is_at_rest d.state.core.panel.status) then refusing refusals.AtWork lab
+    else (if nat_lt clock_end (d.state.clock + times) then refusing refusals.ClockEnd lab
+    else leaving (replies.Clock (d.state.clock + times)) lab
     (if times == 0 then d else after_step d (Idle times)))
 
 -- orders: a run that no rule stops, and the status after it; broken off where the next order would
 -- pass the clock's end
-unfoldable pub answer_to_orders : LabState → ℕ → Answer
-answer_to_orders lab limit =
+unfoldable pub replied_to_orders : LabState → ℕ → Replied
+replied_to_orders lab limit =
     let outcome = run_of [] limit lab.debugger.state in
     let after = performed lab.debugger (orders_of outcome) in
-    answer_leaving
-    (outcome_text (λ ran. orders_text ran.orders after.state.core.panel.status) outcome)
+    leaving (outcome_reply (λ ran. replies.Orders ran.orders after.state.core.panel.status) outcome)
     lab after
 
 -- ---- panel

@@ -1,9 +1,5 @@
 -- Part of the public promise: the script language, how a refusal is written.
-use Rattle.std.specs.Prelude.{ℕ, List, ◌++◌, Result, codes, decimal}
-use Rattle.std.specs.Option.{option_map_or}
-use Rattle.std.specs.Result.{result_ok}
-use Rattle.lgp_debugger.specs.declared.fault.Ran.{Ran}
-use Rattle.lgp_debugger.specs.declared.fault.RunFault.{RunFault}
+use Rattle.std.specs.Prelude.{ℕ, List, ◌++◌, codes, decimal}
 use Rattle.lgp_script.specs.declared.refusal.Refusal.{Refusal}
 use Rattle.lgp_script.specs.declared.refusal.Refusal.TheVariants as refusals
 
@@ -11,20 +7,19 @@ use Rattle.lgp_script.specs.declared.refusal.Refusal.TheVariants as refusals
 abbrev pub counted_text : List ℕ → ℕ → List ℕ
 counted_text front number = front ++ (decimal number ++ codes "\n")
 
-unfoldable pub refusal_text : Refusal → List ℕ
-refusal_text refusals.Form = codes "? 1 Form\n"
-refusal_text refusals.Moving = codes "? 2 Moving\n"
-refusal_text refusals.AtWork = codes "? 3 AtWork\n"
-refusal_text refusals.ClockEnd = codes "? 4 ClockEnd\n"
-refusal_text refusals.Full = codes "? 5 Full\n"
-refusal_text refusals.NoRule = codes "? 6 NoRule\n"
-refusal_text (refusals.TooFar kept) = counted_text (codes "? 7 TooFar ") kept
-refusal_text (refusals.NoHit kept) = counted_text (codes "? 8 NoHit ") kept
-refusal_text refusals.NoImage = codes "? 10 NoImage\n"
-refusal_text refusals.TooLong = codes "? 11 TooLong\n"
-refusal_text (refusals.BadSign place) = counted_text (codes "? 12 BadSign ") place
+-- a refusal without the line feed that ends it
+unfoldable pub refusal_words : Refusal → List ℕ
+refusal_words refusals.Form = codes "? 1 Form"
+refusal_words refusals.Moving = codes "? 2 Moving"
+refusal_words refusals.AtWork = codes "? 3 AtWork"
+refusal_words refusals.ClockEnd = codes "? 4 ClockEnd"
+refusal_words refusals.Full = codes "? 5 Full"
+refusal_words refusals.NoRule = codes "? 6 NoRule"
+refusal_words (refusals.TooFar kept) = codes "? 7 TooFar " ++ decimal kept
+refusal_words (refusals.NoHit kept) = codes "? 8 NoHit " ++ decimal kept
+refusal_words refusals.NoImage = codes "? 10 NoImage"
+refusal_words refusals.TooLong = codes "? 11 TooLong"
+refusal_words (refusals.BadSign place) = codes "? 12 BadSign " ++ decimal place
 
--- a run as it is reported, or refused where the clock's end broke it off
-abbrev pub outcome_text : (Ran → List ℕ) → Result Ran RunFault → List ℕ
-outcome_text reported outcome =
-    option_map_or reported (result_ok outcome) (refusal_text refusals.ClockEnd)
+unfoldable pub refusal_text : Refusal → List ℕ
+refusal_text refusal = refusal_words refusal ++ codes "\n"

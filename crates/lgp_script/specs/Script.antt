@@ -1,37 +1,36 @@
 -- Part of the public promise: the script language. A script is its lines, each of which has at most
 -- one reply, and a script's text is its replies one after another, from a machine in its opening
 -- state on.
-use Rattle.std.specs.Prelude.{ℕ, ◌==◌, ◌||◌, Bool, true, false, if◌then◌else◌, nat_lt, Option, Some}
-use Rattle.std.specs.Prelude.{None, List, [], codes, length, slice_index}
+use Rattle.std.specs.Prelude.{ℕ, ◌||◌, Bool, true, false, if◌then◌else◌, nat_lt, Option, Some}
+use Rattle.std.specs.Prelude.{None, List, [], Result, length}
 use Rattle.std.specs.List.{concat}
 use Rattle.std.specs.Option.{option_map_or}
-use Rattle.std.specs.Str.{byte}
-use Rattle.lgp_script.specs.Command.{command_of, text_after_word}
+use Rattle.lgp_command.specs.Command.{command_of, is_comment, text_after_word}
 use Rattle.lgp_flexo.specs.TapeText.{codes_of_text}
-use Rattle.lgp_listing.specs.Dump.{cell_line}
-use Rattle.lgp_script.specs.DrumCommands.{answer_to_words, dump_text, order_line}
 use Rattle.lgp_history.specs.Step.{Put}
 use Rattle.lgp_history.specs.declared.rule.Rule.TheVariants.{At, Changed}
-use Rattle.lgp_script.specs.HistoryCommands.{answer_to_back, answer_to_drop, answer_to_last}
-use Rattle.lgp_script.specs.HistoryCommands.{answer_to_rule, answer_to_run}
+use Rattle.lgp_script.specs.HistoryCommands.{replied_to_back, replied_to_drop, replied_to_last}
+use Rattle.lgp_script.specs.HistoryCommands.{replied_to_rule, replied_to_run}
 use Rattle.lgp_stream.specs.Language.{Language, question_count, text_replies}
 use Rattle.lgp_stream.specs.KeptLine.{line_limit}
 use Rattle.lgp_stream.specs.LineWords.{has_no_word}
-use Rattle.lgp_script.specs.LoadCommand.{answer_to_load}
-use Rattle.lgp_script.specs.MachineCommands.{answer_to_keys, answer_to_orders, answer_to_press}
-use Rattle.lgp_script.specs.MachineCommands.{answer_to_turn, panel_text}
-use Rattle.lgp_script.specs.SourceCommands.{answer_in_source, closed, list_text}
+use Rattle.lgp_script.specs.LoadCommand.{replied_to_load}
+use Rattle.lgp_script.specs.MachineCommands.{replied_to_keys, replied_to_orders, replied_to_press}
+use Rattle.lgp_script.specs.MachineCommands.{replied_to_turn}
+use Rattle.lgp_script.specs.SourceCommands.{answer_in_source, closed, replied_to_list}
 use Rattle.lgp_script.specs.SourceText.{source_of}
-use Rattle.lgp_script.specs.LabState.{Answer, LabState, answer_showing, opening_state, refused}
-use Rattle.lgp_script.specs.LabState.{answer_to_step, silent}
-use Rattle.lgp_script.specs.TapeCommands.{answer_to_tape, printed_text}
-use Rattle.lgp_script.specs.declared.command.Command.{Command}
-use Rattle.lgp_script.specs.declared.command.Command.TheVariants as commands
+use Rattle.lgp_script.specs.LabState.{Answer, LabState, opening_state, refused, silent}
+use Rattle.lgp_script.specs.Reply.{Replied, refusing, replied_to_step, replying}
+use Rattle.lgp_script.specs.ReplyText.{written}
+use Rattle.lgp_script.specs.TapeCommands.{replied_to_tape}
+use Rattle.lgp_command.specs.declared.command.Command.{Command}
+use Rattle.lgp_command.specs.declared.command.Command.TheVariants as commands
 use Rattle.lgp_script.specs.declared.refusal.Refusal.TheVariants.{Form, TooLong}
+use Rattle.lgp_script.specs.declared.reply.Reply.TheVariants as replies
 
 -- a line without a reply: there is no word on it, or it begins with a semicolon
 abbrev pub is_passed_over : List ℕ → Bool
-is_passed_over line = has_no_word line || (slice_index line 0 == byte ";")
+is_passed_over line = has_no_word line || is_comment line
 
 -- the commands that only ask
 abbrev pub only_asks : Option Command → Bool
@@ -43,33 +42,45 @@ only_asks (Some commands.Dump) = true
 only_asks (Some commands.List) = true
 only_asks _ = false
 
--- the answer to a command; the text is that of mount and type
+-- the command after which lines are a source's
+abbrev pub opens_source : Command → Bool
+opens_source commands.Source = true
+opens_source command = false
+
+-- the text that mount and type take, which has to fit on a line with its command
+abbrev pub replied_to_text : ℕ → (LabState → Result (List ℕ) ℕ → Replied) → LabState → List ℕ
+    → Replied
+replied_to_text most replied lab text =
+    if nat_lt most (length text) then refusing TooLong lab else replied lab (codes_of_text text)
+
+-- what a command is replied; the text is that of mount and type
+abbrev pub replied_to : LabState → Command → List ℕ → Replied
+replied_to lab (commands.Put address word) text =
+    replied_to_step replies.Done lab (Put address word)
+replied_to lab commands.Mount text = replied_to_text 4090 replied_to_tape lab text
+replied_to lab (commands.Press action) text = replied_to_press lab action
+replied_to lab commands.Type text = replied_to_text 4091 replied_to_keys lab text
+replied_to lab (commands.Turn times) text = replied_to_turn lab times
+replied_to lab (commands.Orders limit) text = replied_to_orders lab limit
+replied_to lab commands.Panel text = replying replies.Panel lab
+replied_to lab (commands.Words range) text = replying (replies.Words range) lab
+replied_to lab (commands.Show range) text = replying (replies.Show range) lab
+replied_to lab commands.Printed text = replying replies.Printed lab
+replied_to lab commands.Dump text = replying replies.Dump lab
+replied_to lab commands.Source text =
+    replying replies.Opened (record lab { opened = Some (source_of []) })
+replied_to lab commands.List text = replied_to_list lab
+replied_to lab commands.Load text = replied_to_load lab
+replied_to lab (commands.Break address) text = replied_to_rule lab (At address)
+replied_to lab (commands.Watch address) text = replied_to_rule lab (Changed address)
+replied_to lab (commands.Drop number) text = replied_to_drop lab number
+replied_to lab (commands.Run limit) text = replied_to_run lab limit
+replied_to lab (commands.Back orders) text = replied_to_back lab orders
+replied_to lab commands.Last text = replied_to_last lab
+
+-- the answer to a command, its reply as it is written
 abbrev pub answer_to : LabState → Command → List ℕ → Answer
-answer_to lab (commands.Put address word) text =
-    answer_to_step (codes "ok\n") lab (Put address word)
-answer_to lab commands.Mount text = answer_to_tape lab (codes_of_text text)
-answer_to lab (commands.Press action) text = answer_to_press lab action
-answer_to lab commands.Type text = answer_to_keys lab (codes_of_text text)
-answer_to lab (commands.Turn times) text = answer_to_turn lab times
-answer_to lab (commands.Orders limit) text = answer_to_orders lab limit
-answer_to lab commands.Panel text =
-    answer_showing (panel_text lab.debugger.state) lab
-answer_to lab (commands.Words range) text = answer_to_words cell_line lab range
-answer_to lab (commands.Show range) text = answer_to_words order_line lab range
-answer_to lab commands.Printed text =
-    answer_showing (printed_text lab.debugger.state.printed) lab
-answer_to lab commands.Dump text =
-    answer_showing (dump_text lab.debugger.state.core.words) lab
-answer_to lab commands.Source text =
-    silent (record lab { opened = Some (source_of []) })
-answer_to lab commands.List text = answer_showing (list_text lab.source) lab
-answer_to lab commands.Load text = answer_to_load lab
-answer_to lab (commands.Break address) text = answer_to_rule lab (At address)
-answer_to lab (commands.Watch address) text = answer_to_rule lab (Changed address)
-answer_to lab (commands.Drop number) text = answer_to_drop lab number
-answer_to lab (commands.Run limit) text = answer_to_run lab limit
-answer_to lab (commands.Back orders) text = answer_to_back lab orders
-answer_to lab commands.Last text = answer_to_last lab
+answer_to lab command text = written (replied_to lab command text)
 
 abbrev pub answer_by : LabState → Option Command → List ℕ → Answer
 answer_by lab None text = refused Form lab

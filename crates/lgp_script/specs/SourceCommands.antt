@@ -1,6 +1,6 @@
 -- Part of the public promise: the script language, what is answered to a source, and to the
 -- commands that use it.
-use Rattle.std.specs.Prelude.{ℕ, ◌++◌, if◌then◌else◌, Option, Some, None, List, [], ◌∷◌}
+use Rattle.std.specs.Prelude.{ℕ, ◌++◌, if◌then◌else◌, is_some, Option, Some, None, List, [], ◌∷◌}
 use Rattle.std.specs.Option.{option_map_or}
 use Rattle.std.specs.Prelude.{length, codes, decimal}
 use Rattle.std.specs.Str.{bytes_eq}
@@ -10,10 +10,11 @@ use Rattle.lgp_assembler.specs.KindNames.{kind_name}
 use Rattle.lgp_assembler.specs.Parts.{ImageParts}
 use Rattle.lgp_assembler.specs.declared.refusal.Fault.{Fault}
 use Rattle.lgp_listing.specs.Listing.{listing_of}
-use Rattle.lgp_script.specs.Refusal.{refusal_text}
 use Rattle.lgp_script.specs.SourceText.{SourceText, with_line}
-use Rattle.lgp_script.specs.LabState.{Answer, LabState, answer_showing, refused, silent}
+use Rattle.lgp_script.specs.LabState.{Answer, LabState, refused, silent}
+use Rattle.lgp_script.specs.Reply.{Replied, refusing, replying}
 use Rattle.lgp_script.specs.declared.refusal.Refusal.TheVariants as refusals
+use Rattle.lgp_script.specs.declared.reply.Reply.TheVariants as replies
 
 -- ---- source
 
@@ -36,14 +37,16 @@ abbrev pub cells_text : ImageParts → List ℕ
 cells_text image =
     codes "cells " ++ (decimal (length image.cells) ++ (codes " start " ++ start_text image.start))
 
--- the answer to a source by its faults; with faults the source from before stays
+-- the answer to a source by its faults; with faults the one that assembled before stays too
 abbrev pub assembled : LabState → List ℕ → List Fault → Answer
 assembled lab text [] = record {
   reply = cells_text (image_of text);
-  after = record lab { source = Some text };
+  after = record lab { source = Some text; faulty = None };
 }
-assembled lab text (fault ∷ more) =
-    answer_showing (codes "? 9 Faults\n" ++ faults_text (fault ∷ more)) lab
+assembled lab text (fault ∷ more) = record {
+  reply = codes "? 9 Faults\n" ++ faults_text (fault ∷ more);
+  after = record lab { faulty = Some text };
+}
 
 -- the answer to a source at its end, which closes it
 abbrev pub answer_to_end : LabState → SourceText → Answer
@@ -64,5 +67,10 @@ answer_in_source lab source line =
 
 -- ---- list
 
+-- the listing of the last source that assembled, where there is one
 unfoldable pub list_text : Option (List ℕ) → List ℕ
-list_text source = option_map_or listing_of source (refusal_text refusals.NoImage)
+list_text source = option_map_or listing_of source []
+
+abbrev pub replied_to_list : LabState → Replied
+replied_to_list lab =
+    if is_some lab.source then replying replies.List lab else refusing refusals.NoImage lab

@@ -1,21 +1,23 @@
 //! The laboratory: a machine with its history and the source at hand, and what is answered to a line.
 
-ghost use Rattle.std.specs.Prelude.{◌≡◌, ◌≤◌, List, [], ℕ, IfOk, OnOk, is_some, length};
+ghost use Rattle.std.specs.Prelude.{◌≡◌, ◌≤◌, List, [], ℕ, IfOk, OnOk, false, is_some};
+ghost use Rattle.std.specs.Option.{option_map_or};
 ghost use Rattle.lgp_word.specs.Drum.{blank_words};
 ghost use Rattle.lgp_table.specs.State.{opening};
 ghost use Rattle.lgp_stream.specs.Language.{IsAnswered};
-ghost use Rattle.lgp_stream.specs.KeptLine.{line_limit};
 ghost use Rattle.lgp_stream.specs.KeptLine.{kept_of};
-ghost use Rattle.lgp_script.specs.Script.{answer_to, answer_to_command, is_passed_over, script_language};
-ghost use Rattle.lgp_script.specs.LabState.{labels_of, opened_text, opening_state};
+ghost use Rattle.lgp_script.specs.Reply.{IsReplied};
+ghost use Rattle.lgp_script.specs.Script.{answer_to, answer_to_command, is_passed_over, replied_to, script_language};
+ghost use Rattle.lgp_script.specs.LabState.{labels_of, opened_text, opening_state, source_at_hand};
 ghost use Rattle.lgp_script.specs.Limits.{kept_limit};
 
-use crate::command::{Asked, Command, asked_in, is_comment};
 use crate::limits::KEPT_LIMIT;
-use crate::program::Program;
+use crate::program::{Faulty, Program};
 use crate::refusal::{Refusal, push_refusal};
+use crate::reply::Reply;
 use crate::source_text::SourceText;
 use lgp_assembler::Name;
+use lgp_command::{Asked, Command, asked_in, is_comment};
 use lgp_debugger::Debugger;
 use lgp_history::{Records, Rule};
 use lgp_machine::Machine;
@@ -27,6 +29,7 @@ mod drum_commands;
 mod history_commands;
 mod load_command;
 mod machine_commands;
+mod replies;
 mod source_commands;
 mod tape_commands;
 
@@ -53,12 +56,13 @@ pub fn new_debugger<A: Allocator + Copy>(
     Ok(Debugger::new(machine, history))
 }
 
-/// A machine with its history and its rules, on which a script's commands are performed, with the last source that assembled and
-/// the one that is open. It is seen as its state.
+/// A machine with its history and its rules, on which a script's commands are performed, with the last source that assembled, the
+/// one after it that has faults, and the one that is open. It is seen as its state.
 pub struct Laboratory<A: Allocator + Clone> {
     alloc: A,
     debugger: Debugger<Records<A>, A>,
     program: Option<Program<A>>,
+    faulty: Option<Faulty<A>>,
     opened: Option<SourceText<A>>,
 }
 
@@ -69,6 +73,7 @@ impl<A: Allocator + Clone> Drop for Laboratory<A> {
             alloc: _,
             debugger: _,
             program: _,
+            faulty: _,
             opened: _,
         } = self;
     }
@@ -82,6 +87,7 @@ impl<A: Allocator + Clone> Model for Laboratory<A> {
     ghost view = { λ laboratory. record {
       debugger = laboratory.debugger;
       source = laboratory.program;
+      faulty = laboratory.faulty;
       opened = laboratory.opened;
     } };
 }
@@ -96,6 +102,7 @@ impl<A: Allocator + Copy> Laboratory<A> {
             alloc,
             debugger: new_debugger(alloc, KEPT_LIMIT)?,
             program: None,
+            faulty: None,
             opened: None,
         })
     }
@@ -118,6 +125,28 @@ impl<A: Allocator + Copy> Laboratory<A> {
         }
     }
 
+    /// Whether a source is open that is too long.
+    pub fn has_too_long_source(&self) -> bool
+        ensures { result ≡ option_map_or (λ source. source.too_long) self.now.opened false }
+    {
+        match &self.opened {
+            Some(source) => source.is_too_long(),
+            None => false,
+        }
+    }
+
+    /// The source that was closed last, if it was not too long: the one with faults, or else the last one that assembled; empty where none was closed yet.
+    #[tactic(auto, unfolding(crate::specs::LabState::source_at_hand))]
+    pub fn source_at_hand(&self) -> &[u8]
+        ensures { result.now ≡ source_at_hand self.now }
+    {
+        match (&self.faulty, &self.program) {
+            (Some(faulty), _) => faulty.source(),
+            (None, Some(program)) => program.source(),
+            (None, None) => &[],
+        }
+    }
+
     /// The machine with its kept steps and its rules.
     pub fn debugger(&self) -> &Debugger<Records<A>, A>
         ensures { result.now ≡ self.now.debugger }
@@ -132,43 +161,51 @@ impl<A: Allocator + Copy> Laboratory<A> {
         labels_in(&self.program)
     }
 
-    /// Does what a command asks for and answers it; the text is that of `mount` and `type`. A refused growth leaves open
-    /// what was done.
-    fn perform_command(
+    /// Does what a command asks for; the text is that of `mount` and `type`, and has to fit on a line with its command. A
+    /// refused growth leaves open what was done.
+    pub fn perform(&mut self, command: &Command, text: &[u8]) -> Result<Reply, AllocError>
+        ensures { IfOk result (λ reply. IsReplied reply self.new
+            (replied_to self.old command.now text.now)) }
+    {
+        match command {
+            Command::Put(address, word) => self.put(*address, *word),
+            Command::Mount => self.mount(text),
+            Command::Press(button) => self.press(button.action()),
+            Command::Type => self.type_text(text),
+            Command::Turn(times) => self.turn(times.get()),
+            Command::Orders(limit) => self.orders(limit.get()),
+            Command::Panel => Ok(Reply::Panel),
+            Command::Words(span) => Ok(Reply::Words(*span)),
+            Command::Show(span) => Ok(Reply::Show(*span)),
+            Command::Printed => Ok(Reply::Printed),
+            Command::Dump => Ok(Reply::Dump),
+            Command::Source => {
+                self.open_source();
+                Ok(Reply::Opened)
+            }
+            Command::List => Ok(self.list()),
+            Command::Load => self.load(),
+            Command::Break(address) => Ok(self.add_rule(Rule::At(*address))),
+            Command::Watch(address) => Ok(self.add_rule(Rule::Changed(*address))),
+            Command::Drop(number) => Ok(self.drop_rule(number.get())),
+            Command::Run(limit) => self.run(limit.get()),
+            Command::Back(orders) => self.back(orders.get()),
+            Command::Last => self.last(),
+        }
+    }
+
+    /// Does what a command asks for, and appends its reply.
+    fn answer_asked(
         &mut self,
         command: &Command,
         text: &[u8],
         reply: &mut Vec<u8, A>,
     ) -> Result<(), AllocError>
-        requires short { length text.now ≤ line_limit }
         ensures { OnOk result (IsAnswered reply.old.items reply.new.items self.new
             (answer_to self.old command.now text.now)) }
     {
-        match command {
-            Command::Put(address, word) => self.put(*address, *word, reply),
-            Command::Mount => self.mount(text, reply),
-            Command::Press(action) => self.press(*action, reply),
-            Command::Type => self.type_text(text, reply),
-            Command::Turn(times) => self.turn(*times, reply),
-            Command::Orders(limit) => self.orders(*limit, reply),
-            Command::Panel => self.panel(reply),
-            Command::Words(span) => self.words(span, false, reply),
-            Command::Show(span) => self.words(span, true, reply),
-            Command::Printed => self.printed(reply),
-            Command::Dump => self.dump(reply),
-            Command::Source => {
-                self.open_source();
-                Ok(())
-            }
-            Command::List => self.list(reply),
-            Command::Load => self.load(reply),
-            Command::Break(address) => self.add_rule(Rule::At(*address), reply),
-            Command::Watch(address) => self.add_rule(Rule::Changed(*address), reply),
-            Command::Drop(number) => self.drop_rule(*number, reply),
-            Command::Run(limit) => self.run(*limit, reply),
-            Command::Back(orders) => self.back(*orders, reply),
-            Command::Last => self.last(reply),
-        }
+        let said = self.perform(command, text)?;
+        self.push_reply(reply, &said)
     }
 }
 
@@ -205,7 +242,7 @@ impl<A: Allocator + Copy> Laboratory<A> {
         }
         let Asked { command, text } = asked_in(line.front());
         match command {
-            Some(command) => self.perform_command(&command, text, reply),
+            Some(command) => self.answer_asked(&command, text, reply),
             None => push_refusal(reply, Refusal::Form),
         }
     }

@@ -1,6 +1,6 @@
 //! What follows from the definitions, each law as the contract of a function that does nothing.
 
-ghost use Rattle.std.specs.Prelude.{◌≡◌, ◌+◌, IsTrue, ℕ, List, None, Some, [], length};
+ghost use Rattle.std.specs.Prelude.{◌≡◌, ◌+◌, IsTrue, false, ℕ, List, None, Some, [], length};
 ghost use Rattle.lgp_assembler.specs.Image.{faults_of, image_of};
 ghost use Rattle.lgp_loader.specs.BlockLoading.{longest_load};
 ghost use Rattle.lgp_loader.specs.LoadedOver.{IsLoadedOver};
@@ -8,9 +8,11 @@ ghost use Rattle.lgp_loader.specs.Loading.{loading_cost, loading_stopped};
 ghost use Rattle.lgp_word.specs.Drum.{blank_words};
 ghost use Rattle.lgp_table.specs.State.{opening};
 ghost use Rattle.lgp_script.specs.Files.{loaded_new};
-ghost use Rattle.lgp_script.specs.Command.{command_of};
-ghost use Rattle.lgp_script.specs.LoadCommand.{answer_to_load};
-ghost use Rattle.lgp_script.specs.Script.{only_asks, script_language};
+ghost use Rattle.lgp_command.specs.Command.{command_of};
+ghost use Rattle.lgp_script.specs.LoadCommand.{replied_to_load};
+ghost use Rattle.lgp_script.specs.CommandLaws.{LinesAreAnswered};
+ghost use Rattle.lgp_command.specs.declared.command.Command.{Command};
+ghost use Rattle.lgp_script.specs.Script.{only_asks, opens_source, replied_to, script_language};
 ghost use Rattle.lgp_script.specs.LabState.{LabState};
 
 use std::alloc::Allocator;
@@ -24,11 +26,11 @@ pub fn load_leaves_the_source<A: Allocator>()
         → length lab.debugger.state.core.words ≡ 4096
         → loading_stopped lab.debugger.state (longest_load (image_of source)) ≡ None
         → IsLoadedOver 22 lab.debugger.state.core.words
-        (answer_to_load lab).after.debugger.state.core.words (image_of source).cells }
+        (replied_to_load lab).after.debugger.state.core.words (image_of source).cells }
     ensures time { (lab : LabState) → (source : List ℕ)
         → lab.source ≡ Some source
         → loading_stopped lab.debugger.state (longest_load (image_of source)) ≡ None
-        → (answer_to_load lab).after.debugger.state.clock
+        → (replied_to_load lab).after.debugger.state.clock
         ≡ lab.debugger.state.clock
         + loading_cost lab.debugger.state (longest_load (image_of source)) }
 {}
@@ -50,4 +52,17 @@ pub fn questions_change_nothing<A: Allocator>()
     ensures { (lab : LabState) → (line : List ℕ) → lab.opened ≡ None
         → IsTrue (only_asks (command_of line))
         → script_language.after lab line ≡ lab }
+{}
+
+/// A line that says a command is answered as the command, where no source is open.
+#[tactic(auto, using(crate::proofs::CommandLaws::lines_answered))]
+pub fn lines_are_answered_as_commands<A: Allocator>()
+    ensures { LinesAreAnswered }
+{}
+
+/// After every command but `source` the same source is open, or none.
+#[tactic(auto, using(crate::proofs::OpenedLaws::opened_stays))]
+pub fn commands_open_no_source<A: Allocator>()
+    ensures { (lab : LabState) → (command : Command) → (text : List ℕ)
+        → opens_source command ≡ false → (replied_to lab command text).after.opened ≡ lab.opened }
 {}

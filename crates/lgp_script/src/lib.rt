@@ -1,24 +1,25 @@
 //! The LGP-30 laboratory: scripts, and what is written for whole files.
 #![tactic(auto)]
 
-pub use command::{is_command, is_comment, lone_number};
 pub use files::{asm_file, run_file, tape_file};
 pub use laboratory::{Laboratory, push_fault_line};
+pub use lgp_command::{
+    BUTTONS, Button, Command, Count, Span, is_command, is_comment, lone_count, lone_number,
+    push_command, text_after_word,
+};
 pub use limits::READS;
-pub use names::BUTTONS;
+pub use refusal::{Refusal, push_refusal_words};
+pub use reply::Reply;
 pub use script::{batch_part, run_script};
-pub use span::Span;
 pub use teller::Teller;
 
-mod command;
 mod files;
 mod laboratory;
 pub mod laws;
 mod limits;
-mod names;
 mod program;
 mod refusal;
+mod reply;
 mod script;
 mod source_text;
-mod span;
 mod teller;

@@ -1,7 +1,7 @@
 //! The refusals of the script language.
 
-ghost use Rattle.std.specs.Prelude.{◌≡◌, ◌++◌, OnOk};
-ghost use Rattle.lgp_script.specs.Refusal.{counted_text, refusal_text};
+ghost use Rattle.std.specs.Prelude.{◌≡◌, ◌++◌, OnOk, decimal};
+ghost use Rattle.lgp_script.specs.Refusal.{counted_text, refusal_text, refusal_words};
 
 use lgp_text::{Piece, push_pieces};
 use std::alloc::{AllocError, Allocator};
@@ -33,6 +33,17 @@ pub enum Refusal {
     BadSign(u64),
 }
 
+/// Appends a text and a number.
+fn push_named<A: Allocator>(
+    text: &mut Vec<u8, A>,
+    front: &'static [u8],
+    number: u64,
+) -> Result<(), AllocError>
+    ensures { OnOk result (text.new.items ≡ text.old.items ++ (front.now ++ decimal number)) }
+{
+    push_pieces(text, &[Piece::Text(front), Piece::Number(number)])
+}
+
 /// Appends a line of a text and a number.
 pub fn push_counted<A: Allocator>(
     text: &mut Vec<u8, A>,
@@ -52,22 +63,34 @@ pub fn push_counted<A: Allocator>(
     )
 }
 
+/// Appends a refusal without the line feed that ends it.
+#[tactic(auto, unfolding(crate::specs::Refusal::refusal_words))]
+pub fn push_refusal_words<A: Allocator>(
+    text: &mut Vec<u8, A>,
+    refusal: &Refusal,
+) -> Result<(), AllocError>
+    ensures { OnOk result (text.new.items ≡ text.old.items ++ refusal_words refusal.now) }
+{
+    match refusal {
+        Refusal::Form => text.extend_from_slice(b"? 1 Form"),
+        Refusal::Moving => text.extend_from_slice(b"? 2 Moving"),
+        Refusal::AtWork => text.extend_from_slice(b"? 3 AtWork"),
+        Refusal::ClockEnd => text.extend_from_slice(b"? 4 ClockEnd"),
+        Refusal::Full => text.extend_from_slice(b"? 5 Full"),
+        Refusal::NoRule => text.extend_from_slice(b"? 6 NoRule"),
+        Refusal::TooFar(kept) => push_named(text, b"? 7 TooFar ", *kept),
+        Refusal::NoHit(kept) => push_named(text, b"? 8 NoHit ", *kept),
+        Refusal::NoImage => text.extend_from_slice(b"? 10 NoImage"),
+        Refusal::TooLong => text.extend_from_slice(b"? 11 TooLong"),
+        Refusal::BadSign(place) => push_named(text, b"? 12 BadSign ", *place),
+    }
+}
+
 /// Appends a refusal.
 #[tactic(auto, unfolding(crate::specs::Refusal::refusal_text))]
 pub fn push_refusal<A: Allocator>(text: &mut Vec<u8, A>, refusal: Refusal) -> Result<(), AllocError>
     ensures { OnOk result (text.new.items ≡ text.old.items ++ refusal_text refusal) }
 {
-    match refusal {
-        Refusal::Form => text.extend_from_slice(b"? 1 Form\n"),
-        Refusal::Moving => text.extend_from_slice(b"? 2 Moving\n"),
-        Refusal::AtWork => text.extend_from_slice(b"? 3 AtWork\n"),
-        Refusal::ClockEnd => text.extend_from_slice(b"? 4 ClockEnd\n"),
-        Refusal::Full => text.extend_from_slice(b"? 5 Full\n"),
-        Refusal::NoRule => text.extend_from_slice(b"? 6 NoRule\n"),
-        Refusal::TooFar(kept) => push_counted(text, b"? 7 TooFar ", kept),
-        Refusal::NoHit(kept) => push_counted(text, b"? 8 NoHit ", kept),
-        Refusal::NoImage => text.extend_from_slice(b"? 10 NoImage\n"),
-        Refusal::TooLong => text.extend_from_slice(b"? 11 TooLong\n"),
-        Refusal::BadSign(place) => push_counted(text, b"? 12 BadSign ", place),
-    }
+    push_refusal_words(text, &refusal)?;
+    text.extend_from_slice(b"\n")
 }

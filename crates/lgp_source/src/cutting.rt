@@ -43,8 +43,8 @@ fn is_bad(byte: u8) -> bool
     !(byte == b'\t' || (b' '..=b'~').contains(&byte))
 }
 
-/// The text up to its comment.
-fn before_comment(text: &[u8]) -> &[u8]
+/// The text of a line up to its comment.
+pub fn before_comment(text: &[u8]) -> &[u8]
     ensures { result.now ≡ source.before_comment text.now }
 {
     let mut fresh = true;

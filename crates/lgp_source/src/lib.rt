@@ -8,6 +8,7 @@ ghost use Rattle.lgp_source.specs.Runs.{IsUpToComment, IsLongestRun, IsSlice, Ea
 ghost use Rattle.lgp_source.specs.Seen.{line_seen};
 
 use bstr::{ByteSlice, LinesWithTerminator};
+pub use cutting::before_comment;
 pub use parts::{Line, Token};
 use std::marker::Model;
 

@@ -35,8 +35,8 @@ static ANSWERED: [Row; 10] = [
     (
         Manner::Json,
         b"trace-data 1\nprofile-data 0\n",
-        b"{\"line\":\"trace-data 1\",\"reply\":[{\"ran\":\"0 rest\"},{\"state\":\"the operator halted the machine, or has not started it: press start lets it go on\"}],\"refused\":false}\n\
-        {\"line\":\"profile-data 0\",\"reply\":[{\"orders\":\"0\"},{\"times\":\"0\"},{\"turns\":\"0.0\"},{\"find\":\"0\"},{\"take\":\"0\"},{\"seek\":\"0\"},{\"act\":\"0\"},{\"elsewhere\":\"0\"},{\"ran\":\"0 rest\"},{\"state\":\"the operator halted the machine, or has not started it: press start lets it go on\"}],\"refused\":false}\n",
+        b"{\"line\":\"trace-data 1\",\"reply\":[{\"ran\":\"0 rest\"},{\"state\":\"the operator halted the machine, or has not started it: press start continues\"}],\"refused\":false}\n\
+        {\"line\":\"profile-data 0\",\"reply\":[{\"orders\":\"0\"},{\"times\":\"0\"},{\"turns\":\"0.0\"},{\"find\":\"0\"},{\"take\":\"0\"},{\"seek\":\"0\"},{\"act\":\"0\"},{\"elsewhere\":\"0\"},{\"ran\":\"0 rest\"},{\"state\":\"the operator halted the machine, or has not started it: press start continues\"}],\"refused\":false}\n",
         0,
     ),
     (

@@ -77,7 +77,7 @@ fn is_written(alloc: Global, typed: &[u8], text: &[u8]) -> bool {
 #[test]
 fn the_promise_is_not_empty(rt: HostRuntime) {
     let text =
-        b"> put 0000 = 1\nok\n? foo\n? 1 Form: there is no such command, help lists them\n        line 2 of lesson\n? 13 File none: it cannot be opened\n";
+        b"> put 0000 = 1\nok\n? foo\n? 1 Form: there is no such command; help lists them all\n        line 2 of lesson\n? 13 File none: it cannot be opened\n";
     let is_written = is_written(rt.alloc(), b"do lesson\ndo none\n", text);
     expect_eq(&rt, is_written, true);
 }

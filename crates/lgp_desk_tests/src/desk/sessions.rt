@@ -116,21 +116,21 @@ fn rows_held(alloc: Global, manner: Manner, rows: &[Row]) -> usize {
 }
 
 /// What is written for the lines on standard input.
-const HELD: &[u8] = b"ok\n? 1 Form: there is no such command, help lists them\n";
+const HELD: &[u8] = b"ok\n? 1 Form: there is no such command; help lists them all\n";
 
 /// What is written where the lines of a file come first.
 const TAUGHT: &[u8] =
-    b"ok\n? 1 Form: there is no such command, help lists them\n        line 2 of lesson.txt\n\
-    ok\n? 1 Form: there is no such command, help lists them\n";
+    b"ok\n? 1 Form: there is no such command; help lists them all\n        line 2 of lesson.txt\n\
+    ok\n? 1 Form: there is no such command; help lists them all\n";
 
 /// What is written where a file is not there.
 const LACKING: &[u8] =
     b"? 13 File none.txt: it cannot be opened\n        named on the command line\n\
-    ok\n? 1 Form: there is no such command, help lists them\n";
+    ok\n? 1 Form: there is no such command; help lists them all\n";
 
 /// What is written where each line is above its reply.
 const ECHOED: &[u8] =
-    b"> put 0000 = 1\nok\n? bar\n? 1 Form: there is no such command, help lists them\n";
+    b"> put 0000 = 1\nok\n? bar\n? 1 Form: there is no such command; help lists them all\n";
 
 /// What is written where no prompt is asked for.
 static HELD_BARE: [Row; 5] = [
@@ -152,27 +152,27 @@ fn a_session_is_held(rt: HostRuntime) {
 static PROMPTED: [Row; 5] = [
     (
         &["lgp_monitor"],
-        b"0000 halted operator> ok\n0000 halted operator> ? 1 Form: there is no such command, help lists them\n0000 halted operator> \n",
+        b"0000 halted operator> ok\n0000 halted operator> ? 1 Form: there is no such command; help lists them all\n0000 halted operator> \n",
         1,
     ),
     (
         &["lgp_monitor", "lesson.txt"],
-        b"ok\n? 1 Form: there is no such command, help lists them\n        line 2 of lesson.txt\n\
-        0000 halted operator> ok\n0000 halted operator> ? 1 Form: there is no such command, help lists them\n0000 halted operator> \n",
+        b"ok\n? 1 Form: there is no such command; help lists them all\n        line 2 of lesson.txt\n\
+        0000 halted operator> ok\n0000 halted operator> ? 1 Form: there is no such command; help lists them all\n0000 halted operator> \n",
         1,
     ),
     (
         &["lgp_monitor", "none.txt"],
         b"? 13 File none.txt: it cannot be opened\n        named on the command line\n\
-        0000 halted operator> ok\n0000 halted operator> ? 1 Form: there is no such command, help lists them\n0000 halted operator> \n",
+        0000 halted operator> ok\n0000 halted operator> ? 1 Form: there is no such command; help lists them all\n0000 halted operator> \n",
         1,
     ),
     (
         &["lgp_monitor", "lesson.txt", "none.txt", "lesson.txt"],
-        b"ok\n? 1 Form: there is no such command, help lists them\n        line 2 of lesson.txt\n\
+        b"ok\n? 1 Form: there is no such command; help lists them all\n        line 2 of lesson.txt\n\
         ? 13 File none.txt: it cannot be opened\n        named on the command line\n\
-        ok\n? 1 Form: there is no such command, help lists them\n        line 2 of lesson.txt\n\
-        0000 halted operator> ok\n0000 halted operator> ? 1 Form: there is no such command, help lists them\n0000 halted operator> \n",
+        ok\n? 1 Form: there is no such command; help lists them all\n        line 2 of lesson.txt\n\
+        0000 halted operator> ok\n0000 halted operator> ? 1 Form: there is no such command; help lists them all\n0000 halted operator> \n",
         1,
     ),
     (&["lgp_monitor", "--echo", "lesson.txt"], TAUGHT_ECHOED, 1),
@@ -180,9 +180,9 @@ static PROMPTED: [Row; 5] = [
 
 /// What is written where the lines of a file come first and each line is above its reply.
 const TAUGHT_ECHOED: &[u8] =
-    b"> put 0001 = 2\nok\n? foo\n? 1 Form: there is no such command, help lists them\n\
+    b"> put 0001 = 2\nok\n? foo\n? 1 Form: there is no such command; help lists them all\n\
     \x20       line 2 of lesson.txt\n\
-    > put 0000 = 1\nok\n? bar\n? 1 Form: there is no such command, help lists them\n";
+    > put 0000 = 1\nok\n? bar\n? 1 Form: there is no such command; help lists them all\n";
 
 #[test]
 fn a_prompt_comes_after_the_lines_of_files(rt: HostRuntime) {

@@ -1,16 +1,16 @@
 //! The drum.
 
 ghost use Rattle.std.specs.Prelude.{◌≡◌, ◌++◌, IfOk, OnOk, codes, decimal};
-ghost use Rattle.lgp_stream.specs.Language.{IsAnswered};
 ghost use Rattle.lgp_listing.specs.Dump.{dump_of};
 ghost use Rattle.lgp_history.specs.Step.{Put};
-ghost use Rattle.lgp_script.specs.LabState.{answer_to_step};
-ghost use Rattle.lgp_script.specs.DrumCommands.{answer_to_words, dump_text, lines_text};
+ghost use Rattle.lgp_script.specs.Reply.{IsReplied, replied_to_step};
+ghost use Rattle.lgp_script.specs.DrumCommands.{dump_text, lines_text};
 ghost use Rattle.lgp_script.specs.LaboratoryInside.{line_by};
 
 use super::Laboratory;
-use crate::refusal::{Refusal, push_counted, push_refusal};
-use crate::span::Span;
+use crate::refusal::{Refusal, push_counted};
+use crate::reply::Reply;
+use lgp_command::Span;
 use lgp_listing::{DrumWords, disassemble, push_cell_line, push_dump};
 use lgp_machine::{Machine, PutFault};
 use lgp_text::{Piece, push_pieces};
@@ -19,33 +19,29 @@ use std::alloc::{AllocError, Allocator};
 
 impl<A: Allocator + Copy> Laboratory<A> {
     /// Puts a word on the drum.
-    pub(super) fn put(
-        &mut self,
-        address: Address,
-        word: Word,
-        reply: &mut Vec<u8, A>,
-    ) -> Result<(), AllocError>
-        ensures { OnOk result (IsAnswered reply.old.items reply.new.items self.new
-            (answer_to_step (codes "ok\n") self.old (Put address word))) }
+    pub(super) fn put(&mut self, address: Address, word: Word) -> Result<Reply, AllocError>
+        ensures { IfOk result (λ reply. IsReplied reply self.new
+            (replied_to_step Reply.Done self.old (Put address word))) }
     {
         match self.debugger.put(address, word) {
-            Ok(()) => reply.extend_from_slice(b"ok\n"),
-            Err(PutFault::Moving) => push_refusal(reply, Refusal::Moving),
+            Ok(()) => Ok(Reply::Done),
+            Err(PutFault::Moving) => Ok(Reply::Refused(Refusal::Moving)),
             Err(PutFault::Memory) => Err(AllocError),
         }
     }
 
-    /// Shows words by their digits, or by their disassembly.
-    pub(super) fn words(
+    /// Appends words by their digits, or by their disassembly.
+    pub(super) fn push_words(
         &self,
+        text: &mut Vec<u8, A>,
         span: &Span,
         disassembled: bool,
-        reply: &mut Vec<u8, A>,
     ) -> Result<(), AllocError>
-        ensures { OnOk result (reply.new.items ≡ reply.old.items
-            ++ (answer_to_words (line_by disassembled) self.now span.now).reply) }
+        ensures { OnOk result (text.new.items ≡ text.old.items
+            ++ lines_text (line_by disassembled) self.now.debugger.state
+            span.now.first span.now.count) }
     {
-        push_words(reply, self.debugger.machine(), span, disassembled)
+        push_words(text, self.debugger.machine(), span, disassembled)
     }
 
     /// The dump of the drum: a line for each word that is not zero.
@@ -58,15 +54,15 @@ impl<A: Allocator + Copy> Laboratory<A> {
         Ok(lines)
     }
 
-    /// Shows all words that are not zero.
+    /// Appends all words that are not zero.
     #[tactic(auto, unfolding(crate::specs::DrumCommands::dump_text))]
-    pub(super) fn dump(&self, reply: &mut Vec<u8, A>) -> Result<(), AllocError>
-        ensures { OnOk result (reply.new.items
-            ≡ reply.old.items ++ dump_text self.now.debugger.state.core.words) }
+    pub(super) fn push_drum(&self, text: &mut Vec<u8, A>) -> Result<(), AllocError>
+        ensures { OnOk result (text.new.items
+            ≡ text.old.items ++ dump_text self.now.debugger.state.core.words) }
     {
         let mut lines = Vec::new(self.alloc);
         let count = push_dump(&mut lines, self)?;
-        push_lines(reply, count, &lines)
+        push_lines(text, count, &lines)
     }
 }
 

@@ -1,94 +1,83 @@
 //! Pressing, waiting, performing orders, the panel.
 
-ghost use Rattle.std.specs.Prelude.{◌≡◌, ◌++◌, ◌≤◌, IfOk, IsTrue, Ok, OnOk, codes, length};
-ghost use Rattle.lgp_stream.specs.Language.{IsAnswered};
+ghost use Rattle.std.specs.Prelude.{◌≡◌, ◌++◌, IfOk, IsTrue, Ok, OnOk};
 ghost use Rattle.lgp_table.specs.Interleaving.{is_boundary};
-ghost use Rattle.lgp_stream.specs.KeptLine.{line_limit};
-ghost use Rattle.lgp_flexo.specs.TapeText.{codes_of_text};
-ghost use Rattle.lgp_script.specs.Refusal.{counted_text};
-ghost use Rattle.lgp_script.specs.MachineCommands.{answer_to_keys, answer_to_orders, answer_to_press, answer_to_turn, orders_text, panel_text, reader_text, registers_text, typed, typed_text};
+ghost use Rattle.lgp_script.specs.MachineCommands.{panel_text, reader_text, registers_text, replied_to_keys, replied_to_orders, replied_to_press, replied_to_turn, typed};
+ghost use Rattle.lgp_script.specs.Reply.{IsReplied};
+ghost use Rattle.lgp_script.specs.Script.{replied_to_text};
 ghost use Rattle.lgp_text.specs.PanelWords.{mode_text, on_text, status_text, switches_text};
 
 use super::Laboratory;
-use super::history_commands::push_broken_off;
+use super::history_commands::broken_off;
 use super::tape_commands::read_codes;
-use crate::refusal::{Refusal, push_counted, push_refusal};
+use crate::refusal::Refusal;
+use crate::reply::Reply;
 use lgp_debugger::{Debugger, IdleFault};
 use lgp_flexo::Code;
 use lgp_history::History;
 use lgp_machine::{Look, Machine};
-use lgp_table::{Action, Status};
+use lgp_table::Action;
 use lgp_text::{Piece, mode_text, on_text, push_pieces, status_text, switches_text};
 use std::alloc::{AllocError, Allocator};
 
 impl<A: Allocator + Copy> Laboratory<A> {
     /// Presses a button or sets a switch.
-    pub(super) fn press(&mut self, action: Action, reply: &mut Vec<u8, A>) -> Result<(), AllocError>
-        ensures { OnOk result (IsAnswered reply.old.items reply.new.items self.new
-            (answer_to_press self.old action)) }
+    pub(super) fn press(&mut self, action: Action) -> Result<Reply, AllocError>
+        ensures { IfOk result (λ reply.
+            IsReplied reply self.new (replied_to_press self.old action)) }
     {
         let live = self.debugger.press(action)?;
-        reply.extend_from_slice(if live { b"live\n" } else { b"dead\n" })
+        Ok(if live { Reply::Live } else { Reply::Dead })
     }
 
-    /// Strikes the keys of a text.
-    pub(super) fn type_text(
-        &mut self,
-        text: &[u8],
-        reply: &mut Vec<u8, A>,
-    ) -> Result<(), AllocError>
-        requires { length text.now ≤ line_limit }
-        ensures { OnOk result (IsAnswered reply.old.items reply.new.items self.new
-            (answer_to_keys self.old (codes_of_text text.now))) }
+    /// Strikes the keys of a text, which has to fit on a line.
+    pub(super) fn type_text(&mut self, text: &[u8]) -> Result<Reply, AllocError>
+        ensures { IfOk result (λ reply. IsReplied reply self.new
+            (replied_to_text 4091 replied_to_keys self.old text.now)) }
     {
+        if text.len() > 4091 {
+            return Ok(Reply::Refused(Refusal::TooLong));
+        }
         match read_codes(self.alloc, text)? {
-            Ok(codes) => self.strike_codes(&codes, reply),
-            Err(place) => push_refusal(reply, Refusal::BadSign(place)),
+            Ok(codes) => self.strike_codes(&codes),
+            Err(place) => Ok(Reply::Refused(Refusal::BadSign(place))),
         }
     }
 
     /// Strikes the keys of codes.
-    fn strike_codes(&mut self, codes: &[Code], reply: &mut Vec<u8, A>) -> Result<(), AllocError>
-        ensures { OnOk result (IsAnswered reply.old.items reply.new.items self.new
-            (answer_to_keys self.old (Ok codes.now))) }
+    fn strike_codes(&mut self, codes: &[Code]) -> Result<Reply, AllocError>
+        ensures { IfOk result (λ reply. IsReplied reply self.new
+            (replied_to_keys self.old (Ok codes.now))) }
     {
         let keys = strike(&mut self.debugger, codes)?;
-        push_keys(reply, keys)
+        Ok(Reply::Struck(keys.live, keys.dead))
     }
 
     /// Lets word times pass at rest.
-    #[tactic(auto, unfolding(crate::specs::MachineCommands::answer_to_turn))]
-    pub(super) fn turn(&mut self, times: u64, reply: &mut Vec<u8, A>) -> Result<(), AllocError>
-        ensures { OnOk result (IsAnswered reply.old.items reply.new.items self.new
-            (answer_to_turn self.old times)) }
+    #[tactic(auto, unfolding(crate::specs::MachineCommands::replied_to_turn))]
+    pub(super) fn turn(&mut self, times: u64) -> Result<Reply, AllocError>
+        ensures { IfOk result (λ reply.
+            IsReplied reply self.new (replied_to_turn self.old times)) }
     {
         let clock = self.debugger.look().clock;
         match self.debugger.idle(times) {
-            Ok(()) => push_clock(reply, clock.saturating_add(times)),
-            Err(IdleFault::AtWork) => push_refusal(reply, Refusal::AtWork),
-            Err(IdleFault::ClockEnd) => push_refusal(reply, Refusal::ClockEnd),
+            Ok(()) => Ok(Reply::Clock(clock.saturating_add(times))),
+            Err(IdleFault::AtWork) => Ok(Reply::Refused(Refusal::AtWork)),
+            Err(IdleFault::ClockEnd) => Ok(Reply::Refused(Refusal::ClockEnd)),
             Err(IdleFault::Memory) => Err(AllocError),
         }
     }
 
     /// Performs orders.
-    #[tactic(auto, unfolding(crate::specs::MachineCommands::answer_to_orders))]
-    pub(super) fn orders(&mut self, limit: u64, reply: &mut Vec<u8, A>) -> Result<(), AllocError>
-        ensures { OnOk result (IsAnswered reply.old.items reply.new.items self.new
-            (answer_to_orders self.old limit)) }
+    #[tactic(auto, unfolding(crate::specs::MachineCommands::replied_to_orders))]
+    pub(super) fn orders(&mut self, limit: u64) -> Result<Reply, AllocError>
+        ensures { IfOk result (λ reply.
+            IsReplied reply self.new (replied_to_orders self.old limit)) }
     {
         match self.debugger.run_freely(limit) {
-            Ok(ran) => push_orders(reply, ran.orders, self.debugger.look().status),
-            Err(broken) => push_broken_off(reply, broken),
+            Ok(ran) => Ok(Reply::Orders(ran.orders, self.debugger.look().status)),
+            Err(broken) => broken_off(&broken),
         }
-    }
-
-    /// Shows the panel.
-    pub(super) fn panel(&self, reply: &mut Vec<u8, A>) -> Result<(), AllocError>
-        ensures { OnOk result (reply.new.items
-            ≡ reply.old.items ++ panel_text self.now.debugger.state) }
-    {
-        push_panel(reply, self.debugger.machine())
     }
 }
 
@@ -119,49 +108,6 @@ fn strike<H: History<A>, A: Allocator>(
         }
     }
     Ok(Keys { live, dead })
-}
-
-/// Appends how many keys were live and dead.
-fn push_keys<A: Allocator>(text: &mut Vec<u8, A>, keys: Keys) -> Result<(), AllocError>
-    ensures { OnOk result (text.new.items ≡ text.old.items ++ typed_text keys.live keys.dead) }
-{
-    push_pieces(
-        text,
-        &[
-            Piece::Text(b"live "),
-            Piece::Number(keys.live),
-            Piece::Text(b" dead "),
-            Piece::Number(keys.dead),
-            Piece::Text(b"\n"),
-        ],
-    )
-}
-
-/// Appends a clock.
-pub(super) fn push_clock<A: Allocator>(text: &mut Vec<u8, A>, clock: u64) -> Result<(), AllocError>
-    ensures { OnOk result (text.new.items ≡ text.old.items ++ counted_text (codes "clock ") clock) }
-{
-    push_counted(text, b"clock ", clock)
-}
-
-/// Appends how many orders were performed, and the status after them.
-fn push_orders<A: Allocator>(
-    text: &mut Vec<u8, A>,
-    done: u64,
-    status: Status,
-) -> Result<(), AllocError>
-    ensures { OnOk result (text.new.items ≡ text.old.items ++ orders_text done status) }
-{
-    push_pieces(
-        text,
-        &[
-            Piece::Text(b"orders "),
-            Piece::Number(done),
-            Piece::Text(b" "),
-            Piece::Text(status_text(status)),
-            Piece::Text(b"\n"),
-        ],
-    )
 }
 
 /// Appends the panel's line of a machine at a boundary.

@@ -1,17 +1,19 @@
 //! Sources and their listings.
 
-ghost use Rattle.std.specs.Prelude.{◌≡◌, ◌++◌, [], List, ℕ, Some, OnOk, codes};
+ghost use Rattle.std.specs.Prelude.{◌≡◌, ◌≢◌, ◌++◌, [], List, ℕ, None, Some, OnOk, codes};
 ghost use Rattle.lgp_stream.specs.Language.{IsAnswered};
 ghost use Rattle.lgp_stream.specs.KeptLine.{kept_of};
-ghost use Rattle.lgp_script.specs.SourceCommands.{answer_in_source, answer_to_end, cells_text, fault_line, faults_text, list_text, start_text};
+ghost use Rattle.lgp_script.specs.SourceCommands.{answer_in_source, answer_to_end, assembled, cells_text, fault_line, faults_text, list_text, replied_to_list, start_text};
+ghost use Rattle.lgp_script.specs.Reply.{IsReplied};
 ghost use Rattle.lgp_script.specs.SourceText.{source_of};
-ghost use Rattle.lgp_assembler.specs.Image.{image_of};
+ghost use Rattle.lgp_assembler.specs.Image.{faults_of, image_of};
 
 use super::Laboratory;
-use crate::program::Program;
+use crate::program::{Faulty, Program};
 use crate::refusal::{Refusal, push_refusal};
+use crate::reply::Reply;
 use crate::source_text::SourceText;
-use lgp_assembler::{AssembleError, Fault, Image};
+use lgp_assembler::{AssembleError, Fault, Image, assemble};
 use lgp_stream::LineBytes;
 use lgp_text::{Piece, push_pieces};
 use lgp_word::Address;
@@ -58,39 +60,62 @@ impl<A: Allocator + Copy> Laboratory<A> {
         if source.is_too_long() {
             return push_refusal(reply, Refusal::TooLong);
         }
-        match Program::new(self.alloc, source.into_text()) {
-            Ok(program) => self.keep(program, reply),
-            Err(AssembleError::Faults(list)) => push_fault_list(reply, list.faults()),
+        let text = source.into_text();
+        match assemble(self.alloc, &text) {
+            Ok(image) => self.keep(Program::of(text, image), reply),
+            Err(AssembleError::Faults(faults)) => {
+                self.keep_faulty(Faulty::new(text, faults), reply)
+            }
             Err(AssembleError::Memory) => Err(AllocError),
         }
+    }
+
+    /// Keeps a source with faults, and tells them.
+    #[tactic(auto, using(crate::proofs::KeptLemmas::assembled_faulty))]
+    fn keep_faulty(&mut self, faulty: Faulty<A>, reply: &mut Vec<u8, A>) -> Result<(), AllocError>
+        requires { faults_of faulty ≢ [] }
+        ensures { OnOk result (IsAnswered reply.old.items reply.new.items self.new
+            (assembled self.old faulty (faults_of faulty))) }
+    {
+        let told = push_fault_list(reply, faulty.faults());
+        self.faulty = Some(faulty);
+        told
     }
 
     /// Keeps a program as the last one, and tells what it has made.
     fn keep(&mut self, program: Program<A>, reply: &mut Vec<u8, A>) -> Result<(), AllocError>
         ensures reply { OnOk result (reply.new.items
             ≡ reply.old.items ++ cells_text (image_of program)) }
-        ensures after { OnOk result (self.new ≡ record {
-          debugger = self.old.debugger;
-          source = Some program;
-          opened = self.old.opened;
-        }) }
+        ensures after { OnOk result
+            (self.new ≡ record self.old { source = Some program; faulty = None }) }
     {
         let told = push_cells(reply, program.image());
         self.program = Some(program);
+        self.faulty = None;
         told
     }
 
-    /// Lists the last source that assembled.
+    /// Asks for the listing of the last source that assembled.
+    pub(super) fn list(&self) -> Reply
+        ensures { IsReplied result self.now (replied_to_list self.now) }
+    {
+        if self.program.is_some() {
+            Reply::List
+        } else {
+            Reply::Refused(Refusal::NoImage)
+        }
+    }
+
+    /// Appends the listing of the last source that assembled.
     #[tactic(auto, unfolding(crate::specs::SourceCommands::list_text))]
-    pub(super) fn list(&self, reply: &mut Vec<u8, A>) -> Result<(), AllocError>
-        ensures { OnOk result (reply.new.items
-            ≡ reply.old.items ++ list_text self.now.source) }
+    pub(super) fn push_list(&self, text: &mut Vec<u8, A>) -> Result<(), AllocError>
+        ensures { OnOk result (text.new.items ≡ text.old.items ++ list_text self.now.source) }
     {
         let Some(program) = &self.program else {
-            return push_refusal(reply, Refusal::NoImage);
+            return Ok(());
         };
         let listing = program.listing(self.alloc)?;
-        reply.extend_from_slice(&listing)?;
+        text.extend_from_slice(&listing)?;
         Ok(())
     }
 }

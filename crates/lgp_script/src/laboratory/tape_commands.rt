@@ -4,66 +4,71 @@ ghost use Rattle.std.specs.Prelude.{◌≡◌, ◌++◌, ◌≤◌, IfErr, IfOk,
 ghost use Rattle.lgp_stream.specs.Language.{IsAnswered};
 ghost use Rattle.lgp_flexo.specs.TapeText.{codes_of_text};
 ghost use Rattle.lgp_stream.specs.KeptLine.{line_limit};
-ghost use Rattle.lgp_script.specs.TapeCommands.{answer_to_tape, answer_to_tape_text, printed_text};
-ghost use Rattle.lgp_script.specs.Refusal.{counted_text};
+ghost use Rattle.lgp_script.specs.Reply.{IsReplied};
+ghost use Rattle.lgp_script.specs.ReplyText.{written};
+ghost use Rattle.lgp_script.specs.Script.{replied_to_text};
+ghost use Rattle.lgp_script.specs.TapeCommands.{printed_text, replied_to_tape, replied_to_tape_text};
 
 use super::Laboratory;
-use crate::refusal::{Refusal, push_refusal};
+use crate::refusal::Refusal;
+use crate::reply::Reply;
 use lgp_flexo::{Code, TextFault, read_tape_text, write_tape_text};
 use lgp_machine::MountFault;
 use lgp_text::{Piece, push_pieces};
 use std::alloc::{AllocError, Allocator};
 
 impl<A: Allocator + Copy> Laboratory<A> {
-    /// Mounts a tape given by its text.
-    pub(super) fn mount(&mut self, text: &[u8], reply: &mut Vec<u8, A>) -> Result<(), AllocError>
-        requires { length text.now ≤ line_limit }
-        ensures { OnOk result (IsAnswered reply.old.items reply.new.items self.new
-            (answer_to_tape self.old (codes_of_text text.now))) }
+    /// Mounts a tape given by its text, which has to fit on a line.
+    pub(super) fn mount(&mut self, text: &[u8]) -> Result<Reply, AllocError>
+        ensures { IfOk result (λ reply. IsReplied reply self.new
+            (replied_to_text 4090 replied_to_tape self.old text.now)) }
     {
+        if text.len() > 4090 {
+            return Ok(Reply::Refused(Refusal::TooLong));
+        }
         match read_codes(self.alloc, text)? {
-            Ok(codes) => self.mount_codes(codes, reply),
-            Err(place) => push_refusal(reply, Refusal::BadSign(place)),
+            Ok(codes) => self.mount_codes(codes),
+            Err(place) => Ok(Reply::Refused(Refusal::BadSign(place))),
         }
     }
 
-    /// Mounts a tape given by its text, of any length, and answers as the command `mount` does; a tape of more than 1,048,576 codes is
+    /// Mounts a tape given by its text, of any length, as the command `mount` does; a tape of more than 1,048,576 codes is
     /// refused as too long. A refused growth leaves open what was done.
-    pub fn mount_text(&mut self, text: &[u8], reply: &mut Vec<u8, A>) -> Result<(), AllocError>
-        ensures { OnOk result (IsAnswered reply.old.items reply.new.items self.new
-            (answer_to_tape_text self.old text.now)) }
+    pub fn mount_tape(&mut self, text: &[u8]) -> Result<Reply, AllocError>
+        ensures { IfOk result (λ reply. IsReplied reply self.new
+            (replied_to_tape_text self.old text.now)) }
     {
         match read_tape_text(self.alloc, text) {
-            Ok(codes) => self.mount_codes(codes, reply),
-            Err(TextFault::BadSign(place)) => {
-                push_refusal(reply, Refusal::BadSign(place as u64))
-            }
-            Err(TextFault::TooLong) => push_refusal(reply, Refusal::TooLong),
+            Ok(codes) => self.mount_codes(codes),
+            Err(TextFault::BadSign(place)) => { Ok(Reply::Refused(Refusal::BadSign(place as u64))) }
+            Err(TextFault::TooLong) => Ok(Reply::Refused(Refusal::TooLong)),
             Err(TextFault::Memory(refused)) => Err(refused),
         }
     }
 
-    /// Mounts a tape.
-    fn mount_codes(&mut self, codes: Vec<Code, A>, reply: &mut Vec<u8, A>) -> Result<(), AllocError>
-        requires { vec_len codes ≤ 1048576 }
+    /// The same, with its reply appended.
+    #[tactic(auto, unfolding(crate::specs::ReplyText::reply_text))]
+    pub fn mount_text(&mut self, text: &[u8], reply: &mut Vec<u8, A>) -> Result<(), AllocError>
         ensures { OnOk result (IsAnswered reply.old.items reply.new.items self.new
-            (answer_to_tape self.old (Ok codes.items))) }
+            (written (replied_to_tape_text self.old text.now))) }
+    {
+        let said = self.mount_tape(text)?;
+        self.push_reply(reply, &said)
+    }
+
+    /// Mounts a tape.
+    fn mount_codes(&mut self, codes: Vec<Code, A>) -> Result<Reply, AllocError>
+        requires { vec_len codes ≤ 1048576 }
+        ensures { IfOk result (λ reply. IsReplied reply self.new
+            (replied_to_tape self.old (Ok codes.items))) }
     {
         let count = codes.len() as u64;
         match self.debugger.mount(codes) {
-            Ok(()) => push_count(reply, count),
-            Err((MountFault::Moving, _)) => push_refusal(reply, Refusal::Moving),
+            Ok(()) => Ok(Reply::Mounted(count)),
+            Err((MountFault::Moving, _)) => Ok(Reply::Refused(Refusal::Moving)),
             Err((MountFault::TooLong, _)) => unreachable!(),
             Err((MountFault::Memory, _)) => Err(AllocError),
         }
-    }
-
-    /// Shows what is printed.
-    pub(super) fn printed(&self, reply: &mut Vec<u8, A>) -> Result<(), AllocError>
-        ensures { OnOk result (reply.new.items
-            ≡ reply.old.items ++ printed_text self.now.debugger.state.printed) }
-    {
-        push_printed(self.alloc, reply, self.debugger.machine().printed())
     }
 }
 
@@ -85,20 +90,6 @@ pub(super) fn read_codes<A: Allocator + Copy>(
         Err(TextFault::TooLong) => unreachable!(),
         Err(TextFault::Memory(refused)) => Err(refused),
     }
-}
-
-/// Appends the number of codes mounted.
-fn push_count<A: Allocator>(text: &mut Vec<u8, A>, count: u64) -> Result<(), AllocError>
-    ensures { OnOk result (text.new.items ≡ text.old.items ++ counted_text (codes "ok ") count) }
-{
-    push_pieces(
-        text,
-        &[
-            Piece::Text(b"ok "),
-            Piece::Number(count),
-            Piece::Text(b"\n"),
-        ],
-    )
 }
 
 /// Appends a given number of codes by their text.

@@ -10,7 +10,7 @@ use Rattle.lgp_monitor.specs.declared.entry.Entry.{Entry}
 use Rattle.lgp_monitor.proofs.monitor.perform.Goals as goal
 
 pub returns-in-Transcript : goal.returns-in-Transcript
-returns-in-Transcript g c = λ text kept asked.
+returns-in-Transcript g c = λ text kept.
     let replied : OnOk c.extend_from_slice.result (c.extend_from_slice.new.self.items ≡ c.args.reply.now.items ++ reply_of c.args.recorder.now c.args.entry c.args.line.now) = search rules in
     both_on_ok c.extend_from_slice.result replied
     (on_ok_always _
@@ -18,7 +18,7 @@ returns-in-Transcript g c = λ text kept asked.
     (λ is left. record { reply = is; after = left })
 
 pub returns-in-Help : goal.returns-in-Help
-returns-in-Help g c = λ text kept asked.
+returns-in-Help g c = λ text kept.
     let replied : OnOk c.push_help.result (c.push_help.new.text.items ≡ c.args.reply.now.items ++ reply_of c.args.recorder.now c.args.entry c.args.line.now) = search rules in
     both_on_ok c.push_help.result replied
     (on_ok_always _
@@ -26,7 +26,7 @@ returns-in-Help g c = λ text kept asked.
     (λ is left. record { reply = is; after = left })
 
 pub returns-in-HelpOf : goal.returns-in-HelpOf
-returns-in-HelpOf g c = λ text kept asked.
+returns-in-HelpOf g c = λ text kept.
     let replied : OnOk c.push_form_after.result (c.push_form_after.new.text.items ≡ c.args.reply.now.items ++ reply_of c.args.recorder.now c.args.entry c.args.line.now) = search rules in
     both_on_ok c.push_form_after.result replied
     (on_ok_always _
@@ -34,7 +34,7 @@ returns-in-HelpOf g c = λ text kept asked.
     (λ is left. record { reply = is; after = left })
 
 pub returns-in-Asked : goal.returns-in-Asked
-returns-in-Asked g c = λ text kept asked.
+returns-in-Asked g c = λ text kept.
     let replied : OnOk c.push_answer.result (c.push_answer.new.text.items ≡ c.args.reply.now.items ++ reply_of c.args.recorder.now c.args.entry c.args.line.now) = search rules in
     both_on_ok c.push_answer.result replied
     (on_ok_always _

@@ -1,6 +1,6 @@
 use Rattle.std.proofs.Common.{◌≡◌, ◌∙◌, None, false, true, rules, sym}
 use Rattle.std.proofs.lemmas.Result.{on_ok_weaker}
-use Rattle.lgp_script.specs.Command.{command_of}
+use Rattle.lgp_command.specs.Command.{command_of}
 use Rattle.lgp_script.specs.LabState.{refused}
 use Rattle.lgp_script.specs.Script.{is_passed_over}
 use Rattle.lgp_script.specs.declared.refusal.Refusal.TheVariants.{Form, TooLong}

@@ -1,0 +1,56 @@
+//! Numbers as lines have them.
+
+ghost use Rattle.std.specs.Prelude.{◌≡◌};
+ghost use Rattle.lgp_command.specs.Command.{number_at};
+ghost use Rattle.lgp_command.specs.Operands.{IsCount};
+
+use crate::limits::DIGIT_LIMIT;
+use lgp_word::read_decimal;
+use std::marker::Model;
+
+/// A number of at most ten decimal digits. Clauses see the number.
+#[derive(Clone, Copy)]
+pub struct Count {
+    number: u64,
+}
+
+impl Model for Count {
+    ghost use Rattle.std.specs.Prelude.{ℕ};
+    ghost use Rattle.lgp_command.specs.Operands.{IsCount};
+
+    ghost Value = { ℕ };
+
+    ghost view = { λ count. count.number };
+
+    ghost invariant = { λ count. IsCount count.number };
+
+    ghost inverse = { λ number. record { number = number } };
+}
+
+impl Count {
+    /// The number 1.
+    pub fn one() -> Count
+        ensures { result ≡ 1 }
+    {
+        Count { number: 1 }
+    }
+
+    /// The number that 1 to 10 decimal digits stand for.
+    #[tactic(auto, unfolding(crate::specs::Command::number_at))]
+    pub fn read(text: &[u8]) -> Option<Count>
+        ensures { result ≡ number_at text.now }
+    {
+        match read_decimal(text, DIGIT_LIMIT) {
+            Some(number) => Some(Count { number }),
+            None => None,
+        }
+    }
+
+    /// The number.
+    pub fn get(self) -> u64
+        ensures value { result ≡ self }
+        ensures range { IsCount result }
+    {
+        self.number
+    }
+}

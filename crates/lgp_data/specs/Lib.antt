@@ -1,0 +1,7 @@
+pub mod Words
+pub mod Ways
+pub mod StateData
+pub mod ShowData
+pub mod WhyData
+pub mod SourceData
+pub mod CostData

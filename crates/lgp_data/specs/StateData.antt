@@ -1,0 +1,75 @@
+-- Part of the public promise: the state of a machine at a boundary as a record: what the panel shows,
+-- what is live, what lets the machine go on, and how many steps are kept.
+use Rattle.std.specs.Prelude.{ℕ, ◌++◌, Bool, if◌then◌else◌, List, [], ◌∷◌, codes, length}
+use Rattle.lgp_word.specs.Digits.{address_digits, digits_of}
+use Rattle.lgp_machine.specs.Look.{look_of}
+use Rattle.lgp_machine.specs.declared.look.Look.{Look}
+use Rattle.lgp_table.specs.Console.{is_live, is_waiting, takes_codes}
+use Rattle.lgp_table.specs.declared.action.Action.TheVariants as actions
+use Rattle.lgp_table.specs.declared.panel.Mode.TheVariants.{Normal, OneOperation, Manual}
+use Rattle.lgp_table.specs.declared.panel.Panel.{Panel}
+use Rattle.lgp_text.specs.PanelWords.{mode_text, on_text, status_text}
+use Rattle.lgp_debugger.specs.Debugging.{Debugging}
+use Rattle.lgp_fields.specs.Plain.{PlainField, field, Number, Text, YesNo}
+use Rattle.lgp_data.specs.Ways.{state_sentence, way_kind, way_sentence}
+use Rattle.lgp_data.specs.Words.{bits_order, name_of, whole_number, word_order}
+
+-- the registers, by their digits, as numbers and as orders
+unfoldable pub register_fields : List (List ℕ × ℕ) → Look → List PlainField
+register_fields names look =
+    field (codes "counter") (Text (address_digits look.counter))
+    ∷ field (codes "counter-label") (name_of names look.counter)
+    ∷ field (codes "accumulator") (Text (digits_of look.accumulator))
+    ∷ field (codes "accumulator-number") (whole_number look.accumulator)
+    ∷ field (codes "accumulator-order") (bits_order look.accumulator)
+    ∷ field (codes "register") (Text (digits_of look.register))
+    ∷ field (codes "register-number") (whole_number look.register)
+    ∷ field (codes "register-order") (word_order look.register)
+    ∷ []
+
+-- the position of a switch
+abbrev pub position_word : Bool → List ℕ
+position_word down = if down then codes "down" else codes "up"
+
+-- status, mode, switches, reader, how many codes are left, and the clock
+unfoldable pub panel_fields : Look → ℕ → List PlainField
+panel_fields look left =
+    field (codes "status") (Text (status_text look.status))
+    ∷ field (codes "mode") (Text (mode_text look.mode))
+    ∷ field (codes "bp32") (Text (position_word look.switches.b32))
+    ∷ field (codes "bp16") (Text (position_word look.switches.b16))
+    ∷ field (codes "bp8") (Text (position_word look.switches.b8))
+    ∷ field (codes "bp4") (Text (position_word look.switches.b4))
+    ∷ field (codes "transfer") (Text (position_word look.switches.transfer))
+    ∷ field (codes "sixbit") (Text (position_word look.switches.six_bit))
+    ∷ field (codes "reader") (Text (on_text look.reader_on))
+    ∷ field (codes "tape") (Number left)
+    ∷ field (codes "clock") (Number look.clock)
+    ∷ []
+
+-- which buttons and keys would do something, what the machine is doing, what lets it go on, and how
+-- many steps are kept
+unfoldable pub live_fields : Panel → ℕ → List PlainField
+live_fields panel kept =
+    field (codes "live-normal") (YesNo (is_live panel (actions.Mode Normal)))
+    ∷ field (codes "live-oneop") (YesNo (is_live panel (actions.Mode OneOperation)))
+    ∷ field (codes "live-manual") (YesNo (is_live panel (actions.Mode Manual)))
+    ∷ field (codes "live-start") (YesNo (is_live panel actions.Start))
+    ∷ field (codes "live-clear") (YesNo (is_live panel actions.ClearCounter))
+    ∷ field (codes "live-fill") (YesNo (is_live panel actions.Fill))
+    ∷ field (codes "live-execute") (YesNo (is_live panel actions.Execute))
+    ∷ field (codes "live-compute") (YesNo (is_live panel actions.StartCompute))
+    ∷ field (codes "live-read") (YesNo (is_live panel actions.StartRead))
+    ∷ field (codes "live-keys") (YesNo (takes_codes panel.status panel.mode))
+    ∷ field (codes "live-stop") (YesNo (is_waiting panel.status))
+    ∷ field (codes "way") (Text (way_kind panel.status panel.mode))
+    ∷ field (codes "state-sentence") (Text (state_sentence panel.status))
+    ∷ field (codes "way-sentence") (Text (way_sentence panel.status panel.mode))
+    ∷ field (codes "kept") (Number kept)
+    ∷ []
+
+unfoldable pub state_record : List (List ℕ × ℕ) → Debugging → List PlainField
+state_record names d =
+    register_fields names (look_of d.state)
+    ++ (panel_fields (look_of d.state) (length d.state.core.tape.left)
+    ++ live_fields d.state.core.panel (length d.steps))

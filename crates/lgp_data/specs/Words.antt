@@ -1,0 +1,36 @@
+-- Part of the public promise: words and names as the values of fields.
+use Rattle.std.specs.Prelude.{ℕ, ◌-◌, ◌/◌, ◌%◌, ◌^◌, ◌==◌, ◌&&◌, true, false, if◌then◌else◌}
+use Rattle.std.specs.Prelude.{List, find, is_some, Option}
+use Rattle.std.specs.Option.{option_map_or}
+use Rattle.lgp_word.specs.Digits.{address_digits}
+use Rattle.lgp_word.specs.Order.{address_at, decoded, op_at, op_letter, sign_of, takes_minus}
+use Rattle.lgp_fields.specs.Plain.{Plain, Nothing, Signed, Text}
+use Rattle.lgp_fields.specs.Seen.{order_text}
+
+-- 32 bits as a whole number with its sign, one half of them: the binary point comes after bit 30
+unfoldable pub whole_number : ℕ → Plain
+whole_number bits =
+    if sign_of bits then Signed true ((2 ^ 32 - bits) / 2) else Signed false (bits / 2)
+
+-- a word as the order that is performed
+unfoldable pub performed_order : ℕ → Plain
+performed_order word =
+    Text (order_text (takes_minus (op_at word) && sign_of word) (op_letter (op_at word))
+    (address_at word))
+
+-- a word as the order that it is, where it is one
+unfoldable pub word_order : ℕ → Plain
+word_order word = if is_some (decoded word) then performed_order word else Nothing
+
+-- the same of 32 bits, which are a word where the last of them is 0
+unfoldable pub bits_order : ℕ → Plain
+bits_order bits = if bits % 2 == 0 then word_order bits else Nothing
+
+-- the first of the names that have a value
+unfoldable pub name_of : List (List ℕ × ℕ) → ℕ → Plain
+name_of names value =
+    option_map_or (λ name. Text name.0) (find (λ name. name.1 == value) names) Nothing
+
+-- an address, where there is one
+unfoldable pub place_value : Option ℕ → Plain
+place_value place = option_map_or (λ address. Text (address_digits address)) place Nothing

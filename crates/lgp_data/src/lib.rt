@@ -1,0 +1,21 @@
+//! What programs ask of the laboratory, as records of fields.
+#![tactic(auto)]
+
+pub use cost_data::push_cost_data;
+pub use labels_data::{push_labels_data, push_rules_data};
+pub use paper_data::{push_printed_data, push_tape_data};
+pub use show_data::push_shown;
+pub use source_data::push_source_data;
+pub use state_data::push_state_data;
+pub use why_data::push_why_data;
+
+mod cost_data;
+mod labels_data;
+pub mod laws;
+mod paper_data;
+mod show_data;
+mod source_data;
+mod state_data;
+mod way;
+mod why_data;
+mod words;

@@ -1,0 +1,5 @@
+pub mod Plain
+pub mod Seen
+pub mod Escaped
+pub mod Printed
+pub mod ReadBack

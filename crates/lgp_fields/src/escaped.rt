@@ -1,0 +1,44 @@
+//! The bytes of a text, escaped so that they stand in one line and between quotation marks.
+
+ghost use Rattle.std.specs.Prelude.{◌≡◌, ◌++◌, ◌<◌, OnOk};
+ghost use Rattle.lgp_fields.specs.Escaped.{escaped, escaped_byte, hex_digit};
+
+use std::alloc::{AllocError, Allocator};
+
+/// The digit of a value from 0 to 15 in base 16.
+fn hex_digit(value: u8) -> u8
+    requires { value < 16 }
+    ensures { result ≡ hex_digit value }
+{
+    if value < 10 {
+        b'0' + value
+    } else {
+        b'a' + (value - 10)
+    }
+}
+
+/// Appends a byte of a text.
+#[tactic(auto, unfolding(crate::specs::Escaped::escaped_byte))]
+fn push_byte<A: Allocator>(text: &mut Vec<u8, A>, byte: u8) -> Result<(), AllocError>
+    ensures { OnOk result (text.new.items ≡ text.old.items ++ escaped_byte byte) }
+{
+    if byte == b'"' || byte == b'\\' {
+        return text.extend_from_slice(&[b'\\', byte]);
+    }
+    if 32 <= byte && byte <= 126 {
+        return text.extend_from_slice(&[byte]);
+    }
+    let (high, low) = (hex_digit(byte / 16), hex_digit(byte % 16));
+    text.extend_from_slice(&[b'\\', b'u', b'0', b'0', high, low])
+}
+
+/// Appends the bytes of a text, those escaped that are no printed characters of ASCII, and quotation marks and backslashes.
+#[tactic(auto, unfolding(crate::specs::Escaped::escaped))]
+pub fn push_escaped<A: Allocator>(text: &mut Vec<u8, A>, bytes: &[u8]) -> Result<(), AllocError>
+    ensures { OnOk result (text.new.items ≡ text.old.items ++ escaped bytes.now) }
+{
+    for byte in bytes {
+        push_byte(text, *byte)?;
+    }
+    Ok(())
+}
