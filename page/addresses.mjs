@@ -28,3 +28,15 @@ export function isAmong(address, first, count) {
 
 /** The position of a sector on the drum's circle, by the interlace that docs/MACHINE.md draws. */
 export const positionOf = (sector) => (9 * sector) % SECTORS;
+
+/** The sector at a position of that circle, of any turn. */
+export const sectorAt = (position) => (57 * (((position % SECTORS) + SECTORS) % SECTORS)) % SECTORS;
+
+/** How many word times it takes until the head has read a sector, from a clock on: the drum is read once at least. */
+export const placesTo = (sector, clock) => ((positionOf(sector) - Number(clock % BigInt(SECTORS)) + 2 * SECTORS - 1) % SECTORS) + 1;
+
+/** The sector of an address. */
+export const sectorOf = (address) => Number(address.slice(2));
+
+/** A sector as it is written. */
+export const inTwoDigits = (sector) => String(sector).padStart(2, "0");

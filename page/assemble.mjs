@@ -1,6 +1,7 @@
 // Puts the one file together: node assemble.mjs TEMPLATE STYLE LACKING MAIN WORKER MODULE EXAMPLES LESSONS TASKS NOTICES, written to standard output.
 import { readFileSync } from "node:fs";
-import { lessonsBelow, remarksBelow, scriptsBelow, sheetsBelow, tasksBelow } from "./documents.mjs";
+import { lessonsBelow, remarksBelow, scriptsBelow, sharedSheetsBelow, tasksBelow } from "./documents.mjs";
+import { packed } from "./packed.mjs";
 
 const [template, style, lacking, main, worker, module, shelf, lessons, tasks, notices] = process.argv.slice(2);
 const text = (path) => readFileSync(path, "utf8");
@@ -12,7 +13,7 @@ const inert = (script) => script.replaceAll("</", "<\\/").replaceAll("<!--", "<\
 const inertJson = (value) => inert(JSON.stringify(value)).replaceAll("<\\!--", "\\u003c!--");
 
 const parts = {
-    STYLE: text(style), LACKING: inert(text(lacking)), MAIN: inert(text(main)), WORKER: inert(text(worker)), MODULE: readFileSync(module).toString("base64"),
-    EXAMPLES: inertJson(Object.fromEntries(scriptsBelow(shelf))), REMARKS: inertJson(remarksBelow(shelf)), LESSONS: inertJson(lessonsBelow(lessons)), SHEETS: inertJson(sheetsBelow(lessons)), TASKS: inertJson(tasksBelow(tasks, shelf)), NOTICES: inertJson(text(notices)),
+    STYLE: text(style), LACKING: inert(text(lacking)), MAIN: inert(text(main)), WORKER: inert(text(worker)), MODULE: packed(readFileSync(module)),
+    EXAMPLES: inertJson(Object.fromEntries(scriptsBelow(shelf))), REMARKS: inertJson(remarksBelow(shelf)), LESSONS: inertJson(lessonsBelow(lessons)), SHEETS: inertJson(sharedSheetsBelow(lessons)), TASKS: inertJson(tasksBelow(tasks, shelf)), NOTICES: inertJson(text(notices)),
 };
 process.stdout.write(text(template).replace(/@([A-Z]+)@/g, (whole, name) => parts[name] ?? whole));

@@ -28,6 +28,15 @@ export function sheetsBelow(folder) {
     return Object.fromEntries(Object.keys(LANGUAGES).map((code) => [code, Object.fromEntries(sheetsOf(code))]));
 }
 
+/** The same with each drawing once: a sheet has the number of the drawing in its place. */
+export function sharedSheetsBelow(folder) {
+    const drawings = [];
+    const numberOf = (drawing) => (drawings.includes(drawing) ? drawings.indexOf(drawing) : drawings.push(drawing) - 1);
+    const shared = (sheet) => sheet.replace(/(<svg[^>]*>)([^]*?)(?=<\/svg>)/g, (whole, begin, drawing) => `${begin}@${numberOf(drawing)}`);
+    const sheets = Object.fromEntries(Object.entries(sheetsBelow(folder)).map(([code, named]) => [code, Object.fromEntries(Object.entries(named).map(([name, sheet]) => [name, shared(sheet)]))]));
+    return { drawings, sheets };
+}
+
 const read = (...path) => readFileSync(join(...path), "utf8");
 
 /** All scripts below a folder, by their names without the ending. */

@@ -1,11 +1,13 @@
 // Drives the machine in a pace: what is asked of the laboratory, and when. An order is done at once, and then played from its account.
+import { SECTORS } from "./addresses.mjs";
 import { rewrittenBy } from "./views/says.mjs";
 
-/** The paces by their names: word times a second, how many times faster an act of more than a turn passes, and the rest between two orders. A word time of 0.26
- * milliseconds is a setting of the page. */
+/** The paces by their names: word times a second, how many times faster an act of more than a turn passes, and the rest between two orders. In a tale such an act passes as one turn. A word
+ * time of 0.26 milliseconds is a setting of the page. */
 export const PACES = {
     order: { speed: 64, hurry: 4, rest: 2600 },
     slow: { speed: 32, hurry: 1, rest: 0 },
+    tale: { speed: 32, rest: 0 },
     show: { rest: 0 },
     own: { speed: 1000 / 0.26 },
     fast: {},
@@ -23,8 +25,9 @@ const STRETCH = { milliseconds: 100, orders: 200, average: 75 };
 
 /** Goes on in a pace until it is halted, the machine rests, or a rule stops it. Dispatches `change` when the pace has changed. */
 export class Drive extends EventTarget {
-    /** The pace in which the machine goes on, or null. */
+    /** The pace in which the machine goes on, or null; and the one in which it goes on when it is asked to. */
     pace = null;
+    chosen = "fast";
 
     #laboratory;
     #player;
@@ -32,6 +35,7 @@ export class Drive extends EventTarget {
     #wake = () => {};
     #since = null;
     #isGoing = false;
+    #going = Promise.resolve();
     #left = Infinity;
 
     /** `clocks` has `now`, milliseconds, and `sleep`. `run` does a run in portions. */
@@ -42,10 +46,10 @@ export class Drive extends EventTarget {
         this.#clocks = { ...clocks, run };
     }
 
-    /** One order, played. Where one is played it ends first, and so does a pace. */
-    async step() {
+    /** One order, played in a pace. Where one is played it ends first, and so does a pace. */
+    async step(pace = "order") {
         this.#changeTo(null);
-        await this.#order("order");
+        await this.#order(pace);
     }
 
     /** Goes on in a pace, for so many orders where they are played. The same one again is a halt, but for the fastest, which goes on. */
@@ -54,7 +58,19 @@ export class Drive extends EventTarget {
         const wanted = this.pace === pace ? null : pace;
         this.#changeTo(wanted);
         this.#left = orders;
-        return wanted === null || this.#isGoing ? undefined : this.#goOn();
+        if (wanted !== null && !this.#isGoing) this.#going = this.#goOn();
+        return wanted === null ? undefined : this.#going;
+    }
+
+    /** Chooses a pace: where the machine goes on, it does so in that. */
+    choose(pace) {
+        this.chosen = pace;
+        return this.pace === null ? this.dispatchEvent(new Event("change")) : this.go(pace);
+    }
+
+    /** Goes on in the chosen pace, or halts. */
+    goOn() {
+        return this.pace === null ? this.go(this.chosen) : this.halt();
     }
 
     /** Ends the pace and what is played; a run ends after its portion. */
@@ -111,7 +127,7 @@ export class Drive extends EventTarget {
     async #order(pace) {
         const asked = this.pace;
         let isPlayed = false;
-        const performed = await this.#laboratory.step(1, true, (account) => {
+        const performed = await this.#next((account) => {
             isPlayed = this.pace === asked;
             if (isPlayed) this.#play(account, pace);
         });
@@ -119,8 +135,14 @@ export class Drive extends EventTarget {
         return Boolean(performed);
     }
 
+    /** Performs the next order: where one was gone back over, that again. */
+    #next(whenDone) {
+        const { deeds } = this.#laboratory;
+        return deeds.ahead > 0 ? this.#laboratory.forward(1, whenDone) : this.#laboratory.step(1, true, whenDone);
+    }
+
     #play(account, pace) {
-        const { speed, hurry } = pace === "show" ? speedInShow(account, this.#laboratory.deeds.behind) : PACES[pace];
+        const { speed, hurry = account.act / SECTORS } = pace === "show" ? speedInShow(account, this.#laboratory.deeds.behind) : PACES[pace];
         Object.assign(this.#player, { pace: speed, hurry });
         this.#player.play(account);
         this.dispatchEvent(new Event("play"));

@@ -13,6 +13,8 @@ const ACCOUNTS_KEPT = 400;
 const TALK_KEPT = 300;
 const TOLD_AT_ONCE = 48;
 const STEPPED_AT_ONCE = 200;
+const LAST_TOLD = 12;
+const PLACED_AT_MOST = 10_000;
 const NEW = /^ *new *$/;
 const IN_DIGITS = /^ *put +\d{4} +[0-9fgjkqw]{8} *$/;
 const STEPS = new Set(["put", "mount", "press", "type", "turn"]);
@@ -48,11 +50,17 @@ export class Laboratory extends EventTarget {
     source = "";
     assembled = null;
     labels = new Map();
+    /** The source that was loaded last, or null. */
+    loaded = null;
+    /** How many words were loaded, and by how many orders of the loader, as long as no order has been performed after it; or null. */
+    loading = null;
     /** The rules, each by the command that made it, and the lines of a script that are still to be done. */
     rules = [];
     script = null;
     /** Addresses to which the list of words is scrolled, as far as it shows them, before it is scrolled to the next order. */
     lookedAt = [];
+    /** Whether a step asks for a count, which is not told beside it. */
+    isCounted = false;
     /** What the script says of the words that it puts, by their addresses. */
     comments = new Map();
     /** What a run under way has done so far, or null, and what the last one did. */
@@ -64,6 +72,8 @@ export class Laboratory extends EventTarget {
     lost = [];
     /** Whether rows of the drum are wanted with accounts, and whether the page shows something of its own, which no reader has done. */
     wantsRows = true;
+    /** Whether the last orders of a run are told after it. */
+    wantsLast = false;
     isOnShow = false;
     deeds = new Deeds();
     /** How many orders were performed since the laboratory was opened, and again where they were performed again. */
@@ -88,6 +98,8 @@ export class Laboratory extends EventTarget {
     #hit = null;
     #costsOfLine = null;
     #isTouched = false;
+    #image = null;
+    #drum = { key: "", digits: Promise.resolve(null) };
 
     constructor(link) {
         super();
@@ -124,6 +136,11 @@ export class Laboratory extends EventTarget {
     /** How many lines have been said where the reader has done something that a script had not, else none. */
     get doings() {
         return this.#isTouched ? this.#said.length : 0;
+    }
+
+    /** All that was done so far was not the reader's doing: it counts from here on. */
+    countFromHere() {
+        this.#isTouched = false;
     }
 
     /** The lines that lead here from a new laboratory, as they were sent, without those that the page asked for itself. */
@@ -237,9 +254,10 @@ export class Laboratory extends EventTarget {
         this.#first = "0000";
         this.#isTouched = false;
         this.#hit = null;
-        Object.assign(this, { openSource: null, accounts: [], rows: [], profile: null, costs: null, assembled: null, labels: new Map(), rules: [], lastRun: null, performed: 0 });
+        Object.assign(this, { openSource: null, accounts: [], rows: [], profile: null, costs: null, assembled: null, labels: new Map(), loaded: null, loading: null, rules: [], lastRun: null, performed: 0 });
         this.#isRuleOfScript = [];
         this.#said = [];
+        this.#drum = { key: "", digits: Promise.resolve(null) };
         this.#transcript.begin();
     }
 
@@ -310,7 +328,7 @@ export class Laboratory extends EventTarget {
         else if (verb === "go") await this.#noteGo(reply);
         else if (verb === "back") this.#noteBack(Number(operand));
         else if (verb === "last") this.#noteBack(replies.lastOf(reply).orders);
-        else if (verb === "load") this.#forgetDeeds();
+        else if (verb === "load") this.#noteLoad(reply);
         else if (verb === "new") await this.#noteNew();
         else if (verb === "break" || verb === "watch") this.#isRuleOfScript.push(this.#isInScript);
         else if (verb === "drop") this.#isRuleOfScript.splice(Number(operand), 1);
@@ -330,7 +348,7 @@ export class Laboratory extends EventTarget {
         this.performed += count;
         this.deeds.orders(count, isAgain);
         this.#room.ran(count);
-        if (count > 0) Object.assign(this, { accounts: [], rows: [] });
+        if (count > 0) Object.assign(this, { accounts: [], rows: [], loading: null });
     }
 
     async #noteRun(line, reply, isAgain) {
@@ -377,6 +395,13 @@ export class Laboratory extends EventTarget {
         else if (orders === 0 && end === "rest") this.notice = { kind: "atRest" };
     }
 
+    /** The source that assembled last is on the drum. */
+    #noteLoad(reply) {
+        this.#forgetDeeds();
+        const { source, cells } = this.#image;
+        Object.assign(this, { loaded: source, loading: { words: cells, orders: replies.loadedOf(reply) } });
+    }
+
     /** A line `new` begins without a script, but where it is a script's. */
     async #noteNew() {
         await this.#anew();
@@ -398,7 +423,7 @@ export class Laboratory extends EventTarget {
     /** What was done so far cannot be gone back over, or it is not known how many orders it was; and it was not told. */
     #forgetDeeds() {
         this.deeds.clear();
-        Object.assign(this, { accounts: [], rows: [] });
+        Object.assign(this, { accounts: [], rows: [], loading: null });
     }
 
     /** Looks at the machine: its panel, and then, asked at once, what is live, words around the counter, their track, what is printed, and the rules. In an open source there is no looking.
@@ -507,10 +532,12 @@ export class Laboratory extends EventTarget {
         if (number > 0) await this.#say(`back ${number}`);
     }
 
-    /** Performs again what was undone: so many orders of it, and what the operator did then before the next one. */
-    forward(orders) {
+    /** Performs again what was undone: so many orders of it, and what the operator did then before the next one. Gives how many. `whenDone` is given the account of a single one before the
+     * change is shown. */
+    forward(orders, whenDone = () => {}) {
         return this.#work(async () => {
             const isTold = orders <= TOLD_AT_ONCE;
+            const registerBefore = this.deeds.next(1)?.line === undefined ? this.panel.register : null;
             let missing = orders;
             for (let deed = this.deeds.next(missing); deed !== null; deed = this.deeds.next(missing)) {
                 const performed = await this.#again(deed, isTold);
@@ -518,6 +545,8 @@ export class Laboratory extends EventTarget {
                 if (performed === 0 && deed.line === undefined) break;
             }
             await this.#look();
+            if (orders === 1 && missing === 0) whenDone(Object.assign(this.accounts.at(-1), { registerBefore }));
+            return orders - missing;
         });
     }
 
@@ -586,6 +615,7 @@ export class Laboratory extends EventTarget {
 
     async #ended(line, run) {
         const { orders, starts, end } = run;
+        if (this.wantsLast) await this.#tellLast();
         const { milliseconds } = run.told();
         const reply = `ran ${orders} ${this.#stops ? "until stopped" : end}\n${startsText(starts)}`;
         this.talk = [...this.talk, { line, reply }].slice(-TALK_KEPT);
@@ -594,6 +624,22 @@ export class Laboratory extends EventTarget {
         if (orders + starts === 0) this.notice ??= { kind: "atRest" };
         this.lastRun = { orders, starts, end, milliseconds };
         return this.lastRun;
+    }
+
+    /** Tells the last orders, where they were not told: those since the operator's last deed, as far as they are kept. They are gone back over and performed again, with the rules taken out
+     * meanwhile, so that none of these stops them earlier. */
+    async #tellLast() {
+        const wanted = Math.min(LAST_TOLD, this.deeds.unbroken);
+        if (wanted <= this.accounts.length) return;
+        await this.#transcript.aside(async () => {
+            const rules = await this.#withoutRules();
+            const orders = await this.#backOver(wanted);
+            const { told, end } = orders === 0 ? { told: [], end: "" } : replies.toldOf(await this.#ask(`trace-data ${orders}`));
+            await this.#askAll(rules);
+            if (replies.isRefusal(end)) return false;
+            this.accounts = replies.accountsOf(told);
+            return true;
+        });
     }
 
     /** Ends when all that was asked for so far is done. */
@@ -654,7 +700,9 @@ export class Laboratory extends EventTarget {
             return;
         }
         this.assembled = replies.sourceOf(reply);
-        if (this.assembled.faults.length === 0) this.labels = await this.#looks.labels();
+        if (this.assembled.faults.length > 0) return;
+        this.#image = { source: this.source, cells: this.assembled.cells };
+        this.labels = await this.#looks.labels();
     }
 
     /** A new laboratory, with the lines of a script that set a machine up. The others are kept, to be done. The lines of the one before are offered, as by `new`. */
@@ -744,21 +792,44 @@ export class Laboratory extends EventTarget {
         return this.#question(async () => replies.linesOf(await this.#link.ask(`why ${address}`)));
     }
 
-    /** Asks what the last orders would have taken with a word at each sector: those since the operator's last deed, as far as they are kept. They are gone
-     * back over and performed again, with the rules taken out meanwhile, so that none of these stops them earlier. */
+    /** Asks what the last orders would have taken with a word at each sector. */
     askCosts(address) {
         return this.#question(async () => {
             if (!this.knows("optimum")) return;
-            if (this.#room.isUsedUp) throw new Held({ kind: "usedUp" });
-            await this.#transcript.aside(async () => {
-                const rules = this.rules.map((rule) => rule.split(" ").slice(0, 2).join(" "));
-                await this.#askAll(rules.map(() => "drop 0"));
-                const orders = await this.#backOver(this.deeds.unbroken);
-                this.costs = costsIn(await this.#ask(`optimum ${orders} ${address}`));
-                await this.#askAll(rules);
-                return this.costs.refusal === null;
-            });
+            const [told] = await this.#overLast([(orders) => `optimum ${orders} ${address}`]);
+            this.costs = costsIn(told);
         });
+    }
+
+    /** The accounts of the same orders, none where they are too many, and what they would have taken with each of these words at each sector; null where that cannot be asked now. */
+    askPlacing(addresses) {
+        return this.#question(async () => {
+            const isTold = this.deeds.unbroken <= PLACED_AT_MOST;
+            const told = await this.#overLast([...(isTold ? [(orders) => `trace-data ${orders}`] : []), ...addresses.map((address) => (orders) => `optimum ${orders} ${address}`)]);
+            const accounts = isTold ? replies.accountsOf(replies.toldOf(told.shift()).told) : [];
+            return { accounts, words: told.map(costsIn) };
+        }).then((told) => told ?? null);
+    }
+
+    /** Goes back over the last orders, those since the operator's last deed, as far as they are kept, and performs them again by each of these lines. The rules are taken out meanwhile, so that
+     * none of them stops the orders earlier. */
+    async #overLast(lines) {
+        if (this.#room.isUsedUp) throw new Held({ kind: "usedUp" });
+        const told = [];
+        await this.#transcript.aside(async () => {
+            const rules = await this.#withoutRules();
+            for (const line of lines) told.push(await this.#ask(line(await this.#backOver(this.deeds.unbroken))));
+            await this.#askAll(rules);
+            return told.every((reply) => !replies.isRefusal(replies.toldOf(reply).end));
+        });
+        return told;
+    }
+
+    /** Takes the rules out. Gives the lines that put them in again. */
+    async #withoutRules() {
+        const rules = replies.rulesOf(await this.#link.ask("rules")).map((rule) => rule.split(" ").slice(0, 2).join(" "));
+        await this.#askAll(rules.map(() => "drop 0"));
+        return rules;
     }
 
     async #askAll(lines) {
@@ -772,6 +843,13 @@ export class Laboratory extends EventTarget {
         const { number } = replies.refusalOf(reply);
         await this.#ask(`back ${number}`);
         return number;
+    }
+
+    /** The digits of all words of the drum as it is now, in the order of their addresses; null where a source is open. They are asked once for each state. */
+    drum() {
+        const key = `${this.panel.clock} ${this.#said.length}`;
+        if (this.#drum.key !== key) this.#drum = { key, digits: this.#act(async () => (this.openSource === null ? this.#looks.drum() : null)) };
+        return this.#drum.digits.then((digits) => digits ?? null);
     }
 
     /** The order that changed a shown word last, or null where no order that is kept has, or a hand did later. */

@@ -9,6 +9,7 @@ function tellLacking(detail) {
 }
 
 window.onerror = function (message) {
-    if (document.documentElement.getAttribute("data-ready") === null) tellLacking(message);
+    // that a part of the page has changed its size once more is no trouble
+    if (document.documentElement.getAttribute("data-ready") === null && String(message).indexOf("ResizeObserver") !== 0) tellLacking(message);
 };
 if (typeof WebAssembly !== "object" || typeof BigInt !== "function") tellLacking("");

@@ -50,6 +50,12 @@ export class Looks {
         return replies.linesOf(await this.#link.ask(`numbers ${digits}00 ${SECTORS}`)).map(digitsIn);
     }
 
+    /** The digits of all words of the drum, in the order of their addresses. */
+    async drum() {
+        const tracks = Array.from({ length: SECTORS }, (unused, track) => `numbers ${addressOf(track * SECTORS)} ${SECTORS}`);
+        return replies.linesOf(await this.#link.askAll(tracks)).map((line) => line.slice(5, 13));
+    }
+
     /** The words from an address on, each with the order that it is, or `word` and its digits, and with the order or the hand that a kept step says has put it there, or null. */
     async words(first) {
         const addresses = Array.from({ length: SHOWN }, (unused, place) => addressOf(numberOf(first) + place));

@@ -3,42 +3,52 @@ import { Drafts } from "./drafts.mjs";
 import { Drive } from "./drive.mjs";
 import { withRemarks } from "./examples.mjs";
 import { Exhibit, KIOSK } from "./exhibit.mjs";
+import { GAMES } from "./faster.mjs";
 import { linkOf } from "./files.mjs";
 import { Keeper, Sources, Works, takeOver } from "./keeper.mjs";
 import { Laboratory } from "./laboratory.mjs";
+import { Checker } from "./language.mjs";
 import { headOf, linesIn, withoutQuestions } from "./lines.mjs";
 import { Link } from "./link.mjs";
 import { version } from "./module/package.json";
 import { addressOf, askedIn, inLanguage } from "./opening.mjs";
+import { movedSource } from "./placing.mjs";
 import { Player } from "./player.mjs";
 import { Sound, follow } from "./sound.mjs";
 import { LESSONS, setUpFor } from "./steps.mjs";
 import { openStore } from "./store.mjs";
+import { Turning } from "./turning.mjs";
 import { makeAccounts, makeTime } from "./views/accounts.mjs";
+import { makeCarried } from "./views/carried.mjs";
 import { makeCosts } from "./views/costs.mjs";
 import { makeConsole, makeKeyboard } from "./views/console.mjs";
-import { button, h, part } from "./views/dom.mjs";
+import { button, h, kept, part } from "./views/dom.mjs";
 import { behind, makeDoors, makeHall, makeSkip, showDoor } from "./views/doors.mjs";
 import { makeDrum } from "./views/drum.mjs";
+import { Faster } from "./views/faster.mjs";
 import { makeHeap } from "./views/game.mjs";
+import { makeTurner } from "./views/hand.mjs";
 import { hearDrops, makeOpen, openFile } from "./views/keep.mjs";
 import { isLeaving, makeKiosk, refuseOthers, watchIdle } from "./views/kiosk.mjs";
 import { makeLesson, noLesson } from "./views/lesson.mjs";
 import { makeListing } from "./views/listing.mjs";
 import { makeNotices, placeNotices } from "./views/notice.mjs";
+import { makeMap } from "./views/map.mjs";
 import { makePace } from "./views/pace.mjs";
 import { makePanel } from "./views/panel.mjs";
 import { makePaper, makeTape } from "./views/paper.mjs";
 import { makeProfile } from "./views/profile.mjs";
 import { makePlate, makeScope } from "./views/scope.mjs";
-import { linksToSheet, showSheet } from "./views/sheets.mjs";
+import { makeSource } from "./views/source.mjs";
+import { linksToSheet, showSheet, withDrawings } from "./views/sheets.mjs";
 import { arrange, makeStage } from "./views/stage.mjs";
 import { makeStory } from "./views/story.mjs";
+import { reveal } from "./views/tabs.mjs";
 import { TALES, makeTales, noTale } from "./views/tales.mjs";
 import { makeTasks } from "./views/tasks.mjs";
 import { makeTurns } from "./views/turns.mjs";
 import { listOfWorks, makeOffer, titleOf } from "./views/works.mjs";
-import { makeLines, makeScript, makeSource } from "./views/writing.mjs";
+import { makeLines, makeScript } from "./views/writing.mjs";
 import { LANGUAGES, counted, textsIn } from "./words.mjs";
 
 /** The time between two orders that are played one after another, at most: it passes on the drum as well. */
@@ -47,14 +57,17 @@ const player = new Player();
 const still = matchMedia("(prefers-reduced-motion: reduce)");
 const sound = new Sound(() => new AudioContext());
 const clocks = { now: () => performance.now(), sleep: (milliseconds) => new Promise((resolve) => setTimeout(resolve, milliseconds)) };
+/** Ends a task of the browser, so that it can hear what was pressed. */
+const turn = () => new Promise((resolve) => setTimeout(resolve));
 const inlined = (id) => document.getElementById(id).textContent;
 const examples = new Map(Object.entries(JSON.parse(inlined("examples"))));
 const remarks = JSON.parse(inlined("remarks"));
-const sheets = JSON.parse(inlined("sheets"));
+const { sheets, drawings } = JSON.parse(inlined("sheets"));
 const tasks = JSON.parse(inlined("tasks"));
 const licences = JSON.parse(inlined("licences"));
 const openLink = () => new Link(inlined("worker"), inlined("module"));
 const drafts = new Drafts();
+const checker = new Checker(openLink);
 
 // lessons have their texts from their documents
 for (const [code, lessons] of Object.entries(JSON.parse(inlined("lessons")))) LANGUAGES[code].lessons = lessons;
@@ -81,12 +94,16 @@ let hasTurns = true;
 let [keeper, works, sources] = [new Keeper(), null, null];
 let keeping = null;
 let begunWith = "{}";
+/** The work whose machine was set up for a step of a lesson last. */
+let setUpHere = null;
 /** Whether a work is being opened: what is there meanwhile is not that work. */
 let isSettling = false;
 /** What is done one after another: going through doors, and what begins another laboratory. */
 let going = Promise.resolve();
 let opening = Promise.resolve();
 const [pupil, viewer] = [noLesson(), noTale()];
+/** The game that is open at the door Look, or null. */
+let game = null;
 
 /** The machines that are open: the visitor's own, and one that the page shows by itself, in the hall and at the kiosk. */
 const machines = { own: null, shown: null };
@@ -263,10 +280,12 @@ function setUpShown(step) {
     return opening;
 }
 
-/** Sets the machine up for a step of a lesson. */
-function openForStep(step) {
+/** Sets the machine up for a step of a lesson. One that was set up so before, and at which the pupil has done nothing since, is no work of its own. */
+async function openForStep(step) {
     drive.halt();
-    return isWorth(laboratory) ? beginAnother(() => setUpFor(laboratory, step, exampleNamed), { isOffered: false }) : setUpShown(step);
+    const isUntouched = works.id === setUpHere && laboratory.doings === 0;
+    await (isWorth(laboratory) && !isUntouched ? beginAnother(() => setUpFor(laboratory, step, exampleNamed), { isOffered: false }) : setUpShown(step));
+    setUpHere = works.id;
 }
 
 /** Sets the machine up by a script of a task. */
@@ -278,13 +297,13 @@ async function runProgram(source) {
     await laboratory.load(source);
     if (laboratory.notice !== null) return undefined;
     if (laboratory.way.kind === "start") await laboratory.command("press start");
-    return drive.go("fast");
+    return drive.go(drive.chosen);
 }
 
 /** Where the visitor is, as addresses name it. */
 const placeNow = () => ({
     door, lesson: door === "learn" ? pupil.lesson?.name : null, step: Math.min(pupil.at + 1, pupil.lesson?.steps.length ?? 1), task: door === "learn" ? sources.open : null,
-    story: door === "look" && viewer.tale !== null ? TALES.indexOf(viewer.tale) + 1 : null, caption: viewer.at + 1,
+    story: door === "look" && viewer.tale !== null ? TALES.indexOf(viewer.tale) + 1 : null, caption: viewer.at + 1, game: door === "look" ? game : null,
     example: door === "work" && examples.has(laboratory.script?.name) ? laboratory.script.name : null,
 });
 
@@ -321,9 +340,16 @@ async function pass(wanted, isNew) {
 function placeDoor() {
     laboratory.isOnShow = isKiosk || door === "hall" || door === "look";
     laboratory.wantsRows = !isKiosk && door === "work" && hasTurns;
-    if (isKiosk) delete document.body.dataset.door;
-    else { showDoor(door); arrange(); }
-    placeNotices(isKiosk || door === "hall" ? null : document.querySelector(".tells"));
+    laboratory.wantsLast = !isKiosk && door === "work";
+    const isPlayed = !isKiosk && door === "look" && game !== null;
+    // the game stands in place of what has the notices otherwise
+    if (isPlayed) placeNotices(null);
+    document.body.toggleAttribute("data-game", isPlayed);
+    if (isPlayed) parts.faster.begin(game);
+    else parts.faster?.stop();
+    for (const name of isKiosk ? ["door", "window"] : ["state"]) delete document.body.dataset[name];
+    if (!isKiosk) { showDoor(door); arrange(); }
+    placeNotices(isKiosk || door === "hall" || isPlayed ? null : document.querySelector(".tells"));
 }
 
 function dialog(heading, ...children) {
@@ -365,7 +391,7 @@ function about() {
 function playing() {
     const at = player.at();
     if (at === null || at.account !== laboratory.accounts.at(-1) || at.account.clock + BigInt(at.account.sum) !== laboratory.panel.clock) return null;
-    return at.done && !["slow", "show"].includes(drive.pace) ? null : at;
+    return at.done && !["slow", "tale", "show"].includes(drive.pace) ? null : at;
 }
 
 /** The order that is played, as long as it has not done what it does. */
@@ -380,7 +406,7 @@ function animate() {
         picture.last = now - player.tick(Math.max(0, now - picture.last));
         const at = playing();
         for (const view of picture.views) view.frame();
-        picture.frame = at === null || at.done ? null : requestAnimationFrame(next);
+        picture.frame = at === null || at.done || at.isHeld ? null : requestAnimationFrame(next);
         if (picture.frame === null) { show(); drive.played(); }
     };
     if (picture.frame !== null) return;
@@ -395,7 +421,7 @@ const run = (machine) => (isOperated && door === "work" && !isKiosk ? machine.op
 function makeOperated() {
     const { text } = texts;
     const wanted = h("input", { type: "checkbox", id: "operated", checked: isOperated, "aria-describedby": "operated-hint", onchange: () => { isOperated = wanted.checked; } });
-    return behind("work", h("p", { class: "operated" }, h("label", {}, wanted, ` ${text("operated")}`), " ", h("small", { id: "operated-hint" }, text("operatedHint"))));
+    return h("p", { class: "operated" }, h("label", {}, wanted, ` ${text("operated")}`), " ", h("small", { id: "operated-hint" }, text("operatedHint")));
 }
 
 /** The switch of the sound. */
@@ -415,10 +441,24 @@ function makeBar() {
         ...[...examples.keys()].map((name) => h("option", { value: name }, `${name}: ${headOf(exampleNamed(name)).title}`)));
     const language = h("select", { id: "language", "aria-label": "Language, Sprache", onchange: () => goOnIn(language.value, "language") },
         ...Object.entries(LANGUAGES).map(([code, table]) => h("option", { value: code, selected: code === texts.code }, table.language)));
-    const view = { node: h("div", { class: "line choices", role: "toolbar", "aria-label": text("choices") }, choice, behind("work", button(text("new"), openBlank, { id: "new", title: text("newHint") })), behind("work", button(text("save"), save, { title: text("saveHint"), id: "save" })), behind("work", makeOpen(texts, openDropped)), behind("learn work", button(text("works"), showWorks, { id: "works", title: text("worksHint") })),
+    const view = { node: h("div", { class: "line choices", id: "choices", role: "toolbar", "aria-label": text("choices") }, choice, behind("work", button(text("new"), openBlank, { id: "new", title: text("newHint") })), behind("work", button(text("save"), save, { title: text("saveHint"), id: "save" })), behind("work", makeOpen(texts, openDropped)), behind("learn work", button(text("works"), showWorks, { id: "works", title: text("worksHint") })),
         makeSoundSwitch(), button(text("kiosk"), openKiosk, { id: "kiosk" }), button(text("about"), about, { id: "about" }), language),
         show: () => { choice.value = examples.has(laboratory.script?.name) ? laboratory.script.name : ""; } };
     return view;
+}
+
+/** Where the window is narrow the choices are seen when they are wanted, as long as the focus is among them. */
+function makeMenu(choices) {
+    const show = (isOpen) => {
+        document.querySelector("header").classList.toggle("is-open", isOpen);
+        control.setAttribute("aria-expanded", String(isOpen));
+    };
+    const control = button(texts.text("choices"), () => show(control.getAttribute("aria-expanded") === "false"), { class: "menu", "aria-expanded": "false", "aria-controls": "choices" });
+    for (const node of [control, choices]) {
+        node.addEventListener("focusout", ({ relatedTarget }) => { if (relatedTarget !== null && relatedTarget !== control && !choices.contains(relatedTarget)) show(false); });
+        node.addEventListener("keydown", ({ key }) => { if (key === "Escape") show(false); });
+    }
+    return control;
 }
 
 /** The list of the last works. */
@@ -443,68 +483,179 @@ function makeExplanation() {
 const showing = { playing, held, isFast: () => drive.pace === "own" || drive.pace === "fast", pace: () => drive.pace, isStill: () => still.matches, isAttract: () => exhibit?.isAttract ?? false, hasCosts: () => ["learn", "work"].includes(door) };
 
 /** The links to a lesson's sheet; its form is what a printer gets. */
-function sheetsOf(name) {
-    const sheet = (sheets[texts.code] ?? sheets.en)[name];
-    return linksToSheet(sheet, texts);
+const sheetOf = (name) => withDrawings((sheets[texts.code] ?? sheets.en)[name], drawings);
+const sheetsOf = (name) => [...linksToSheet(sheetOf(name), texts), ...(name === "where-a-word-costs-least" ? [" ", linkToRace()] : [])];
+const linkToRace = () => h("a", { id: "race", href: addressOf({ game: "race" }, location), onclick: (event) => { event.preventDefault(); openRace(); } }, texts.text("race"));
+
+/** Asks for the costs of a word, and chooses the tab that tells them. */
+function showCosts(address) {
+    reveal(parts.costs.node);
+    return laboratory.askCosts(address);
 }
 
 /** All parts but the header, and the element that holds them in the order in which they are seen. */
 function makeWork() {
-    const open = { sources, openLink, setUp: openForTask, run: () => drive.go("fast") };
+    const open = { sources, openLink, checker, setUp: openForTask, run: () => drive.go(drive.chosen) };
     const madeTasks = makeTasks(texts, tasks, open);
+    const source = makeSource(laboratory, texts, drafts, { runIt: runProgram, checker, told: () => show(), isFast: showing.isFast });
+    const time = makeTime(laboratory, texts, showing);
     const turns = makeTurns(laboratory, texts, hasTurns, (isOpen) => { hasTurns = isOpen; placeDoor(); });
     const made = {
-        hall: makeHall(texts, goTo, drive), tales: makeTales(laboratory, texts, drive, { open: openShown, viewer, told: tellPlace }), lesson: makeLesson(laboratory, texts, { open: openForStep, pupil, tasks: madeTasks, drafts, told: toldOfLesson, sheets: sheetsOf, isSeen: () => door === "learn" }), tasks: madeTasks,
+        hall: makeHall(texts, goTo, drive), tales: makeTales(laboratory, texts, drive, { open: openShown, viewer, told: toldOfTale, others: [gameButton(false)] }), faster: makeGame(), lesson: makeLesson(laboratory, texts, { open: openForStep, pupil, tasks: madeTasks, drafts, told: toldOfLesson, sheets: sheetsOf, isSeen: () => door === "learn" }), tasks: madeTasks,
         drum: makeDrum(laboratory, texts, showing), plate: makePlate(laboratory, texts), scope: makeScope(laboratory, texts, showing), panel: makePanel(laboratory, texts), console: makeConsole(laboratory, texts),
-        paper: makePaper(laboratory, texts, showing), tape: makeTape(laboratory, texts, drafts), keyboard: makeKeyboard(laboratory, texts),
-        pace: makePace(laboratory, texts, drive, makeOperated()), time: makeTime(laboratory, texts, showing), story: makeStory(laboratory, texts, showing), accounts: makeAccounts(laboratory, texts, showing), listing: makeListing(laboratory, texts, showing, drafts), costs: makeCosts(laboratory, texts),
-        explanation: makeExplanation(), script: makeScript(laboratory, texts), source: makeSource(laboratory, texts, drafts, runProgram), lines: makeLines(laboratory, texts, drafts),
+        paper: makePaper(laboratory, texts, showing), tape: makeTape(laboratory, texts, drafts, showing), keyboard: makeKeyboard(laboratory, texts),
+        pace: makePace(laboratory, texts, drive, { run: source.run, when: time.when, faults: () => (door === "work" ? source.faults() : null) }), time, operated: makeOperated(), story: makeStory(laboratory, texts, showing), accounts: makeAccounts(laboratory, texts, showing), listing: makeListing(laboratory, texts, showing, drafts), costs: makeCosts(laboratory, texts), map: makeMap(laboratory, texts, showing, showCosts),
+        explanation: makeExplanation(), noScript: h("p", { class: "no-script" }, texts.text("noScript")), script: makeScript(laboratory, texts), source, lines: makeLines(laboratory, texts, drafts),
         profile: makeProfile(laboratory, texts, drafts), turns,
     };
+    const turning = turningOf();
+    made.turner = makeTurner(made.drum.box, texts, turning);
+    made.carried = makeCarried(laboratory, texts, made.drum, turning, writeMoved);
+    made.costs.node.append(made.carried.node);
     parts = made;
-    return { node: makeStage(made), made: Object.values(made) };
+    return { node: makeStage(made, texts), made: Object.values(made).filter(({ show }) => show !== undefined) };
+}
+
+/** Writes into the source that a word is at another sector, runs that as long as it ran before, and tells whether it took what was foretold: from where its first order was read on, since the
+ * loader ends where it ends. */
+async function writeMoved({ address, label, orders, sectors }, sector) {
+    const source = drafts.of("source") ?? laboratory.source;
+    if (source === "" || laboratory.loaded !== source) return laboratory.tell({ kind: "notMoved", wrong: "notLoadedNow" });
+    const { accounts } = await laboratory.askPlacing([]);
+    const { wrong, line, text, place } = accounts.length === 0 ? { wrong: "tooLong" } : await movedSource(checker, source, accounts, address, sector);
+    if (wrong !== undefined) return laboratory.tell({ kind: "notMoved", wrong, line });
+    parts.source.rewrite(text);
+    await laboratory.load(text);
+    if (laboratory.way.kind === "start") await laboratory.command("press start");
+    await laboratory.run(orders);
+    const again = await laboratory.askPlacing([place]);
+    await showCosts(place);
+    const [foretold, took] = [sectors.find((it) => it.sector === sector).times - accounts[0].find, again.words[0].times - again.accounts[0].find];
+    return laboratory.tell({ kind: "moved", word: label ?? address, place, foretold, took });
+}
+
+/** The hand at the drum of the machine that is seen. */
+function turningOf() {
+    const turning = new Turning(laboratory, player, drive);
+    turning.addEventListener("turn", () => { for (const view of picture.views) view.frame(); });
+    turning.addEventListener("rest", show);
+    return turning;
+}
+
+/** What the program of a game takes, asked once of a laboratory that has nothing else to do; null where it could not be run. */
+const askGame = kept(({ example, words }) => openGameMachine(example, words));
+
+async function openGameMachine(example, words) {
+    const link = openLink();
+    const machine = new Laboratory(link);
+    await machine.open();
+    await setUpFor(machine, { opens: example }, exampleNamed);
+    await machine.run();
+    const told = machine.notice === null ? await machine.askPlacing(words) : null;
+    link.end();
+    return told === null ? null : { ...told, track: machine.track };
+}
+
+const gameButton = (isPressed) => button(texts.text("faster"), () => openGame("faster"), { "data-game-to": "faster", "aria-pressed": String(isPressed) });
+
+/** The game, with the buttons that lead to the stories. */
+function makeGame() {
+    const { text, table } = texts;
+    const stories = TALES.map((tale, place) => button(table.tales[tale.name].title, () => parts.tales.openAt(place + 1, null)));
+    const lesson = button(text("backToLesson"), () => goTo("learn"), { id: "back-to-lesson" });
+    const others = (name) => (name === "race" ? [lesson] : [...stories, gameButton(true)]);
+    const keptMoves = { of: () => keeper.of("game"), keep: (moves) => keeper.keep("game", moves) };
+    return new Faster(texts, { ask: (program) => askGame(program.name, program), kept: keptMoves, isStill: () => still.matches, seconds: asked.seconds ?? 120, others });
+}
+
+/** Has a game in place of the stories, or, where that is null, these. */
+function turnToGame(wanted) {
+    drive.halt();
+    game = wanted;
+    if (wanted !== null) parts.tales.leave();
+    placeDoor();
+    show();
+}
+
+function openGame(name) {
+    turnToGame(name);
+    tellPlace();
+}
+
+/** The race of the lesson about places. */
+async function openRace() {
+    await goTo("look", false);
+    openGame("race");
+}
+
+/** Another caption is reached: the address says so, and the game is left. */
+function toldOfTale() {
+    if (game !== null) turnToGame(null);
+    tellPlace();
 }
 
 /** Another step or task is reached: its address says so, and a printer gets its sheet. */
 function toldOfLesson() {
     tellPlace();
+    noteWork();
     const name = pupil.lesson?.name;
-    showSheet(name === undefined ? null : (sheets[texts.code] ?? sheets.en)[name]);
+    showSheet(name === undefined ? null : sheetOf(name));
 }
 
-function makeOthers() {
-    const other = button(texts.code === "de" ? "English" : "Deutsch", () => goOnIn(texts.code === "de" ? "en" : "de", "other-language"), { id: "other-language", lang: texts.code === "de" ? "en" : "de" });
-    return [makeSoundSwitch(), other];
-}
+/** What the kiosk opens beside its machine, by the names of its offers: each has its `node`, `open`, `press`, which is given the number of a button and says whether it goes on, and `labels`, the names of its buttons' texts. */
+const kioskViews = { faster: null };
 
 function makeExhibit() {
-    const shown = exhibit.game === undefined ? makeScope(laboratory, texts, showing) : makeHeap(laboratory, texts);
-    const made = { drum: makeDrum(laboratory, texts, showing), shown, paper: makePaper(laboratory, texts, showing) };
+    const made = { drum: makeDrum(laboratory, texts, showing), scope: makeScope(laboratory, texts, showing), heap: makeHeap(laboratory, texts), paper: makePaper(laboratory, texts, showing) };
     for (const node of [made.drum.node, made.paper.node]) node.querySelector("h2").classList.add("unseen");
-    return makeKiosk(laboratory, texts, { ...showing, drive }, exhibit, made, makeOthers());
+    kioskViews.faster = new Faster(texts, { ask: (program) => askGame(program.name, program), kept: { of: () => null, keep: () => {} }, isStill: () => still.matches, seconds: Infinity, others: () => [] });
+    if (exhibit.state === "faster") kioskViews.faster.open();
+    return makeKiosk(laboratory, texts, { ...showing, drive }, exhibit, made, [makeSoundSwitch()], kioskViews);
 }
 
 function makePage() {
     const { text } = texts;
     const top = makeBar();
-    const heading = h("header", {}, behind("look learn work", makeSkip(texts)), h("h1", {}, text("title")), h("p", { class: "subtitle" }, text("subtitle")), makeDoors(texts, goTo), top.node);
+    const heading = h("header", {}, behind("look learn work", makeSkip(texts)), h("h1", {}, text("title")), h("p", { class: "subtitle" }, text("subtitle")), makeDoors(texts, goTo), makeMenu(top.node), top.node);
     const { node, made } = makeWork();
     return { nodes: [heading, node], views: [top, ...made] };
 }
 
-function lay() {
+/** Makes all that is seen. Gives what puts it in place. */
+function makeAll() {
     document.documentElement.lang = texts.code;
     document.title = texts.text("documentTitle");
+    const made = isKiosk ? makeExhibit() : makePage();
+    return () => place(made);
+}
+
+/** Puts what was made in its place. */
+function place(made) {
     document.body.className = isKiosk ? "kiosk" : "";
     placeNotices(null);
-    const made = isKiosk ? makeExhibit() : makePage();
-    const deeds = { run: () => drive.go("fast"), save, anew: () => (isKiosk ? exhibit.press(4) : openBlank()), linkTo: (lines) => linkTo(withoutQuestions(lines, laboratory.questions)), goBack: (id) => openWork(works.of(id)) };
+    const deeds = { run: () => drive.go(isKiosk ? "fast" : drive.chosen), save, anew: () => (isKiosk ? exhibit.attract() : openBlank()), linkTo: (lines) => linkTo(withoutQuestions(lines, laboratory.questions)), goBack: (id) => openWork(works.of(id)) };
     notices = makeNotices(laboratory, texts, isKiosk, deeds);
     views = [...made.views, follow(laboratory, sound, showing)];
     picture.views = views.filter(({ frame }) => frame !== undefined);
     document.getElementById("page").replaceChildren(...made.nodes);
     placeDoor();
+}
+
+function lay() {
+    makeAll()();
     show();
+}
+
+/** Lays the page when it is opened, and lets the browser do something else in between. */
+async function layInTurns() {
+    const placed = makeAll();
+    await turn();
+    placed();
+    notices.show();
+    for (const view of [...views]) {
+        await turn();
+        view.show();
+    }
 }
 
 /** Lays the page anew. Where a control had the focus, the one of this name has it then, or the door. */
@@ -517,11 +668,11 @@ function layFor(id) {
 /** Begins the exhibit, which plays by itself until somebody takes over. */
 async function beginExhibit() {
     await use("shown");
-    exhibit = new Exhibit(laboratory, drive, asked.example, { scriptOf: (name) => (examples.has(name) ? exampleNamed(name) : undefined), isStill: () => still.matches, sleep: clocks.sleep });
+    exhibit = new Exhibit(laboratory, drive, asked.example, { scriptOf: (name) => (examples.has(name) ? exampleNamed(name) : undefined), isStill: () => still.matches, sleep: clocks.sleep, offers: asked.offers, views: kioskViews, language: () => goOnIn(texts.code === "de" ? "en" : "de", "kiosk-4") });
     exhibit.addEventListener("change", show);
     const own = texts;
-    layFor("kiosk-start");
-    const endWatch = watchIdle(asked.idleSeconds ?? KIOSK.idleSeconds, () => { if (!exhibit.isAttract) returnToBeginning(own); }, () => exhibit.takeOver());
+    layFor("kiosk-1");
+    const endWatch = watchIdle(asked.idleSeconds ?? KIOSK.idleSeconds, () => { if (!exhibit.isAttract || texts !== own) returnToBeginning(own); }, ({ type, target }) => { if (type === "click" && target.closest("button") === null) exhibit.takeOver(); });
     const endRefusing = refuseOthers();
     endExhibit = () => { endWatch(); endRefusing(); exhibit.end(); exhibit = null; endExhibit = () => {}; };
     await exhibit.attract();
@@ -554,6 +705,17 @@ async function leaveKiosk() {
     return door === "hall" ? openHall() : undefined;
 }
 
+/** Does what a key does anywhere in Work. Whether it does something. */
+function onWorkKey(event) {
+    const { card, run } = parts.source;
+    const name = [event.ctrlKey ? "Ctrl" : "", event.shiftKey ? "Shift" : "", event.key].filter((part) => part !== "").join(" ");
+    const deed = { F1: card.toggle, "Ctrl Enter": () => run.click(), F10: () => drive.step(), "Shift F10": () => laboratory.back(1), ...(card.isOpen() ? { Escape: card.close } : drive.pace === null ? {} : { Escape: () => drive.halt() }) }[name];
+    if (deed === undefined || event.defaultPrevented || event.target.closest("dialog") !== null) return false;
+    event.preventDefault();
+    deed();
+    return true;
+}
+
 function onKey(event) {
     if (isKiosk) {
         const number = Number(event.key);
@@ -561,8 +723,10 @@ function onKey(event) {
         else if (number >= 1 && number <= 4 && !event.repeat) exhibit?.press(number);
         return;
     }
-    if (event.target.closest("input, textarea, select, dialog") || event.ctrlKey || event.altKey || event.metaKey) return;
-    const go = (pace) => () => drive.go(pace);
+    if (placeNow().game !== null) return;
+    if (door === "work" && hasShortKeys && onWorkKey(event)) return;
+    if (event.target.closest("input, .CodeMirror, select, dialog") || event.ctrlKey || event.altKey || event.metaKey) return;
+    const go = (pace) => () => { drive.chosen = pace; drive.go(pace); };
     const [order, fast] = [go("order"), go("fast")];
     const deed = { s: () => drive.step(), w: order, r: fast, h: () => drive.halt(), "[": () => laboratory.back(1), "]": () => laboratory.forward(1), 1: order, 2: go("slow"), 3: go("own"), 4: fast }[event.key];
     if (deed !== undefined && hasShortKeys) deed();
@@ -575,10 +739,11 @@ async function openHall() {
 }
 
 /** What of the address names nothing, as a notice; null where all is there. */
-function wrongIn({ lesson, task, story, example, script }) {
+function wrongIn({ lesson, task, story, game, example, script }) {
     if (lesson !== null && !LESSONS.some(({ name }) => name === lesson)) return { kind: "noLesson", detail: lesson };
     if (task !== null && !parts.tasks.has(task)) return { kind: "noTask", detail: task, tasks: Object.keys(tasks.tasks) };
     if (story !== null && TALES[story - 1] === undefined) return { kind: "noStory", detail: story };
+    if (game !== null && !GAMES.has(game)) return { kind: "noGame", detail: game };
     return script === null && example !== null && !examples.has(example) ? { kind: "noExample", detail: example } : null;
 }
 
@@ -588,14 +753,16 @@ function openAsked() {
     if (wrong !== null) return laboratory.tell(wrong);
     if (asked.lesson !== null || asked.task !== null) return parts.lesson.openAt(asked);
     if (asked.story !== null) return parts.tales.openAt(asked.story, asked.caption);
+    if (asked.game !== null) return openGame(asked.game);
     if (asked.script !== null) return beginAnother(() => laboratory.openScript("#script", asked.script));
     if (asked.example === null) return door === "hall" ? openHall() : undefined;
     return beginAnother(() => laboratory.openScript(asked.example, exampleNamed(asked.example)));
 }
 
 /** Whether what the address asks for is there already. */
-function isThere({ lesson, step, task, story, caption, script, example }) {
+function isThere({ lesson, step, task, story, caption, game, script, example }) {
     const now = placeNow();
+    if (game !== now.game) return false;
     if (story !== null) return now.story === story && now.caption === (caption ?? 1);
     if (lesson !== null) return now.lesson === lesson && now.step === (step ?? 1);
     return script === null && (now.task ?? null) === task && (now.lesson ?? null) === null && (example ?? null) === (now.example ?? null);
@@ -620,7 +787,8 @@ async function goWhereAsked() {
     if (asked.door !== door) await pass(asked.door, false);
     if (door === "hall" || isThere(asked)) return undefined;
     // a door alone, without what was open behind it, leaves that as it is
-    const isDoorAlone = ["lesson", "task", "story", "script", "example"].every((name) => asked[name] === null);
+    if (game !== null && asked.game === null) turnToGame(null);
+    const isDoorAlone = ["lesson", "task", "story", "game", "script", "example"].every((name) => asked[name] === null);
     return isDoorAlone ? undefined : openAsked();
 }
 
@@ -655,7 +823,7 @@ async function goOnWith(work) {
     if (isLong) works.begin();
     else await visitors.restore(work);
     isSettling = false;
-    lay();
+    await layInTurns();
     if (isLong) offer(work);
     if (door === "hall") return openHall();
     return wrongIn(asked) === null && (isThere(asked) || asked.door === "work" && asked.example === null && asked.script === null) ? parts.lesson.goOn() : openAsked();
@@ -665,6 +833,7 @@ async function goOnWith(work) {
 const offer = (work) => makeOffer(work, texts, { open: openWork, forget: (id) => works.forget(id) });
 
 async function begin() {
+    await turn();
     if (!isKiosk) await openKept().then((work) => beginWith(work));
     else await beginWith(null);
     document.documentElement.dataset.ready = "true";
@@ -680,7 +849,7 @@ async function beginWith(work) {
     visitors.addEventListener("change", noteWork);
     drafts.addEventListener("change", noteWork);
     const last = work === null ? works.all()[0] : undefined;
-    lay();
+    await layInTurns();
     if (last !== undefined) offer(last);
     if (!keeper.isKept) await laboratory.tell({ kind: "notKept" });
     return goOnWith(work);

@@ -1,7 +1,7 @@
-// The page's address: what it asks for, and what it says of where one is. An example or a script, a lesson and its step, a task, a story and its caption, a language, a door, the kiosk.
+// The page's address: what it asks for, and what it says of where one is. An example or a script, a lesson and its step, a task, a story and its caption, a game, a language, a door, the kiosk.
 
 const DOORS = ["hall", "look", "learn", "work"];
-const PLACES = ["door", "kiosk", "idle", "lesson", "step", "task", "story", "caption"];
+const PLACES = ["door", "kiosk", "idle", "offers", "lesson", "step", "task", "story", "caption", "game"];
 
 /** A number from 1 on that an address gives, or null. */
 const numberIn = (query, name) => (/^[1-9]\d{0,2}$/.test(query.get(name) ?? "") ? Number(query.get(name)) : null);
@@ -11,11 +11,11 @@ function doorOf(query, hasScript) {
     const named = DOORS.find((door) => door === query.get("door"));
     if (named !== undefined) return named;
     if (query.has("lesson") || query.has("task")) return "learn";
-    if (query.has("story")) return "look";
+    if (query.has("story") || query.has("game")) return "look";
     return hasScript ? "work" : "hall";
 }
 
-/** What an address says behind `?` and `#`: `?kiosk`, `?kiosk=games/matches`, `?idle=60`, `?lang=de`, `?door=work`, `?lesson=rewriting&step=9`, `?task=sum`, `?story=2&caption=3`, `#first-run`,
+/** What an address says behind `?` and `#`: `?kiosk`, `?kiosk=games/matches`, `?idle=60`, `?offers=story,matches`, `?lang=de`, `?door=work`, `?lesson=rewriting&step=9`, `?task=sum`, `?story=2&caption=3`, `?game=faster`, `#first-run`,
  * `#kiosk`, `#script=..`. */
 export function askedIn({ search, hash }) {
     const query = new URLSearchParams(search);
@@ -27,17 +27,17 @@ export function askedIn({ search, hash }) {
         isKiosk, script,
         example: query.get("kiosk") || example || null,
         language: query.get("lang"),
-        lesson: query.get("lesson"), step: numberIn(query, "step"), task: query.get("task"), story: numberIn(query, "story"), caption: numberIn(query, "caption"),
+        lesson: query.get("lesson"), step: numberIn(query, "step"), task: query.get("task"), story: numberIn(query, "story"), caption: numberIn(query, "caption"), game: query.get("game"), seconds: numberIn(query, "seconds"),
         door: doorOf(query, example !== null || script !== null),
-        idleSeconds: Number(query.get("idle")) || null,
+        idleSeconds: Number(query.get("idle")) || null, offers: query.get("offers")?.split(",") ?? null,
     };
 }
 
 /** The address of a place, with all else that the address asks for, as its language. */
-export function addressOf({ door, kiosk, lesson, step, task, story, caption, example }, { search }) {
+export function addressOf({ door, kiosk, lesson, step, task, story, caption, game, example }, { search }) {
     const query = new URLSearchParams(search);
     for (const name of PLACES) query.delete(name);
-    const place = kiosk !== undefined ? { kiosk } : lesson != null ? { lesson, step } : task != null ? { task } : story != null ? { story, caption } : { door };
+    const place = kiosk !== undefined ? { kiosk } : lesson != null ? { lesson, step } : task != null ? { task } : story != null ? { story, caption } : game != null ? { game } : { door };
     for (const [name, value] of Object.entries(place)) query.set(name, value);
     return `?${query.toString().replaceAll("%2F", "/")}${example == null ? "" : `#${example}`}`;
 }

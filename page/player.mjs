@@ -4,6 +4,9 @@ import { PLACES, addressOf, numberOf } from "./addresses.mjs";
 /** The phases of an order, one after another. */
 export const PHASES = ["find", "take", "seek", "act"];
 
+/** For how long a code passes in the reader. */
+const CODE_SECONDS = 0.16;
+
 /** Without motion each phase is one picture, its end, for this long. */
 const PICTURE_MILLISECONDS = 1200;
 
@@ -20,6 +23,7 @@ export class Player {
     #before = null;
     #offset = 0;
     #waited = 0;
+    #isHeld = false;
 
     /** Begins with an order. What the register held before it is known where it was seen, or from the order before, where that was played. */
     play(account) {
@@ -27,11 +31,18 @@ export class Player {
         this.#account = account;
         this.#offset = this.isStill ? account.find : 0;
         this.#waited = 0;
+        this.#isHeld = false;
+    }
+
+    /** Holds an order where so many of its word times have passed: until another one is played nothing passes by itself. */
+    hold(account, offset) {
+        if (account !== this.#account) this.#before = account.registerBefore ?? null;
+        [this.#account, this.#offset, this.#isHeld] = [account, offset, true];
     }
 
     /** So many milliseconds have passed. Gives how many of them were not needed, since the order has ended. */
     tick(milliseconds) {
-        if (this.#account === null) return 0;
+        if (this.#account === null || this.#isHeld) return 0;
         if (!this.isStill) return 1000 * this.#pass(milliseconds / 1000);
         this.#nextPicture(milliseconds);
         return 0;
@@ -41,10 +52,23 @@ export class Player {
         const { sum, act } = this.#account;
         const toAct = Math.max(0, sum - act - this.#offset);
         const before = Math.min(seconds, toAct / this.pace);
-        const speed = act > 64 ? this.hurry * this.pace : this.pace;
+        const speed = this.#speedOfAct();
         const left = seconds - before - (sum - this.#offset - this.pace * before) / speed;
         this.#offset = Math.min(sum, this.#offset + this.pace * before + speed * (seconds - before));
         return Math.max(0, left);
+    }
+
+    /** How many word times of the act pass in a second. */
+    #speedOfAct() {
+        const { act, passed = 0 } = this.#account;
+        if (passed > 0) return act / (passed * CODE_SECONDS);
+        return act > 64 ? this.hurry * this.pace : this.pace;
+    }
+
+    /** How many codes of those that pass in the order are still to come. */
+    #codesToCome() {
+        const { sum, act, passed = 0 } = this.#account;
+        return passed - Math.floor((passed * Math.max(0, this.#offset - (sum - act))) / act);
     }
 
     #nextPicture(milliseconds) {
@@ -65,21 +89,22 @@ export class Player {
         this.#account = null;
     }
 
-    /** Where the order is that is played: the word times that have passed in it, its phase, and what counter, register and accumulator hold by now. Null where
-     * none is played. */
+    /** Where the order is that is played: the word times that have passed in it, its phase, how many there are to go until the head reads what is waited for, what counter, register and
+     * accumulator hold by now, how many codes are still to pass in the reader, and whether its act passes faster than it does. Null where none is played. */
     at() {
         const account = this.#account;
         if (account === null) return null;
         const [offset, ends] = [this.#offset, this.#ends()];
         const done = offset >= account.sum;
-        const isIn = (end) => (this.isStill ? offset <= end : offset < end);
+        const isIn = (end) => (this.isStill && !this.#isHeld ? offset <= end : offset < end);
         const isTaken = offset >= ends[1];
+        const phase = PHASES[ends.findIndex(isIn)] ?? "act";
         const counted = account.at === null ? null : after(account.at);
         return {
-            account, offset, done, phase: PHASES[ends.findIndex(isIn)] ?? "act",
+            account, offset, done, phase, isHeld: this.#isHeld, left: phase === "find" || phase === "seek" ? ends[PHASES.indexOf(phase)] - offset : 0,
             counter: done ? account.next ?? counted : isTaken ? counted : account.at,
             register: isTaken ? account.register ?? null : this.#before,
-            accumulator: done ? account.after : account.before,
+            accumulator: done ? account.after : account.before, codes: this.#codesToCome(), isHurried: this.#speedOfAct() > this.pace,
         };
     }
 }

@@ -7,7 +7,7 @@ import { DEEDS } from "./done.mjs";
 import { Laboratory } from "./laboratory.mjs";
 import { lessonIn } from "./lessons.mjs";
 import { LESSONS, setUpFor } from "./steps.mjs";
-import { ModuleLink } from "./tests/module.mjs";
+import { ModuleLink } from "./module_link.mjs";
 
 const top = join(dirname(fileURLToPath(import.meta.url)), "..");
 

@@ -1,5 +1,5 @@
 // What each step of the lessons waits for, or asks: by what the laboratory has of the monitor's replies. The texts of the steps are in docs/lessons.
-import { SECTORS, positionOf } from "./addresses.mjs";
+import { SECTORS, inTwoDigits, placesTo, positionOf } from "./addresses.mjs";
 import { wholeOf } from "./module/replies.mjs";
 
 const wordAt = ({ words }, address) => words.find((word) => word.address === address);
@@ -11,10 +11,7 @@ const digitsAt = (address) => (laboratory) => wordAt(laboratory, address)?.digit
 const areWords = (...listed) => (laboratory) => listed.every((line) => digitsAt(line.slice(0, 4))(laboratory) === line.slice(5));
 const all = (...conditions) => (laboratory) => conditions.every((condition) => condition(laboratory));
 
-/** How many word times it takes until the head has read a sector, from a clock on: the drum is read once at least. */
-const placesTo = (sector, clock) => ((positionOf(sector) - Number(clock % BigInt(SECTORS)) + 2 * SECTORS - 1) % SECTORS) + 1;
 const placesOf = (sector) => ({ panel }) => String(placesTo(sector, panel.clock));
-const inTwoDigits = (sector) => String(sector).padStart(2, "0");
 
 /** The sector that the head reads next. */
 const comesNext = ({ panel }) => inTwoDigits(Array.from({ length: SECTORS }, (unused, sector) => sector).find((sector) => placesTo(sector, panel.clock) === 1));
@@ -56,8 +53,8 @@ const SHEET = {
 
 /**
  * The lessons by the names of their documents, each with its steps. An example that a step `opens` is opened when the step is reached, and set going; the lines below the step in its
- * document are done then as well. The list of words is turned to what it `shows`, and scrolled to the rows at which the step `looks`. A step is `done` when that holds, or asks for what `answer` gives, where `isAsked` holds. Where the
- * pupil `types` there is a box for lines.
+ * document are done then as well. The list of words is turned to what it `shows`, and scrolled to the rows at which the step `looks`. A step is `done` when that holds, or asks for what `answer` gives, where `isAsked` holds. Where a step
+ * `counts`, the drum does not tell what it asks for. Where the pupil `types` there is a box for lines.
  */
 export const LESSONS = [
     { name: "a-computer-on-a-drum", steps: [
@@ -69,7 +66,7 @@ export const LESSONS = [
         { answer: lastOf("sum"), isAsked: wasAt("0000") },
         { answer: lastOf("find"), isAsked: wasAt("0000") },
         { answer: lastOf("seek"), isAsked: wasAt("0000") },
-        { answer: placesOf(1), isAsked: isAt("0001") },
+        { counts: true, answer: placesOf(1), isAsked: isAt("0001") },
         { answer: lastOf("find"), isAsked: wasAt("0001") },
         { answer: lastOf("find"), isAsked: wasAt("0001") },
         { answer: lastOf("find"), isAsked: wasAt("0001") },
@@ -106,7 +103,7 @@ export const LESSONS = [
         { types: true, looks: ["0001"], answer: orderAt("0001"), isAsked: all(hasRule("watch 0001"), isAt("0006"), (laboratory) => !isOrderAt("0001", "a 0010")(laboratory)) },
         { looks: ["0007"], answer: digitsAt("0007"), isAsked: isOrderAt("0001", "a 0012") },
         { opens: "self-modifying", done: isAt("0005") },
-        { answer: placesOf(5), isAsked: isAt("0005") },
+        { counts: true, answer: placesOf(5), isAsked: isAt("0005") },
         { looks: ["0009"], answer: ({ accounts }) => accounts.at(-1)?.stored?.address ?? null, isAsked: wasAt("0005") },
         { looks: ["0009"], answer: orderAt("0009"), isAsked: isAt("0005") },
         { looks: ["0009"], done: isOrderAt("0009", "a 0101") },

@@ -1,7 +1,7 @@
-// A task of tasks/ and its check, as ./check_task does it: each try is a script of the laboratory, and what is missing is read from the replies
-// to its lines. tasks/README.md has the form of a task, and tasks/language the sentences.
+// A task of tasks/ and its check, for the page and for ./check_task: each try is a script of the laboratory, and what is missing is read from the
+// replies to its lines. tasks/README.md has the form of a task, and tasks/language the sentences.
 import { linesIn } from "./lines.mjs";
-import { isRefusal, panelOf, placesOf, printedOf, runOf, sourceOf } from "./module/replies.mjs";
+import { isRefusal, panelOf, placesOf, printedOf, refusalOf, runOf, sourceOf } from "./module/replies.mjs";
 
 /** What is shown of a line or a text, in bytes; of how many faults of a source; and the orders of a run where the task has no limit. */
 const [SHOWN, FAULTS, LIMIT] = [100, 10, 10_000];
@@ -12,16 +12,28 @@ export const sentencesIn = (text) => Object.fromEntries(linesIn(text).filter((li
 /** What writes a sentence of a table by its name and the words that are put into it. */
 export const speaker = (sentences) => (name, ...words) => sentences[name].replace(/\{(\d)\}/g, (unused, place) => words[place - 1]);
 
+/** A line that begins a try, or wants something of it. */
+const LINE = /^(?:begin (?:put|mount|press) .+|want (?:printed(?: .*)?|like .+|word \d{4} [0-9fgjkqw]{8}(?: .+)?|shows \d{4} .+|counter \d{4}|status .+)|most (?:times|orders|words) \d+)$/;
+
+/** A task with a mistake: the name of the sentence that says so, and the words after the task's own name. */
+export class TaskFault extends Error {
+    constructor(sentence, ...words) {
+        super([sentence, ...words].join(": "));
+        Object.assign(this, { sentence, words });
+    }
+}
+
 /** A task as its file has it: how many minutes it takes, the most orders of a run, what its pattern is called by languages, and its tries, each by its lines. */
 export function taskIn(text) {
     const [task, shared] = [{ minutes: 0, limit: LIMIT, likes: {}, tries: [] }, []];
-    for (const line of linesIn(text).filter((it) => !/^(#|$)/.test(it))) {
-        const [, name, rest] = /^((?:(?:want|most) )?\S+) ?(.*)$/.exec(line);
-        if (name === "minutes" || name === "limit") task[name] = Number(rest);
-        else if (name.startsWith("like.")) task.likes[name.slice("like.".length)] = rest;
-        else if (name === "try") task.tries.push([...shared]);
-        else if (name === "begin" || name in LOOKS) (task.tries.at(-1) ?? shared).push({ name, rest });
-        else throw new Error(`no line of a task: ${line}`);
+    for (const [place, line] of linesIn(text).entries()) {
+        const [, name, rest] = /^((?:(?:want|most) )?\S+) ?(.*)$/.exec(line) ?? ["", "", ""];
+        if (/^(#|$)/.test(line)) continue;
+        if (/^(minutes|limit) \d+$/.test(line)) task[name] = Number(rest);
+        else if (/^like\.[a-z]+ /.test(line)) task.likes[name.slice("like.".length)] = rest;
+        else if (line === "try") task.tries.push([...shared]);
+        else if (LINE.test(line)) (task.tries.at(-1) ?? shared).push({ name, rest });
+        else throw new TaskFault("faulty-task", place + 1, line);
     }
     return { ...task, tries: task.tries.length === 0 ? [shared] : task.tries };
 }
@@ -79,11 +91,20 @@ function missingAtEnd({ ran, after: { status, counter }, limit, sentences }, wan
 /** The place that a question of a try asks for, by the line that wants it. */
 const QUESTIONS = { "want word": "words", "want shows": "show" };
 
+/** The reply to a line of a task, which nothing but a mistake in the task refuses. */
+async function replyTo(link, line, isRight) {
+    const reply = await link.ask(line);
+    if (!isRight(reply)) throw new TaskFault("faulty-line", reply.split("\n")[0]);
+    return reply;
+}
+
+const isAnswered = (reply) => !isRefusal(reply);
+
 async function asksOf(link, lines) {
     const asked = new Map();
     for (const { name, rest } of lines.filter((line) => line.name in QUESTIONS)) {
         const question = `${QUESTIONS[name]} ${rest.slice(0, 4)}`;
-        const [{ text }] = placesOf(await link.ask(`${question} 1`));
+        const [{ text }] = placesOf(await replyTo(link, `${question} 1`, isAnswered));
         asked.set(question, text);
     }
     return asked;
@@ -91,9 +112,10 @@ async function asksOf(link, lines) {
 
 /** Runs a try of a source that is assembled: what is missing, and its word times. */
 async function tried(link, lines, about) {
-    await link.askAll(["load", ...beginning(lines)]);
+    await link.ask("load");
+    for (const line of beginning(lines)) await replyTo(link, line, (reply) => /^(live|ok)/.test(reply));
     const before = panelOf(await link.ask("panel-data"));
-    const reply = await link.ask(`run ${about.limit}`);
+    const reply = await replyTo(link, `run ${about.limit}`, (said) => isAnswered(said) || refusalOf(said).kind === "ClockEnd");
     const ran = isRefusal(reply) ? null : runOf(reply);
     const after = panelOf(await link.ask("panel-data"));
     const printed = printedOf(await link.ask("printed")).text;
@@ -138,7 +160,7 @@ export async function assembled(link, source, say) {
 }
 
 /**
- * Checks a source against a task in laboratories of a link, a new one for each try. Gives whether it is right, the sentence that says so, with the
+ * Checks a source against a task in laboratories of a link, a new one for each try; throws a TaskFault. Gives whether it is right, the sentence that says so, with the
  * name of its file, and the sentences of what is missing. `sentences` are those of the language, which `code` names.
  */
 export async function checked(link, task, source, { file, sentences, code }) {

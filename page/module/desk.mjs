@@ -13,7 +13,7 @@ function dumpedIn(text, isPut) {
     let last = "";
     for (const [at, line] of linesIn(text).entries()) {
         const [address, word] = /^\d{4} \S{8}$/.test(line) ? line.split(" ") : [];
-        if (address === undefined || word === "00000000" || !isPut(line)) return { refusal: `? 1 Form: line ${at + 1} is no line of a dump\n` };
+        if (address === undefined || word === "00000000" || !isPut(line)) return { refusal: `? 1 Form: line ${at + 1} is not a line of a dump\n` };
         if (address <= last) return { refusal: `? 1 Form: the address of line ${at + 1} is not above that of the line before it\n` };
         words.set(address, word);
         last = address;

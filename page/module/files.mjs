@@ -62,7 +62,7 @@ function patiently(call) {
 
 /** The text of a file. */
 export function readFile(name) {
-    if (!isText(name)) throw new FileTrouble("this is no name of a file");
+    if (!isText(name)) throw new FileTrouble("this is not a file name");
     let descriptor;
     try {
         descriptor = openSync(bytesFrom(name), "r");
@@ -115,6 +115,6 @@ export function keepFile(name, text) {
             closeSync(descriptor);
         }
     } catch {
-        throw new FileTrouble("it cannot be written, and is as it was");
+        throw new FileTrouble("it cannot be written, and is unchanged");
     }
 }

@@ -3,7 +3,10 @@ import { wordsOf } from "./lines.mjs";
 import { isRefusal, linesOf } from "./replies.mjs";
 
 /** The commands whose replies have a key and a value on each line. */
-const KEYED = ["live", "commands", "panel-data", "trace-data", "profile-data"];
+const KEYED = [
+    "live", "commands", "panel-data", "trace-data", "profile-data", "state-data", "show-data", "why-data", "labels-data", "rules-data", "paper-data", "tape-data", "source-data", "cost", "commands-data", "operations-data",
+    "faults-data",
+];
 
 /** A string: each byte but the printed characters of ASCII by its number. */
 function stringOf(text) {

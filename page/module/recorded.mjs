@@ -38,15 +38,21 @@ export class Recorded {
         return this.#reply(line);
     }
 
-    #transcript() {
-        const lines = linesIn(this.#reply("transcript"));
-        return lines.map((line, number) => (this.#asked.has(number) ? "" : `${line}\n`)).join("");
+    #lines() {
+        return linesIn(this.#reply("transcript"));
     }
 
-    /** The reply to a line that only asks, which leaves no trace. No source is open. */
+    #transcript() {
+        if (this.#asked.size === 0) return this.#reply("transcript");
+        return this.#lines().map((line, number) => (this.#asked.has(number) ? "" : `${line}\n`)).join("");
+    }
+
+    /** The reply to a line that only asks, which leaves no trace, whether the module's transcript has it or not. No source is open. */
     ask(line) {
-        this.#asked.add(linesIn(this.#reply("transcript")).length);
-        return this.#reply(line);
+        const before = this.#lines().length;
+        const reply = this.#reply(line);
+        for (let at = before; at < this.#lines().length; at++) this.#asked.add(at);
+        return reply;
     }
 
     /** The reply to the end. */

@@ -39,6 +39,9 @@ export function bitsOf(digits) {
     });
 }
 
+/** The digits of a word, of the number of its 32 bits with a sign. */
+export const digitsOf = (value) => Array.from({ length: 8 }, (unused, at) => DIGITS[(value >>> (28 - 4 * at)) & 15]).join("");
+
 /** A word in digits as the number of its 32 bits with a sign. */
 export function signedOf(digits) {
     return bitsOf(digits).reduce((value, bit) => ((value << 1) | bit) | 0, 0);
@@ -138,6 +141,9 @@ export function lastOf(reply) {
     const [, orders, rule] = matched(/^back (\d+) rule (\d+)$/, linesOf(reply)[0] ?? "", "reply of last");
     return { orders: Number(orders), rule: Number(rule) };
 }
+
+/** How many orders the loader performed for `load`. */
+export const loadedOf = (reply) => Number(matched(/^loaded (\d+)$/, linesOf(reply)[0] ?? "", "reply of load")[1]);
 
 /** How many keys of `type` were live and how many dead. */
 export function keysOf(reply) {

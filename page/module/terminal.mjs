@@ -6,14 +6,15 @@
 // A command line that is not done here is handed back: nothing is read or written, and the status is HANDED_BACK. With --takes nothing is done,
 // and the status alone says whether it would be.
 import { openSync, readFileSync, statSync } from "node:fs";
-import { createInterface } from "node:readline";
 import { isatty } from "node:tty";
 import { Desk } from "./desk.mjs";
+import { ModuleEngine } from "./engines.mjs";
 import { readAll, readSome, writeAll } from "./files.mjs";
-import { bytesFrom, endedText, hasLine, isLonger, linesIn, textFrom, wordsOf } from "./lines.mjs";
+import { bytesFrom, endedText, hasLine, isLonger, linesIn, textFrom } from "./lines.mjs";
 import { Recorded } from "./recorded.mjs";
-import { commandsOf, isRefusal } from "./replies.mjs";
+import { isRefusal } from "./replies.mjs";
 import { NoMemory, Session, answerScript, compiled } from "./session.mjs";
+import { sitWith } from "./sitting.mjs";
 import { Typist } from "./typist.mjs";
 
 const HANDED_BACK = 75;
@@ -162,57 +163,10 @@ function typeInput(typist, desk) {
     if (begun !== "" && !desk.hasLeft) typist.typeLine(begun, false);
 }
 
-/** What may stand at the end of a line: commands first, and then labels and addresses. */
-function completions(recorded, line) {
-    if (recorded.isSourceOpen) return [[], line];
-    const begun = /[^ ]*$/.exec(line)[0];
-    const before = wordsOf(line.slice(0, line.length - begun.length));
-    const isCommand = before.length === 0 || (before.length === 1 && before[0] === "help");
-    const words = isCommand ? commandWords(recorded) : addressWords(recorded);
-    return [[...new Set(words)].filter((word) => word.startsWith(begun)).sort(), begun];
-}
-
-/** The commands that `help` names, each with a space after it. */
-const commandWords = (recorded) => [...commandsOf(recorded.answer("commands")).keys()].map((word) => `${word} `);
-
-/** The labels of the last source with their addresses, and the addresses of the rules. */
-const addressWords = (recorded) => [
-    ...linesIn(recorded.answer("labels")).flatMap(wordsOf),
-    ...linesIn(recorded.answer("rules")).map((rule) => wordsOf(rule).at(-1)),
-];
-
-/** Holds a sitting at a terminal; gives the status when it has ended. */
-function sitAtTerminal(typist, desk, recorded) {
-    const { stdin, stdout } = process;
-    const reader = createInterface({ input: stdin, output: stdout, completer: (line) => completions(recorded, line), removeHistoryDuplicates: true });
-    const offer = () => {
-        reader.setPrompt(desk.prompt);
-        reader.prompt();
-    };
-    return new Promise((resolve, reject) => {
-        // while a line is answered the terminal itself ends the program by Ctrl-C
-        reader.on("line", (line) => {
-            if (desk.hasLeft) return;
-            stdin.setRawMode(false);
-            try {
-                typist.typeLine(textFrom(Buffer.from(line)));
-                if (desk.hasLeft) return reader.close();
-                stdin.setRawMode(true);
-                offer();
-            } catch (failure) {
-                reject(failure);
-                reader.close();
-            }
-        });
-        reader.on("SIGINT", () => {
-            stdin.setRawMode(false);
-            process.kill(process.pid, "SIGINT");
-        });
-        // the reader pauses when the program was stopped by Ctrl-Z; the prompt makes it go on
-        reader.on("SIGCONT", () => reader.prompt(true));
-        reader.on("close", resolve);
-        offer();
-    });
+/** Holds a sitting at a terminal over the session of a desk. */
+async function sitAtTerminal(recorded, desk, openBeside) {
+    const engine = new ModuleEngine(recorded, desk, (say) => new Typist(desk, openBeside, say), openBeside);
+    await sitWith(engine);
 }
 
 async function monitor({ names, manner }) {
@@ -222,9 +176,12 @@ async function monitor({ names, manner }) {
     const typist = new Typist(desk, openBeside, (text) => write(bytesFrom(text)));
     const isPrompting = isatty(0) && isatty(1) && manner === "bare";
     typist.typeFirst(names);
-    if (isPrompting && !desk.hasLeft) await sitAtTerminal(typist, desk, recorded);
-    else typeInput(typist, desk);
-    write(bytesFrom(desk.close() + (isPrompting && desk.endsPrompt ? "\n" : "")));
+    if (isPrompting) {
+        if (!desk.hasLeft) await sitAtTerminal(recorded, desk, openBeside);
+        return WELL;
+    }
+    typeInput(typist, desk);
+    write(bytesFrom(desk.close()));
     return desk.isRefused ? QUESTIONS : WELL;
 }
 

@@ -54,6 +54,11 @@ export class Typist {
         this.#say(hasEnd ? withoutReturn(line) : line, "", DEPTH);
     }
 
+    /** Types a line that comes from elsewhere, as the note says. */
+    typeFrom(line, note) {
+        this.#say(line, note, DEPTH);
+    }
+
     /** A line, with the note that says where it comes from; this many files more may be opened within one another. */
     #say(line, note, depth) {
         const request = this.#desk.takesCommands && line.length <= LINE_LIMIT ? requestIn(line) : null;
@@ -75,7 +80,7 @@ export class Typist {
         if (KEPT_ELSEWHERE.includes(word)) throw new FileTrouble(NATIVE);
         if (word === "save") return this.#keep(name, this.#desk.dump(), note);
         if (word === "punch") return this.#keep(name, this.#desk.printed(), note);
-        if (word === "do" && depth === 0) throw new FileTrouble(`${DEPTH} files are open within one another`);
+        if (word === "do" && depth === 0) throw new FileTrouble(`${DEPTH} files are already open, each from the one before`);
         const text = readFile(name);
         if (word === "do") return this.#typeFile(name, text, depth - 1);
         if (word === "source") return this.#source(text, within(name, note));
@@ -89,7 +94,7 @@ export class Typist {
         const place = this.#badSignIn(text);
         if (place !== null) {
             const line = text.slice(0, place).split("\n").length;
-            throw new FileTrouble(`the byte at place ${place}, counted from 0, in line ${line}, begins no sign of a tape`);
+            throw new FileTrouble(`the byte at place ${place}, counting from 0, in line ${line}, does not begin a tape sign`);
         }
         const tape = tapeTextOf(codesOf(text));
         if (tape.length > MOUNT_LIMIT) throw new FileTrouble(LONG_TAPE);
@@ -120,7 +125,7 @@ export class Typist {
 
     /** Types a source, with the lines that open and close it. */
     #source(text, note) {
-        if (hasLine(text, ".")) throw new FileTrouble("a line that is a point alone would end the source");
+        if (hasLine(text, ".")) throw new FileTrouble("a line with only a point would end the source");
         return ["source", ...linesIn(endedText(text)), "."].map((line) => this.#desk.line(withoutReturn(line), note)).join("");
     }
 

@@ -53,12 +53,12 @@ function faintInPage() {
         const isDrawn = node.namespaceURI.endsWith("svg");
         told(`"${text.data.trim().slice(0, 30)}", ${pathOf(node)}`, isLarge ? 3 : 4.5, isDrawn ? fill : color, isDrawn ? [...behind(node), ...shapesBehind(node)] : behind(node));
     }
-    for (const node of document.querySelectorAll("input, textarea, select, button")) {
+    for (const node of document.querySelectorAll("input, select, button")) {
         if (!isSeen(node)) continue;
         const around = behind(node.parentElement);
         if ("placeholder" in node && node.placeholder !== "") told(`placeholder, ${pathOf(node)}`, 4.5, getComputedStyle(node, "::placeholder").color, behind(node));
         if (node.value !== undefined && node.tagName !== "BUTTON") told(`value, ${pathOf(node)}`, 4.5, styleOf(node).color, behind(node));
-        if (node.type !== "checkbox" && styleOf(node).borderTopStyle === "solid") told(`border, ${pathOf(node)}`, 3, styleOf(node).borderTopColor, around);
+        if (!["checkbox", "radio"].includes(node.type) && styleOf(node).borderTopStyle === "solid") told(`border, ${pathOf(node)}`, 3, styleOf(node).borderTopColor, around);
     }
     const marks = { "backgroundColor": ".dot, .lamp.lit, .bar", "stroke": ".head", "fill": ".arrow polygon" };
     for (const [property, selector] of Object.entries(marks)) {
@@ -136,8 +136,10 @@ export async function unreached(browser) {
     for (let count = 0; count < 3 && (count === 0 || missed.length > 0); count += 1) {
         await goAround(browser);
         missed = await browser.value(`(() => {
-            const wanted = [...document.querySelectorAll("a[href], button, input, select, textarea, summary, [tabindex='0']"), ...heardByMouse];
-            const isMissed = (it) => it.isConnected && it.checkVisibility() && !it.disabled && !reachedByTab.has(it);
+            const wanted = [...document.querySelectorAll("a[href], button, input, select, [role=textbox], summary, [tabindex='0']"), ...heardByMouse];
+            // of an editor its text is reached, and with that all that a mouse finds there; of radio buttons the chosen one, from which arrows go on
+            const standsFor = (it) => it.closest(".CodeMirror")?.querySelector("[role=textbox]") ?? (it.type === "radio" ? document.querySelector("[name='" + it.name + "']:checked") : it);
+            const isMissed = (it) => it.isConnected && it.checkVisibility() && !it.disabled && !reachedByTab.has(standsFor(it));
             return [...new Set(wanted.filter(isMissed).map((it) => "Tab does not reach " + it.outerHTML.slice(0, 100)))];
         })()`);
     }

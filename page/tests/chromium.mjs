@@ -5,11 +5,15 @@ import { tmpdir } from "node:os";
 import { join } from "node:path";
 import { Driver } from "./driver.mjs";
 
+/** The codes of keys, as Windows numbers them, that are no letter, digit or blank. */
+const CODES = { Tab: 9, Enter: 13, Escape: 27, End: 35, Home: 36, ArrowLeft: 37, ArrowUp: 38, ArrowRight: 39, ArrowDown: 40, F1: 112, F5: 116, F8: 119, F9: 120, F10: 121, ";": 186, "=": 187, "+": 187, ",": 188, "-": 189, ".": 190, "/": 191, "'": 222 };
+
 /** A page of a Chromium without a window. */
 export class Chromium extends Driver {
     engine = "Chromium";
     #process;
     #folder = mkdtempSync(join(tmpdir(), "page-"));
+    #held = { x: 0, y: 0, isDown: false };
     #rest = "";
     #number = 0;
     #waiting = new Map();
@@ -87,18 +91,43 @@ export class Chromium extends Driver {
         return () => this.ask("Page.removeScriptToEvaluateOnNewDocument", { identifier });
     }
 
-    async strike(key) {
-        const { code, text } = { Tab: { code: 9 }, Enter: { code: 13, text: "\r" }, Escape: { code: 27 } }[key] ?? { code: key.toUpperCase().charCodeAt(0), text: key };
-        const struck = { key, code: key, windowsVirtualKeyCode: code };
-        await this.ask("Input.dispatchKeyEvent", { type: "keyDown", ...struck, text });
+    async strike(key, ...held) {
+        const code = CODES[key] ?? key.toUpperCase().charCodeAt(0);
+        const text = held.includes("Control") ? undefined : key === "Enter" ? "\r" : key.length === 1 ? key : undefined;
+        const modifiers = (held.includes("Control") ? 2 : 0) + (held.includes("Shift") ? 8 : 0);
+        const struck = { key, code: key, windowsVirtualKeyCode: code, modifiers };
+        await this.ask("Input.dispatchKeyEvent", { type: text === undefined ? "rawKeyDown" : "keyDown", ...struck, text });
         await this.ask("Input.dispatchKeyEvent", { type: "keyUp", ...struck });
     }
 
     async touch(x, y) {
-        await this.ask("Emulation.setTouchEmulationEnabled", { enabled: true });
-        await this.ask("Input.dispatchTouchEvent", { type: "touchStart", touchPoints: [{ x, y }] });
-        await this.ask("Input.dispatchTouchEvent", { type: "touchEnd", touchPoints: [] });
-        await this.ask("Emulation.setTouchEmulationEnabled", { enabled: false });
+        await this.lead([[x, y], "down", "up"], "touch");
+    }
+
+    async lead(steps, pointerType = "mouse") {
+        const isMouse = pointerType === "mouse";
+        if (!isMouse) await this.ask("Emulation.setTouchEmulationEnabled", { enabled: true });
+        for (const step of steps) await (isMouse ? this.#mouse(step) : this.#finger(step));
+        if (!isMouse && !this.#held.isDown) await this.ask("Emulation.setTouchEmulationEnabled", { enabled: false });
+    }
+
+    #step(step) {
+        const { x, y, isDown } = this.#held;
+        this.#held = Array.isArray(step) ? { x: step[0], y: step[1], isDown } : { x, y, isDown: step === "down" };
+        return this.#held;
+    }
+
+    async #mouse(step) {
+        const { x, y, isDown } = this.#step(step);
+        const type = Array.isArray(step) ? "mouseMoved" : isDown ? "mousePressed" : "mouseReleased";
+        await this.ask("Input.dispatchMouseEvent", { type, x, y, button: type === "mouseMoved" && !isDown ? "none" : "left", buttons: isDown ? 1 : 0, clickCount: type === "mouseMoved" ? 0 : 1 });
+    }
+
+    async #finger(step) {
+        const { x, y, isDown } = this.#step(step);
+        if (Array.isArray(step) && !isDown) return;
+        const type = Array.isArray(step) ? "touchMove" : { down: "touchStart", up: "touchEnd", cancel: "touchCancel" }[step];
+        await this.ask("Input.dispatchTouchEvent", { type, touchPoints: isDown ? [{ x, y }] : [] });
     }
 
     async pixels() {

@@ -11,14 +11,14 @@ const told = (lines, refusal = null) => costsText({ ...costsOf(lines), refusal }
 
 test("where a word lies, what the orders took, where it would have cost least and what it would save", () => {
     assert.deepEqual(told([...HEAD, ...DRAWN, "  it may be moved, and saves 25088 word times at sector 25"]),
-        ["0128 wage lies in sector 28: so the last orders, 2,355 in all, took 150,629 word times; in sector 25 it would have been 125,541, which is 25,088 less, and it may be moved."]);
-    assert.match(told([...HEAD, "  sector 25       125541  # own best", "  it may be moved, and saves 0 word times at sector 25"])[0], /lies in sector 25: .* no sector is better, and it may be moved\.$/);
+        ["0128 wage is in sector 28. With it there, the last orders, 2,355 in all, took 150,629 word times; in sector 25 they would have taken 125,541, which is 25,088 fewer, and the word may be moved."]);
+    assert.match(told([...HEAD, "  sector 25       125541  # own best", "  it may be moved, and saves 0 word times at sector 25"])[0], /is in sector 25\. .* no sector is better\. The word may be moved\.$/);
 });
 
 test("a reason is told as the monitor gives it, and so is why a run was refused", () => {
     const reason = "it is not to be moved, since it was performed as an order";
     const [sentence, said] = told([...HEAD, ...DRAWN, `  ${reason}`]);
-    assert.match(sentence, /in sector 25 it would have been 125,541, but it is an order of the program/);
+    assert.match(sentence, /in sector 25 they would have taken 125,541, but the word is an order of the program/);
     assert.equal(said, `The monitor says: ${reason}`);
     const refusal = "? 4 ClockEnd: the clock would pass its end";
     assert.deepEqual(told(["no order was performed, so no word was named"], refusal).slice(1), ["The monitor says: no order was performed, so no word was named", `The monitor says: ${refusal}`]);

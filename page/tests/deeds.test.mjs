@@ -82,7 +82,7 @@ test("the head of a script, and how far it sets up", () => {
 
 test("what an address asks for", () => {
     assert.deepEqual(askedIn({ search: "?kiosk=games/matches&idle=60&lang=de", hash: "" }),
-        { isKiosk: true, script: null, example: "games/matches", language: "de", door: "hall", idleSeconds: 60, lesson: null, step: null, task: null, story: null, caption: null });
+        { isKiosk: true, script: null, example: "games/matches", language: "de", door: "hall", idleSeconds: 60, offers: null, lesson: null, step: null, task: null, story: null, caption: null, game: null, seconds: null });
     assert.equal(askedIn({ search: "", hash: "#script=put%200000%2000000000%0Apanel" }).script, "put 0000 00000000\npanel");
     assert.deepEqual([askedIn({ search: "", hash: "#kiosk" }).isKiosk, askedIn({ search: "", hash: "#first-run" }).example], [true, "first-run"]);
     assert.equal(askedIn({ search: "", hash: "#%E0%A4%A" }).example, "%E0%A4%A");
@@ -93,7 +93,7 @@ test("what an address asks for", () => {
 test("an address says where one is, and asks for the same", () => {
     const places = [
         [{ door: "learn", lesson: "rewriting", step: 9 }, "?lang=de&lesson=rewriting&step=9"], [{ door: "learn", task: "sum" }, "?lang=de&task=sum"],
-        [{ door: "look", story: 2, caption: 3 }, "?lang=de&story=2&caption=3"], [{ door: "work", example: "tables/primes" }, "?lang=de&door=work#tables/primes"], [{ kiosk: "games/matches" }, "?lang=de&kiosk=games/matches"],
+        [{ door: "look", story: 2, caption: 3 }, "?lang=de&story=2&caption=3"], [{ door: "look", game: "faster" }, "?lang=de&game=faster"], [{ door: "work", example: "tables/primes" }, "?lang=de&door=work#tables/primes"], [{ kiosk: "games/matches" }, "?lang=de&kiosk=games/matches"],
     ];
     for (const [place, address] of places) {
         assert.equal(placeOf(place, { search: "?lang=de&door=work&lesson=other&step=3" }), address);

@@ -21,9 +21,10 @@ function madeUp(orders = Infinity) {
         },
     };
     const sleep = (milliseconds) => { done.rests += milliseconds; return new Promise((resolve) => setTimeout(resolve)); };
-    const drive = new Drive(laboratory, new Player(), async () => { done.runs += 1; }, { now: () => 0, sleep });
+    const player = new Player();
+    const drive = new Drive(laboratory, player, async () => { done.runs += 1; }, { now: () => 0, sleep });
     drive.addEventListener("play", () => setTimeout(() => drive.played()));
-    return { drive, done };
+    return { drive, done, laboratory, player };
 }
 
 test("a pace goes on for so many orders, and until the machine stands still", async () => {
@@ -54,6 +55,40 @@ test("a step performs one order and waits for nothing", async () => {
     const { drive, done } = madeUp();
     await drive.step();
     assert.deepEqual([done.orders, drive.pace], [1, null]);
+});
+
+test("what was gone back over is performed again, by a step and in a pace; and Go on takes the chosen pace", async () => {
+    const { drive, done, laboratory } = madeUp(4);
+    laboratory.deeds.ahead = 2;
+    laboratory.forward = async (count, whenDone) => {
+        laboratory.deeds.ahead -= 1;
+        return laboratory.step(count, true, whenDone);
+    };
+    await drive.step();
+    drive.choose("slow");
+    assert.deepEqual([drive.pace, laboratory.deeds.ahead], [null, 1]);
+    await drive.goOn();
+    assert.deepEqual([done.orders, laboratory.deeds.ahead, drive.pace], [4, 0, null]);
+});
+
+test("another pace that is chosen while the machine goes on takes effect at once", async () => {
+    const { drive, done } = madeUp();
+    const went = drive.goOn();
+    drive.choose("slow");
+    assert.equal(drive.pace, "slow");
+    drive.addEventListener("play", () => { if (done.orders === 3) drive.goOn(); });
+    await went;
+    assert.deepEqual([done.runs, done.orders, drive.pace, drive.chosen], [1, 3, null, "slow"]);
+});
+
+test("in a tale an act of many turns passes as one turn", async () => {
+    const { drive, player } = madeUp(1);
+    const hurries = [];
+    drive.addEventListener("play", () => hurries.push([player.pace, player.hurry]));
+    Object.assign(account, { act: 384 });
+    await drive.go("tale", 1);
+    Object.assign(account, { act: 1 });
+    assert.deepEqual(hurries, [[32, 6]]);
 });
 
 test("in a show the first orders and those that rewrite another one are slow, and what prints is hurried while it types", () => {

@@ -10,7 +10,7 @@ import { Laboratory } from "../laboratory.mjs";
 import { commentsIn, headOf, linesIn } from "../lines.mjs";
 import { answerScript, bytesOf, textOf } from "../module/session.mjs";
 import { LANGUAGES } from "../words.mjs";
-import { ModuleLink } from "./module.mjs";
+import { ModuleLink } from "../module_link.mjs";
 
 const top = join(dirname(fileURLToPath(import.meta.url)), "../..");
 const shelf = join(top, "examples");

@@ -8,80 +8,142 @@ import { chance, checkOf, examples, exhibited, printedBy, skip, tick } from "./e
 
 const TOUCHES = Number(process.env.TOUCHES ?? 40);
 const [part, parts] = (process.env.PART ?? "1/1").split("/").map(Number);
+/** The buttons as visitors press them: the second one, with which a story goes on, more often than the others. */
+const PRESSED = [1, 1, 2, 2, 2, 2, 2, 2, 2, 3, 3, 4];
+const STATES = ["attract", "story", "show", "end", "matches"];
 
-/** Visitors touch so often; each time that the machine has changed the paper is looked at. Now and then nobody is there, and it begins anew. */
+/** Visitors touch so often, buttons and what lies beside them; each time that the machine has changed the paper is looked at: it is the one of the program that is open. Now and then nobody is there, and it begins anew. */
 async function visited(name, touches) {
-    const [{ laboratory, exhibit, drive }, isRight, among] = [await exhibited(name), await checkOf(name), chance(touches)];
-    const wrong = [];
-    laboratory.addEventListener("change", () => { if (!isRight(laboratory.printed.text)) wrong.push(laboratory.printed.text); });
+    const [{ laboratory, exhibit, drive }, among] = [await exhibited(name), chance(touches)];
+    const checks = new Map(await Promise.all([exhibit.name, KIOSK.game].map(async (it) => [it, await checkOf(it)])));
+    const [wrong, seen] = [[], new Set()];
+    laboratory.addEventListener("change", () => { if (!checks.get(laboratory.script.name)(laboratory.printed.text)) wrong.push(laboratory.printed.text); });
     await exhibit.attract();
     for (let touch = 0; touch < touches && wrong.length === 0; touch += 1) {
-        if (among(40) === 0) await exhibit.attract();
-        else exhibit.press(1 + among(4));
+        const what = among(40);
+        if (what === 0) await exhibit.attract();
+        else if (what === 1) exhibit.takeOver();
+        else exhibit.press(PRESSED[among(PRESSED.length)]);
         for (let pause = among(4); pause > 0; pause -= 1) await tick();
         if (among(10) === 0) await laboratory.settled();
+        seen.add(exhibit.state);
     }
-    assert.deepEqual(wrong, [], name);
+    assert.deepEqual([wrong, [...seen].filter((state) => !STATES.includes(state)), exhibit.labels.length], [[], [], 4], name);
     await exhibit.attract();
     assert.deepEqual([laboratory.printed.count, laboratory.deeds.behind <= 1, exhibit.isAttract], [0, true, true], name);
     exhibit.end();
     drive.halt();
     await laboratory.settled();
+    return seen;
 }
 
 const isLong = (name) => name === KIOSK.example || GAMES.has(name);
 
 for (const name of examples.filter((unused, place) => place % parts === part - 1)) {
-    test(`${name}: whatever is pressed at the kiosk, the paper is a beginning of the right text`, { skip }, () => visited(name, isLong(name) ? Math.max(TOUCHES, 1000) : TOUCHES));
+    test(`${name}: whatever is pressed at the kiosk, the paper is a beginning of the right text`, { skip }, async () => {
+        const seen = await visited(name, isLong(name) ? Math.max(TOUCHES, 1000) : TOUCHES);
+        if (name === KIOSK.example) assert.deepEqual([...seen].sort(), [...STATES].sort());
+    });
 }
 
-test("a program that has ended begins anew by each of the buttons", { skip }, async () => {
-    const { text } = await printedBy("tables/primes");
-    const { laboratory, drive, exhibit } = await exhibited("tables/primes");
-    const ended = async () => { while (drive.pace !== null || laboratory.way.kind === "go") await tick(); await laboratory.settled(); };
-    await exhibit.open();
-    for (let pressed = 0; pressed < 4; pressed += 1) {
-        await exhibit.press(3);
-        await ended();
-        assert.equal(laboratory.printed.text, text);
-    }
-    await exhibit.press(2);
-    assert.deepEqual([laboratory.printed.text, laboratory.deeds.behind], ["", 1]);
-    await exhibit.press(3);
-    await ended();
-    await exhibit.press(1);
+/** Waits until the exhibit is in a state and its machine rests. */
+async function restsIn({ exhibit, laboratory, drive }, state) {
+    while (exhibit.state !== state || drive.pace !== null) await tick();
     await laboratory.settled();
-    assert.equal(laboratory.printed.text, "");
+}
+
+test("a story goes order by order: Next plays one, Back takes it back, Once more plays it again; after eight orders it goes to the end, which asks, and from there on", { skip }, async () => {
+    const all = await exhibited("message");
+    const { laboratory, exhibit } = all;
+    const where = () => [exhibit.state, exhibit.at, laboratory.deeds.behind];
+    await exhibit.attract();
+    assert.deepEqual(exhibit.labels, ["kioskBegin", null, "kioskMatches", "kioskLanguage"]);
+    await exhibit.press(1);
+    assert.deepEqual([where(), exhibit.labels], [["story", 1, 1], ["captionBack", "captionNext", "kioskOnceMore", "kioskToStart"]]);
+    for (const [number, at] of [[2, 2], [3, 2], [1, 1], [1, 0], [1, 0], [3, 1], [2, 2], [2, 3], [2, 4], [2, 5], [2, 6], [2, 7], [2, 8]]) {
+        await exhibit.press(number);
+        assert.deepEqual(where(), ["story", at, at], `after ${number}`);
+    }
+    assert.equal(exhibit.labels[1], "kioskToEnd");
+    await exhibit.press(2);
+    assert.deepEqual([exhibit.state, exhibit.labels], ["show", [null, "kioskToEnd", null, "kioskToStart"]]);
+    await restsIn(all, "end");
+    const { text } = await printedBy("message");
+    assert.deepEqual([laboratory.printed.text, exhibit.labels], [text, ["kioskOnceMore", null, "kioskMatches", "kioskLanguage"]]);
+    await exhibit.press(1);
+    assert.deepEqual([where(), laboratory.printed.text], [["story", 1, 1], ""]);
+    await exhibit.press(4);
+    assert.equal(exhibit.state, "attract");
     exhibit.end();
 });
 
-test("a program that waits for keys is stopped by its buttons, but for the last, which begins anew", { skip }, async () => {
-    const { laboratory, exhibit, drive } = await exhibited("input-and-output/decimal-input");
-    await exhibit.open();
-    await exhibit.press(3);
-    while (laboratory.way.kind !== "keys" || drive.pace !== null) await tick();
-    const { clock } = laboratory.panel;
-    for (const number of [1, 2, 3]) {
-        await exhibit.press(number);
-        await laboratory.settled();
-        assert.deepEqual([laboratory.panel.clock, laboratory.notice, exhibit.isLive(number)], [clock, null, false]);
-    }
-    await exhibit.press(4);
-    assert.deepEqual([laboratory.printed.text, laboratory.deeds.behind, exhibit.isLive(4)], ["", 0, true]);
+test("a press in the show goes to the end at once, and a story shorter than eight orders ends where its program does", { skip }, async () => {
+    const all = await exhibited("message");
+    await all.exhibit.attract();
+    for (let pressed = 0; pressed < 9; pressed += 1) await all.exhibit.press(pressed === 0 ? 1 : 2);
+    await all.exhibit.press(2);
+    await restsIn(all, "end");
+    assert.equal(all.laboratory.printed.text, (await printedBy("message")).text);
+    all.exhibit.end();
+    const short = await exhibited("first-run");
+    await short.exhibit.attract();
+    await short.exhibit.press(1);
+    for (let pressed = 0; pressed < 5 && short.exhibit.state === "story"; pressed += 1) await short.exhibit.press(2);
+    assert.equal(short.exhibit.state, "end");
+    short.exhibit.end();
 });
 
-test("a touch takes over, and an example that is not there is told", { skip }, async () => {
+test("the game is one press away, from the beginning and from the end; the address chooses what is offered; and a game as the example is offered alone", { skip }, async () => {
+    const all = await exhibited("message");
+    await all.exhibit.attract();
+    await all.exhibit.press(3);
+    await restsIn(all, "matches");
+    assert.deepEqual([all.laboratory.way.kind, all.exhibit.labels, all.laboratory.script.name], ["keys", ["kioskTake1", "kioskTake2", "kioskTake3", "kioskToStart"], KIOSK.game]);
+    await all.exhibit.press(4);
+    assert.deepEqual([all.exhibit.state, all.laboratory.script.name], ["attract", "message"]);
+    all.exhibit.end();
+    const labels = async (name, more) => {
+        const { exhibit } = await exhibited(name, true, more);
+        return exhibit.labels;
+    };
+    assert.deepEqual(await labels("message", { offers: ["story"] }), ["kioskBegin", null, null, "kioskLanguage"]);
+    assert.deepEqual(await labels("message", { offers: ["nonesuch"] }), ["kioskBegin", null, "kioskMatches", "kioskLanguage"]);
+    assert.deepEqual(await labels(KIOSK.game, {}), [null, null, "kioskMatches", "kioskLanguage"]);
+    const pressed = [];
+    const views = { faster: { labels: ["one", "two", "three", "four"], open: () => pressed.push("open"), press: (number) => { pressed.push(number); return number < 4; } } };
+    const { exhibit } = await exhibited("message", true, { views });
+    assert.equal(exhibit.labels[1], "kioskFaster");
+    for (const number of [2, 1, 3, 4]) await exhibit.press(number);
+    assert.deepEqual([pressed, exhibit.state], [["open", 1, 3, 4], "attract"]);
+    exhibit.end();
+});
+
+test("a program that waits for keys ends its story there", { skip }, async () => {
+    const all = await exhibited("input-and-output/decimal-input");
+    await all.exhibit.attract();
+    for (let pressed = 0; pressed < 10; pressed += 1) await all.exhibit.press(pressed === 0 ? 1 : 2);
+    await all.exhibit.press(2);
+    await restsIn(all, "end");
+    assert.equal(all.laboratory.way.kind, "keys");
+    all.exhibit.end();
+});
+
+test("a touch begins the story, and an example that is not there is told", { skip }, async () => {
     const { laboratory, exhibit } = await exhibited("nonesuch");
     await exhibit.attract();
     assert.deepEqual([exhibit.name, laboratory.notice.kind, laboratory.notice.detail], [KIOSK.example, "noKioskExample", "nonesuch"]);
     exhibit.takeOver();
-    assert.equal(exhibit.isAttract, false);
+    assert.equal(exhibit.state, "story");
+    exhibit.end();
 });
 
-test("where nothing may move captions follow one another, and the machine stands", { skip }, async () => {
+test("where nothing may move captions follow one another, the machine stands, and Next shows an order's end", { skip }, async () => {
     const { laboratory, exhibit } = await exhibited("message", true);
     await exhibit.attract();
     while (exhibit.captions < 5) await tick();
     assert.equal(laboratory.panel.status, "halted operator");
+    await exhibit.press(1);
+    await exhibit.press(2);
+    assert.deepEqual([exhibit.at, laboratory.deeds.behind], [2, 2]);
     exhibit.end();
 });

@@ -7,7 +7,7 @@ import { Exhibit } from "../exhibit.mjs";
 import { Laboratory } from "../laboratory.mjs";
 import { Player } from "../player.mjs";
 import { GAMES } from "../views/game.mjs";
-import { ModuleLink } from "./module.mjs";
+import { ModuleLink } from "../module_link.mjs";
 
 const top = join(dirname(fileURLToPath(import.meta.url)), "../..");
 const module = join(top, "page/module/lgp_c_region.wasm");
@@ -30,7 +30,7 @@ export function chance(seed) {
 }
 
 /** An exhibit whose clock goes as fast as it is asked. */
-export async function exhibited(name, isStill = false) {
+export async function exhibited(name, isStill = false, more = {}) {
     const time = { now: 0 };
     const clocks = { now: () => time.now, sleep: async (milliseconds) => { time.now += milliseconds; await tick(); } };
     const laboratory = new Laboratory(new ModuleLink(module));
@@ -43,14 +43,14 @@ export async function exhibited(name, isStill = false) {
         time.now += (1000 * (sum - act + act / (act > 64 ? player.hurry ?? 1 : 1))) / (player.pace ?? 96);
         setImmediate(() => drive.played());
     });
-    const exhibit = new Exhibit(laboratory, drive, name, { scriptOf, isStill: () => isStill, sleep: clocks.sleep });
+    const exhibit = new Exhibit(laboratory, drive, name, { scriptOf, isStill: () => isStill, sleep: clocks.sleep, ...more });
     return { laboratory, drive, exhibit, time };
 }
 
 /** All that a program prints, as far as it prints without keys, and whether it has ended with that. */
 export async function printedBy(name) {
-    const { laboratory, exhibit } = await exhibited(name);
-    await exhibit.open();
+    const { laboratory } = await exhibited(name);
+    await laboratory.openForShow(name, scriptOf(name));
     await laboratory.command("press start");
     await laboratory.run(3_000_000);
     return { text: laboratory.printed.text, hasEnded: laboratory.way.kind !== "go" };

@@ -8,7 +8,7 @@ import { Laboratory } from "../laboratory.mjs";
 import { linesIn } from "../lines.mjs";
 import { GAMES, asksOf, numberIn, saidOn, standsIn } from "../views/game.mjs";
 import { textsIn } from "../words.mjs";
-import { ModuleLink } from "./module.mjs";
+import { ModuleLink } from "../module_link.mjs";
 
 const top = join(dirname(fileURLToPath(import.meta.url)), "../..");
 const module = join(top, "page/module/lgp_c_region.wasm");
@@ -43,7 +43,7 @@ async function opened() {
 
 test("a game that is won: the heap is the machine's, and the text says whose turn it is", { skip }, async () => {
     const { stands, told, left, move } = await opened();
-    assert.deepEqual(told.map((text) => text.slice(0, 14)), ["21 matches are", "The game has b", "It is your tur"]);
+    assert.deepEqual(told.map((text) => text.slice(0, 14)), ["There are 21 m", "The game has b", "It is your tur"]);
     assert.deepEqual(left(), [21, 21]);
     assert.deepEqual([await move(1), left()], [{ kind: "took", took: 1 }, [19, 21]]);
     assert.match(stands(), /^The machine has taken 1\. It is your turn/);

@@ -8,7 +8,7 @@ import { fileURLToPath } from "node:url";
 import { Laboratory } from "../laboratory.mjs";
 import { ROOM } from "../room.mjs";
 import { NoMemory } from "../module/session.mjs";
-import { ModuleLink } from "./module.mjs";
+import { ModuleLink } from "../module_link.mjs";
 import { NativeLink } from "./native.mjs";
 
 const top = join(dirname(fileURLToPath(import.meta.url)), "../..");
@@ -544,4 +544,77 @@ live("a line that asks what a word would have cost is a run, and shows it", asyn
     assert.deepEqual([laboratory.notice.kind, laboratory.costs], ["Form", null]);
     await laboratory.openScript("told", `${LOOP.slice(0, 3).join("\n")}\npress start\noptimum 4 0003\n`);
     assert.deepEqual([laboratory.script.at, laboratory.deeds.behind], [4, 0]);
+});
+
+live("the last orders of a run are told after it, where that is wanted, and nothing of that is in the transcript", async (laboratory) => {
+    await laboratory.openScript("self-modifying", exampleNamed("self-modifying"));
+    laboratory.wantsLast = true;
+    const before = await laboratory.transcript();
+    await laboratory.run(5);
+    assert.deepEqual(laboratory.accounts.map(({ at }) => at), ["0000", "0001", "0004", "0005", "0006"]);
+    await laboratory.say("break 0009", "break 0012");
+    await laboratory.run();
+    await laboratory.run();
+    const { panel: { counter, clock }, accounts, rules } = laboratory;
+    assert.deepEqual([counter, accounts.at(-1).at, accounts.length, rules.map((rule) => rule.slice(0, 10))], ["0012", "0011", 10, ["break 0009", "break 0012"]]);
+    assert.equal(accounts.at(-1).clock + BigInt(accounts.at(-1).sum), clock);
+    await laboratory.say("drop 0", "drop 0");
+    await laboratory.run();
+    assert.equal(laboratory.accounts.length, 12);
+    assert.equal((await laboratory.transcript()).replace(/^run \d+\n/gm, ""), `${before}break 0009\nbreak 0012\ndrop 0\ndrop 0\n`);
+});
+
+live("of a run that cannot be gone back over nothing is told", async (laboratory) => {
+    laboratory.wantsLast = true;
+    await laboratory.say("put 0000 p =h", "put 0001 z", "put 0002 p =i", "put 0003 z", "press start");
+    await laboratory.operate();
+    assert.deepEqual([laboratory.printed.text, laboratory.panel.status], ["hi", "halted stop"]);
+    assert.deepEqual([laboratory.deeds.unbroken, laboratory.accounts.length], [1, 1]);
+});
+
+live("the whole drum is asked once for each state", async (laboratory, link) => {
+    await laboratory.say("put 0100 00000004");
+    const { drum } = { drum: await laboratory.drum() };
+    assert.deepEqual([drum.length, drum[64], drum[0]], [4096, "00000004", "00000000"]);
+    assert.equal(await laboratory.drum(), drum);
+    await laboratory.say("put 0000 00000002");
+    assert.equal((await laboratory.drum())[0], "00000002");
+    // a source that is being opened takes none of the questions
+    const [, asked] = await Promise.all([laboratory.say("source", " z"), laboratory.drum()]);
+    assert.deepEqual([laboratory.openSource, asked?.length ?? null, await laboratory.drum()], [[" z"], 4096, null]);
+    await laboratory.say(" end", ".");
+    assert.deepEqual(laboratory.assembled.faults, []);
+    assert.doesNotMatch(await laboratory.transcript(), /numbers/);
+}, LINKS.slice(0, 1));
+
+live("how much was loaded, and by how many orders, is known until an order is performed", async (laboratory) => {
+    const source = " h 0002\n z\n end 0000\n";
+    await laboratory.load(source);
+    assert.equal(laboratory.talk.at(-1).reply, "loaded 33\n");
+    assert.deepEqual(laboratory.loading, { words: 2, orders: 33 });
+    await laboratory.command("press start");
+    assert.deepEqual(laboratory.loading, { words: 2, orders: 33 });
+    await laboratory.step(1);
+    assert.equal(laboratory.loading, null);
+    await laboratory.back(1);
+    assert.equal(laboratory.loading, null);
+    await laboratory.assemble(" q");
+    await laboratory.say("load");
+    assert.deepEqual(laboratory.loading, { words: 2, orders: 33 });
+    await laboratory.command("press start");
+    await laboratory.run();
+    assert.equal(laboratory.loading, null);
+    await laboratory.load(source);
+    await laboratory.new();
+    assert.equal(laboratory.loading, null);
+});
+
+live("the source that was loaded is known until a new laboratory is opened", async (laboratory) => {
+    await laboratory.load(" z\n end 0000");
+    assert.equal(laboratory.loaded, " z\n end 0000");
+    await laboratory.assemble(" q");
+    await laboratory.say("load");
+    assert.equal(laboratory.loaded, " z\n end 0000");
+    await laboratory.new();
+    assert.equal(laboratory.loaded, null);
 });

@@ -13,7 +13,7 @@ import { LESSONS } from "../steps.mjs";
 import { plain } from "../views/lesson.mjs";
 import { TALES } from "../views/tales.mjs";
 import { LANGUAGES } from "../words.mjs";
-import { ModuleLink } from "./module.mjs";
+import { ModuleLink } from "../module_link.mjs";
 
 const top = join(dirname(fileURLToPath(import.meta.url)), "../..");
 const documents = join(top, "docs/lessons");

@@ -8,7 +8,7 @@ import { Laboratory } from "../laboratory.mjs";
 import { linesIn, setUp } from "../lines.mjs";
 import { startsOf } from "../module/replies.mjs";
 import { ROOM, Room } from "../room.mjs";
-import { ModuleLink } from "./module.mjs";
+import { ModuleLink } from "../module_link.mjs";
 
 const module = fileURLToPath(new URL("../module/lgp_c_region.wasm", import.meta.url));
 

@@ -86,3 +86,14 @@ test("without motion an order is four pictures, the ends of its phases", () => {
     assert.deepEqual(seen, [[24, "find"], [25, "take"], [40, "seek"], [41, "act"]]);
     assert.equal(player.at().done, true);
 });
+
+test("codes pass in the reader one after another, each for a time that can be seen, in each pace", () => {
+    const input = { ...jump, order: "i 0000", act: 6 * 384 + 1, passed: 6, sum: 12 + 6 * 384 + 1 };
+    for (const pace of [32, 64]) {
+        const until = (1000 * 12) / pace;
+        const codes = [0, until - 1, until + 100, until + 170, until + 170 + 160, until + 4 * 160 + 10, until + 5 * 160 + 10].map((milliseconds) => played(input, milliseconds, { pace }).codes);
+        assert.deepEqual(codes, [6, 6, 6, 5, 4, 2, 1]);
+        assert.deepEqual([played(input, until + 6 * 160 + 1, { pace }).codes, played(input, until + 6 * 160 + 1, { pace }).done], [0, true]);
+    }
+    assert.deepEqual([played(input, 0, { isStill: true }).codes, played(bring, 10).codes], [6, 0]);
+});

@@ -7,7 +7,7 @@ import { fileURLToPath } from "node:url";
 import { tasksBelow } from "../documents.mjs";
 import { checked, setUpOf, speaker, taskIn } from "../task.mjs";
 import { LANGUAGES } from "../words.mjs";
-import { ModuleLink } from "./module.mjs";
+import { ModuleLink } from "../module_link.mjs";
 
 const top = join(dirname(fileURLToPath(import.meta.url)), "../..");
 const module = join(top, "page/module/lgp_c_region.wasm");
@@ -81,7 +81,7 @@ test("a task of one's own: each kind of line, and a line in no form", { skip }, 
     assert.deepEqual(await check(OWN), { isRight: false, verdict: say("wrong", "two"), missing: OWN_MISSING.map((words) => say(...words)) });
     const { missing } = await check("most orders 1\nmost times 2\n");
     assert.deepEqual(missing.map((line) => line.replace(/took \d+ word/, "took 9 word")), [say("orders", "2", "1"), say("times", "9", "2")]);
-    assert.throws(() => taskIn("minutes 5\nwnat printed x\n"), /no line of a task: wnat printed x/);
+    assert.throws(() => taskIn("minutes 5\nwnat printed x\n"), /faulty-task: 2: wnat printed x/);
 });
 
 test("a machine is set up as the first try begins", () => {

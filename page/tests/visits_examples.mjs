@@ -17,7 +17,7 @@ async function examplesInGerman(browser, address) {
     assert.match(await textOf(browser, ".script pre"), /; Die Routine: Sie addiert die Wörter auf 0100 bis 0103\./);
     assert.match(await textOf(browser, "tr[data-address='0003']"), /anhalten/);
     await choose(browser, "example", "drum/household");
-    assert.match(await browser.value("document.querySelector('.source textarea').value"), /a wage +; die Schleife: was geschuldet wird, bleibt im Akkumulator\n/);
+    assert.match(await browser.written(), /a wage +; die Schleife: was geschuldet wird, bleibt im Akkumulator\n/);
     assert.deepEqual(await browser.value("laboratoryOfPage().assembled.faults"), []);
     const before = await browser.value("laboratoryOfPage().script.at");
     await choose(browser, "language", "en");

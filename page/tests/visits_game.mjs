@@ -4,7 +4,7 @@ import { disorder, faint, nameless } from "./access.mjs";
 
 const toldIn = (browser) => browser.value("document.querySelector('.kiosk-told').textContent");
 const heap = (browser) => browser.value("[document.querySelectorAll('.heap .match').length, document.querySelectorAll('.heap .taken').length]");
-const press = (browser, count) => browser.press(`#kiosk-take-${count}`);
+const press = (browser, count) => browser.press(`#kiosk-${count}`);
 
 /** Waits until the text at the top is this one, and nothing moves. */
 const until = (browser, text) => browser.waitFor(`document.querySelector('.kiosk-told').textContent.startsWith(${JSON.stringify(text)})`);
@@ -48,7 +48,6 @@ async function game(browser, address) {
         await browser.open(`${address}?kiosk=games/matches&lang=${code}`);
         await browser.waitFor("document.querySelector('.drum-box').dataset.moving === 'true'");
         await browser.press(".kiosk-told");
-        await press(browser, 2);
         await until(browser, texts.turn);
         assert.deepEqual([await heap(browser), await browser.value("[...document.querySelectorAll('.kiosk-bar button')].length")], [[21, 0], 4]);
         for (const [width, height] of [[1920, 1080], [1024, 768], [768, 1024]]) {
@@ -56,7 +55,7 @@ async function game(browser, address) {
             assert.deepEqual([await outside(browser), await browser.value("document.documentElement.scrollHeight <= innerHeight")], [[], true], `at ${width} by ${height}`);
         }
         await browser.size(1024, 768);
-        await browser.value("document.querySelector('#kiosk-take-1').dispatchEvent(new MouseEvent('click', { detail: 2 }))");
+        await browser.value("document.querySelector('#kiosk-1').dispatchEvent(new MouseEvent('click', { detail: 2 }))");
         await browser.value("laboratoryOfPage().settled()");
         assert.equal((await toldIn(browser)).slice(0, texts.turn.length), texts.turn);
         assert.deepEqual([...await disorder(browser), ...await nameless(browser), ...await faint(browser)], []);
@@ -65,7 +64,7 @@ async function game(browser, address) {
         await until(browser, texts.turn);
         await whole(browser, texts, [[3, 16], [1, 12], [3, 8], [2, 4]], texts.lost);
         assert.match(await browser.value("document.querySelector('.paper').textContent"), /4; you take 3\n1; i take 1\ni win/);
-        await browser.press("#kiosk-again");
+        await press(browser, 1);
         await until(browser, texts.turn);
         assert.deepEqual(await heap(browser), [21, 0]);
     }
@@ -76,7 +75,7 @@ async function game(browser, address) {
 /** A move of the machine at its own pace ends by itself, in the sight of the visitor. */
 async function gameAtItsPace(browser, address) {
     await browser.open(`${address}?kiosk=games/matches&lang=en`);
-    await browser.press("#kiosk-again");
+    await press(browser, 3);
     await until(browser, "It is your turn");
     await press(browser, 1);
     await until(browser, "It is the machine's turn");

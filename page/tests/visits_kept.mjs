@@ -26,15 +26,21 @@ async function otherLanguage(browser) {
     await settled(browser);
 }
 
+/** How a selector of an editor ends. */
+const EDITOR = " .CodeMirror";
+
 async function write(browser, selector, text) {
-    await browser.value(`(() => { const it = document.querySelector(${JSON.stringify(selector)}); it.value = ${JSON.stringify(text)}; it.dispatchEvent(new Event("input")); })()`);
+    if (selector.endsWith(EDITOR)) return browser.write(text, selector.slice(0, -EDITOR.length));
+    return browser.value(`(() => { const it = document.querySelector(${JSON.stringify(selector)}); it.value = ${JSON.stringify(text)}; it.dispatchEvent(new Event("input")); })()`);
 }
 
 const choose = (browser, id, value) => browser.value(`(() => { const it = document.getElementById("${id}"); it.value = "${value}"; it.dispatchEvent(new Event("change")); })()`).then(() => settled(browser));
 
-const SOURCE = ".source textarea";
+const SOURCE = ".source .CodeMirror";
 const LINE = ".lines input";
-const valueOf = (browser, selector) => browser.value(`document.querySelector(${JSON.stringify(selector)})?.value ?? null`);
+/** What stands in a field or an editor, in the page. */
+const VALUE = "((it) => it?.CodeMirror?.getValue() ?? it?.value)";
+const valueOf = (browser, selector) => browser.value(`${VALUE}(document.querySelector(${JSON.stringify(selector)})) ?? null`);
 
 /** What was written in Work, by its fields. */
 const WRITTEN = { [SOURCE]: "; not assembled yet\n b 0050", [LINE]: "; a line that is not sent", [".tape input"]: "7'7'", [".listing form input"]: "0123" };
@@ -43,7 +49,7 @@ async function writeAll(browser) {
     for (const [selector, text] of Object.entries(WRITTEN)) await write(browser, selector, text);
 }
 
-const areWritten = (browser) => browser.value(`Object.entries(${JSON.stringify(WRITTEN)}).filter(([selector, text]) => document.querySelector(selector)?.value !== text).map(([selector]) => selector)`);
+const areWritten = (browser) => browser.value(`Object.entries(${JSON.stringify(WRITTEN)}).filter(([selector, text]) => ${VALUE}(document.querySelector(selector)) !== text).map(([selector]) => selector)`);
 
 /** Goes back to the work before by the list of works. */
 async function backByList(browser, place = 0) {
@@ -59,7 +65,7 @@ async function backToWork(browser) {
     await browser.value("document.querySelector('dialog')?.close()");
     if (await browser.value("document.body.classList.contains('kiosk')")) {
         await browser.value("dispatchKeys()");
-        await browser.waitFor("!document.body.classList.contains('kiosk') && document.querySelector('.source') !== null");
+        await browser.waitFor("!document.body.classList.contains('kiosk') && document.querySelector('.doors') !== null");
     }
     if (await browser.value("document.body.dataset.door !== 'work'")) await press(browser, ".doors [data-door-to='work']");
     await browser.waitFor("document.body.dataset.door === 'work'");
@@ -73,7 +79,11 @@ async function isFound(browser, where) {
     try {
         await noteKeys(browser);
         await backToWork(browser);
-        if ((await areWritten(browser)).length > 0) await backByList(browser);
+        if ((await areWritten(browser)).length > 0) {
+            await backByList(browser);
+            // the work before may have been kept behind another door
+            await backToWork(browser);
+        }
         assert.deepEqual(await areWritten(browser), []);
     } catch (failure) {
         failure.message = `${where}: ${failure.message}`;
@@ -159,7 +169,7 @@ async function undo(browser, address) {
 /** After New no example is named, its script is away, and it can be chosen again. */
 async function afterNew(browser, address) {
     await browser.open(`${address}?lang=en#self-modifying`);
-    const state = () => browser.value("[document.getElementById('example').value, document.querySelector('.part.script').checkVisibility(), document.querySelector('.explanation').checkVisibility(), location.hash]");
+    const state = () => browser.value("[document.getElementById('example').value, !document.querySelector('.part.script').hidden, !document.querySelector('.explanation').hidden, location.hash]");
     assert.deepEqual(await state(), ["self-modifying", true, true, "#self-modifying"]);
     await press(browser, "#new");
     assert.deepEqual(await state(), ["", false, false, ""]);
@@ -192,6 +202,30 @@ async function tenWorks(browser, address) {
 const stepNow = (browser) => browser.value(`[document.querySelector("${NOW} .mark")?.textContent ?? null, new URLSearchParams(location.search).get("step")]`);
 const reached = (browser, step) => browser.waitFor(`document.querySelector("${NOW} .mark")?.textContent === "${step}"`);
 
+/** Going back and forth in a lesson leaves one work at most, however often; a machine at which the pupil has done something since is kept as one. */
+async function backAndForth(browser) {
+    const count = async () => {
+        await browser.press("#works");
+        await browser.waitFor("document.querySelector('.works') !== null");
+        const works = await browser.value("document.querySelectorAll('.works li').length");
+        await browser.value("document.querySelector('dialog').close()");
+        return works;
+    };
+    await browser.press("#step-back");
+    await reached(browser, 8);
+    const before = await count();
+    for (const [selector, step] of [["#step-back", 7], ["#step-back", 6], ["#step-next", 7], [".rail li:nth-child(9) button", 9]]) {
+        await browser.press(selector);
+        await reached(browser, step);
+    }
+    assert.ok(await count() <= before + 1);
+    await browser.value("laboratoryOfPage().say('put 0050 = 7')");
+    await browser.press("#step-back");
+    await reached(browser, 8);
+    await backByList(browser);
+    assert.equal(await browser.value("laboratoryOfPage().lines.includes('put 0050 = 7')"), true);
+}
+
 /** The address names the step of a lesson: it is reached by it, with its machine; a reload stays there with what was written and done; Back is one step back. */
 async function stepsByAddress(browser, address) {
     await browser.open(`${address}?lang=en&lesson=rewriting&step=9`);
@@ -210,12 +244,14 @@ async function stepsByAddress(browser, address) {
     await reached(browser, 9);
     assert.deepEqual(await state(), wanted);
     await browser.value(`(() => { const form = document.querySelector("${NOW} .answer"); form.querySelector("input").value = laboratoryOfPage().words.find(({ address }) => address === "0001").order; form.requestSubmit(); })()`);
+    await browser.press("#step-next");
     await reached(browser, 10);
     assert.deepEqual(await stepNow(browser), ["10", "10"]);
     await browser.value("history.back()");
     await reached(browser, 9);
     await settled(browser);
     assert.deepEqual([await stepNow(browser), (await panelOf(browser)).counter], [["9", "9"], "0006"]);
+    await backAndForth(browser);
     for (const [name, step, counter] of [["a-computer-on-a-drum", 13, "0000"], ["reading-a-listing", 7, "0200"], ["where-a-word-costs-least", 5, "0127"]]) {
         await browser.open(`${address}?lang=en&lesson=${name}&step=${step}`);
         await reached(browser, step);
@@ -228,18 +264,18 @@ async function stepsByAddress(browser, address) {
 async function places(browser, address) {
     await browser.open(`${address}?lang=en&task=sum`);
     assert.match(await textOf(browser, ".lesson summary"), /Add two numbers/);
-    await write(browser, ".task-desk textarea", " z ; mine");
+    await write(browser, ".task-desk .CodeMirror", " z ; mine");
     await browser.value("document.querySelector('[data-task=faster]').click()");
     assert.equal(await browser.value("location.search"), "?lang=en&task=faster");
     await browser.value("history.back()");
-    await browser.waitFor("document.querySelector('.task-desk textarea').value === ' z ; mine'");
+    await browser.waitFor("document.querySelector('.task-desk .CodeMirror').CodeMirror.getValue() === ' z ; mine'");
     await again(browser);
-    assert.deepEqual([await valueOf(browser, ".task-desk textarea"), await browser.value("location.search")], [" z ; mine", "?lang=en&task=sum"]);
+    assert.deepEqual([await valueOf(browser, ".task-desk .CodeMirror"), await browser.value("location.search")], [" z ; mine", "?lang=en&task=sum"]);
     await browser.press("#begin-task");
-    assert.notEqual(await valueOf(browser, ".task-desk textarea"), " z ; mine");
+    assert.notEqual(await valueOf(browser, ".task-desk .CodeMirror"), " z ; mine");
     await again(browser);
     await browser.press("#take-back-task");
-    assert.equal(await valueOf(browser, ".task-desk textarea"), " z ; mine");
+    assert.equal(await valueOf(browser, ".task-desk .CodeMirror"), " z ; mine");
     await browser.open(`${address}?lang=en&story=2`);
     const caption = () => browser.value("[document.querySelector('[data-tale][aria-pressed=true]')?.dataset.tale, document.querySelector('.caption-at').textContent, location.search]");
     assert.deepEqual(await caption(), ["rewrite", "1 of 5", "?lang=en&story=2&caption=1"]);
@@ -249,7 +285,7 @@ async function places(browser, address) {
     assert.deepEqual(await caption(), ["rewrite", "2 of 5", "?lang=en&story=2&caption=2"]);
     await browser.value("history.back()");
     await browser.waitFor("document.querySelector('.caption-at').textContent === '1 of 5'");
-    for (const [behind, told] of [["?lang=en&story=9", /no story: 9/], ["?lang=en&task=nonesuch", /no task: nonesuch\. The tasks are .*sum/]]) {
+    for (const [behind, told] of [["?lang=en&story=9", /unknown story: 9/], ["?lang=en&task=nonesuch", /unknown task: nonesuch\. The tasks are .*sum/]]) {
         await browser.open(address + behind);
         assert.match(await textOf(browser, "#notice"), told);
     }

@@ -6,6 +6,7 @@ import { fileURLToPath } from "node:url";
 import { lessonsBelow } from "../documents.mjs";
 import { solved } from "../solved.mjs";
 import { textsIn } from "../words.mjs";
+import { hiddenTexts, numbersOf, unhit, unseen } from "./seen.mjs";
 
 const lessons = lessonsBelow(join(dirname(fileURLToPath(import.meta.url)), "../../docs/lessons"));
 
@@ -22,8 +23,8 @@ const types = (...lines) => async (browser, { settled }) => {
 };
 const presses = (...selectors) => async (browser, { press }) => { for (const selector of selectors) await press(browser, selector); };
 const steps = (count) => (browser, calls) => calls.steps(browser, count);
-const back = (count) => presses(...Array(count).fill(".time button:first-of-type"));
-const run = presses("#run");
+const back = (count) => presses(...Array(count).fill("#back"));
+const run = (browser, { settled }) => browser.go("fast").then(() => settled(browser));
 const start = presses(START);
 const hint = presses(`${NOW} .for-hint`);
 const shows = (address) => async (browser, { press }) => {
@@ -52,47 +53,33 @@ const DONE = {
         { says: "1", sees: [drum] },
         { errs: types("put 0000 p=h"), does: types("put 0000 p =h", "put 0001 p =i", "put 0002 z 0000"), sees: [rowOf("0002")] },
         { first: one(start, steps(1)), says: "451", sees: [START, "#step", phases] }, { first: steps(2), says: "844", sees: ["#step", clock, paper] },
-        { first: back(2), says: "hi", sees: [".time button:first-of-type", paper] },
-        { errs: one(word("cat"), start, run), does: one(types("new"), word("drum"), start, run), sees: [START, "#run", paper] },
-        { says: "1636", sees: [clock] }, { errs: hint, does: steps(4), sees: ["#walk", "#halt", paper] },
+        { first: back(2), says: "hi", sees: ["#back", paper] },
+        { errs: one(word("cat"), start, run), does: one(types("new"), word("drum"), start, run), sees: [START, "#go-on", paper] },
+        { says: "1636", sees: [clock] }, { errs: hint, does: steps(4), sees: ["#pace-order", "#go-on", paper] },
     ],
     "rewriting": [
         { errs: types("put 0000 1004"), does: types("put 0000 00010004"), sees: [rowOf("0000")] }, { says: "b 0010", sees: [rowOf("0000")] },
         { first: types("put 0000 00010008"), says: "b 0001", sees: [rowOf("0000")] }, { errs: one(types("put 0000 000100wk"), hint), does: types("put 0000 00010100"), sees: [rowOf("0000")] }, { says: "000100wj", sees: [rowOf("0000")] },
         { errs: hint, does: steps(3), sees: ["#step", scope] }, { first: steps(1), says: "00000009", sees: ["#step", scope] },
-        { first: steps(2), says: "a 0013", sees: ["#step", rowOf("0001")] }, { first: one(types("watch 0001"), run), says: "a 0010", sees: ["#run", rowOf("0001")] }, { first: run, says: "00000006", sees: ["#run", rowOf("0007")] },
+        { first: steps(2), says: "a 0013", sees: ["#step", rowOf("0001")] }, { first: one(types("watch 0001"), run), says: "a 0010", sees: ["#go-on", rowOf("0001")] }, { first: run, says: "00000006", sees: ["#go-on", rowOf("0007")] },
         { errs: run, does: one(presses(".lesson h3:nth-of-type(3) button"), steps(3)), sees: ["#step", scope] }, { says: "57", sees: [drum] },
-        { first: steps(1), says: "0005", sees: ["#step", drum, rowOf("0009"), ".rewritten"] }, { first: back(1), says: "a 0100", sees: [".time button:first-of-type", rowOf("0009")] },
-        { errs: hint, does: steps(9), sees: ["#step", rowOf("0009")] }, { first: run, says: "a 0103", sees: ["#run", rowOf("0009")] }, { first: presses(`${rowOf("0009")} button`), says: "0005", sees: [rowOf("0009"), ".why"] },
+        { first: steps(1), says: "0005", sees: ["#step", drum, rowOf("0009"), ".rewritten"] }, { first: back(1), says: "a 0100", sees: ["#back", rowOf("0009")] },
+        { errs: hint, does: steps(9), sees: ["#step", rowOf("0009")] }, { first: run, says: "a 0103", sees: ["#go-on", rowOf("0009")] }, { first: presses(`${rowOf("0009")} button`), says: "0005", sees: [rowOf("0009"), ".why"] },
         { errs: hint, does: steps(7), sees: ["#step", clock] }, { first: steps(7), says: "512", sees: ["#step", clock] }, { says: "8", sees: [] },
     ],
     "reading-a-listing": [
         { errs: one(puts("0200 00010300", "0201 000w0304", "0202 000g0224", "0203 000j0300", "0204 000f0200", "0205 00000000"), hint), does: puts("0202 000g0214"), sees: [rowOf("0200"), rowOf("0205")] },
         { errs: one(puts("0300 00000040", "0301 00000002"), hint), does: puts("0300 00000014"), sees: [rowOf("0300"), rowOf("0301")] },
         { says: "t 0214", sees: [rowOf("0202")] }, { says: "z 0014", sees: [rowOf("0300")] },
-        { errs: one(types("break 0200"), hint), does: types("go 0200"), sees: [scope] }, { first: run, says: "256", sees: ["#run", clock] }, { first: steps(5), says: "295", sees: ["#step", clock] }, { says: "64", sees: [] },
-        { first: run, isEarly: "00000000", mends: one(types("drop 0"), run, shows("0300")), says: "00000014", sees: ["#run", ".listing form input", rowOf("0300")] },
+        { errs: one(types("break 0200"), hint), does: types("go 0200"), sees: [scope] }, { first: run, says: "256", sees: ["#go-on", clock] }, { first: steps(5), says: "295", sees: ["#step", clock] }, { says: "64", sees: [] },
+        { first: run, isEarly: "00000000", mends: one(types("drop 0"), run, shows("0300")), says: "00000014", sees: ["#go-on", ".listing form input", rowOf("0300")] },
     ],
     "where-a-word-costs-least": [
-        { errs: run, does: one(presses(".lesson h3 button"), steps(2)), sees: ["#step", scope] }, { first: steps(2), says: "9", sees: ["#step", phases] }, { says: "9", sees: [phases] }, { errs: hint, does: run, sees: ["#run"] },
+        { errs: run, does: one(presses(".lesson h3 button"), steps(2)), sees: ["#step", scope] }, { first: steps(2), says: "9", sees: ["#step", phases] }, { says: "9", sees: [phases] }, { errs: hint, does: run, sees: ["#go-on"] },
         { isEarly: "6", mends: asks("0128"), says: "64", sees: [".listing form input", rowOf("0128"), drum] }, { says: "28", sees: [drum] }, { says: "150,629", sees: [".costs-told"] },
         { first: asks("0129"), says: "25", sees: [rowOf("0129"), drum] }, { first: asks("0132"), says: "29", sees: [rowOf("0132"), drum] },
     ],
 };
-
-/** What is not whole in the window, or in what it is scrolled in, or lies below something else. */
-const unseen = (browser, selectors) => browser.value(`(async () => {
-    await new Promise((resolve) => requestAnimationFrame(() => requestAnimationFrame(resolve)));
-    const within = (inner, outer) => inner.left >= outer.left - 1 && inner.top >= outer.top - 1 && inner.right <= outer.right + 1 && inner.bottom <= outer.bottom + 1;
-    const isSeen = (it) => {
-        const box = it.getBoundingClientRect();
-        const frames = [{ left: 0, top: 0, right: innerWidth, bottom: innerHeight }];
-        for (let at = it.parentElement; at !== document.body; at = at.parentElement) if (/auto|scroll|hidden/.test(getComputedStyle(at).overflowY)) frames.push(at.getBoundingClientRect());
-        const top = document.elementFromPoint((box.left + box.right) / 2, (box.top + box.bottom) / 2);
-        return box.height > 0 && frames.every((frame) => within(box, frame)) && (it.contains(top) || top?.contains(it));
-    };
-    return ${JSON.stringify(selectors)}.flatMap((selector) => { const all = [...document.querySelectorAll(selector)]; return all.length > 0 && all.every(isSeen) ? [] : [selector]; });
-})()`);
 
 const doneIn = (browser) => browser.value("document.querySelectorAll('.lesson li.done').length");
 
@@ -109,8 +96,10 @@ async function answers(browser, text) {
     await browser.value(`(() => { const form = document.querySelector("${NOW} .answer"); form.querySelector("input").value = ${JSON.stringify(text)}; form.requestSubmit(); })()`);
 }
 
-/** Waits until the step after these is the one to be done, or the lesson has ended. */
-const reached = (browser, done) => browser.waitFor(`document.querySelectorAll('.lesson li.done').length === ${done} && (document.querySelector("${NOW}") !== null || document.querySelector('.lesson-end').textContent !== "")`);
+/** Waits until so many steps are ticked off; and until the step of this place is in work, or the lesson has ended. */
+const ticked = (browser, done) => browser.waitFor(`document.querySelectorAll('.lesson li.done').length === ${done}`);
+const reached = (browser, place) => browser.waitFor(`document.querySelector("${NOW} .mark")?.textContent === "${place + 1}" || document.querySelector('.lesson-end').textContent !== ""`);
+const next = (browser) => browser.press("#step-next");
 
 const plainly = (text) => text.replaceAll("`", "");
 
@@ -147,13 +136,15 @@ async function goThrough(browser, calls, name, code, atStep = () => {}) {
             assert.equal(await browser.value("scrollY"), 0);
             await step.does?.(browser, calls);
             if (step.says !== undefined) await answers(browser, right[place]);
-            await reached(browser, place + 1);
+            await ticked(browser, place + 1);
+            assert.deepEqual([await unseen(browser, ["#step-next"]), await browser.value("document.querySelector('#step-next').classList.contains('primary')")], [[], true]);
+            await next(browser);
         } catch (failure) {
             failure.message = `${where}: ${failure.message}`;
             throw failure;
         }
     }
-    assert.equal(await browser.value("document.querySelector('.lesson-end').textContent"), written.end);
+    await browser.waitFor(`document.querySelector('.lesson-end').textContent === ${JSON.stringify(written.end)}`);
 }
 
 /** A lesson in both languages, in the window of a usual screen, and what comes after it. */
@@ -171,22 +162,26 @@ const inBoth = (name, then = () => {}) => async (browser, calls) => {
 async function partsOfLessons(browser, calls) {
     const { address, press, steps: stepped, settled, textOf } = calls;
     await browser.open(`${address}?lang=en&lesson=nonesuch`);
-    assert.equal(await textOf(browser, "#notice"), "The address of this page names no lesson: nonesuch. The lessons are a-computer-on-a-drum, where-a-word-costs-least, rewriting, reading-a-listing.");
+    assert.equal(await textOf(browser, "#notice"), "The address of this page names an unknown lesson: nonesuch. The lessons are a-computer-on-a-drum, where-a-word-costs-least, rewriting, reading-a-listing.");
     await browser.open(`${address}?lang=en&lesson=rewriting`);
     await reached(browser, 0);
     assert.equal(await textOf(browser, ".lesson summary"), lessons.en.rewriting.title);
     await press(browser, ".lesson h3:nth-of-type(3) button");
-    await browser.waitFor(`document.querySelector("${NOW} .mark").textContent === "11"`);
+    await reached(browser, 10);
     await stepped(browser, 3);
-    await reached(browser, 1);
+    await ticked(browser, 1);
     await press(browser, ".lesson h3:nth-of-type(3) button");
-    await reached(browser, 0);
+    await ticked(browser, 0);
+    await reached(browser, 10);
+    await settled(browser);
     assert.deepEqual(await browser.value("[laboratoryOfPage().panel.counter, laboratoryOfPage().panel.status]"), ["0000", "going"]);
     await stepped(browser, 3);
-    await reached(browser, 1);
+    await ticked(browser, 1);
+    await next(browser);
+    await reached(browser, 11);
     await browser.value("(() => { const it = document.querySelector('#language'); it.value = 'de'; it.dispatchEvent(new Event('change')); })()");
     await settled(browser);
-    await reached(browser, 1);
+    await reached(browser, 11);
     assert.equal(await textOf(browser, `${NOW} .what`), plainly(lessons.de.rewriting.steps[11].text));
     assert.deepEqual([await doneIn(browser), await browser.value("laboratoryOfPage().panel.counter")], [1, "0005"]);
     await lessonAtWidths(browser, calls);
@@ -195,19 +190,22 @@ async function partsOfLessons(browser, calls) {
 /** What a system shows that has none of the page's faces for labels: a wider one. */
 const WIDE_FACE = '"DejaVu Sans", Verdana, sans-serif';
 
-/** A tablet and a telephone show the steps above the machine, and nothing is scrolled sideways; narrow and wide screens show them beside it. */
+/** Head, step, Next and the time line are in one window on each screen, and nothing is scrolled sideways; on a telephone the drum stands above the step. */
 async function lessonAtWidths(browser, { sideways }) {
     const isWide = () => browser.value("document.documentElement.scrollWidth <= innerWidth");
-    for (const [width, height] of [[390, 800], [768, 1024], [1024, 768]]) {
+    for (const [width, height] of [[390, 844], [768, 1024], [1024, 768], [1366, 768]]) {
         await browser.size(width, height);
         assert.deepEqual([await sideways(browser), await isWide()], [[], true], `at ${width}`);
-        assert.equal(await browser.value(`document.querySelector("${NOW}").getBoundingClientRect().bottom < document.querySelector(".drum-box").getBoundingClientRect().top`), true, `at ${width}`);
+        assert.deepEqual(await unseen(browser, ["header .doors", drum, `${NOW} .what`, `${NOW} .controls-of-step > *`, "#step-back", "#step-next", ".along input", "#step", "#go-on", "#back", clock]), [], `at ${width}`);
+        assert.deepEqual([...await hiddenTexts(browser), ...await unhit(browser)].filter((trouble) => width > 760 || !/beyond the window|is not hit but undefined/.test(trouble)), [], `at ${width}`);
+        const numbers = await numbersOf(browser);
+        assert.ok(numbers >= 12.9, `numbers of the drum at ${width}: ${numbers}`);
     }
     for (const labels of [WIDE_FACE, ""]) {
         await browser.value(`document.documentElement.style.setProperty("--labels", ${JSON.stringify(labels)})`);
         for (const [width, height] of [[1280, 720], [1920, 1080]]) {
             await browser.size(width, height);
-            assert.deepEqual([await unseen(browser, [`${NOW} .what`, "#step", drum, scope, clock, ".listing form", paper]), await isWide()], [[], true], `at ${width} ${labels}`);
+            assert.deepEqual([await unseen(browser, [`${NOW} .what`, "#step", "#step-next", drum, scope, clock, ".listing form", paper]), await isWide()], [[], true], `at ${width} ${labels}`);
         }
     }
     await browser.size(1500, 1250);
@@ -216,14 +214,11 @@ async function lessonAtWidths(browser, { sideways }) {
 /** The race: five addresses are changed in the source, and the profile tells the result. */
 async function race(browser, { press, textOf }) {
     await press(browser, '.doors [data-door-to="work"]');
-    await browser.value(`(() => {
-        const area = document.querySelector(".source textarea");
-        const places = ["0225", "0226", "0227", "0228", "0300"];
-        area.value = ["wage", "rent", "food", "coal", "fares"].reduce((text, name, at) => text.replace(new RegExp("org \\\\d{4}\\n" + name), "org " + places[at] + "\\n" + name), area.value);
-        area.dispatchEvent(new Event("input"));
-    })()`);
-    for (const selector of [".source .line button:nth-of-type(2)", ".profile button"]) await press(browser, selector);
-    assert.match(await textOf(browser, ".profile"), /^Profile\s[^]*2,355 orders, 25,189 word times, 393\.5 turns of the drum/);
+    const places = ["0225", "0226", "0227", "0228", "0300"];
+    await browser.write(["wage", "rent", "food", "coal", "fares"].reduce((text, name, at) => text.replace(new RegExp(`org \\d{4}\n${name}`), `org ${places[at]}\n${name}`), await browser.written()));
+    for (const selector of ["#load", ".profile button"]) await press(browser, selector);
+    await browser.reveal(".profile");
+    assert.match(await textOf(browser, ".profile"), /2,355 orders, 25,189 word times, 393\.5 turns of the drum/);
 }
 
 const VISITS = {

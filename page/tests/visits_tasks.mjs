@@ -11,14 +11,14 @@ const names = readdirSync(solutions).filter((name) => name.endsWith(".en")).map(
 
 const settled = (browser) => browser.value("laboratoryOfPage().settled()");
 const answerOf = (browser) => browser.value("[...document.querySelectorAll('.task-answer :is(p, li)')].map((it) => it.textContent)");
-const sourceOf = (browser) => browser.value("document.querySelector('.task-desk textarea').value");
+const sourceOf = (browser) => browser.written(".task-desk");
 
 async function choose(browser, name) {
     await browser.value(`document.querySelector('[data-task="${name}"]').click()`);
 }
 
 async function write(browser, source) {
-    await browser.value(`(() => { const it = document.querySelector(".task-desk textarea"); it.value = ${JSON.stringify(source)}; it.dispatchEvent(new Event("input")); })()`);
+    await browser.write(source, ".task-desk");
 }
 
 /** What the check says of a source. */
@@ -37,7 +37,7 @@ function besides(name, kind, code) {
 }
 
 /** What of a task does not lie in the window, or whether the page had to be scrolled. */
-const outside = (browser) => browser.value(`[...(scrollY === 0 ? [] : ["scrolled"]), ...[".task-text", ".task-desk textarea", "#check-task", "#put-task", ".task-answer", ".drum-box", "#step", "#run", ".scope", ".listing form", ".paper"].filter((it) => {
+const outside = (browser) => browser.value(`[...(scrollY === 0 ? [] : ["scrolled"]), ...[".task-text", ".task-desk .editor", "#check-task", "#put-task", ".task-answer", ".drum-box", "#step", "#go-on", ".scope", ".listing form", ".paper"].filter((it) => {
     const { top, left, right, bottom, height } = document.querySelector(it).getBoundingClientRect();
     return top < 0 || left < 0 || right > innerWidth || bottom > innerHeight || height < 30;
 })]`);

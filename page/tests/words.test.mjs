@@ -16,6 +16,6 @@ test("each language fills the same places", () => {
 });
 
 test("places are filled, and an unknown language is English", () => {
-    assert.equal(textsIn("de").text("lineNumber", { line: 3 }), "Zeile 3");
-    for (const code of ["xx", "constructor", "toString", "__proto__"]) assert.deepEqual([textsIn(code).text("lineNumber", { line: 3 }), textsIn(code).code], ["line 3", "en"]);
+    assert.equal(textsIn("de").text("faultAt", { line: 3 }), "Zeile 3: ");
+    for (const code of ["xx", "constructor", "toString", "__proto__"]) assert.deepEqual([textsIn(code).text("faultAt", { line: 3 }), textsIn(code).code], ["Line 3: ", "en"]);
 });

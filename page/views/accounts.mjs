@@ -1,7 +1,8 @@
 // The accounts of the last orders as a table, and a slider over the orders behind and ahead.
 import { SECTORS } from "../addresses.mjs";
 import { counted } from "../words.mjs";
-import { guarded, h, part, refill, showLive, tell } from "./dom.mjs";
+import { button, h, part, refill, tell } from "./dom.mjs";
+import { makeBar } from "./story.mjs";
 import { makeTimeline } from "./timeline.mjs";
 
 const SHOWN = 14;
@@ -19,31 +20,44 @@ function effectOf({ origin, stored, printed, passed, notes }, text) {
     return parts.join("; ");
 }
 
-/** The rows of an account: its numbers, and below them what it did, where there is something to say. */
-function rowsOf(account, text) {
+/** The bar of an account is as wide as its word times against a number of them, or against the longest one. */
+const BAR = 130;
+
+/** The rows of an account: its numbers and its bar, and below them what it did, where there is something to say. A press on its place goes back to before it. */
+function rowsOf(account, text, goBackTo) {
     const changes = account.before === account.after ? account.after : `${account.before} → ${account.after}`;
-    const numbers = ["find", "take", "seek", "act", "sum"].map((phase) => h("td", { class: `number ${phase}` }, String(account[phase])));
+    const phases = ["find", "take", "seek", "act"];
+    const numbers = [...phases, "sum"].map((phase) => h("td", { class: `number ${phase}` }, String(account[phase])));
     const effect = effectOf(account, text);
-    const below = effect === "" ? [] : [h("tr", {}, h("td"), h("td", { class: "effect", colspan: 8 }, effect))];
-    return [h("tr", { class: effect === "" ? null : "above" }, h("td", { class: "number" }, String(account.clock)), h("td", {}, [account.at, account.label].filter(Boolean).join(" ")),
-        h("td", {}, h("code", {}, account.order)), ...numbers, h("td", { class: "changes" }, h("code", {}, changes))), ...below];
+    const below = effect === "" ? [] : [h("tr", { class: "below" }, h("td"), h("td", { class: "effect", colspan: 8 }, effect))];
+    const bar = makeBar(account);
+    bar.show(Infinity);
+    const place = [account.at, account.label].filter(Boolean).join(" ");
+    const track = h("div", { class: "account-bar", style: `--times: ${account.sum}`, "aria-hidden": "true" }, ...bar.nodes);
+    const row = h("tr", { class: effect === "" ? null : "above" }, h("td", { class: "number clock" }, String(account.clock)), h("td", {}, button(place === "" ? "–" : place, () => goBackTo(account), { class: "plain", title: text("goBackHere"), "data-name": `account-${account.clock}` })),
+        h("td", {}, h("code", {}, account.order)), ...numbers, h("td", { class: "changes" }, h("code", {}, changes)), h("td", { class: "bar-of" }, track), h("td", { class: "effect-of", title: effect }, effect === "" ? `A = ${account.after}` : effect));
+    return { nodes: [row, ...below], bar };
 }
 
 /** The part of the page with the accounts. Of the order that is played, what it has not done yet is not seen. */
 export function makeAccounts(laboratory, { text }, { playing, held, isFast }) {
     const body = h("tbody");
-    const names = ["clock", "at", "order", "find", "take", "seek", "act", "sum", "accumulator"];
-    const heads = names.map((name) => h("th", { scope: "col" }, text(name)));
+    const names = ["clock", "at", "order", "find", "take", "seek", "act", "sum", "accumulator", "bar", "effect"];
+    const heads = names.map((name) => h("th", { scope: "col", class: `head-${name}` }, text(name)));
     const empty = h("p");
     const table = h("div", { class: "scroll", tabindex: "0", role: "group", "aria-label": text("accounts") }, h("table", {}, h("thead", {}, h("tr", {}, ...heads)), body));
     const rows = new WeakMap();
+    const goBackTo = (account) => laboratory.back(laboratory.accounts.length - laboratory.accounts.indexOf(account));
     const rowsKept = (account) => {
-        if (!rows.has(account)) rows.set(account, rowsOf(account, text));
+        if (!rows.has(account)) rows.set(account, rowsOf(account, text, goBackTo));
         return rows.get(account);
     };
+    let [first, filled] = [null, null];
     const show = () => {
-        const accounts = isFast() ? [] : laboratory.accounts;
-        refill(body, ...accounts.slice(-SHOWN).reverse().flatMap((account) => rowsKept(account)));
+        const accounts = (isFast() ? [] : laboratory.accounts).slice(-SHOWN).reverse();
+        refill(body, ...accounts.flatMap((account) => rowsKept(account).nodes));
+        table.style.setProperty("--most", String(Math.max(BAR, ...accounts.map(({ sum }) => sum))));
+        first = accounts[0] ?? null;
         tell(empty, text(isFast() ? "accountsLater" : "noAccounts"));
         empty.hidden = accounts.length > 0;
         table.hidden = accounts.length === 0;
@@ -53,13 +67,18 @@ export function makeAccounts(laboratory, { text }, { playing, held, isFast }) {
         const isHeld = held() !== null;
         table.dataset.phase = isHeld ? playing().phase : "";
         table.classList.toggle("under-way", isHeld);
+        const bar = first === null ? null : rowsKept(first).bar;
+        if (bar !== filled) filled?.show(Infinity);
+        filled = bar;
+        bar?.show(isHeld && held() === first ? playing().offset : Infinity);
     };
     return { node: part("accounts", text("accounts"), empty, table), show, frame };
 }
 
-/** The part of the page that goes back and forward, below the time line. */
+/** The part of the page with the time line, over which a slider goes back and forward; `when` tells where the machine is. */
 export function makeTime(laboratory, { text, code }, showing) {
-    const line = makeTimeline(laboratory, showing);
+    const number = (value) => counted(value, code);
+    const line = makeTimeline(laboratory, showing, (orders) => text("untoldOrders", { orders: number(orders) }));
     const goTo = (at) => {
         const { behind } = laboratory.deeds;
         if (at < behind) laboratory.back(behind - at);
@@ -67,20 +86,15 @@ export function makeTime(laboratory, { text, code }, showing) {
     };
     const slider = h("input", { type: "range", min: 0, max: 0, step: 1, "aria-label": text("slider"), onchange: () => goTo(Number(slider.value)) });
     const [told, clock] = [h("output"), h("span", { class: "clock-turn" })];
-    const back = guarded("◀", { "aria-label": text("backOne"), title: text("backOne") }, () => laboratory.back(1), () => laboratory.tell({ kind: "noneBehind" }));
-    const forward = guarded("▶", { "aria-label": text("forwardOne"), title: text("forwardOne") }, () => laboratory.forward(1), () => laboratory.tell({ kind: "noneAhead" }));
     const show = () => {
         const { behind, ahead, forgotten } = laboratory.deeds;
-        const number = (value) => counted(value, code);
         slider.max = String(behind + ahead);
         slider.value = String(behind);
         slider.disabled = behind + ahead === 0;
-        showLive(back, behind > 0);
-        showLive(forward, ahead > 0);
         tell(told, text("orderCount", { at: number(behind), of: number(behind + ahead) }) + (forgotten > 0 ? ` (${text("forgotten", { count: number(forgotten) })})` : ""));
         slider.setAttribute("aria-valuetext", text("orderCount", { at: number(behind), of: number(behind + ahead) }));
         tell(clock, text("clockTurn", { clock: number(laboratory.panel.clock), turn: (Number(laboratory.panel.clock) / SECTORS).toFixed(1) }));
         line.show();
     };
-    return { node: part("time", text("time"), h("div", { class: "line" }, back, h("div", { class: "along" }, line.node, slider), forward, h("div", { class: "when" }, told, clock))), show };
+    return { node: part("time", text("time"), h("div", { class: "along" }, line.node, slider)), when: h("div", { class: "when" }, told, clock), show };
 }

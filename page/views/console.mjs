@@ -8,7 +8,10 @@ const BUTTONS = ["manual", "oneop", "normal", "start", "clear", "fill", "execute
 /** What the monitor calls the keys that have a sign, and the key of the conditional stop. */
 const KEYS = { sign: "keys", stop: "stop" };
 
-const KEY_ROWS = ["0123456789", "fgjkqw-+;/.,", "zbyrindmpe", "uthcasvox "];
+/** The keys in their rows. The letter l is the digit 1, as on a typewriter. */
+const KEY_ROWS = ["1234567890-", "qwertyuiop+", "asdfghjk;/", "zxcvbnm,."];
+/** The letters of orders, whose keys are amber. */
+const OF_ORDERS = "zbyridnmpeuthcas";
 
 /** What a press of a dead control does: it says that, and what to press. */
 const tellDead = (laboratory, detail) => () => laboratory.tell({ kind: "dead", detail });
@@ -17,6 +20,12 @@ const tellDead = (laboratory, detail) => () => laboratory.tell({ kind: "dead", d
 const FIRST_ROW = 7;
 /** Whether the lamp of a button is lit: a mode's while it is the machine's, Start's while the machine does not stand still. */
 const isLit = ({ mode, status }, name) => mode === name || (name === "start" && !status.startsWith("halted"));
+
+/** The name of a lever: what four of them share is said beside the first, where they stand in one row. */
+function nameOf(label) {
+    const [, shared, own] = /^(Break Point) (\d+)$/.exec(label) ?? [];
+    return shared === undefined ? [label] : [h("span", { class: "shared" }, `${shared} `), own];
+}
 
 /** The part of the page with buttons and switches. */
 export function makeConsole(laboratory, { text, table }) {
@@ -29,7 +38,7 @@ export function makeConsole(laboratory, { text, table }) {
     const switches = SWITCHES.map((name) => {
         const [label, hint] = table.switch[name];
         const control = button("", () => laboratory.command(`press ${name} ${laboratory.panel.down[name] ? "up" : "down"}`), { title: hint, class: "lever", role: "switch", "data-name": name });
-        control.append(h("i", { "aria-hidden": "true" }), label);
+        control.append(h("i", { "aria-hidden": "true" }), h("span", {}, ...nameOf(label)));
         return control;
     });
     const show = () => {
@@ -48,12 +57,16 @@ export function makeConsole(laboratory, { text, table }) {
 
 /** The part of the page with the Flexowriter's keys. */
 export function makeKeyboard(laboratory, { text }) {
-    const key = (sign) => guarded(sign === " " ? "␣" : sign, { class: "key", "data-name": KEYS.sign, "aria-label": sign === " " ? text("space") : sign }, () => laboratory.command(`type ${sign}`), tellDead(laboratory, sign === " " ? text("space") : sign));
+    const key = (sign) => guarded(sign === " " ? "␣" : sign, { class: `key ${sign === " " ? "space" : OF_ORDERS.includes(sign) ? "of-order" : ""}`, "data-name": KEYS.sign, "aria-label": sign === " " ? text("space") : sign }, () => laboratory.command(`type ${sign}`), tellDead(laboratory, sign === " " ? text("space") : sign));
     const rows = KEY_ROWS.map((row) => h("div", { class: "keys" }, ...[...row].map(key)));
-    const stop = guarded(text("conditionalStop"), { class: "key wide", "data-name": KEYS.stop }, () => laboratory.command("type '"), tellDead(laboratory, text("conditionalStop")));
-    const node = part("keyboard", text("keyboard"), ...rows, h("div", { class: "keys" }, stop));
+    const stop = guarded(text("conditionalStop"), { class: "key stop", "data-name": KEYS.stop }, () => laboratory.command("type '"), tellDead(laboratory, text("conditionalStop")));
+    const node = part("keyboard", text("keyboard"), h("div", { class: "key-rows" }, ...rows, h("div", { class: "keys last-row" }, key(" "), stop)));
+    let waited = false;
     const show = () => {
         for (const control of node.querySelectorAll("button")) showLive(control, laboratory.live.has(control.dataset.name));
+        const waits = laboratory.way.kind === "keys";
+        if (waits && !waited) node.closest(".tab-panel")?.dispatchEvent(new Event("reveal"));
+        waited = waits;
     };
     return { node, show };
 }

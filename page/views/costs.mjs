@@ -45,7 +45,9 @@ export function makeCosts(laboratory, texts) {
         tell(told, costs === null ? text("costsHint") : costsText(costs, texts).join("\n"));
         const rows = costs?.sectors ?? [];
         body.replaceChildren(...rows.map((row) => rowOf(row, texts)));
-        for (const node of [legend, all]) node.hidden = rows.length === 0;
+        for (const it of [legend, all]) it.hidden = rows.length === 0;
+        node.classList.toggle("idle", costs === null);
     };
-    return { node: part("costs", text("costs"), told, legend, all), show };
+    const node = part("costs", text("costs"), told, legend, all);
+    return { node, show };
 }

@@ -1,29 +1,36 @@
 // The drum from its end: the head stands still, the ring of sectors turns below it. What is lit comes from replies; the look of ring, head and hub is the
 // page's own picture of the machine.
-import { SECTORS, addressIn, positionOf } from "../addresses.mjs";
+import { SECTORS, positionOf, sectorOf } from "../addresses.mjs";
 import { bitsOf } from "../module/replies.mjs";
 import { PHASES } from "../player.mjs";
 import { h, part, s } from "./dom.mjs";
-import { WITHOUT_WORD } from "./says.mjs";
+import { apart, inRadians, turned } from "./pins.mjs";
+import { WITHOUT_WORD, wordOf } from "./says.mjs";
 
 /** The centre of the picture of 800 to 720, and what one word time turns. */
-const [X, Y] = [400, 372];
-const STEP = 360 / SECTORS;
+export const [X, Y] = [400, 372];
+export const STEP = 360 / SECTORS;
 const RING = { outer: 318, inner: 260, numbers: 301, bits: [265, 281], rim: 321 };
 const WAY = 330;
 const WRITTEN_MILLISECONDS = 1100;
-const PEN = { radius: 246, pitch: 20, turns: 4.6, waits: 4.5, works: 15 };
+/** How wide a cell is where its number stands: where there is less room than a number takes, each second one is seen. */
+const CELL = 29.5;
+/** Below this part of 800 pixels the pins keep their size. */
+const PIN = 0.58;
+/** The trail: where it begins, how much further in it is after each turn, how many turns are seen of it, how wide waits and works are, and how faint it is at its end. */
+export const PEN = { radius: 246, pitch: 20, turns: 4.6, waits: 4.5, works: 15, faintest: 0.12 };
 
-const at = (degrees, radius) => [X + radius * Math.sin((degrees * Math.PI) / 180), Y - radius * Math.cos((degrees * Math.PI) / 180)];
-const fixed = (numbers) => numbers.map((number) => number.toFixed(1)).join(" ");
+/** The point at an angle, clockwise from above, and a distance from the centre. */
+export const at = (degrees, radius) => [X + radius * Math.sin(inRadians(degrees)), Y - radius * Math.cos(inRadians(degrees))];
+export const fixed = (numbers) => numbers.map((number) => number.toFixed(1)).join(" ");
 const arc = (to, radius, sweep = 1) => `A ${radius} ${radius} 0 0 ${sweep} ${fixed(at(to, radius))}`;
 const startOf = (sector) => (positionOf(sector) - 1) * STEP;
 
-/** The sector that an address names, or null. */
-const sectorOf = (address) => (address == null ? null : Number(address.slice(2)));
+/** The angle of a sector's middle, where the drum has turned to a position. */
+export const angleOf = (sector, position) => (positionOf(sector) - 0.5 - position) * STEP;
 
-/** The address of the word that an order uses, or null where it uses none. */
-const wordOf = (order) => (WITHOUT_WORD.test(order) ? null : addressIn(order));
+/** The sector that an address names, or null. */
+const sectorIn = (address) => (address == null ? null : sectorOf(address));
 
 function cell(sector) {
     const from = startOf(sector);
@@ -51,27 +58,34 @@ function costBar({ sector, length, isOwn, isBest }) {
     return s("g", {}, bar, own, best);
 }
 
-/** The ring of sectors. `mark` lights those of the next order and of its word, `write` draws the words' bits, `cost` draws what the sectors would cost a word, and
- * `turn` turns it. */
+/** A mark around the hub of a sector that was tried for a word: the longer, the more it costs there. */
+function triedMark({ sector, share, isBest }) {
+    const [from, to, radius] = [startOf(sector) + 0.8, startOf(sector) + STEP - 0.8, 123 + 21 * share];
+    return s("path", { class: `tried ${isBest ? "best" : ""}`, d: `M ${fixed(at(from, radius))} ${arc(to, radius)} L ${fixed(at(to, 121))} ${arc(from, 121, 0)} Z` });
+}
+
+/** The ring of sectors. `mark` lights those of the next order and of its word, `light` any by the name of a class, `write` draws the words' bits, `cost` draws what the sectors would cost a
+ * word, `trace` which of them were tried, and `turn` turns it. */
 function makeRing() {
     const cells = Array.from({ length: SECTORS }, (unused, sector) => cell(sector));
     const box = [X - RING.rim, Y - RING.rim, 2 * RING.rim, 2 * RING.rim].join(" ");
     const bolts = Array.from({ length: 8 }, (unused, place) => at(45 * place + 22.5, 133)).map(([cx, cy]) => s("circle", { class: "bolt", cx, cy, r: 6.5 }));
     const plates = () => [s("circle", { class: "face-plate", cx: X, cy: Y, r: RING.inner }), s("circle", { class: "hub-plate", cx: X, cy: Y, r: 146 })];
-    const costs = s("g", { class: "ring-of-costs" });
-    const svg = s("svg", { class: "ring", viewBox: box, "aria-hidden": "true" }, ...cells, ...plates(), ...bolts, costs);
+    const [costs, tries] = ["ring-of-costs", "tries"].map((name) => s("g", { class: name }));
+    const svg = s("svg", { class: "ring", viewBox: box, "aria-hidden": "true" }, ...cells, ...plates(), ...bolts, costs, tries);
     // what an eye sees of it where nothing on it can be read: it lies above, so that the ring need not be drawn anew when it comes and goes
     const blur = s("svg", { class: "blur", viewBox: box, "aria-hidden": "true" }, s("circle", { class: "rim", cx: X, cy: Y, r: RING.rim }), ...[RING.numbers, 272].map((r) => s("circle", { class: "streak", cx: X, cy: Y, r })), ...plates());
     const [drawn, marked] = [new Map(), { next: null, operand: null, written: null }];
     const mark = (marks) => {
         for (const kind of Object.keys(marked)) {
-            const sector = sectorOf(marks[kind]);
+            const sector = sectorIn(marks[kind]);
             if (sector === marked[kind]) continue;
             cells[marked[kind]]?.classList.remove(kind);
             cells[sector]?.classList.add(kind);
             marked[kind] = sector;
         }
     };
+    const light = (kind, sectors) => cells.forEach((it, sector) => it.classList.toggle(kind, sectors.includes(sector)));
     const write = (words) => {
         for (const [sector, digits] of words) {
             if (drawn.get(sector) !== digits) cells[sector].querySelector(".bits").setAttribute("d", strokes(sector, digits));
@@ -84,27 +98,27 @@ function makeRing() {
         costsShown = shown;
         costs.replaceChildren(...(shown?.sectors ?? []).map(costBar));
     };
-    return { node: h("div", { class: "well" }, svg, blur), mark, write, cost, turn: (position) => { svg.style.transform = `rotate(${-position * STEP}deg)`; } };
+    const trace = (tried) => tries.replaceChildren(...tried.map(triedMark));
+    return { node: h("div", { class: "well" }, svg, blur), mark, light, write, cost, trace, turn: (position) => { svg.style.transform = `rotate(${-position * STEP}deg)`; } };
 }
 
+/** The size of a pin, and how far from the centre it lies at an angle. */
+const FLAG = { width: 64, height: 28 };
+const flagDistance = (angle) => 328 + (FLAG.height / 2) * Math.abs(Math.cos(inRadians(angle))) + (FLAG.width / 2) * Math.abs(Math.sin(inRadians(angle)));
+
+/** The pin of an address; where it lies aside of its sector a line leads there. */
 function makePin(kind) {
-    const label = s("text", { y: 6.5 });
-    const node = s("g", { class: `pin ${kind}` }, s("rect", { x: -32, y: -14, width: 64, height: 28, rx: kind === "next" ? 5 : 14 }), label);
-    return { node, show: (address, angle) => {
+    const { width, height } = FLAG;
+    const [label, stem] = [s("text", { y: 6.5 }), s("path", { class: "stem" })];
+    const place = s("g", {}, s("g", { class: "flag" }, s("rect", { x: -width / 2, y: -height / 2, width, height, rx: kind === "next" ? 5 : 14 }), label));
+    const node = s("g", { class: `pin ${kind}` }, stem, place);
+    return { node, show: (address, own, angle) => {
         node.classList.toggle("away", address === null);
         if (address === null) return;
         label.textContent = address;
-        const slant = (angle * Math.PI) / 180;
-        node.setAttribute("transform", `translate(${fixed(at(angle, 328 + 14 * Math.abs(Math.cos(slant)) + 32 * Math.abs(Math.sin(slant))))})`);
+        stem.setAttribute("d", Math.abs(turned(own - angle)) < 2 ? "" : `M ${fixed(at(own, RING.outer))} L ${fixed(at(angle, WAY + 10))}`);
+        place.setAttribute("transform", `translate(${fixed(at(angle, flagDistance(angle)))})`);
     } };
-}
-
-/** Two angles set apart where their pins would meet: each steps aside by half of what is missing. */
-function apart(one, other) {
-    const between = ((other - one + 540) % 360) - 180;
-    const missing = 5.6 + 6.6 * Math.abs(Math.cos((one * Math.PI) / 180)) - Math.abs(between);
-    const aside = missing > 0 ? (missing / 2) * (between < 0 ? -1 : 1) : 0;
-    return [one - aside, other + aside];
 }
 
 /** What stands still: the head with its tip, the way still to go, the hub with its text, and the pins. */
@@ -116,20 +130,20 @@ function makeFixed({ text }) {
     const svg = s("svg", { class: "fixed", viewBox: "0 0 800 720", "aria-hidden": "true" },
         s("circle", { class: "casing", cx: X, cy: Y, r: WAY }), way,
         s("path", { class: "turns-left", d: `M ${fixed(at(-20, 350))} ${arc(-40, 350, 0)}` }), s("path", { class: "turns-left tip-of", d: `M ${fixed(at(-43.2, 350))} L ${fixed(at(-38.8, 343))} L ${fixed(at(-38.8, 357))} Z` }),
-        beam, s("path", { class: "head", d: "M368 0h64v26l-14 22h-8l-10 7-10-7h-8l-14-22z" }), tip, s("text", { class: "head-name", x: 442, y: 20 }, text("head")),
+        beam, s("path", { class: "head face", d: "M346 0h108v28l-24 20h-20l-10 7-10-7h-20l-24-20z" }), tip, s("text", { class: "head-name", x: 400, y: 24 }, text("head")),
         s("circle", { class: "hub", cx: X, cy: Y, r: 119 }), phase, count, below, clock, operand.node, next.node);
+    let size = 1;
     const show = (view, position) => {
-        const angleOf = (address) => (positionOf(sectorOf(address)) - 0.5 - position) * STEP;
-        const [first, second] = view.operand === null || view.next === null ? [view.next, view.operand].map((address) => (address === null ? 0 : angleOf(address))) : apart(angleOf(view.next), angleOf(view.operand));
-        next.show(view.next, first);
-        operand.show(view.operand, second);
+        const pins = [["next", next], ["operand", operand]].map(([name, pin]) => ({ name, pin, angle: view[name] === null ? null : angleOf(sectorOf(view[name]), position), width: FLAG.width * size, height: FLAG.height * size }));
+        const angles = apart(pins.filter(({ angle }) => angle !== null), flagDistance);
+        for (const { name, pin, angle } of pins) pin.show(view[name], angle, angles.get(name));
         svg.dataset.phase = view.phase ?? "rest";
         beam.classList.toggle("lit", view.isReading);
         way.setAttribute("d", view.left > 0 ? sweep(Math.min(view.left, SECTORS)) : "");
-        Object.entries({ phase: text(`hub_${view.phase ?? "rest"}`), count: view.count, below: view.left > 0 ? text("placesToGo") : "", clock: `${text("clock")} ${view.clock}` })
+        Object.entries({ phase: text(`hub_${view.phase ?? "rest"}`), count: view.count, below: view.below ?? (view.left > 0 ? text("placesToGo") : ""), clock: view.clock === null ? "" : `${text("clock")} ${view.clock}` })
             .forEach(([name, value]) => { const node = { phase, count, below, clock }[name]; if (node.textContent !== value) node.textContent = value; });
     };
-    return { node: svg, show };
+    return { node: svg, show, resize: (factor) => { size = factor; } };
 }
 
 /** A path along the way of the head, clockwise from it over so many word times. */
@@ -139,50 +153,52 @@ function sweep(times) {
 }
 
 /** The pieces of the accounts that have passed the head, the newest last: phase, and how many word times ago it began and ended. */
-function passed(accounts, { clock, offset }) {
+export function passed(accounts, { clock, offset }, shape = PEN) {
     return accounts.flatMap((account) => {
         let begins = Number(clock - account.clock) + offset;
         return PHASES.flatMap((phase) => {
             const [from, to] = [begins, Math.max(0, begins - account[phase])];
             begins -= account[phase];
             const isWait = phase === "find" || phase === "seek";
-            const works = { phase, from: isWait ? Math.min(from, begins + 1) : from, to, width: PEN.works };
-            return [...(isWait ? [{ phase, from, to: Math.max(to, begins + 1), width: PEN.waits }] : []), works];
+            const works = { phase, from: isWait ? Math.min(from, begins + 1) : from, to, width: shape.works };
+            return [...(isWait ? [{ phase, from, to: Math.max(to, begins + 1), width: shape.waits }] : []), works];
         });
-    }).filter(({ from, to }) => from > to && to < PEN.turns * SECTORS);
+    }).filter(({ from, to }) => from > to && to < shape.turns * SECTORS);
 }
 
-/** The trail on its canvas, whose size is asked for only when it changes. */
-function makeTrail() {
+/** The trail on its canvas, whose size is asked for only when it changes; `sized` is told how much smaller than 800 pixels it is. */
+function makeTrail(sized) {
     const node = h("canvas", { class: "trail", "aria-hidden": "true" });
     const colours = {};
     let redraw = () => {};
     new ResizeObserver(([{ contentRect: { width } }]) => {
+        if (width === 0) return;
         const ratio = Math.min(2, devicePixelRatio || 1);
         Object.assign(node, { width: Math.round(width * ratio), height: Math.round((width * ratio * 720) / 800) });
+        sized(width / 800);
         for (const phase of PHASES) colours[phase] = getComputedStyle(node).getPropertyValue(`--in-${phase}`);
         redraw();
     }).observe(node);
-    const draw = (pieces, isFast) => {
+    const draw = (pieces, isFast, shape) => {
         const pen = node.getContext("2d");
         pen.setTransform(node.width / 800, 0, 0, node.width / 800, 0, 0);
         pen.clearRect(0, 0, 800, 720);
         if (isFast) drawShares(pen, pieces, colours);
-        else for (const { phase, from, to, width } of pieces) stroke(pen, from, to, width, colours[phase]);
+        else for (const piece of pieces) stroke(pen, piece, colours[piece.phase], shape);
     };
-    return { node, draw: (pieces, isFast) => { redraw = () => draw(pieces, isFast); redraw(); } };
+    return { node, draw: (pieces, isFast = false, shape = PEN) => { redraw = () => draw(pieces, isFast, shape); redraw(); } };
 }
 
 /** A piece of the pen's line, eight word times at once, fainter the older it is. */
-function stroke(pen, from, to, width, colour) {
+function stroke(pen, { from, to, width }, colour, { radius, pitch, turns, faintest }) {
     Object.assign(pen, { lineWidth: width, strokeStyle: colour });
     for (let end = to; end < from; end += 8) {
         const begin = Math.min(from, end + 8);
-        pen.globalAlpha = Math.max(0.12, 1 - end / (PEN.turns * SECTORS));
+        pen.globalAlpha = Math.max(faintest, 1 - end / (turns * SECTORS));
         pen.beginPath();
         for (let place = 0; place <= 8; place += 1) {
             const age = end + ((begin - end) * place) / 8;
-            pen.lineTo(...at(-age * STEP, PEN.radius - (PEN.pitch * age) / SECTORS));
+            pen.lineTo(...at(-age * STEP, radius - (pitch * age) / SECTORS));
         }
         pen.stroke();
     }
@@ -195,9 +211,7 @@ function atRest({ panel, operand, words }, isFast) {
 }
 
 /** What it shows while an order is played. */
-export function whilePlayed({ account, offset, phase, counter }) {
-    const ends = PHASES.slice(0, PHASES.indexOf(phase) + 1).reduce((sum, name) => sum + account[name], 0);
-    const left = phase === "find" || phase === "seek" ? ends - offset : 0;
+function whilePlayed({ account, offset, phase, counter, left }) {
     const sign = account.printed === null ? account.order.trim()[0] : account.printed.sign ?? "·";
     return { clock: account.clock, offset, phase, next: counter, operand: wordOf(account.order), left, count: left > 0 ? String(Math.ceil(left)) : sign, isReading: left > 0 && left <= 1, written: null };
 }
@@ -216,24 +230,43 @@ function drawShares(pen, pieces, colours) {
     }
 }
 
+/** The picture of a drum: the ring, the trail, and what stands still above them. `redraw` is called when its size has changed. */
+export function makePicture(texts, redraw) {
+    const sized = (scale) => {
+        box.style.setProperty("--scale", String(scale));
+        box.classList.toggle("tight", scale * CELL < 12.1);
+        still.resize(Math.max(1, PIN / scale));
+        redraw();
+    };
+    const [ring, trail, still] = [makeRing(), makeTrail(sized), makeFixed(texts)];
+    const box = h("div", { class: "drum-box", role: "img" }, ring.node, trail.node, still.node);
+    return { box, ring, trail, still };
+}
+
+/** The colours of the phases, each with its name. */
+export const makeKey = (nameOf, ...more) => h("p", { class: "key" }, ...PHASES.flatMap((phase) => [h("span", { class: `dot ${phase}` }), nameOf(phase), " "]), ...more);
+
 /** The part of the page that shows the drum. `playing` gives what is played at this moment, or null, `held` the order that has not yet done what it does; `isFast` whether it turns too fast to be read. */
 export function makeDrum(laboratory, texts, { playing, held, isFast }) {
     const { text } = texts;
-    const [ring, trail, still] = [makeRing(), makeTrail(), makeFixed(texts)];
-    const box = h("div", { class: "drum-box", role: "img" }, ring.node, trail.node, still.node);
-    const key = h("p", { class: "key" }, ...["find", "take", "seek", "act"].flatMap((phase) => [h("span", { class: `dot ${phase}` }), text(phase), " "]),
-        h("span", { class: "dot next" }), text("nextOrder"), " ", h("span", { class: "dot operand" }), text("operand"));
-    /** The word that the last order has stored, for a moment after it has done so. */
+    const { box, ring, trail, still } = makePicture(texts, () => { if (laboratory.panel !== null) frame(); });
+    const key = makeKey(text, h("span", { class: "dot next" }), text("nextOrder"), " ", h("span", { class: "dot operand" }), text("operand"));
+    /** The word that the last order has stored, for a moment after it has done so. The moment begins when what was done is shown: a picture drawn in between may know an order that is yet to be played. */
     let [told, until] = [null, 0];
-    const writtenNow = (isDone) => {
+    const begin = () => {
         const account = laboratory.accounts.at(-1);
-        if (isDone && account !== told) [told, until] = [account, performance.now() + WRITTEN_MILLISECONDS];
-        return isDone && performance.now() < until ? account?.stored?.address ?? null : null;
+        if (held() === null && account !== told) [told, until] = [account, performance.now() + WRITTEN_MILLISECONDS];
+    };
+    const writtenNow = () => {
+        const account = laboratory.accounts.at(-1);
+        return held() === null && account === told && performance.now() < until ? account?.stored?.address ?? null : null;
     };
     const frame = () => {
         const played = isFast() ? null : playing();
         const view = played === null ? atRest(laboratory, isFast()) : whilePlayed(played);
-        view.written = isFast() ? null : writtenNow(held() === null);
+        if (laboratory.isCounted && view.left > 0) Object.assign(view, { count: String(Math.floor(view.offset)), below: text("placesTurned") });
+        if (played?.isHurried && played.phase === "act" && !played.done) view.below = text("shownFaster", { turns: Math.round(played.account.act / SECTORS) });
+        view.written = isFast() ? null : writtenNow();
         const position = Number(view.clock % BigInt(SECTORS)) + view.offset;
         ring.turn(position % SECTORS);
         ring.mark(view);
@@ -244,6 +277,7 @@ export function makeDrum(laboratory, texts, { playing, held, isFast }) {
         if (view.written !== null) setTimeout(frame, until - performance.now() + 1);
     };
     const show = () => {
+        begin();
         frame();
         const stored = held()?.stored;
         ring.write(laboratory.track.map(({ address, text: digits }) => [sectorOf(address), address === stored?.address ? stored.before.digits : digits]));
@@ -252,5 +286,5 @@ export function makeDrum(laboratory, texts, { playing, held, isFast }) {
         const { panel: { clock, counter }, operand } = laboratory;
         box.setAttribute("aria-label", isFast() ? text("drumRuns") : text("drumSays", { clock: String(clock), next: counter, operand: operand ?? "–" }));
     };
-    return { node: part("drum", text("drum"), box, key), show, frame };
+    return { node: part("drum", text("drum"), box, key), box, ring, show, frame };
 }

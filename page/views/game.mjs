@@ -1,6 +1,6 @@
-// A game at the kiosk: large buttons in place of keys, switches and conditional stop, over the program of the example. What a button sends are lines
+// A game at the kiosk: its buttons stand for keys, switches and conditional stop, over the program of the example. What a button sends are lines
 // of its script; the heap is what the machine's words say, and whose turn it is and who has won what it has printed.
-import { button, h, s } from "./dom.mjs";
+import { h, s } from "./dom.mjs";
 
 /** The games by their examples: the lines that set the switches, those of the moves, the labels of the heap and of its number at first with the place of their point, and what the paper says. */
 export const GAMES = new Map([["games/matches", {
@@ -44,12 +44,4 @@ export function makeHeap(laboratory, { text }) {
         node.replaceChildren(s("svg", { viewBox: `0 0 ${16 * places} 100`, role: "img", "aria-label": text("gameHeap", { count: left }) }, ...Array.from({ length: places }, match)), h("p", { "aria-hidden": "true" }, text("gameHeap", { count: left })));
     };
     return { node, show };
-}
-
-/** The large buttons: three take matches, and one begins anew. */
-export function makeMoves(game, { text, table }, exhibit) {
-    // the second press of a double one is not meant for what the first one has led to
-    const moves = game.moves.map((unused, place) => button(table.gameTake[place], ({ detail }) => (detail > 1 ? undefined : exhibit.press(place + 1)), { id: `kiosk-take-${place + 1}` }));
-    const again = button(text("kioskAgain"), () => exhibit.press(4), { id: "kiosk-again" });
-    return { node: h("div", { class: "kiosk-bar moves" }, ...moves, again), show: () => {} };
 }

@@ -1,8 +1,10 @@
-// The kiosk: one program that plays by itself with captions until it is touched, four large buttons, and a return to the beginning after a time without input.
-// A game has buttons of its own, and its heap in place of the oscilloscope.
-import { guarded, h, showLive, tell } from "./dom.mjs";
-import { makeMoves, standsIn } from "./game.mjs";
+// The kiosk: one program that plays by itself with captions until it is touched, a story of its first orders, a game, four large buttons in each state, and a return to the beginning after a time without input.
+import { SECTORS } from "../addresses.mjs";
+import { counted } from "../words.mjs";
+import { button, h, tell } from "./dom.mjs";
+import { GAMES, standsIn } from "./game.mjs";
 import { rewrittenBy } from "./says.mjs";
+import { sentenceOf } from "./story.mjs";
 
 /** For how long a caption stands at least, in milliseconds. That an order has been rewritten is told at once, and stands by its own time. */
 const STANDS = { caption: 2600, write: 2200 };
@@ -26,40 +28,72 @@ function makeCaptions() {
     };
 }
 
-/** What can be done, where nothing plays by itself. */
-const standsOf = (laboratory, { text }, drive) => () => {
-    const { printed, way: { kind }, deeds } = laboratory;
-    if (drive.pace !== null) return text("kioskRuns");
-    if (kind === "keys") return text("kioskKeys");
-    if (kind === "go") return text(printed.count > 0 ? "kioskPrinted" : "kioskGoing");
-    return text(deeds.behind === 0 ? "kioskIntro" : "kioskDone");
-};
-
 /** The captions that follow one another where nothing may move. */
 const IN_TURN = ["find", "seek", "write", "type"];
 
-/** What is told at the top: while it plays by itself, what happens; otherwise what `stands` says. */
-function makeTold({ text }, { drive, playing, isStill }, exhibit, stands) {
+/** How long a printed text is told, at most. */
+const SHORT = 40;
+
+/** The share of the told word times in which the machine waited for its drum, in percent; null where not all orders were told. */
+function waitedIn({ accounts, deeds: { behind, forgotten } }) {
+    if (accounts.length === 0 || accounts.length < behind + forgotten) return null;
+    const sum = (of) => accounts.reduce((total, account) => total + of(account), 0);
+    return Math.round((100 * sum(({ find, seek }) => Math.max(0, find - 1) + Math.max(0, seek - 1))) / sum((account) => account.sum));
+}
+
+/** What is told at the end of the story: what the machine did, and a question. */
+function endText(laboratory, { text, code }, exhibit) {
+    const { deeds: { behind, forgotten }, panel, printed, way } = laboratory;
+    if (way.kind === "keys") return text("kioskKeys");
+    const [paper, waited] = [printed.text.trim(), waitedIn(laboratory)];
+    const did = text("kioskDid", { orders: counted(behind + forgotten, code), turns: counted(Math.round(Number(panel.clock) / SECTORS), code) });
+    return [paper !== "" && paper.length <= SHORT ? text("kioskHasPrinted", { paper }) : text("kioskHasEnded"), did, waited === null ? "" : text("kioskWaited", { share: waited }), text(exhibit.offers("faster") ? "kioskAsksFaster" : "kioskAsks")].filter((it) => it !== "").join(" ");
+}
+
+/** What is told in the story: what the order does that is played, or was the last; what it has rewritten is added when it is done. */
+function storyNodes(laboratory, texts, { held }, exhibit) {
+    const account = laboratory.accounts.at(-1);
+    if (exhibit.at === 0 || account === undefined) return [texts.text("kioskIntro")];
+    const event = held() === null ? rewrittenBy(account) : null;
+    return [...sentenceOf(account, texts), ...(event === null ? [] : [" ", h("span", { class: "rewriting" }, texts.text("rewritten", event))])];
+}
+
+/** What is told at the top, in each state: in the story what the order does, in the game whose turn it is, while it plays what happens, and at the end what was done. */
+function makeTold(laboratory, texts, showing, exhibit) {
+    const { text } = texts;
+    const { drive, playing, held, isStill } = showing;
     const told = h("p", { class: "kiosk-told", role: "status" });
     const captionOf = makeCaptions();
+    const turn = standsIn([...GAMES.values()][0], laboratory, texts, drive);
+    const happens = () => (isStill() && exhibit.captions > 0 ? text(`kiosk_${IN_TURN[(exhibit.captions - 1) % IN_TURN.length]}`) : drive.pace === null ? text("kioskIntro") : text(`kiosk_${captionOf(happening(playing()))}`));
+    const says = { attract: happens, show: happens, matches: turn, end: () => (drive.pace === null ? endText(laboratory, texts, exhibit) : text("kioskRuns")) };
+    let shown = null;
     const frame = () => {
-        const { isAttract, captions } = exhibit;
-        const caption = isAttract && isStill() && captions > 0 ? IN_TURN[(captions - 1) % IN_TURN.length] : isAttract && drive.pace !== null ? captionOf(happening(playing())) : null;
-        told.setAttribute("aria-live", isAttract ? "off" : "polite");
-        tell(told, caption === null ? stands() : text(`kiosk_${caption}`));
+        const { state, at } = exhibit;
+        told.setAttribute("aria-live", state === "attract" ? "off" : "polite");
+        if (state in says) tell(told, says[state]());
+        const key = state === "story" ? `${at} ${laboratory.accounts.at(-1)?.clock} ${held() === null}` : null;
+        if (key !== null && key !== shown) told.replaceChildren(...storyNodes(laboratory, texts, showing, exhibit));
+        shown = key;
     };
     return { node: told, show: frame, frame };
 }
 
-/** The large buttons: each has its number, by which a key presses it. */
-function makeButtons({ text }, exhibit, drive) {
-    const names = ["start", "step", "run", "again"];
-    const buttons = names.map((name, place) => guarded("", { id: `kiosk-${name}` }, () => exhibit.press(place + 1), () => {}));
-    const labels = () => [drive.pace === null || exhibit.isAttract ? "kioskStart" : "kioskStop", "kioskStep", "kioskRun", "kioskAgain"];
+/** Which buttons stand out in each state. */
+const PRIMARY = { attract: [1], story: [2], show: [2], end: [1], matches: [1, 2, 3] };
+
+/** The four buttons: each has its number, by which a key presses it. The second press of a double one is not meant for what the first one has led to in a game. */
+function makeButtons({ text, code }, exhibit) {
+    const buttons = [1, 2, 3, 4].map((number) => button("", ({ detail }) => (detail > 1 && exhibit.state === "matches" ? undefined : exhibit.press(number)), { id: `kiosk-${number}` }));
     const show = () => {
-        for (const [place, label] of labels().entries()) {
-            tell(buttons[place], text(label));
-            showLive(buttons[place], exhibit.isLive(place + 1));
+        const { labels, state } = exhibit;
+        for (const [place, control] of buttons.entries()) {
+            const label = labels[place];
+            tell(control, label === null ? "" : text(label));
+            control.classList.toggle("none", label === null);
+            control.classList.toggle("primary", PRIMARY[state]?.includes(place + 1) ?? false);
+            if (label === "kioskLanguage") control.lang = code === "de" ? "en" : "de";
+            else control.removeAttribute("lang");
         }
     };
     return { node: h("div", { class: "kiosk-bar" }, ...buttons), show };
@@ -68,17 +102,19 @@ function makeButtons({ text }, exhibit, drive) {
 /** The colours of the phases with their words. */
 const colours = ({ text }) => h("p", { class: "colours" }, ...["find", "take", "seek", "act"].map((phase) => h("span", {}, h("span", { class: `dot ${phase}` }), text(`colour_${phase}`))));
 
-/** The kiosk: header, main and footer. `made` has the views of the page that it shows, and `others` the small buttons at the top. */
-export function makeKiosk(laboratory, texts, showing, exhibit, made, others) {
+/** The kiosk: header, main and footer. `made` has the views of the page that it shows, `others` the small buttons at the top, and `views` what it opens beside the machine. Which of them are seen follows from the
+ * state. */
+export function makeKiosk(laboratory, texts, showing, exhibit, made, others, views) {
     const { text } = texts;
-    const { game } = exhibit;
-    const told = makeTold(texts, showing, exhibit, game === undefined ? standsOf(laboratory, texts, showing.drive) : standsIn(game, laboratory, texts, showing.drive));
-    const buttons = game === undefined ? makeButtons(texts, exhibit, showing.drive) : makeMoves(game, texts, exhibit);
-    const hint = h("p", { class: "kiosk-hint" }, text("kioskTouch"));
+    const [told, buttons] = [makeTold(laboratory, texts, showing, exhibit), makeButtons(texts, exhibit)];
+    const hint = h("p", { class: "kiosk-hint" });
     const header = h("header", {}, h("h1", {}, text("kioskTitle")), h("div", { class: "others" }, ...others), told.node, hint);
     const cabinet = h("div", { class: "cabinet" }, h("p", { class: "plate" }, h("b", {}, "ROYAL McBEE LGP-30")), made.drum.node, colours(texts));
-    const shown = { show: () => { hint.hidden = !exhibit.isAttract; } };
-    return { nodes: [header, h("main", {}, cabinet, made.shown.node, made.paper.node), h("footer", {}, buttons.node)], views: [told, buttons, shown, ...Object.values(made)] };
+    const shown = { show: () => {
+        document.body.dataset.state = exhibit.state;
+        tell(hint, { attract: text("kioskTouch"), story: text("kioskOrder", { at: exhibit.at }) }[exhibit.state] ?? "");
+    } };
+    return { nodes: [header, h("main", {}, cabinet, made.scope.node, made.heap.node, made.paper.node, ...Object.values(views).map(({ node }) => node)), h("footer", {}, buttons.node)], views: [told, buttons, shown, ...Object.values(made)] };
 }
 
 /** What a visitor's hand may do beside pressing: nothing of it is taken, so that the exhibit stays as it is. */

@@ -1,17 +1,8 @@
-// A lesson as steps: one that is done is ticked off, by what the machine shows or by an answer that is compared with it.
+// A lesson as steps, of which the one in work is seen: one that is done is ticked off, by what the machine shows or by an answer that is compared with it.
 import { bringTo } from "../done.mjs";
 import { LESSONS } from "../steps.mjs";
 import { button, h, part, tell } from "./dom.mjs";
 import { makeLineBox } from "./writing.mjs";
-
-/** The step before is seen above the one that is to be done, or the name of its part, as far as that is no higher than this; else as much of its end. */
-const SEEN_BEFORE = { whole: 110, end: 44 };
-
-/** How far a list is scrolled to a step. */
-function scrollOf({ node }) {
-    const before = node.previousElementSibling ?? node.parentElement.previousElementSibling;
-    return before !== null && before.offsetHeight <= SEEN_BEFORE.whole ? before.offsetTop : node.offsetTop - SEEN_BEFORE.end;
-}
 
 /** An answer as it is compared: thousands may be set apart. */
 export const plain = (answer) => answer.trim().toLowerCase().replace(/\s+/g, " ").replace(/(\d)[.,](?=\d{3}$)/, "$1");
@@ -65,18 +56,18 @@ function makeStep(laboratory, step, place, texts, done, drafts) {
     const show = (isDone, isNow) => {
         tell(mark, isDone ? "✓" : String(place + 1));
         tell(state, isDone ? `${text("stepDone")} ` : "");
-        node.className = isDone ? "done" : isNow ? "now" : "";
+        node.className = [isDone ? "done" : "", isNow ? "now" : ""].join(" ").trim();
         if (isNow) node.setAttribute("aria-current", "step");
         else node.removeAttribute("aria-current");
         controls.node.hidden = !isNow;
         if (lines !== null) lines.hidden = !isNow;
         if (isNow) controls.show();
-        if (isNow && step.done !== undefined && hint.textContent === "" && isAstray(laboratory)) tellMarked(hint, step.hint);
+        if (isNow && !isDone && step.done !== undefined && hint.textContent === "" && isAstray(laboratory)) tellMarked(hint, step.hint);
     };
     return { ...step, node, show, isSetUp: step.opens !== undefined || step.lines.length > 0 };
 }
 
-/** The rows of steps, below the names of their parts; a press of a name begins with that part. */
+/** The rows of steps, below the names of their parts; a press of a name begins with that part. Only the step in work is seen, with the name of its part. */
 function rowsOf(steps, { text }, begin) {
     return [...new Set(steps.map((step) => step.part))].flatMap((name) => {
         const first = steps.findIndex((step) => step.part === name);
@@ -85,55 +76,99 @@ function rowsOf(steps, { text }, begin) {
     });
 }
 
+/** The rail: a mark for each step, which goes there. */
+function makeRail({ text }, goTo) {
+    const list = h("ol", { "aria-label": text("steps") });
+    const node = h("div", { class: "rail" }, list);
+    const layOut = (count, links) => {
+        list.replaceChildren(...Array.from({ length: count }, (unused, place) => h("li", {}, button("", () => goTo(place), { class: "mark", "data-name": `step-${place}` }))));
+        node.replaceChildren(list, ...links);
+    };
+    const show = ({ at, isDone }) => [...node.querySelectorAll("button")].forEach((mark, place) => {
+        tell(mark, isDone.has(place) ? "✓" : String(place + 1));
+        mark.setAttribute("aria-label", [isDone.has(place) ? text("stepDone") : "", text("stepNumber", { number: place + 1 })].filter((it) => it !== "").join(" "));
+        mark.classList.toggle("is-done", isDone.has(place));
+        if (place === at) mark.setAttribute("aria-current", "step");
+        else mark.removeAttribute("aria-current");
+    });
+    return { node, layOut, show };
+}
+
+/** The ways through a lesson: the rail, and Back and Next below the step in work, of which Next is highlighted when that is done. `leadTo` goes to a step, and `next` on. */
+function makeWays(texts, pupil, leadTo, next) {
+    const { text } = texts;
+    const rail = makeRail(texts, leadTo);
+    const backOne = button(text("captionBack"), () => leadTo(pupil.at - 1), { id: "step-back" });
+    const nextOne = button(text("captionNext"), next, { id: "step-next" });
+    const show = (count) => {
+        rail.show(pupil);
+        backOne.disabled = pupil.at === 0;
+        nextOne.disabled = pupil.at === count;
+        nextOne.classList.toggle("primary", pupil.isDone.has(pupil.at));
+    };
+    return { rail: rail.node, foot: h("div", { class: "line lesson-foot" }, backOne, nextOne), layOut: rail.layOut, show, focusNext: () => nextOne.focus({ preventScroll: true }) };
+}
+
 /** Where a pupil is: the lesson, or null, the place of its step, and the places of those that are done. It outlasts a change of the language. */
 export const noLesson = () => ({ lesson: null, at: 0, isDone: new Set() });
 
-/** The steps of the pupil's lesson, in a box that is scrolled to the one that is to be done. `told` is called when one is reached. */
+/** The steps of the pupil's lesson: a rail of all, the one in work, and Back and Next. A step that is done is ticked off, and Next goes on; before that, Next has what the step asks for done. `told` is called when a
+ * step is reached or done. */
 function makeSteps(laboratory, texts, open, pupil, drafts, told) {
     let [steps, round, isReady] = [[], 0, true];
     const [list, ended] = [h("div", { class: "steps" }), h("p", { role: "status", class: "lesson-end", tabindex: "-1" })];
-    const growth = new ResizeObserver(() => {
-        const { offsetTop, offsetHeight } = steps[pupil.at]?.node ?? ended;
-        list.scrollTop = Math.min(offsetTop, Math.max(list.scrollTop, offsetTop + offsetHeight - list.clientHeight));
-    });
-    const layOut = (written) => {
+    const ways = makeWays(texts, pupil, (place) => leadTo(place), () => (pupil.isDone.has(pupil.at) ? reach : leadTo)(pupil.at + 1));
+    const layOut = (written, links) => {
         round += 1;
-        steps = (pupil.lesson?.steps ?? []).map((step, place) => makeStep(laboratory, { ...step, ...written[place], lesson: pupil.lesson.name }, place, texts, () => next(), drafts));
-        growth.disconnect();
-        for (const { node } of steps) growth.observe(node);
+        steps = (pupil.lesson?.steps ?? []).map((step, place) => makeStep(laboratory, { ...step, ...written[place], lesson: pupil.lesson.name }, place, texts, () => done(), drafts));
+        ways.layOut(steps.length, links);
         list.replaceChildren(...rowsOf(steps, texts, again), ended);
     };
     const again = (first) => {
         for (const place of steps.keys()) if (place >= first) pupil.isDone.delete(place);
         return reach(first);
     };
-    const next = () => { pupil.isDone.add(pupil.at); reach(pupil.at + 1); };
+    const done = () => {
+        const isWithin = list.contains(document.activeElement);
+        pupil.isDone.add(pupil.at);
+        told();
+        show();
+        if (isWithin) ways.focusNext();
+    };
     const setUp = (step) => (step?.isSetUp ? open(step) : undefined);
-    const bring = (unused, place) => bringTo(laboratory, pupil.lesson.name, steps, place, open);
+    const bring = async (unused, place) => {
+        await bringTo(laboratory, pupil.lesson.name, steps, place, open);
+        laboratory.countFromHere();
+    };
+    /** Goes to a step, with the machine as it is there. */
+    const leadTo = (place) => {
+        pupil.isDone.delete(place);
+        return reach(place, place < steps.length ? bring : () => {});
+    };
     const reach = async (place, prepare = setUp) => {
-        const [hadFocus, step] = [list.contains(document.activeElement), steps[place]];
+        const [hadFocus, step] = [[list, ways.foot].some((it) => it.contains(document.activeElement)), steps[place]];
         [pupil.at, round, isReady] = [place, round + 1, false];
         const mine = round;
         told();
-        laboratory.lookedAt = step?.looks ?? [];
+        Object.assign(laboratory, { lookedAt: step?.looks ?? [], isCounted: step?.counts ?? false });
         await prepare(step, place);
         if (mine !== round) return;
         if (step?.shows !== undefined) await laboratory.showAt(step.shows);
         if (mine !== round) return;
         isReady = true;
         show();
-        if (mine !== round) return;
-        list.scrollTop = step === undefined ? list.scrollHeight : scrollOf(step);
+        list.scrollTop = 0;
         if (hadFocus) (step?.node.querySelector("input") ?? step?.node ?? ended).focus({ preventScroll: true });
     };
     const show = () => {
-        if (isReady && steps[pupil.at]?.done?.(laboratory)) { next(); return; }
+        if (isReady && !pupil.isDone.has(pupil.at) && steps[pupil.at]?.done?.(laboratory)) { done(); return; }
         steps.forEach((step, place) => step.show(pupil.isDone.has(place), isReady && place === pupil.at));
+        ways.show(steps.length);
         tell(ended, pupil.at === steps.length ? texts.table.lessons[pupil.lesson.name].end : "");
     };
     /** Goes on where the pupil is, with the machine as it is. */
     const goOn = () => reach(pupil.at, () => {});
-    return { node: list, layOut, reach, bring: (place) => { pupil.isDone.delete(place); return reach(place, bring); }, goOn, show };
+    return { nodes: [ways.rail, list, ways.foot], layOut, reach, bring: leadTo, goOn, show };
 }
 
 /** The part of the page with the choice of a lesson or a task, one of which is open at most, and the lesson where the pupil is. `open` sets the machine up for a step, `told` is called when
@@ -158,7 +193,7 @@ export function makeLesson(laboratory, texts, { open, pupil, tasks, drafts, told
         Object.assign(pupil, noLesson(), { lesson });
         layOut();
         if (choice.contains(document.activeElement)) chosen.focus();
-        laboratory.lookedAt = [];
+        Object.assign(laboratory, { lookedAt: [], isCounted: false });
     };
     /** Opens what an address names: a lesson at a step, or at its first one, with the machine set up for it; or a task. */
     const openAt = ({ lesson, step, task }) => {
@@ -172,15 +207,16 @@ export function makeLesson(laboratory, texts, { open, pupil, tasks, drafts, told
         const title = written?.title ?? tasks.titles.find(([name]) => name === tasks.opened())?.[1];
         choice.open = title === undefined;
         tell(chosen, title ?? text("chooseLesson"));
-        about.replaceChildren(written?.about ?? "", " ", ...(written === null ? [] : sheets(pupil.lesson.name)));
-        for (const node of [about, steps.node]) node.hidden = written === null;
-        steps.layOut(written?.steps ?? []);
+        tell(about, written?.about ?? "");
+        for (const node of steps.nodes) node.hidden = written === null;
+        steps.layOut(written?.steps ?? [], written === null ? [] : sheets(pupil.lesson.name));
     };
     const show = () => {
         for (const control of lessons) control.setAttribute("aria-pressed", String(control.dataset.lesson === pupil.lesson?.name));
         for (const control of others) control.setAttribute("aria-pressed", String(control.dataset.task === tasks.opened()));
+        about.hidden = pupil.lesson === null || pupil.at > 0;
         if (pupil.lesson !== null && isSeen()) steps.show();
     };
     layOut();
-    return { node: part("lesson", text("learn"), choice, about, steps.node), show, openAt, goOn: () => (pupil.lesson === null ? show() : steps.goOn()) };
+    return { node: part("lesson", text("learn"), choice, about, ...steps.nodes), show, openAt, goOn: () => (pupil.lesson === null ? show() : steps.goOn()) };
 }

@@ -28,7 +28,7 @@ function row({ address, digits, order, writer, isNext, isNew, labels, comment },
     return h("tr", { class: `${isNext ? "next" : ""} ${writer === null ? "" : "changed"} ${isNew ? "new" : ""}`, "data-address": address, "aria-current": isNext ? "true" : null },
         h("td", {}, button(address, () => ask(address), { class: "plain", title: `${address}: ${text("whyHint")}`, "data-name": address })),
         h("td", { class: "label" }, labels.join(" ")), h("td", {}, h("code", {}, digits)),
-        h("td", { title: meaning }, h("code", {}, order), unseen(meaning === "" ? "" : ` ${meaning}`)), h("td", { class: "told" }, h("span", { class: "comment" }, comment), " ", toldOf(writer, text)));
+        h("td", { title: meaning }, h("code", {}, order), unseen(meaning === "" ? "" : ` ${meaning}`)), h("td", { class: "told", title: [comment, toldOf(writer, text)].filter(Boolean).join("; ") }, h("span", { class: "comment" }, comment), " ", toldOf(writer, text)));
 }
 
 /** What a rule does, as `break 0100` or `watch 0009 loop` names it. */
@@ -78,6 +78,7 @@ export function makeListing(laboratory, texts, { held, isFast, hasCosts }, draft
     const answer = h("p", { class: "why", role: "status" });
     let [askedOf, wanted, shownAt] = [null, [], null];
     const scroll = () => requestAnimationFrame(() => scrollTo(list, wanted));
+    new ResizeObserver(scroll).observe(list);
     const ask = async (address) => {
         if (hasCosts()) laboratory.askCosts(address);
         const lines = await laboratory.why(address);
@@ -107,7 +108,10 @@ export function makeListing(laboratory, texts, { held, isFast, hasCosts }, draft
         }));
         const event = events.findLast((it) => it !== null);
         tell(rewritten, event === undefined ? "" : text("rewritten", event));
-        const ends = held() === null ? arrowEnds(body, told.at(-1)) : null;
+        const last = held() === null ? told.at(-1) : undefined;
+        // where there is little room the next order, the last one and what it has stored are seen alone
+        for (const row of body.children) row.classList.toggle("wanted", [laboratory.panel.counter, last?.at, last?.stored?.address].includes(row.dataset.address));
+        const ends = held() === null ? arrowEnds(body, last) : null;
         refill(arrows, ...(ends === null ? [] : [arrowOf("arrow", ends)]));
         const rowAt = (address) => `[data-address="${address}"]`;
         const asked = shownAt?.counter === laboratory.panel.counter ? [shownAt.address] : [];

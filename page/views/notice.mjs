@@ -4,12 +4,12 @@ import { LESSONS } from "../steps.mjs";
 import { counted } from "../words.mjs";
 import { button, h } from "./dom.mjs";
 import { ruleText } from "./listing.mjs";
+import { reveal } from "./tabs.mjs";
 
 /** What lets the machine go on, with the names that the controls have here. */
 export function wayText({ way: { kind, mode } }, { text, table }, isKiosk) {
     if (isKiosk && kind === "keys") return text("kioskKeys");
-    const named = (name) => text(isKiosk ? `kiosk${name}` : name.toLowerCase());
-    return text({ go: "wayGo", start: "wayStart", keys: "wayKeys", mode: "wayMode" }[kind], { step: named("Step"), run: named("Run"), mode: table.modes[mode] ?? "" });
+    return text({ go: "wayGo", start: "wayStart", keys: "wayKeys", mode: "wayMode" }[kind], { mode: table.modes[mode] ?? "" });
 }
 
 /** The text of a notice. */
@@ -17,7 +17,7 @@ function noticeText(notice, laboratory, texts, isKiosk) {
     const { kind, number, detail, line, reason, count, most } = notice;
     const { text, table, code } = texts;
     const way = () => wayText(laboratory, texts, isKiosk);
-    const plain = ["before", "stopped", "noMemory", "sourceIsOpen", "sourceTooLong", "notLoaded", "scriptDone", "noneBehind", "noneAhead", "beforeKept", "notKept"];
+    const plain = ["before", "stopped", "noMemory", "sourceIsOpen", "sourceTooLong", "notLoaded", "scriptDone", "noneBehind", "beforeKept", "notKept"];
     if (plain.includes(kind)) return text(kind);
     if (kind === "usedUp") return text(isKiosk ? "kioskUsedUp" : "usedUp");
     if (kind === "atRest") return `${text("atRest")} ${way()}`;
@@ -30,6 +30,9 @@ function noticeText(notice, laboratory, texts, isKiosk) {
     if (kind === "noExample") return text("wrongAddress", { name: detail });
     if (kind === "noLesson") return text("wrongLesson", { name: detail, lessons: LESSONS.map(({ name }) => name).join(", ") });
     if (kind === "noTask") return text("wrongTask", { name: detail, tasks: notice.tasks.join(", ") });
+    if (kind === "notMoved") return text("notMoved", { why: text(`notMoved_${notice.wrong}`, { line: line ?? "" }) });
+    if (kind === "moved") return text(notice.took === notice.foretold ? "movedAsForetold" : "movedOtherwise", { word: notice.word, place: notice.place, took: counted(notice.took, code), foretold: counted(notice.foretold, code) });
+    if (kind === "noGame") return text("wrongGame", { name: detail });
     if (kind === "noStory") return text("wrongStory", { name: detail });
     if (kind === "noKioskExample") return text("wrongKiosk", { name: detail, shown: notice.shown });
     return `${line}\n${text("refused", { kind, text: `${table.refusals[kind] ?? ""} ${reason ?? ""}` })}`;
@@ -37,13 +40,13 @@ function noticeText(notice, laboratory, texts, isKiosk) {
 
 /** A button of a notice, which goes away when it is pressed: the focus goes on to a control that stays. */
 const passing = (label, deed, goesTo) => button(label, () => {
-    goesTo()?.focus();
+    reveal(goesTo())?.focus();
     deed();
 });
 
 /** What can be done about a notice. `deeds` has `run`, `save`, `anew`, and `goBack`, which goes back to a work. */
 function buttonsOf({ kind, number, lines, work }, laboratory, { text }, isKiosk, deeds) {
-    const run = () => document.getElementById(isKiosk ? "kiosk-run" : "run");
+    const run = () => document.getElementById(isKiosk ? "kiosk-1" : "go-on");
     const goOn = passing(text("goOn"), deeds.run, run);
     if (kind === "printedMuch") return [goOn];
     if (kind === "rule") return [goOn, passing(text("takeOut", { number }), () => laboratory.command(`drop ${number}`), run)];
@@ -51,7 +54,7 @@ function buttonsOf({ kind, number, lines, work }, laboratory, { text }, isKiosk,
     if (["broken", "before"].includes(kind)) return [deeds.linkTo(lines), ...back];
     if (kind === "beforeKept") return back;
     if (kind !== "usedUp") return [];
-    if (isKiosk) return [passing(text("kioskAgain"), deeds.anew, run)];
+    if (isKiosk) return [passing(text("kioskToStart"), deeds.anew, run)];
     return [button(text("save"), deeds.save), passing(text("new"), deeds.anew, run)];
 }
 
@@ -73,7 +76,7 @@ function makeNotice(laboratory, texts, isKiosk, deeds) {
 function makeOpenSource(laboratory, { text }) {
     const place = document.getElementById("open-source");
     const told = h("span");
-    const end = passing(text("endSource"), () => laboratory.say("."), () => document.querySelector(".lines input") ?? document.getElementById("kiosk-run"));
+    const end = passing(text("endSource"), () => laboratory.say("."), () => document.querySelector(".lines input") ?? document.getElementById("kiosk-1"));
     place.replaceChildren(told, " ", end);
     return () => {
         const { openSource } = laboratory;
@@ -91,14 +94,16 @@ function makeLost(laboratory, { text }, linkTo) {
         shown = lost;
         place.hidden = lost.length === 0;
         if (place.hidden) return place.replaceChildren();
-        const away = passing(text("putAway"), () => laboratory.putAway(), () => document.querySelector("#save, #kiosk-run"));
+        const away = passing(text("putAway"), () => laboratory.putAway(), () => document.querySelector("#save, #kiosk-1"));
         return place.replaceChildren(text("lost"), ...lost.flatMap((lines) => [" ", linkTo(lines)]), " ", away);
     };
 }
 
+/** What the reader should know, which has to be found also while its place is out of the document. */
+const node = document.getElementById("notices");
+
 /** Where what the reader should know stands: in a place that is kept for it, or, where that is null, above the page. */
 export function placeNotices(slot) {
-    const node = document.getElementById("notices");
     const where = slot ?? document.body;
     if (node.parentElement === where) return;
     const { activeElement } = document;

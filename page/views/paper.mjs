@@ -1,33 +1,30 @@
 // Paper: the tape in the reader as punched holes, and what the typewriter has printed.
 import { ReplyError, codesOf } from "../module/replies.mjs";
 import { counted } from "../words.mjs";
-import { button, h, part, s, tellMore } from "./dom.mjs";
+import { button, h, part, s, tell, tellMore } from "./dom.mjs";
 
-const ROWS_SHOWN = 48;
+/** The drawing of the tape is 100 high. How far the codes are apart, and the levels; how far the tape goes on at its ends; and the gate over the code that is read next. */
+const [HEIGHT, PITCH, LEVEL, ENDS] = [100, 15, 11, 2];
+const GATE = { width: 18, height: 82 };
 const BITS = 6;
-const PITCH = 11;
+const WIDEST = 400;
 
-/** A row of holes: the bits of a code across the tape, the feed hole between the third and the fourth. */
-function holes({ code, sign }, column, isPast) {
-    const x = PITCH * column + PITCH;
-    const across = Array.from({ length: BITS }, (unused, bit) => {
-        const y = PITCH * (bit < 3 ? bit + 1 : bit + 2);
-        return s("circle", { class: (code >> bit) & 1 ? "hole" : "blank", cx: x, cy: y, r: 3.6 });
-    });
-    const feed = s("circle", { class: "hole", cx: x, cy: PITCH * 4, r: 1.6 });
-    return s("g", { class: isPast ? "past" : "" }, ...across, feed, s("title", {}, sign ?? `[${code}]`));
+/** A code across the tape: its holes, the feed hole between the third and the fourth, and below them its sign. */
+function holes({ code, sign }, x, isPast) {
+    const across = Array.from({ length: BITS }, (unused, bit) => s("circle", { class: (code >> bit) & 1 ? "hole" : "blank", cx: x, cy: LEVEL * (bit < 3 ? bit + 1 : bit + 2), r: 4.3 }));
+    return s("g", { class: isPast ? "past" : "" }, ...across, s("circle", { class: "hole", cx: x, cy: LEVEL * 4, r: 2 }), s("text", { x, y: HEIGHT - 3 }, sign ?? ""), s("title", {}, sign ?? `[${code}]`));
 }
 
-/** The piece of tape around the reader's place, as a drawing. */
-function strip(codes, passed, label) {
-    const first = Math.max(0, passed - ROWS_SHOWN / 4);
-    const shown = codes.slice(first, first + ROWS_SHOWN);
-    const width = PITCH * (shown.length + 2);
-    const at = PITCH * (passed - first) + PITCH / 2;
-    return s("svg", { class: "tape-strip", viewBox: `0 0 ${width} ${PITCH * 8}`, width, height: PITCH * 8, role: "img", "aria-label": label },
-        s("rect", { class: "tape-paper", width, height: PITCH * 8 }),
-        ...shown.map((code, place) => holes(code, place, first + place < passed)),
-        s("line", { class: "reader", x1: at, x2: at, y1: 0, y2: PITCH * 8 }));
+/** The tape around the gate, which is in the middle, as a drawing of this width. */
+function strip(codes, passed, label, width) {
+    const middle = width / 2;
+    const xOf = (place) => middle + PITCH * (place - passed);
+    const [first, end] = [Math.max(0, passed - Math.ceil(middle / PITCH)), Math.min(codes.length, passed + Math.ceil(middle / PITCH) + 1)];
+    const [from, to] = [Math.max(0, xOf(-ENDS)), Math.min(width, xOf(codes.length - 1 + ENDS))];
+    return s("svg", { class: "tape-strip", viewBox: `0 0 ${width} ${HEIGHT}`, role: "img", "aria-label": label },
+        s("rect", { class: "tape-bed", width, height: HEIGHT }), s("rect", { class: "tape-paper", x: from, width: Math.max(0, to - from), height: GATE.height + 4 }),
+        ...codes.slice(first, end).map((code, place) => holes(code, xOf(first + place), first + place < passed)),
+        s("rect", { class: "gate", x: middle - GATE.width / 2, y: 2, width: GATE.width, height: GATE.height, rx: 3 }));
 }
 
 function readable(tape) {
@@ -39,22 +36,33 @@ function readable(tape) {
     }
 }
 
-/** The part of the page with the tape. */
-export function makeTape(laboratory, { text, code }, drafts) {
-    const place = h("div", { class: "scroll" });
+/** The part of the page with the tape. While an order is played that reads it, its codes pass one after another. */
+export function makeTape(laboratory, { text, code }, drafts, { playing }) {
+    const place = h("div", { class: "tape-place" });
     const told = h("p");
     const input = drafts.held(h("input", { class: "wide", "aria-label": text("tapeText"), value: "1'2'3'" }), "tape");
     const mount = button(text("mount"), () => laboratory.command(`mount ${input.value}`));
+    let width = WIDEST;
+    new ResizeObserver(([{ contentRect }]) => {
+        const wanted = contentRect.width === 0 ? width : Math.round(Math.min(2 * WIDEST, contentRect.width));
+        if (wanted === width) return;
+        width = wanted;
+        if (laboratory.panel !== null) show();
+    }).observe(place);
+    let coming = 0;
     const show = () => {
         const { panel, deeds } = laboratory;
+        coming = playing()?.codes ?? 0;
         const codes = readable(deeds.tape ?? "");
-        const isKnown = codes.length > 0 && panel.tape <= codes.length;
-        const left = counted(panel.tape, code);
-        place.replaceChildren(...(isKnown ? [strip(codes, codes.length - panel.tape, text("tapeLeft", { count: left }))] : []));
-        const count = isKnown ? text("tapeLeft", { count: left }) : panel.tape === 0 ? text("noTape") : text("loaderTape", { count: left });
-        told.textContent = `${count} ${panel.readerOn ? text("readerOn") : text("readerOff")}`;
+        const rest = panel.tape + coming;
+        const isKnown = codes.length > 0 && rest <= codes.length;
+        const left = counted(rest, code);
+        place.replaceChildren(...(isKnown ? [strip(codes, codes.length - rest, text("tapeLeft", { count: left }), width)] : []));
+        const count = isKnown ? text("tapeLeft", { count: left }) : rest === 0 ? text("noTape") : text("loaderTape", { count: left });
+        tell(told, `${count} ${panel.readerOn || coming > 0 ? text("readerOn") : text("readerOff")}`);
     };
-    return { node: part("tape", text("tape"), place, told, h("form", { class: "line", onsubmit: (event) => { event.preventDefault(); mount.click(); } }, input, mount)), show };
+    const frame = () => { if ((playing()?.codes ?? 0) !== coming) show(); };
+    return { node: part("tape", text("tape"), place, told, h("form", { class: "line", onsubmit: (event) => { event.preventDefault(); mount.click(); } }, input, mount)), show, frame };
 }
 
 /** The part of the page with the typewriter's paper. What an order prints that is played stands there when it has been printed. */

@@ -3,6 +3,10 @@ import { addressIn } from "../addresses.mjs";
 
 /** The orders that use no word. */
 export const WITHOUT_WORD = /^-?[ziput] /;
+
+/** The address of the word that an order uses, or null where it uses none. */
+export const wordOf = (order) => (WITHOUT_WORD.test(order) ? null : addressIn(order));
+
 const ORDER = /^-?([a-z]) /;
 const isNegative = (digits) => "89fgjkqw".includes(digits[0]);
 

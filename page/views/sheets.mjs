@@ -1,6 +1,9 @@
 // The sheets of the lessons, to fill in: a link opens one, and it is what a printer gets while its lesson is open.
 import { h } from "./dom.mjs";
 
+/** A sheet with its drawings, of which each is kept once. */
+export const withDrawings = (sheet, drawings) => sheet?.replace(/(<svg[^>]*>)@(\d+)/g, (whole, begin, number) => begin + drawings[number]);
+
 /** A link to a sheet, which opens it beside the page. */
 export function linksToSheet(sheet, { text }) {
     const open = (event) => { event.target.href = URL.createObjectURL(new Blob([sheet], { type: "text/html" })); };

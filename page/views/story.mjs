@@ -16,7 +16,7 @@ function sentence(pattern, values) {
 }
 
 /** The bar of an account, and what fills it up to so many word times. */
-function makeBar(account) {
+export function makeBar(account) {
     let begins = 0;
     const fills = PHASES.flatMap((phase) => partsOf(phase, account[phase]).filter(([, times]) => times > 0).map(([kind, times]) => {
         const fill = h("i");
@@ -38,21 +38,23 @@ function legend(account, { text }) {
 /** What is told where no order is: why there is none, and what tells one. */
 const untold = (pace) => ({ own: "storyOwn", fast: "storyFast" })[pace] ?? "storyNone";
 
+/** What an order does, and how far the drum had to turn for it, as nodes. */
+export function sentenceOf(account, { text, table }) {
+    const { kind, waits, values } = saysOf(account);
+    return [h("code", {}, account.order), " ", ...sentence(table.says[kind], values), " ", ...(waits === null ? [] : sentence(text(waits), values))];
+}
+
 /** The part of the page with the story of the order under way, or of the last one. */
 export function makeStory(laboratory, texts, { playing, isFast, pace }) {
-    const { text, table } = texts;
+    const { text } = texts;
     const [tile, told] = [h("span", { class: "tile", "aria-hidden": "true" }), h("p", { class: "sentence-of-order" })];
     const [bar, names] = [h("div", { class: "order-bar", "aria-hidden": "true" }), h("p", { class: "phases" })];
     let [shown, drawn] = [undefined, null];
-    const sentences = (account) => {
-        const { kind, waits, values } = saysOf(account);
-        return [h("code", {}, account.order), " ", ...sentence(table.says[kind], values), " ", ...(waits === null ? [] : sentence(text(waits), values))];
-    };
     const draw = (account) => {
         shown = account;
         drawn = account === null ? null : makeBar(account);
         tell(tile, account === null ? "–" : account.order.replace("-", "")[0]);
-        told.replaceChildren(...(account === null ? [text(untold(pace()))] : sentences(account)));
+        told.replaceChildren(...(account === null ? [text(untold(pace()))] : sentenceOf(account, texts)));
         refill(bar, ...(drawn?.nodes ?? []));
         refill(names, ...(account === null ? [] : legend(account, texts)));
     };

@@ -13,7 +13,7 @@ export const TALES = [
 export const noTale = () => ({ tale: null, at: 0, first: 0 });
 
 /** The part of the page with the stories. `open` opens an example and sets it going, and `told` is called when another caption is reached. One story is played at a time: the last that was asked for. */
-export function makeTales(laboratory, { text, table }, drive, { open, viewer, told }) {
+export function makeTales(laboratory, { text, table }, drive, { open, viewer, told, others }) {
     let round = 0;
     const caption = h("p", { class: "caption", "aria-live": "polite", "aria-busy": "false" });
     const next = () => (viewer.at + 1 < viewer.tale.plays.length ? goTo(viewer.at + 1) : begin(TALES[(TALES.indexOf(viewer.tale) + 1) % TALES.length]));
@@ -54,13 +54,14 @@ export function makeTales(laboratory, { text, table }, drive, { open, viewer, to
     const play = () => {
         const { tale, at } = viewer;
         const isLast = at === tale.plays.length - 1;
-        if (tale.plays[at] > 0) drive.go("slow", tale.plays[at]);
+        if (tale.plays[at] > 0) drive.go("tale", tale.plays[at]);
         else if (isLast && tale.runs) drive.go("own");
         if (tale.asks?.[0] === at) document.querySelector(`tr[data-address="${tale.asks[1]}"] button`)?.click();
     };
     const show = () => {
         const { tale, at } = viewer;
         for (const control of choices) control.setAttribute("aria-pressed", String(control.dataset.tale === tale?.name));
+        caption.dataset.story = tale?.name ?? "";
         tell(caption, tale === null ? text("chooseTale") : table.tales[tale.name].captions[at]);
         for (const control of [place, backOne, nextOne]) control.hidden = tale === null;
         if (tale === null) return;
@@ -74,5 +75,12 @@ export function makeTales(laboratory, { text, table }, drive, { open, viewer, to
         const at = Math.min((number ?? 1), tale.plays.length) - 1;
         return tale === viewer.tale ? goTo(at) : begin(tale, at);
     };
-    return { node: part("tales", text("talesName"), h("div", { class: "line" }, ...choices), caption, h("div", { class: "line" }, backOne, nextOne, place)), show, openAt };
+    /** Ends the story. */
+    const leave = () => {
+        round += 1;
+        Object.assign(viewer, noTale());
+        caption.setAttribute("aria-busy", "false");
+        show();
+    };
+    return { node: part("tales", text("talesName"), h("div", { class: "line" }, ...choices, ...others), caption, h("div", { class: "line" }, backOne, nextOne, place)), show, openAt, leave };
 }

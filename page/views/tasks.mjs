@@ -1,6 +1,9 @@
 // Tasks: the text of one, a source that is written for it, and what its check says, in the sentences of ./check_task. The check has a laboratory of its own.
+import { linesIn } from "../lines.mjs";
 import { assembled, checked, setUpOf, speaker, taskIn } from "../task.mjs";
 import { button, h, part } from "./dom.mjs";
+import { makeEditor } from "./editor.mjs";
+import { makeCheck, makeVerdict } from "./source.mjs";
 
 /** A text of which pieces within grave accents are code. */
 const pieces = (text) => text.split("`").map((piece, place) => (place % 2 === 1 ? h("code", {}, piece) : piece));
@@ -76,16 +79,31 @@ function makeDeeds({ text }, now, { sentences, code, openLink, answer, setUp, ru
     return { node: h("div", { class: "line" }, ...buttons), showBack: (isThere) => { buttons.at(-1).hidden = !isThere; } };
 }
 
-/** The part of the page with the task that is open, and the names and titles of all. `sources` has what pupils have written, `openLink` gives a link to a new laboratory, `setUp` sets
+/** The part of the page with the task that is open, and the names and titles of all. `sources` has what pupils have written, `openLink` gives a link to a new laboratory, `checker` says what one says of a source, `setUp` sets
  * the machine up by a script, and `run` runs it. */
-export function makeTasks(texts, { tasks, sentences }, { sources, openLink, setUp, run }) {
+export function makeTasks(texts, { tasks, sentences }, { sources, openLink, checker, setUp, run }) {
     const { text } = texts;
     const code = texts.code in sentences ? texts.code : "en";
     const titles = Object.entries(tasks).map(([name, it]) => [name, text("taskTitle", { title: /^# (.*)$/m.exec(it.texts[code])[1], minutes: taskIn(it.task).minutes })]);
     const answer = makeAnswer(texts);
     const read = h("div", { class: "task-text", tabindex: "0", role: "group", "aria-label": text("taskText") });
-    const area = h("textarea", { spellcheck: "false", autocapitalize: "off", wrap: "off", "aria-label": text("sourceLabel"), oninput: () => { sources.keep(sources.open, area.value); answer.show(null); } });
-    const now = () => ({ name: sources.open, task: taskIn(tasks[sources.open].task), file: `${sources.open}.source`, source: area.value });
+    const changed = (written) => {
+        sources.keep(sources.open, written);
+        answer.show(null);
+        check(written);
+    };
+    const verdict = makeVerdict(texts, () => editor);
+    const check = makeCheck(checker, (of, said) => verdict.show(said, linesIn(of)));
+    let editor = null;
+    const fill = (source) => {
+        if (editor === null) {
+            editor = makeEditor("task", texts, { changed, deeds: { F8: () => verdict.next() } });
+            desk.prepend(editor.node);
+        }
+        if (editor.value() !== source) editor.set(source);
+        check(source);
+    };
+    const now = () => ({ name: sources.open, task: taskIn(tasks[sources.open].task), file: `${sources.open}.source`, source: editor.value() });
     const open = (name) => {
         sources.open = name;
         node.hidden = name === null;
@@ -93,13 +111,14 @@ export function makeTasks(texts, { tasks, sentences }, { sources, openLink, setU
         if (name === null) return;
         read.replaceChildren(...nodesOf(tasks[name].texts[code]));
         read.scrollTop = 0;
-        area.value = sources.of(name) ?? tasks[name].given[code];
+        fill(sources.of(name) ?? tasks[name].given[code]);
         buttons.showBack(sources.before(name) !== null);
     };
     const begin = () => { sources.begin(sources.open); open(sources.open); };
-    const takeBack = () => { sources.takeBack(sources.open); open(sources.open); area.focus(); };
+    const takeBack = () => { sources.takeBack(sources.open); open(sources.open); editor.focus(); };
     const buttons = makeDeeds(texts, now, { sentences: { ...sentences.en, ...sentences[code] }, code, openLink, answer, setUp, run, begin, takeBack });
-    const node = part("tasks", text("tasksName"), h("div", { class: "task" }, read, h("div", { class: "task-desk" }, area, buttons.node, answer.node)));
+    const desk = h("div", { class: "task-desk" }, verdict.node, buttons.node, answer.node);
+    const node = part("tasks", text("tasksName"), h("div", { class: "task" }, read, desk));
     open(sources.open);
     return { node, titles, open, opened: () => sources.open, has: (name) => Object.hasOwn(tasks, name), show: () => {} };
 }

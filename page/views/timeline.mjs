@@ -1,4 +1,4 @@
-// The time line: the told orders one after another, as wide as their word times; what was not told is one bar between them.
+// The time line: the told orders one after another, as wide as their word times; what was not told is one bar between them, which leaves them most of the line.
 import { PHASES } from "../player.mjs";
 import { h } from "./dom.mjs";
 import { rewrittenBy } from "./says.mjs";
@@ -21,26 +21,68 @@ export function barsOf(accounts, clock) {
     return bars;
 }
 
-/** The picture of the time line on a canvas. */
-export function makeTimeline(laboratory, { isFast }) {
+/** The share of the line that what was not told has at most, where something was; and how wide it is where its orders cannot be counted, as those of the loader. */
+const UNTOLD = 0.3;
+const STUB = 24;
+
+/** Where the bars begin on a line of this width, and how wide they are. */
+export function placed(bars, width, isCounted = true) {
+    const sumOf = (some) => some.reduce((sum, { times }) => sum + times, 0);
+    const untold = sumOf(bars.filter(({ kind }) => kind === "untold"));
+    const told = sumOf(bars) - untold;
+    const most = isCounted ? UNTOLD : Math.min(UNTOLD, STUB / width);
+    const share = told === 0 ? 1 : Math.min(most, untold / (told + untold));
+    const scaleOf = (kind) => (kind === "untold" ? (share * width) / Math.max(1, untold) : ((1 - share) * width) / Math.max(1, told));
+    let at = 0;
+    return bars.map(({ kind, times }) => {
+        const bar = { kind, from: at, width: times * scaleOf(kind) };
+        at += bar.width;
+        return bar;
+    });
+}
+
+/** How many of the orders that can be counted were not told: those before the told ones. */
+export const untoldOf = ({ deeds: { behind, forgotten } }, told) => Math.max(0, behind + forgotten - told);
+
+/** Draws a bar as dashes. */
+function dashes(pen, { from, width }) {
+    for (let x = from; x < from + width; x += 6) pen.fillRect(x, BARS.middle - BARS.wait / 2, Math.min(4, from + width - x), BARS.wait);
+}
+
+/** Writes a text in the middle of a bar that has room for it. */
+function name(pen, { from, width }, text, colour) {
+    const room = pen.measureText(text).width + 8;
+    if (room > width) return;
+    pen.clearRect(from + (width - room) / 2, 0, room, HEIGHT);
+    pen.fillStyle = colour;
+    pen.fillText(text, from + width / 2, BARS.middle);
+}
+
+/** The picture of the time line on a canvas; `nameOf` gives the text for a number of orders that were not told. */
+export function makeTimeline(laboratory, { isFast }, nameOf) {
     const node = h("canvas", { class: "timeline", "aria-hidden": "true", height: HEIGHT });
     let [colours, shown] = [{}, null];
     const draw = () => {
         const [pen, { panel }] = [node.getContext("2d"), laboratory];
-        const bars = barsOf(isFast() ? [] : laboratory.accounts, panel.clock);
-        const scale = node.width / Math.max(1, Number(panel.clock));
+        const accounts = isFast() ? [] : laboratory.accounts;
+        const [bars, untold] = [barsOf(accounts, panel.clock), untoldOf(laboratory, accounts.length)];
+        const drawn = placed(bars, node.width, untold > 0);
         pen.clearRect(0, 0, node.width, HEIGHT);
-        for (const { kind, from, times } of bars) {
+        for (const bar of drawn) {
+            const { kind, from, width } = bar;
             pen.fillStyle = colours[kind] ?? "gray";
-            if (kind === "rewritten") mark(pen, from * scale);
-            else pen.fillRect(from * scale, BARS.middle - heightOf(kind) / 2, Math.max(0.5, times * scale), heightOf(kind));
+            if (kind === "rewritten") mark(pen, from);
+            else if (kind === "untold" && untold === 0) dashes(pen, bar);
+            else pen.fillRect(from, BARS.middle - heightOf(kind) / 2, Math.max(0.5, width), heightOf(kind));
         }
-        node.dataset.bars = bars.map(({ kind }) => kind[0]).join("");
+        Object.assign(pen, { font: colours.font, textAlign: "center", textBaseline: "middle" });
+        if (untold > 0 && drawn[0]?.kind === "untold") name(pen, drawn[0], nameOf(untold), colours.ink);
+        Object.assign(node.dataset, { bars: bars.map(({ kind }) => kind[0]).join(""), untold });
     };
     new ResizeObserver(([{ contentRect: { width } }]) => {
         node.width = Math.round(width);
         const named = (name) => getComputedStyle(node).getPropertyValue(name);
-        colours = { find: named("--find"), take: named("--take"), seek: named("--seek"), act: named("--act"), rewritten: named("--write"), untold: named("--hair") };
+        colours = { ink: named("--ink"), font: `11px ${named("--labels")}`, find: named("--find"), take: named("--take"), seek: named("--seek"), act: named("--act"), rewritten: named("--write"), untold: named("--hair") };
         draw();
     }).observe(node);
     const show = () => {

@@ -1,76 +1,10 @@
-// What is written: the source with its faults, lines for the monitor with their replies, and the lines of a script.
+// What is written beside the source: lines for the monitor with their replies, and the lines of a script.
 import { pasted } from "../earlier.mjs";
-import { linesIn } from "../lines.mjs";
 import { counted } from "../words.mjs";
 import { button, guarded, h, part, showLive } from "./dom.mjs";
 
-const NUMBERED = 5000;
 const LOGGED = 80;
 const REPLY_SHOWN = 20_000;
-
-const numbers = (from, to) => Array.from({ length: Math.max(0, to - from) }, (unused, place) => `${from + place}\n`).join("");
-
-/** The numbers beside a source's lines, in as few nodes as can be, those with a fault marked; of a very long source the first ones. */
-function gutterOf(count, faults, { table }) {
-    const kinds = new Map(faults.filter(({ line }) => line <= NUMBERED).map(({ line, kind }) => [line, kind]));
-    const nodes = [];
-    let next = 1;
-    for (const [line, kind] of kinds) {
-        nodes.push(numbers(next, line), h("span", { class: "fault", title: table.faultKinds[kind] ?? kind }, String(line)), "\n");
-        next = line + 1;
-    }
-    return [...nodes, numbers(next, Math.min(NUMBERED, Math.max(count, next - 1)) + 1)];
-}
-
-/** How many lines a text has, without making them. */
-function countOfLines(text) {
-    let count = 1;
-    for (let at = text.indexOf("\n"); at >= 0 && at < text.length - 1; at = text.indexOf("\n", at + 1)) count += 1;
-    return count;
-}
-
-/** The part of the page with the source. What is written stays as a draft until it is assembled; `runIt` runs a source. */
-export function makeSource(laboratory, texts, drafts, runIt) {
-    const { text, table } = texts;
-    const area = h("textarea", { spellcheck: "false", autocapitalize: "off", rows: 14, "aria-label": text("sourceLabel"), wrap: "off" });
-    const gutter = h("div", { class: "gutter", "aria-hidden": "true" });
-    const told = h("div", { class: "told", role: "status" });
-    const now = () => drafts.of("source") ?? laboratory.source;
-    let [shown, numbered] = [null, ""];
-    const showGutter = (isDraft) => {
-        const faults = isDraft ? [] : laboratory.assembled?.faults ?? [];
-        const count = countOfLines(shown);
-        const key = `${count} ${faults.map(({ line, kind }) => line + kind).join(" ")}`;
-        if (key !== numbered) gutter.replaceChildren(...gutterOf(count, faults, texts));
-        numbered = key;
-        gutter.scrollTop = area.scrollTop;
-    };
-    area.addEventListener("scroll", () => { gutter.scrollTop = area.scrollTop; });
-    area.addEventListener("input", () => { shown = area.value; drafts.keep("source", shown); show(); });
-    const goTo = (line) => {
-        const start = linesIn(area.value).slice(0, line - 1).join("\n").length + (line > 1 ? 1 : 0);
-        area.focus();
-        area.setSelectionRange(start, start + (linesIn(area.value)[line - 1] ?? "").length);
-    };
-    const faultLine = ({ line, kind }) => h("li", {}, button(text("lineNumber", { line }), () => goTo(line), { class: "plain" }), `: ${table.faultKinds[kind] ?? kind}`);
-    const show = () => {
-        const { assembled, source } = laboratory;
-        if (drafts.of("source") === source) drafts.keep("source", null);
-        if (now() !== shown) { shown = now(); area.value = shown; }
-        const isDraft = shown !== source;
-        showGutter(isDraft);
-        if (assembled === null) return told.replaceChildren();
-        if (isDraft) return told.replaceChildren(text("sourceChanged"));
-        const { cells, start, faults } = assembled;
-        const sum = faults.length > 1 ? text("faults", { count: faults.length }) : text("oneFault");
-        const well = start === null ? text("cellsNone", { cells }) : text("cells", { cells, start });
-        return told.replaceChildren(faults.length === 0 ? well : sum, h("ul", {}, ...faults.slice(0, 50).map(faultLine)));
-    };
-    const node = part("source", text("source"), h("div", { class: "editor" }, gutter, area),
-        h("div", { class: "line" }, button(text("assemble"), () => laboratory.assemble(area.value)), button(text("load"), () => laboratory.load(area.value)),
-            button(text("runProgram"), () => runIt(area.value), { id: "run-program", title: text("runProgramHint") })), told);
-    return { node, show };
-}
 
 /** A box for lines to the monitor, with its name and that of its draft: lines that were sent come back by the arrow keys, and several may be pasted. */
 export function makeLineBox(laboratory, { text }, drafts, name, draft) {

@@ -43,9 +43,9 @@ test("readings of a word", () => {
 test("runs and their ends", () => {
     assert.deepEqual(replies.runOf("ran 3 rule 1\n"), { orders: 3, end: "rule", rule: 1 });
     assert.deepEqual(replies.runOf("ran 0 rest\n"), { orders: 0, end: "rest", rule: null });
-    assert.deepEqual(replies.runOf("ran 0 rest\n        a stop order halted the machine: press start lets it go on\n"),
+    assert.deepEqual(replies.runOf("ran 0 rest\n        a stop order halted the machine: press start continues\n"),
         { orders: 0, end: "rest", rule: null });
-    assert.deepEqual(replies.toldOf("orders 0\nran 0 rest\nstate a stop order halted the machine: press start lets it go on\n"),
+    assert.deepEqual(replies.toldOf("orders 0\nran 0 rest\nstate a stop order halted the machine: press start continues\n"),
         { told: ["orders 0"], end: "ran 0 rest" });
     assert.throws(() => replies.runOf("? 4 ClockEnd\n"), replies.ReplyError);
 });

@@ -146,7 +146,7 @@ inFolder("a dump is kept and given back, without a trace of what was asked", { l
     ].join("\n"));
     assert.equal(readFileSync(join(here.cwd, "drum"), "utf8"), "0000 0001000j\n0003 00000008\n");
     assert.deepEqual(readdirSync(here.cwd).sort(), ["again", "drum", "lesson"]);
-    assert.match(monitor(["again"], "transcript\n", here).text, /^live\n\? 2 Moving: the machine is at work.*\n +drum, line 2 of again\npress start\n$/);
+    assert.match(monitor(["again"], "transcript\n", here).text, /^live\n\? 2 Moving: the machine is running.*\n +drum, line 2 of again\npress start\n$/);
 });
 
 inFolder("nothing is left out of the transcript of a new laboratory", { drum: "0000 00000002\n" }, (here) => {
@@ -163,9 +163,9 @@ inFolder("a dump is given back as often as one likes", { drum: FULL }, (here) =>
 
 inFolder("dumps that are none", { odd: "0000 00000001\n", zero: "0000 00000000\n", order: "0001 00000002\n0000 00000002\n", end: "0000 00000002\n#.\n", wide: "0000  00000002\n" }, (here) => {
     assert.equal(monitor([], "restore odd\nrestore zero\nrestore order\nrestore end\nrestore wide\n", here).text, [
-        "? 1 Form: line 1 is no line of a dump", "        odd", "? 1 Form: line 1 is no line of a dump", "        zero",
+        "? 1 Form: line 1 is not a line of a dump", "        odd", "? 1 Form: line 1 is not a line of a dump", "        zero",
         "? 1 Form: the address of line 2 is not above that of the line before it", "        order",
-        "? 1 Form: line 2 is no line of a dump", "        end", "? 1 Form: line 1 is no line of a dump", "        wide", "",
+        "? 1 Form: line 2 is not a line of a dump", "        end", "? 1 Form: line 1 is not a line of a dump", "        wide", "",
     ].join("\n"));
 });
 
@@ -179,7 +179,7 @@ inFolder("tapes of many lines and groups", {
     const { text } = monitor([], "tape lines\ntape groups\ntape cut\ntape long\ntape bad\ntape empty\n", here);
     assert.deepEqual(text.trimEnd().split("\n"), [
         "ok 4090", "ok 1200", "ok 4090", "? 13 File long: more than 4090 bytes of tape text; the native program mounts it, which ./prove lgp30m makes",
-        "? 13 File bad: the byte at place 4860, counted from 0, in line 61, begins no sign of a tape", "ok 0",
+        "? 13 File bad: the byte at place 4860, counting from 0, in line 61, does not begin a tape sign", "ok 0",
     ]);
 });
 
@@ -187,8 +187,8 @@ inFolder("tapes", { tape: "l2\n[16][02]'\n", cut: "[1\n6]", bad: "12\n3Q", long:
     const { text, status } = monitor([], "tape tape\ntape cut\ntape bad\ntape long\narchive archive\ntranscript\n", here);
     assert.equal(status, 1);
     assert.equal(text, [
-        "ok 5", "? 13 File cut: the byte at place 0, counted from 0, in line 1, begins no sign of a tape",
-        "? 13 File bad: the byte at place 4, counted from 0, in line 2, begins no sign of a tape",
+        "ok 5", "? 13 File cut: the byte at place 0, counting from 0, in line 1, does not begin a tape sign",
+        "? 13 File bad: the byte at place 4, counting from 0, in line 2, does not begin a tape sign",
         "? 13 File long: more than 4090 bytes of tape text; the native program mounts it, which ./prove lgp30m makes",
         `? 13 File archive: ${NATIVE}`, "mount 12[16]0'", "",
     ].join("\n"));
@@ -216,17 +216,17 @@ inFolder("files of other forms are refused, and none is written", { file: "d -lt
 inFolder("files that are refused", { point: " z\n.\n", self: "do self\n" }, (here) => {
     mkdirSync(join(here.cwd, "folder"));
     assert.equal(monitor([], "source point\ndo none\ndo folder\nsave folder/none/drum\nsave folder\n", here).text, [
-        "? 13 File point: a line that is a point alone would end the source", "? 13 File none: it cannot be opened", "? 13 File folder: it cannot be read",
-        "? 13 File folder/none/drum: it cannot be written, and is as it was", "? 13 File folder: it cannot be written, and is as it was", "",
+        "? 13 File point: a line with only a point would end the source", "? 13 File none: it cannot be opened", "? 13 File folder: it cannot be read",
+        "? 13 File folder/none/drum: it cannot be written, and is unchanged", "? 13 File folder: it cannot be written, and is unchanged", "",
     ].join("\n"));
     assert.deepEqual(readdirSync(here.cwd).sort(), ["folder", "point", "self"]);
-    assert.match(monitor(["self"], "", here).text, /^\? 13 File self: 16 files are open within one another\n +line 1 of self\n$/);
+    assert.match(monitor(["self"], "", here).text, /^\? 13 File self: 16 files are already open, each from the one before\n +line 1 of self\n$/);
     assert.equal(monitor(["none"], "", here).text, "? 13 File none: it cannot be opened\n        named on the command line\n");
 });
 
 inFolder("a source that a file leaves open takes the lines that are typed", { open: "source\n z\n" }, (here) => {
     assert.equal(monitor(["open"], "do open\n end\n.\nfoo\n", here).text, [
         "? 9 Faults", "line 2 UnknownOrder", "        do open", "           ^^^^",
-        "? 1 Form: there is no such command, help lists them", "",
+        "? 1 Form: there is no such command; help lists them all", "",
     ].join("\n"));
 });

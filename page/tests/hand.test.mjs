@@ -1,0 +1,84 @@
+// Where the pins of words lie around the drum, and what is played in the game, over the module.
+import assert from "node:assert/strict";
+import { existsSync, readFileSync } from "node:fs";
+import { dirname, join } from "node:path";
+import { test } from "node:test";
+import { fileURLToPath } from "node:url";
+import { GAMES, Game, PROGRAMS, roundIn } from "../faster.mjs";
+import { Laboratory } from "../laboratory.mjs";
+import { ModuleLink } from "../module_link.mjs";
+import { setUpFor } from "../steps.mjs";
+
+globalThis.document ??= {};
+const { distanceOf } = await import("../views/hand.mjs");
+const { apart } = await import("../views/pins.mjs");
+
+const top = join(dirname(fileURLToPath(import.meta.url)), "../..");
+const module = join(top, "page/module/lgp_c_region.wasm");
+const skip = !existsSync(module);
+
+/** The box of a pin at an angle. */
+function boxOf(pin, angle) {
+    const [x, y] = [Math.sin((angle * Math.PI) / 180), -Math.cos((angle * Math.PI) / 180)].map((it) => it * distanceOf(angle, pin));
+    return { left: x - pin.width / 2, right: x + pin.width / 2, top: y - pin.height / 2, bottom: y + pin.height / 2 };
+}
+const meet = (one, other) => one.left < other.right && other.left < one.right && one.top < other.bottom && other.top < one.bottom;
+const HEAD = { left: -54, right: 54, top: -372, bottom: -324 };
+
+test("wherever words lie, no pin lies upon another one or upon the head", () => {
+    const size = { width: 110, height: 46 };
+    for (let first = 0; first < 64; first += 1) for (const places of [[0], [0, 0], [0, 1, 2], [0, 0, 0], [0, 9, 18, 27, 36], [0, 1, 0, 1, 2], [0, 32]]) {
+        const pins = places.map((place, name) => ({ name, angle: (first + place) * 5.625 - 180, ...size }));
+        const angles = apart(pins, distanceOf);
+        const boxes = pins.map((pin) => boxOf(pin, angles.get(pin.name)));
+        for (const [place, box] of boxes.entries()) {
+            assert.ok(!meet(box, HEAD), `${places} from ${first}: the pin ${place} lies upon the head`);
+            for (const other of boxes.slice(place + 1)) assert.ok(!meet(box, other), `${places} from ${first}: two pins meet`);
+        }
+    }
+    assert.deepEqual(apart([{ name: "one", angle: 90, ...size }], distanceOf), new Map([["one", 90]]));
+    assert.ok(apart([{ name: "one", angle: -2, ...size }], distanceOf).get("one") < -15);
+});
+
+test("a round is what lies between the last two times that the loop began", () => {
+    const accounts = ["0000", "0008", "0009", "0008", "0009", "0010", "0008", "0009"].map((at) => ({ at }));
+    assert.deepEqual(roundIn(accounts, "0008"), [3, 6]);
+});
+
+/** What a program of the game takes, as the page asks it. */
+async function askedOf({ example, words }) {
+    const laboratory = new Laboratory(new ModuleLink(module));
+    await laboratory.open();
+    await setUpFor(laboratory, { opens: example }, (name) => readFileSync(join(top, `examples/${name}.txt`), "utf8"));
+    await laboratory.run();
+    return { ...await laboratory.askPlacing(words), track: laboratory.track };
+}
+
+test("each program of a game has words that may be moved and have something to gain, and a round of whole turns, also where they lie best", { skip }, async () => {
+    for (const program of [...GAMES.values()].flat()) {
+        const told = await askedOf(program);
+        const game = new Game();
+        game.open(program, told);
+        const turns = () => game.round.reduce((sum, { account }) => sum + account.sum, 0) / 64;
+        const before = turns();
+        assert.ok(told.words.every(({ kind, saved }) => kind === "free" && saved > 0), program.name);
+        assert.equal(Number.isInteger(before), true, program.name);
+        game.showBest();
+        assert.deepEqual([game.isShown, game.isWon, Number.isInteger(turns()), turns() < before, game.kept.at], [true, true, true, true, program.words.map((word) => [word, Number(word.slice(2))])], program.name);
+        game.showBest();
+        assert.deepEqual([game.isShown, game.placing.moved, turns()], [false, [], before], program.name);
+    }
+});
+
+test("what was played is kept, and what is kept of another program is left", { skip }, async () => {
+    const [one, other] = [new Game(), new Game()];
+    const told = await askedOf(PROGRAMS[0]);
+    for (const game of [one, other]) game.open(PROGRAMS[0], told);
+    one.move("0022", 41);
+    one.showBest();
+    assert.deepEqual(one.kept, { picked: "0022", at: [["0021", 21], ["0022", 41], ["0024", 24]] });
+    other.kept = { picked: "0128", at: [["0128", 3], ["0022", 41]] };
+    assert.deepEqual([other.picked, other.placing.times, other.placing.moved], ["0021", 2654, ["0022"]]);
+    other.reset();
+    assert.deepEqual([other.kept, other.digits.get(22)], [{ picked: "0021", at: [] }, "00000004"]);
+});
