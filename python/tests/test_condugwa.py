@@ -184,7 +184,7 @@ def test_a_told_run_that_the_clock_breaks_off_is_refused(laboratory, monkeypatch
         laboratory.profile(1000)
 
 
-@pytest.mark.parametrize("said", ["", "state a stop order halted the machine: press start lets it go on\n"])
+@pytest.mark.parametrize("said", ["", "state a stop order halted the machine: press start continues\n"])
 def test_what_is_said_after_a_told_run_is_no_line_of_it(laboratory, monkeypatch, said):
     monkeypatch.setattr(laboratory, "answer", lambda line: f"ran 0 rest\n{said}")
     assert laboratory.trace(1) == []
@@ -268,7 +268,7 @@ def test_an_open_source_takes_no_line_of_a_call(laboratory, ask):
     # the source has the lines that were given and no other one
     with pytest.raises(condugwa.Faulty):
         laboratory.answer(".")
-    assert laboratory.transcript() == " source \n z\n\n source\n; panel\n.\n"
+    assert laboratory.transcript() == "source\n z\n\n source\n; panel\n.\n"
 
 
 def test_a_source_that_is_closed_is_no_longer_open(laboratory):
