@@ -4,8 +4,8 @@ import { isRefusal, linesOf } from "./replies.mjs";
 
 /** The commands whose replies have a key and a value on each line. */
 const KEYED = [
-    "live", "commands", "panel-data", "trace-data", "profile-data", "state-data", "show-data", "why-data", "labels-data", "rules-data", "paper-data", "tape-data", "source-data", "cost", "commands-data", "operations-data",
-    "faults-data",
+    "live", "commands", "panel-data", "trace-data", "profile-data", "state-data", "show-data", "why-data", "labels-data", "rules-data", "paper-data", "tape-data", "source-data", "cost", "optimum-data", "commands-data",
+    "operations-data", "faults-data",
 ];
 
 /** A string: each byte but the printed characters of ASCII by its number. */

@@ -15,14 +15,14 @@ pub use laws::{
 };
 pub use line_fields::has_word;
 pub use marks::{part_of, push_marked};
-pub use name_table::NameValues;
+pub use name_table::{NameValues, Names};
 pub use operands::OperandFault;
 pub use output::{Image, LOADER_PLACES, Name};
 use passes::scan_source;
 pub use patch::{Symbols, operation_word};
 pub use refusal::{AssembleError, Fault, FaultKind, FaultList};
 use std::alloc::{AllocError, Allocator};
-pub use surveying::{LineSurvey, survey};
+pub use surveying::{LineSurvey, declared_names, survey};
 
 mod address_operands;
 mod conditions;

@@ -78,6 +78,17 @@ fn declare_source<'a, A: Allocator + Copy>(
     Ok(declared)
 }
 
+/// The names that lines of a source have as labels, each with the number of its first line that counts.
+pub fn declared_names<'a, A: Allocator + Copy>(
+    alloc: A,
+    source: &'a [u8],
+) -> Result<Names<'a, A>, AllocError>
+    ensures { IfOk result (λ names. names ≡ spec.declared_in (all_lines source.now)) }
+{
+    let Declared { names, ended: _ } = declare_source(alloc, source)?;
+    Ok(names)
+}
+
 /// Whether the operand of an operation is an address.
 fn takes_address(operation: Operation) -> bool
     ensures { result ≡ spec.takes_address operation }

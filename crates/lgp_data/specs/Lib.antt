@@ -5,3 +5,4 @@ pub mod ShowData
 pub mod WhyData
 pub mod SourceData
 pub mod CostData
+pub mod OptimumData

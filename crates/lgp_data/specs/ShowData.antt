@@ -1,8 +1,11 @@
 -- Part of the public promise: words, labels, rules, printed codes and the tape as records.
 use Rattle.std.specs.Prelude.{ℕ, zero, suc, ◌+◌, ◌++◌, ◌==◌, Bool, true, false, if◌then◌else◌}
-use Rattle.std.specs.Prelude.{nat_lt, is_some, List, [], ◌∷◌, codes, drop}
+use Rattle.std.specs.Prelude.{nat_lt, is_some, List, [], ◌∷◌, codes, drop, Some}
 use Rattle.std.specs.Option.{option_map_or}
 use Rattle.lgp_word.specs.Digits.{address_digits, digits_of}
+use Rattle.lgp_assembler.specs.Image.{all_lines}
+use Rattle.lgp_assembler.specs.Parts.{NameList}
+use Rattle.lgp_assembler.specs.Survey.{declared_in, line_of_name}
 use Rattle.lgp_fraction.specs.Arithmetic.{half}
 use Rattle.lgp_fraction.specs.Decimal.{decimal_text}
 use Rattle.lgp_flexo.specs.Code.{sign_at}
@@ -51,18 +54,25 @@ shown_in form names d address (suc count) =
 
 -- ---- labels
 
--- a name and the place that is its value; none after the drum's last
-unfoldable pub label_record : List ℕ × ℕ → List PlainField
-label_record symbol =
+-- a name, the place that is its value, none after the drum's last, and its line by the names with
+-- their lines
+unfoldable pub label_record : NameList → List ℕ × ℕ → List PlainField
+label_record declared symbol =
     field (codes "name") (Text symbol.0)
     ∷ field (codes "place")
     (if nat_lt symbol.1 4096 then Text (address_digits symbol.1) else Nothing)
+    ∷ field (codes "line") (option_map_or Number (line_of_name declared (Some symbol.0)) Nothing)
     ∷ []
 
-unfoldable pub labels_in : Form → Bool → List (List ℕ × ℕ) → List ℕ
-labels_in form first [] = []
-labels_in form first (symbol ∷ more) =
-    record_in form first (label_record symbol) ++ labels_in form false more
+unfoldable pub labels_listed : Form → Bool → NameList → List (List ℕ × ℕ) → List ℕ
+labels_listed form first declared [] = []
+labels_listed form first declared (symbol ∷ more) =
+    record_in form first (label_record declared symbol) ++ labels_listed form false declared more
+
+-- the names of a source
+unfoldable pub labels_in : Form → List ℕ → List (List ℕ × ℕ) → List ℕ
+labels_in form source symbols =
+    labels_listed form true (declared_in (all_lines source)) symbols
 
 -- ---- rules
 

@@ -1,14 +1,16 @@
 //! Labels and rules as records.
 
-ghost use Rattle.std.specs.Prelude.{◌≡◌, ◌++◌, ◌==◌, OnOk, if◌then◌else◌, nat_lt, true};
+ghost use Rattle.std.specs.Prelude.{◌≡◌, ◌++◌, ◌==◌, OnOk, Some, if◌then◌else◌, nat_lt, true};
+ghost use Rattle.std.specs.Option.{option_map_or};
+ghost use Rattle.lgp_assembler.specs.Survey.{line_of_name};
 ghost use Rattle.lgp_word.specs.Digits.{address_digits};
-ghost use Rattle.lgp_fields.specs.Plain.{Nothing, Text};
+ghost use Rattle.lgp_fields.specs.Plain.{Nothing, Number, Text};
 ghost use Rattle.lgp_fields.specs.Printed.{record_in};
 ghost use Rattle.lgp_fields.specs.Seen.{value_seen};
-ghost use Rattle.lgp_data.specs.ShowData.{label_record, labels_in, rule_kind, rule_place, rule_record, rules_in};
+ghost use Rattle.lgp_data.specs.ShowData.{label_record, labels_in, labels_listed, rule_kind, rule_place, rule_record, rules_in};
 
 use crate::words::name_of;
-use lgp_assembler::Name;
+use lgp_assembler::{Name, NameValues, Names, declared_names};
 use lgp_fields::{Field, Form, Value, push_record};
 use lgp_history::Rule;
 use lgp_word::Address;
@@ -25,39 +27,70 @@ fn place_of(value: u16) -> Value<'static>
     }
 }
 
+/// The line of a name, where a line declares it.
+fn line_of<A: Allocator>(declared: &Names<A>, name: &[u8]) -> Value<'static>
+    ensures { value_seen result
+        ≡ option_map_or Number (line_of_name declared.now (Some name.now)) Nothing }
+{
+    match declared.value(name) {
+        Some(line) => Value::Number(line),
+        None => Value::Nothing,
+    }
+}
+
 /// Appends the record of a name.
 #[tactic(auto, unfolding(crate::specs::ShowData::label_record))]
-fn push_label<A: Allocator>(
+fn push_label<A: Allocator, B: Allocator>(
     text: &mut Vec<u8, A>,
     form: Form,
     first: bool,
+    declared: &Names<B>,
     symbol: &(Name, u16),
 ) -> Result<(), AllocError>
     ensures { OnOk result (text.new.items
-        ≡ text.old.items ++ record_in form first (label_record symbol.now)) }
+        ≡ text.old.items ++ record_in form first (label_record declared.now symbol.now)) }
 {
-    let fields: [Field; 2] = [
+    let fields: [Field; 3] = [
         (b"name", Value::Text(symbol.0.bytes())),
         (b"place", place_of(symbol.1)),
+        (b"line", line_of(declared, symbol.0.bytes())),
     ];
     push_record(text, form, first, &fields)
 }
 
-/// Appends the records of names.
-#[tactic(auto, unfolding(crate::specs::ShowData::labels_in))]
-pub fn push_labels_data<A: Allocator>(
+/// Appends the records of names, each with its line.
+#[tactic(auto, unfolding(crate::specs::ShowData::labels_listed))]
+fn push_listed<A: Allocator, B: Allocator>(
     text: &mut Vec<u8, A>,
     form: Form,
+    declared: &Names<B>,
     symbols: &[(Name, u16)],
 ) -> Result<(), AllocError>
-    ensures { OnOk result (text.new.items ≡ text.old.items ++ labels_in form true symbols.now) }
+    ensures { OnOk result (text.new.items
+        ≡ text.old.items ++ labels_listed form true declared.now symbols.now) }
 {
     let mut first = true;
     for symbol in symbols {
-        push_label(text, form, first, symbol)?;
+        push_label(text, form, first, declared, symbol)?;
         first = false;
     }
     Ok(())
+}
+
+/// Appends the records of a source's names, with their values and the lines that declare them.
+#[tactic(auto, unfolding(crate::specs::ShowData::labels_in))]
+pub fn push_labels_data<A: Allocator + Copy>(
+    alloc: A,
+    text: &mut Vec<u8, A>,
+    form: Form,
+    source: &[u8],
+    symbols: &[(Name, u16)],
+) -> Result<(), AllocError>
+    ensures { OnOk result (text.new.items
+        ≡ text.old.items ++ labels_in form source.now symbols.now) }
+{
+    let declared = declared_names(alloc, source)?;
+    push_listed(text, form, &declared, symbols)
 }
 
 /// The command that makes a rule.

@@ -3,6 +3,7 @@
 
 pub use cost_data::push_cost_data;
 pub use labels_data::{push_labels_data, push_rules_data};
+pub use optimum_data::{push_optimum_data, push_word_optimum_data};
 pub use paper_data::{push_printed_data, push_tape_data};
 pub use show_data::push_shown;
 pub use source_data::push_source_data;
@@ -12,6 +13,7 @@ pub use why_data::push_why_data;
 mod cost_data;
 mod labels_data;
 pub mod laws;
+mod optimum_data;
 mod paper_data;
 mod show_data;
 mod source_data;

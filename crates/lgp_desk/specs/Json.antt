@@ -1,33 +1,18 @@
 -- Part of the public promise: what is written for a reply where programs read: a JSON object on a
 -- line of its own, with the line, the lines of its reply, and whether it is a refusal.
-use Rattle.std.specs.Prelude.{ℕ, ◌+◌, ◌-◌, ◌/◌, ◌%◌, ◌==◌, not, ◌&&◌, ◌||◌, Bool, true, false}
-use Rattle.std.specs.Prelude.{if◌then◌else◌, nat_le, nat_lt, List, [], ◌∷◌, ◌++◌, codes, length}
-use Rattle.std.specs.Prelude.{map}
+use Rattle.std.specs.Prelude.{ℕ, ◌==◌, not, ◌&&◌, Bool, true, false, if◌then◌else◌, List, []}
+use Rattle.std.specs.Prelude.{◌∷◌, ◌++◌, codes, length, map}
 use Rattle.std.specs.List.{list_any}
-use Rattle.std.specs.Str.{byte, bytes_eq}
+use Rattle.std.specs.Str.{bytes_eq}
 use Rattle.bstr.specs.Text.{lines_of, without_terminator}
+use Rattle.lgp_fields.specs.Escaped.{escaped}
 use Rattle.lgp_stream.specs.Language.{is_question}
 use Rattle.lgp_stream.specs.LineWords.{after_word, first_word, without_spaces}
 
 -- ---- strings
 
-abbrev pub hex_digit : ℕ → ℕ
-hex_digit value = if nat_lt value 10 then byte "0" + value else byte "a" + (value - 10)
-
--- a printed character of ASCII is itself, a quotation mark or a backslash after a backslash; any
--- other byte is written by its number
-unfoldable pub json_byte : ℕ → List ℕ
-json_byte character =
-    if character == 34 || character == 92 then byte "\\" ∷ character ∷ []
-    else (if nat_le 32 character && nat_le character 126 then character ∷ []
-    else codes "\\u00" ++ (hex_digit (character / 16) ∷ hex_digit (character % 16) ∷ []))
-
-unfoldable pub json_bytes : List ℕ → List ℕ
-json_bytes [] = []
-json_bytes (character ∷ more) = json_byte character ++ json_bytes more
-
 unfoldable pub json_string : List ℕ → List ℕ
-json_string text = codes "\"" ++ (json_bytes text ++ codes "\"")
+json_string text = codes "\"" ++ (escaped text ++ codes "\"")
 
 -- ---- the lines of a reply
 
@@ -37,7 +22,7 @@ keyed_commands =
     codes "live" ∷ codes "commands" ∷ codes "panel-data" ∷ codes "trace-data"
     ∷ codes "profile-data" ∷ codes "state-data" ∷ codes "show-data" ∷ codes "why-data"
     ∷ codes "labels-data" ∷ codes "rules-data" ∷ codes "paper-data" ∷ codes "tape-data"
-    ∷ codes "source-data" ∷ codes "cost"
+    ∷ codes "source-data" ∷ codes "cost" ∷ codes "optimum-data"
     ∷ codes "commands-data" ∷ codes "operations-data" ∷ codes "faults-data" ∷ []
 
 unfoldable pub has_keys : List ℕ → List ℕ → Bool
@@ -66,7 +51,7 @@ json_lines keyed first (line ∷ more) =
 -- the line, or the front of a longer one and two points, where it is known
 abbrev pub json_typed : List ℕ → Bool → List ℕ
 json_typed front longer =
-    codes "\"line\":\"" ++ (json_bytes front ++ (if longer then codes " ..\"," else codes "\","))
+    codes "\"line\":\"" ++ (escaped front ++ (if longer then codes " ..\"," else codes "\","))
 
 -- where the line comes from, where that is a file
 unfoldable pub json_note : List ℕ → List ℕ

@@ -1,51 +1,14 @@
 //! Replies as objects of JSON, each on a line of its own.
 
-ghost use Rattle.std.specs.Prelude.{◌≡◌, ◌++◌, ◌==◌, ◌<◌, [], OnOk, codes, if◌then◌else◌, map, true};
+ghost use Rattle.std.specs.Prelude.{◌≡◌, ◌++◌, [], OnOk, codes, if◌then◌else◌, map, true};
 ghost use Rattle.bstr.specs.Text.{lines_of, without_terminator};
 ghost use Rattle.lgp_stream.specs.Language.{is_question};
-ghost use Rattle.lgp_desk.specs.Json.{has_keys, hex_digit, json_answer, json_byte, json_bytes, json_key, json_line, json_lines, json_note, json_own, json_reply, json_string, json_typed};
+ghost use Rattle.lgp_desk.specs.Json.{has_keys, json_answer, json_key, json_line, json_lines, json_note, json_own, json_reply, json_string, json_typed};
 
 use bstr::ByteSlice;
+use lgp_fields::push_escaped;
 use lgp_stream::{Split, is_question, split_word, without_spaces};
 use std::alloc::{AllocError, Allocator};
-
-/// The digit of a value from 0 to 15 in base 16.
-fn hex_digit(value: u8) -> u8
-    requires { value < 16 }
-    ensures { result ≡ hex_digit value }
-{
-    if value < 10 {
-        b'0' + value
-    } else {
-        b'a' + (value - 10)
-    }
-}
-
-/// Appends a byte of a string.
-#[tactic(auto, unfolding(crate::specs::Json::json_byte))]
-fn push_byte<A: Allocator>(text: &mut Vec<u8, A>, byte: u8) -> Result<(), AllocError>
-    ensures { OnOk result (text.new.items ≡ text.old.items ++ json_byte byte) }
-{
-    if byte == b'"' || byte == b'\\' {
-        return text.extend_from_slice(&[b'\\', byte]);
-    }
-    if 32 <= byte && byte <= 126 {
-        return text.extend_from_slice(&[byte]);
-    }
-    let (high, low) = (hex_digit(byte / 16), hex_digit(byte % 16));
-    text.extend_from_slice(&[b'\\', b'u', b'0', b'0', high, low])
-}
-
-/// Appends the bytes of a string.
-#[tactic(auto, unfolding(crate::specs::Json::json_bytes))]
-fn push_bytes<A: Allocator>(text: &mut Vec<u8, A>, bytes: &[u8]) -> Result<(), AllocError>
-    ensures { OnOk result (text.new.items ≡ text.old.items ++ json_bytes bytes.now) }
-{
-    for byte in bytes {
-        push_byte(text, *byte)?;
-    }
-    Ok(())
-}
 
 /// Appends a string.
 #[tactic(auto, unfolding(crate::specs::Json::json_string))]
@@ -53,7 +16,7 @@ fn push_string<A: Allocator>(text: &mut Vec<u8, A>, bytes: &[u8]) -> Result<(), 
     ensures { OnOk result (text.new.items ≡ text.old.items ++ json_string bytes.now) }
 {
     text.extend_from_slice(b"\"")?;
-    push_bytes(text, bytes)?;
+    push_escaped(text, bytes)?;
     text.extend_from_slice(b"\"")
 }
 
@@ -78,6 +41,7 @@ fn has_keys(line: &[u8], reply: &[u8]) -> bool
             || word == b"tape-data".as_slice()
             || word == b"source-data".as_slice()
             || word == b"cost".as_slice()
+            || word == b"optimum-data".as_slice()
             || word == b"commands-data".as_slice()
             || word == b"operations-data".as_slice()
             || word == b"faults-data".as_slice())
@@ -191,7 +155,7 @@ fn push_typed<A: Allocator>(
     ensures { OnOk result (text.new.items ≡ text.old.items ++ json_typed front.now longer) }
 {
     text.extend_from_slice(b"\"line\":\"")?;
-    push_bytes(text, front)?;
+    push_escaped(text, front)?;
     text.extend_from_slice(if longer { b" ..\"," } else { b"\"," })
 }
 

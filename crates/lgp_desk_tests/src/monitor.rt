@@ -117,7 +117,7 @@ const EACH: &[u8] =
 
 /// Questions of programs, each of which is answered by records.
 const ASKED: &[u8] =
-    b"source\nfirst y 0005\n p =a\n z\n end first\n.\nload\nbreak first\nrun 1\nrun 9\nmount 12'\nstate-data\nshow-data first 3\nwhy-data 0005\nlabels-data\nrules-data\npaper-data 0\ntape-data\ncommands-data\noperations-data\nfaults-data\n";
+    b"source\nfirst y 0005\n p =a\n z\n end first\n.\nload\nbreak first\nrun 1\nrun 9\nmount 12'\nstate-data\nshow-data first 3\nwhy-data 0005\nlabels-data\nrules-data\npaper-data 0\ntape-data\nsource-data\ncost first\noptimum-data 1\noptimum-data 1 0005\ncommands-data\noperations-data\nfaults-data\n";
 
 /// Two sources with faults.
 const FAULTY: &[u8] = b"source\n q\n b none\n end\n.\nsource\n z\n.\n";

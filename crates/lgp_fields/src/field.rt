@@ -14,8 +14,12 @@ pub enum Value<'a> {
     Signed(bool, u64),
     /// Yes or no.
     YesNo(bool),
+    /// A number of up to 128 bits.
+    Wide(&'a u128),
     /// Numbers in their order.
     Numbers(&'a [u64]),
+    /// Numbers of up to 128 bits in their order.
+    WideNumbers(&'a [u128]),
     /// Where something begins, and where it has ended.
     Span(u64, u64),
     /// The same of two things, one after the other.

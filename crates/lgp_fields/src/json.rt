@@ -8,7 +8,9 @@ ghost use Rattle.lgp_fields.specs.Seen.{field_seen, fields_seen, order_text, val
 
 use crate::escaped::push_escaped;
 use crate::field::{Field, Value};
-use crate::numbers::{push_number, push_numbers, push_signed, separator};
+use crate::numbers::{
+    push_number, push_numbers, push_signed, push_wide, push_wide_numbers, separator,
+};
 use crate::texts::{push_escaped_order, push_escaped_pieces};
 use lgp_text::Piece;
 use lgp_word::{Address, write_bits};
@@ -28,6 +30,19 @@ fn push_array<A: Allocator>(text: &mut Vec<u8, A>, numbers: &[u64]) -> Result<()
 {
     text.extend_from_slice(b"[")?;
     push_numbers(text, b",", numbers)?;
+    text.extend_from_slice(b"]")
+}
+
+/// Appends numbers of up to 128 bits as an array.
+fn push_wide_array<A: Allocator>(
+    text: &mut Vec<u8, A>,
+    numbers: &[u128],
+) -> Result<(), AllocError>
+    ensures { OnOk result (text.new.items ≡ text.old.items
+        ++ (codes "[" ++ (numbers_text (codes ",") true numbers.now ++ codes "]"))) }
+{
+    text.extend_from_slice(b"[")?;
+    push_wide_numbers(text, b",", numbers)?;
     text.extend_from_slice(b"]")
 }
 
@@ -80,7 +95,9 @@ fn push_value<A: Allocator>(text: &mut Vec<u8, A>, value: &Value) -> Result<(), 
         Value::Number(number) => push_number(text, number),
         Value::Signed(minus, size) => push_signed(text, minus, size),
         Value::YesNo(holds) => text.extend_from_slice(truth_text(holds)),
+        Value::Wide(number) => push_wide(text, *number),
         Value::Numbers(numbers) => push_array(text, numbers),
+        Value::WideNumbers(numbers) => push_wide_array(text, numbers),
         Value::Span(first, past) => push_array(text, &[first, past]),
         Value::Spans(first, past, next, end) => push_array(text, &[first, past, next, end]),
         Value::Text(bytes) => push_string(text, bytes),

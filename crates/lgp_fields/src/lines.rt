@@ -6,7 +6,7 @@ ghost use Rattle.lgp_fields.specs.Seen.{field_seen, fields_seen, value_seen};
 
 use crate::escaped::push_escaped;
 use crate::field::{Field, Value};
-use crate::numbers::{push_number, push_numbers, push_signed};
+use crate::numbers::{push_number, push_numbers, push_signed, push_wide, push_wide_numbers};
 use crate::texts::{push_escaped_order, push_escaped_pieces};
 use lgp_word::write_bits;
 use std::alloc::{AllocError, Allocator};
@@ -29,7 +29,9 @@ fn push_value<A: Allocator>(text: &mut Vec<u8, A>, value: &Value) -> Result<(), 
         Value::Number(number) => push_number(text, number),
         Value::Signed(minus, size) => push_signed(text, minus, size),
         Value::YesNo(holds) => text.extend_from_slice(yes_text(holds)),
+        Value::Wide(number) => push_wide(text, *number),
         Value::Numbers(numbers) => push_numbers(text, b" ", numbers),
+        Value::WideNumbers(numbers) => push_wide_numbers(text, b" ", numbers),
         Value::Span(first, past) => push_numbers(text, b" ", &[first, past]),
         Value::Spans(first, past, next, end) => {
             push_numbers(text, b" ", &[first, past, next, end])

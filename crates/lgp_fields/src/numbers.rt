@@ -56,3 +56,30 @@ pub(crate) fn push_numbers<A: Allocator>(
     }
     Ok(())
 }
+
+/// Appends a number of up to 128 bits in decimal.
+pub(crate) fn push_wide<A: Allocator>(text: &mut Vec<u8, A>, number: u128) -> Result<(), AllocError>
+    ensures { OnOk result (text.new.items ≡ text.old.items ++ decimal number) }
+{
+    let mut buffer = Buffer::new();
+    text.extend_from_slice(buffer.format(number).as_bytes())
+}
+
+/// The same of several, with this in front of each but the first.
+#[tactic(auto, unfolding(crate::specs::Printed::numbers_text))]
+pub(crate) fn push_wide_numbers<A: Allocator>(
+    text: &mut Vec<u8, A>,
+    between: &'static [u8],
+    numbers: &[u128],
+) -> Result<(), AllocError>
+    ensures { OnOk result (text.new.items
+        ≡ text.old.items ++ numbers_text between.now true numbers.now) }
+{
+    let mut first = true;
+    for number in numbers {
+        text.extend_from_slice(separator(first, between))?;
+        push_wide(text, *number)?;
+        first = false;
+    }
+    Ok(())
+}

@@ -5,22 +5,22 @@ pub const COMMAND_KEYS: [u8; 48] = *b"\
 command|group|operands|asks|does|refused|example";
 
 /// The commands, a row each: what it is called, its group, its operands, whether it only asks, what it does, when it is refused, and an example.
-pub const COMMANDS: [u8; 7493] = *b"\
+pub const COMMANDS: [u8; 7662] = *b"\
 put|machine|ttss WORD, or ttss FRACTION, ttss = NUMBER, ttss = NUMBER POINT, ttss OPERATION|no|puts a word at an address|while the machine is going: press manual first|put 0050 = 385\n\
 go|machine|ttss|no|starts the machine at an address, as an operator does|if the address is none, or the clock would pass its limit|go 0000\n\
 mount|machine|TEXT|no|puts a tape in the reader|while the machine is going, and at the first byte that does not begin a tape sign|mount 12a'\n\
 press|machine|BUTTON, or SWITCH up, SWITCH down|no|presses a button, or sets a switch|never; a button that does nothing now is dead: live names those that do something|press start\n\
 type|machine|TEXT|no|strikes the keys of the typewriter|at the first byte that does not begin a tape sign|type 000f0100\n\
 turn|machine|NUMBER|no|lets word times pass at rest|while the machine is going: press manual first|turn 64\n\
-orders|machine|NUMBER|no|performs at most so many orders, whatever the rules say|if the clock would pass its limit|orders 2\n\
-run|machine|NUMBER|no|performs at most so many orders, until the machine rests or a rule stops it|if the clock would pass its limit|run 100\n\
-operate|machine|NUMBER|no|runs, and presses Start after each print, at most so many times|if the clock would pass its limit|operate 100\n\
+orders|machine|NUMBER|no|performs at most NUMBER orders, whatever the rules say|if the clock would pass its limit|orders 2\n\
+run|machine|NUMBER|no|performs at most NUMBER orders, until the machine rests or a rule stops it|if the clock would pass its limit|run 100\n\
+operate|machine|NUMBER|no|runs, and presses Start after each print, at most NUMBER times|if the clock would pass its limit|operate 100\n\
 trace|accounts|NUMBER|no|runs, and tells each order: its waits, what it changed, and what put it there|if the clock would pass its limit|trace 2\n\
 profile|accounts|NUMBER|no|runs, and tells where the word times went|if the clock would pass its limit|profile 100\n\
 drum|accounts|NUMBER|no|runs, and draws the orders along the turns of the drum|if the clock would pass its limit|drum 4\n\
 optimum|accounts|NUMBER, or NUMBER ttss|no|runs, and tells which words would have cost less in other sectors|if the clock would pass its limit|optimum 100\n\
 why|accounts|ttss|yes|tells which step put a word where it is, and what was there before|if the address is none|why 0002\n\
-back|accounts|NUMBER|no|goes so many orders back|if not that many orders are kept|back 1\n\
+back|accounts|NUMBER|no|goes NUMBER orders back|if fewer orders are kept|back 1\n\
 last|accounts||no|goes back to the latest order that a rule hits|if no rule hits any of the kept orders|last\n\
 panel|look||yes|shows the registers, switches, reader and clock in one line|never|panel\n\
 words|look|ttss NUMBER|yes|shows words by their digits, at most 64|if the words would go past the drum|words 0000 4\n\
@@ -31,11 +31,11 @@ paper|look||yes|shows what was printed, as the typewriter's paper has it|never|p
 dump|look||yes|shows all words that are not zero|never|dump\n\
 labels|look||yes|shows the labels of the last source with their addresses|never|labels\n\
 live|look||yes|shows which buttons do something now, and what lets the machine go on|never|live\n\
-break|rules|ttss|no|adds a rule that stops a run after an order at an address|if there are 64 rules already: drop removes one|break 0002\n\
+break|rules|ttss|no|adds a rule that stops a run before the order at an address|if there are 64 rules already: drop removes one|break 0002\n\
 watch|rules|ttss|no|adds a rule that stops a run after an order that changes a word|if there are 64 rules already: drop removes one|watch 0002\n\
 drop|rules|NUMBER|no|removes a rule|if no rule has this number: rules lists them|drop 0\n\
 rules|rules||yes|lists the rules with their numbers|never|rules\n\
-source|source|nothing, or FILE|no|opens a source, whose lines follow up to a line with only a point, or assembles the source in a file|if the source has faults, which are told|source\n\
+source|source|nothing, or FILE|no|opens a source, whose lines follow up to a line with only a point, or assembles the source in a file|if the source has faults, which it lists|source\n\
 list|source||yes|shows the listing of the last source|if no source has been assembled yet|list\n\
 load|source||no|loads the last source by the loader that is keyed in|if no source has been assembled yet|load\n\
 do|files|FILE|no|types the lines of a file|if it cannot be read, or 16 files are open already|do lines.txt\n\
@@ -60,12 +60,13 @@ commands|programs||yes|lists the commands, whether they only ask, and what they 
 panel-data|programs||yes|tells what the panel shows|never|panel-data\n\
 trace-data|programs|NUMBER|no|does what trace does, for programs|if the clock would pass its limit|trace-data 2\n\
 profile-data|programs|NUMBER|no|does what profile does, for programs|if the clock would pass its limit|profile-data 100\n\
+optimum-data|programs|NUMBER, or NUMBER ttss|no|does what optimum does, for programs|if the clock would pass its limit|optimum-data 100\n\
 state-data|programs||yes|tells the panel's state, what is live, and what lets the machine go on|never|state-data\n\
 show-data|programs|ttss NUMBER|yes|tells words as digits, orders, numbers and fractions, at most 64|if the words would go past the drum|show-data 0000 4\n\
 why-data|programs|ttss|yes|tells which step put a word where it is|if the address is none|why-data 0002\n\
-labels-data|programs||yes|tells the labels of the last source|never|labels-data\n\
+labels-data|programs||yes|tells the labels of the last source, each with its place and its line|never|labels-data\n\
 rules-data|programs||yes|tells the rules|never|rules-data\n\
-paper-data|programs|NUMBER|yes|tells what was printed after so many codes|never|paper-data 0\n\
+paper-data|programs|NUMBER|yes|tells what was printed after the first NUMBER codes|never|paper-data 0\n\
 tape-data|programs||yes|tells which codes of the tape have passed, and which are left|never|tape-data\n\
 source-data|programs||yes|tells the lines of the source that was closed last, also one with faults|never|source-data\n\
 cost|programs|ttss|yes|tells what the order there would take if it were the next one|if the address is none|cost 0000\n\

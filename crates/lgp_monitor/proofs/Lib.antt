@@ -5,4 +5,5 @@ pub mod Pictures
 pub mod RestoreLemmas
 pub mod OperatingLemmas
 pub mod Decimals
+pub mod ClosingLemmas
 pub mod ScaleLaws

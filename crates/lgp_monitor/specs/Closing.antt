@@ -1,6 +1,6 @@
 -- Part of the public promise: what is answered where a point closes a source with faults: each
 -- fault with its line of the source and a mark below the part that is at fault.
-use Rattle.std.specs.Prelude.{ℕ, ◌-◌, false, not, ◌&&◌, ◌||◌, ◌==◌, if◌then◌else◌, Option, Some, None}
+use Rattle.std.specs.Prelude.{ℕ, ◌-◌, Bool, false, not, ◌&&◌, ◌||◌, ◌==◌, if◌then◌else◌, Option, Some, None}
 use Rattle.std.specs.Prelude.{option_map, List, [], ◌++◌, codes, flat_map, length, slice_get}
 use Rattle.std.specs.Option.{option_map_or}
 use Rattle.std.specs.Str.{bytes_eq}
@@ -31,11 +31,14 @@ shown_faults source =
     if (length source == 0) || (length (faults_of source) == 0) then None
     else Some (codes "? 9 Faults\n" ++ flat_map (marked_fault (lines_of source)) (faults_of source))
 
--- the reply to a line that closes a source with faults, or one that is too long: a point alone;
--- None to any other
+-- whether a line ends a source: a point alone
+abbrev pub is_source_end : Kept → Bool
+is_source_end kept = not kept.longer && bytes_eq kept.front (codes ".")
+
+-- the reply to a line that closes a source with faults, or one that is too long; None to any other
 unfoldable pub closing_reply : Option SourceText → Kept → Option (List ℕ)
 closing_reply opened kept =
-    if not kept.longer && bytes_eq kept.front (codes ".")
+    if is_source_end kept
     then (if option_map_or (λ source. source.too_long) opened false
     then Some (refused_text TooLong) else shown_faults (opened_text opened))
     else None

@@ -7,7 +7,7 @@ use Rattle.lgp_data.specs.StateData.{state_record}
 use Rattle.lgp_data.specs.WhyData.{why_of}
 use Rattle.lgp_fields.specs.Printed.{record_in}
 use Rattle.lgp_fields.specs.declared.records.Form.TheVariants.{Lines}
-use Rattle.lgp_script.specs.LabState.{LabState, labels_of, source_at_hand}
+use Rattle.lgp_script.specs.LabState.{LabState, assembled_source, labels_of, source_at_hand}
 use Rattle.lgp_monitor.specs.declared.data_question.DataQuestion.{DataQuestion}
 use Rattle.lgp_monitor.specs.declared.data_question.DataQuestion.TheVariants as data_questions
 
@@ -18,7 +18,8 @@ data_for (data_questions.Show range) lab =
     shown_in Lines (labels_of lab.source) lab.debugger range.first range.count
 data_for (data_questions.Why address) lab =
     record_in Lines true (why_of (labels_of lab.source) lab.debugger address)
-data_for data_questions.Labels lab = labels_in Lines true (labels_of lab.source)
+data_for data_questions.Labels lab =
+    labels_in Lines (assembled_source lab.source) (labels_of lab.source)
 data_for data_questions.Rules lab = rules_in Lines (labels_of lab.source) 0 lab.debugger.rules
 data_for (data_questions.Paper from) lab = printed_in Lines from lab.debugger.state.printed
 data_for data_questions.Tape lab = record_in Lines true (tape_record lab.debugger.state.core.tape)

@@ -16,6 +16,7 @@ use Rattle.lgp_text.specs.NamedValues.{named}
 use Rattle.lgp_command.specs.Command.{command_of, is_comment, lone_number}
 use Rattle.lgp_command.specs.Span.{WordRange, range_of}
 use Rattle.lgp_command.specs.declared.command.Command.TheVariants as commands
+use Rattle.lgp_trace.specs.declared.form.Form.{Form}
 use Rattle.lgp_monitor.specs.Scaled.{point_of}
 use Rattle.lgp_monitor.specs.Verbs.{verb_names}
 use Rattle.lgp_monitor.specs.declared.data_question.DataQuestion.TheVariants as data_questions
@@ -154,14 +155,15 @@ module _ (names : List (List ℕ × ℕ)) (counter : ℕ) where
       (point_of (point_at point))) (range_at (first_word operands) (first_word count))
       else entry.Misformed
 
-  -- a run of which the words with most to gain are reported, or the word whose address comes after
-  -- its number
-  unfoldable pub optimum_entry : List ℕ → Entry
-  optimum_entry operands =
+  -- a run of which the words with most to gain are reported in a form, or the word whose address
+  -- comes after its number
+  unfoldable pub optimum_entry : Form → List ℕ → Entry
+  optimum_entry form operands =
       let place = after_word operands in
-      if has_no_word place then asked_by (entry.Reported tellings.Optimum) (lone_number operands)
+      if has_no_word place
+      then asked_by (entry.Reported (tellings.Optimum form)) (lone_number operands)
       else (if has_no_word (after_word place)
-      then asked_by (λ word. asked_by (entry.Reported (tellings.OptimumOf word))
+      then asked_by (λ word. asked_by (entry.Reported (tellings.OptimumOf form word))
       (lone_number (first_word operands))) (address_at (first_word place))
       else entry.Misformed)
 
@@ -173,7 +175,7 @@ module _ (names : List (List ℕ × ℕ)) (counter : ℕ) where
   entry_by operands (verbs.Address command) =
       asked_by (asked_at command) (option_and_then address_at (lone_word operands))
   entry_by operands (verbs.Number command) = asked_by (asked_with command) (lone_number operands)
-  entry_by operands verbs.NumberAddress = optimum_entry operands
+  entry_by operands (verbs.NumberAddress form) = optimum_entry form operands
   entry_by operands (verbs.Range command) =
       asked_by (asked_of command) (range_at (first_word operands) (after_word operands))
   entry_by operands verbs.ScaledRange = numbers_entry operands

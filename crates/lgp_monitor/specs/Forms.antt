@@ -189,8 +189,8 @@ verb_reason names counter line verbs.Word =
     let form = first_word line ++ operands_form verbs.Word in
     operand_reason names form counter (after_word line)
     (value_reason names form (after_word (after_word line)))
-verb_reason names counter line verbs.NumberAddress =
-    let form = first_word line ++ operands_form verbs.NumberAddress in
+verb_reason names counter line (verbs.NumberAddress by) =
+    let form = first_word line ++ operands_form (verbs.NumberAddress by) in
     second_reason names form counter (after_word line)
 verb_reason names counter line verb =
     let form = first_word line ++ operands_form verb in

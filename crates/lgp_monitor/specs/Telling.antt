@@ -1,6 +1,6 @@
 -- Part of the public promise: what is written about the orders of a run, with names as labels of
 -- the addresses that are their values.
-use Rattle.std.specs.Prelude.{ℕ, ◌==◌, ◌++◌, List, [], Option, codes, find}
+use Rattle.std.specs.Prelude.{ℕ, ◌==◌, ◌++◌, true, List, [], Option, codes, find}
 use Rattle.std.specs.Option.{option_map_or}
 use Rattle.lgp_table.specs.After.{after}
 use Rattle.lgp_table.specs.State.{State}
@@ -13,6 +13,9 @@ use Rattle.lgp_trace.specs.ProfileData.{profile_in}
 use Rattle.lgp_trace.specs.Runs.{drawn, heading_in, reported}
 use Rattle.lgp_trace.specs.declared.form.Form.{Form}
 use Rattle.lgp_trace.specs.declared.form.Form.TheVariants as forms
+use Rattle.lgp_fields.specs.Printed.{record_in}
+use Rattle.lgp_fields.specs.declared.records.Form.TheVariants.{Lines}
+use Rattle.lgp_data.specs.OptimumData.{optimum_in, word_moves_record}
 use Rattle.lgp_monitor.specs.declared.telling.Telling.{Telling}
 use Rattle.lgp_monitor.specs.declared.telling.Telling.TheVariants as tellings
 
@@ -20,7 +23,9 @@ use Rattle.lgp_monitor.specs.declared.telling.Telling.TheVariants as tellings
 abbrev pub form_of : Telling → Form
 form_of (tellings.Trace form) = form
 form_of (tellings.Profile form) = form
-form_of telling = forms.Columns
+form_of tellings.Drum = forms.Columns
+form_of (tellings.Optimum form) = form
+form_of (tellings.OptimumOf form word) = form
 
 -- what comes after an address: a blank and the first name that has it as its value, or nothing
 unfoldable pub label_of : List (List ℕ × ℕ) → ℕ → List ℕ
@@ -40,7 +45,11 @@ reported_text (tellings.Profile form) names s origins orders =
 reported_text tellings.Drum names s origins orders =
     rows_begun s.clock ++ (drawn s orders ++ rows_ended (after s orders).clock)
 -- which words would have cost less at other sectors, and what one word would have cost at each
-reported_text tellings.Optimum names s origins orders =
+reported_text (tellings.Optimum forms.Columns) names s origins orders =
     optimum_text (label_of names) orders (moves_of s orders)
-reported_text (tellings.OptimumOf word) names s origins orders =
+reported_text (tellings.Optimum forms.Data) names s origins orders =
+    optimum_in Lines names orders (moves_of s orders)
+reported_text (tellings.OptimumOf forms.Columns word) names s origins orders =
     word_text (label_of names) orders (moves_of s orders) word
+reported_text (tellings.OptimumOf forms.Data word) names s origins orders =
+    record_in Lines true (word_moves_record names orders (moves_of s orders) word)

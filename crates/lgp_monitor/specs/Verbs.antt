@@ -25,7 +25,7 @@ verb_names =
     ∷ (codes "trace", verbs.Number (number_commands.Trace forms.Columns))
     ∷ (codes "profile", verbs.Number (number_commands.Profile forms.Columns))
     ∷ (codes "drum", verbs.Number number_commands.Drum)
-    ∷ (codes "optimum", verbs.NumberAddress)
+    ∷ (codes "optimum", verbs.NumberAddress forms.Columns)
     ∷ (codes "why", verbs.Address address_commands.Why)
     ∷ (codes "back", verbs.Number number_commands.Script)
     ∷ (codes "last", verbs.Lone lone_commands.Script)
@@ -75,6 +75,7 @@ verb_names =
     ∷ (codes "cost", verbs.Address address_commands.Cost)
     ∷ (codes "trace-data", verbs.Number (number_commands.Trace forms.Data))
     ∷ (codes "profile-data", verbs.Number (number_commands.Profile forms.Data))
+    ∷ (codes "optimum-data", verbs.NumberAddress forms.Data)
     ∷ (codes "transcript", verbs.Lone lone_commands.Transcript)
     ∷ (codes "new", verbs.Lone lone_commands.New)
     ∷ (codes "help", verbs.Command)
@@ -86,7 +87,8 @@ unfoldable pub operands_form : Verb → List ℕ
 operands_form (verbs.Lone _) = []
 operands_form (verbs.Address command) = codes " ttss"
 operands_form (verbs.Number command) = codes " NUMBER"
-operands_form verbs.NumberAddress = codes " NUMBER or optimum NUMBER ttss"
+operands_form (verbs.NumberAddress forms.Columns) = codes " NUMBER or optimum NUMBER ttss"
+operands_form (verbs.NumberAddress forms.Data) = codes " NUMBER or optimum-data NUMBER ttss"
 operands_form (verbs.Range command) = codes " ttss NUMBER, at most 64"
 operands_form verbs.ScaledRange = codes " ttss NUMBER, at most 64, or numbers ttss NUMBER POINT"
 operands_form verbs.Word =
@@ -104,7 +106,7 @@ unfoldable pub operands_kind : Verb → List ℕ
 operands_kind (verbs.Lone _) = codes " alone\n"
 operands_kind (verbs.Address command) = codes " address\n"
 operands_kind (verbs.Number command) = codes " number\n"
-operands_kind verbs.NumberAddress = codes " number\n"
+operands_kind (verbs.NumberAddress form) = codes " number\n"
 operands_kind (verbs.Range command) = codes " range\n"
 operands_kind verbs.ScaledRange = codes " range\n"
 operands_kind verbs.Word = codes " address word\n"

@@ -1,16 +1,14 @@
 //! What is answered where a point closes a source with faults.
 
-ghost use Rattle.std.specs.Prelude.{◌≡◌, ◌+◌, ◌^◌, ◌<◌, ◌≤◌, ◌++◌, ◌==◌, IfOk, None, OnOk, Some, [], codes, drop, flat_map, if◌then◌else◌, length, not, option_map, ◌&&◌};
-ghost use Rattle.std.specs.Str.{bytes_eq};
+ghost use Rattle.std.specs.Prelude.{◌≡◌, ◌+◌, ◌^◌, ◌<◌, ◌≤◌, ◌++◌, OnOk, [], codes, drop, flat_map};
 ghost use Rattle.std.specs.Option.{option_copied, option_map_or};
-ghost use Rattle.lgp_assembler.specs.Image.{faults_of};
 ghost use Rattle.lgp_assembler.specs.Marks.{marked_text};
 ghost use Rattle.lgp_source.specs.Source.{lines_of};
-ghost use Rattle.lgp_monitor.specs.Reasons.{refused_text};
-ghost use Rattle.lgp_monitor.specs.Closing.{closing_reply, marked_fault, shown_faults, text_at};
+ghost use Rattle.lgp_monitor.specs.Closing.{is_source_end, marked_fault, text_at};
+ghost use Rattle.lgp_monitor.specs.ClosingInside.{closed_text};
 
 use crate::reason::push_refused;
-use lgp_assembler::{AssembleError, Fault, FaultKind, assemble, push_marked};
+use lgp_assembler::{Fault, FaultKind, push_marked};
 use lgp_script::{Laboratory, Refusal, push_fault_line};
 use lgp_source::Lines;
 use lgp_stream::LineBytes;
@@ -166,87 +164,43 @@ fn push_marked_faults<A: Allocator>(
     Ok(())
 }
 
-/// The reply to the end of a source with these faults.
-fn faults_reply<A: Allocator>(
-    alloc: A,
+/// Appends that a source has faults, each with its marked line.
+fn push_faults<A: Allocator>(
+    text: &mut Vec<u8, A>,
     source: &[u8],
     faults: &[Fault],
-) -> Result<Vec<u8, A>, AllocError>
-    ensures { IfOk result (λ reply. reply.items
-        ≡ codes "? 9 Faults\n" ++ flat_map (marked_fault (lines_of source.now)) faults.now) }
+) -> Result<(), AllocError>
+    ensures { OnOk result (text.new.items ≡ text.old.items
+        ++ (codes "? 9 Faults\n" ++ flat_map (marked_fault (lines_of source.now)) faults.now)) }
 {
-    let mut reply = Vec::new(alloc);
-    reply.extend_from_slice(b"? 9 Faults\n")?;
-    push_marked_faults(&mut reply, source, faults)?;
-    Ok(reply)
-}
-
-/// The reply to the end of a source, if it has faults.
-fn faulty_reply<A: Allocator + Copy>(
-    alloc: A,
-    source: &[u8],
-) -> Result<Option<Vec<u8, A>>, AllocError>
-    ensures { IfOk result (λ reply. option_map (λ it. it.items) reply
-        ≡ (if length (faults_of source.now) == 0 then None
-        else Some (codes "? 9 Faults\n"
-        ++ flat_map (marked_fault (lines_of source.now)) (faults_of source.now)))) }
-{
-    match assemble(alloc, source) {
-        Ok(_) => Ok(None),
-        Err(AssembleError::Faults(list)) => {
-            let reply = faults_reply(alloc, source, list.faults())?;
-            Ok(Some(reply))
-        }
-        Err(AssembleError::Memory) => Err(AllocError),
-    }
+    text.extend_from_slice(b"? 9 Faults\n")?;
+    push_marked_faults(text, source, faults)
 }
 
 /// Whether a line ends a source.
-fn is_source_end(line: &LineBytes) -> bool
-    ensures { result ≡ (not line.now.longer && bytes_eq line.now.front (codes ".")) }
+pub fn is_source_end(line: &LineBytes) -> bool
+    ensures { result ≡ is_source_end line.now }
 {
     !line.is_longer() && line.front() == b".".as_slice()
 }
 
-/// The reply to the end of a source that has a byte, if it has faults.
-fn shown_faults<A: Allocator + Copy>(
-    alloc: A,
-    source: &[u8],
-) -> Result<Option<Vec<u8, A>>, AllocError>
-    ensures { IfOk result (λ reply. option_map (λ it. it.items) reply
-        ≡ shown_faults source.now) }
-{
-    if source.is_empty() {
-        return Ok(None);
-    }
-    faulty_reply(alloc, source)
-}
-
-/// That a source is too long.
-fn too_long<A: Allocator + Copy>(alloc: A) -> Result<Option<Vec<u8, A>>, AllocError>
-    ensures { IfOk result (λ reply. option_map (λ it. it.items) reply
-        ≡ Some (refused_text Refusal.TooLong)) }
-{
-    let mut reply = Vec::new(alloc);
-    push_refused(&mut reply, &Refusal::TooLong)?;
-    Ok(Some(reply))
-}
-
-/// The reply to a line that closes a source with faults, or one that is too long; None to any other.
-#[tactic(auto, unfolding(crate::specs::Closing::closing_reply))]
-pub fn closing_reply<A: Allocator + Copy>(
-    alloc: A,
+/// Appends the reply to the line that has closed a source, which was too long or not, by what the laboratory has replied to that line.
+pub fn push_closing<A: Allocator + Copy>(
+    text: &mut Vec<u8, A>,
     laboratory: &Laboratory<A>,
-    line: &LineBytes,
-) -> Result<Option<Vec<u8, A>>, AllocError>
-    ensures { IfOk result (λ reply. option_map (λ it. it.items) reply
-        ≡ closing_reply laboratory.now.opened line.now) }
+    was_too_long: bool,
+    said: &[u8],
+) -> Result<(), AllocError>
+    ensures { OnOk result (text.new.items
+        ≡ text.old.items ++ closed_text laboratory.now.faulty was_too_long said.now) }
 {
-    if !is_source_end(line) {
-        return Ok(None);
+    if was_too_long {
+        return push_refused(text, &Refusal::TooLong);
     }
-    if laboratory.has_too_long_source() {
-        return too_long(alloc);
+    match laboratory.faulty() {
+        Some(faulty) if !faulty.source().is_empty() => {
+            push_faults(text, faulty.source(), faulty.faults())
+        }
+        _ => text.extend_from_slice(said),
     }
-    shown_faults(alloc, laboratory.source_so_far())
 }

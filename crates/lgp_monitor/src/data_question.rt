@@ -79,7 +79,9 @@ pub(crate) fn push_data<A: Allocator + Copy>(
         DataQuestion::State => push_state_data(text, Form::Lines, names, debugger),
         DataQuestion::Show(range) => push_show_data(text, range, laboratory),
         DataQuestion::Why(address) => push_why_data(text, Form::Lines, names, debugger, *address),
-        DataQuestion::Labels => push_labels_data(text, Form::Lines, names),
+        DataQuestion::Labels => {
+            push_labels_data(alloc, text, Form::Lines, laboratory.assembled_source(), names)
+        }
         DataQuestion::Rules => push_rules_data(text, Form::Lines, names, debugger.rules()),
         DataQuestion::Paper(from) => {
             push_printed_data(text, Form::Lines, *from, debugger.machine().printed())

@@ -22,6 +22,7 @@ use lgp_assembler::{Name, OperandFault, Symbols, address_operand, operation_word
 use lgp_command::{Asked, Command, Count, Span, asked_in, is_comment, lone_count};
 use lgp_fraction::Fraction;
 use lgp_stream::{LineBytes, Split, has_no_word, split_word};
+use lgp_trace::Form;
 use lgp_word::{Address, Word, read_digits};
 
 /// What a typed line asks for.
@@ -372,30 +373,36 @@ fn reported_so(telling: Telling, limit: Option<Count>) -> Entry
 }
 
 /// The word of whom a run tells, and the run's number.
-fn reported_word(names: &[(Name, u16)], counter: Address, word: &[u8], number: &[u8]) -> Entry
-    ensures { result ≡ asked_by (λ place. asked_by (Entry.Reported (Telling.OptimumOf place))
+fn reported_word(
+    names: &[(Name, u16)],
+    counter: Address,
+    form: Form,
+    word: &[u8],
+    number: &[u8],
+) -> Entry
+    ensures { result ≡ asked_by (λ place. asked_by (Entry.Reported (Telling.OptimumOf form place))
         (lone_number number.now)) (address_at names.now counter word.now) }
 {
     match address_at(names, counter, word) {
-        Some(place) => reported_so(Telling::OptimumOf(place), lone_count(number)),
+        Some(place) => reported_so(Telling::OptimumOf(form, place), lone_count(number)),
         None => Entry::Misformed,
     }
 }
 
-/// The operands of `optimum`.
+/// The operands of `optimum` and `optimum-data`.
 #[tactic(auto, unfolding(crate::specs::Entry::optimum_entry))]
-fn optimum_entry(names: &[(Name, u16)], counter: Address, operands: &[u8]) -> Entry
-    ensures { result ≡ optimum_entry names.now counter operands.now }
+fn optimum_entry(names: &[(Name, u16)], counter: Address, form: Form, operands: &[u8]) -> Entry
+    ensures { result ≡ optimum_entry names.now counter form operands.now }
 {
     let number = split_word(operands);
     if has_no_word(number.rest) {
-        return reported_so(Telling::Optimum, lone_count(operands));
+        return reported_so(Telling::Optimum(form), lone_count(operands));
     }
     let place = split_word(number.rest);
     if !has_no_word(place.rest) {
         return Entry::Misformed;
     }
-    reported_word(names, counter, place.word, number.word)
+    reported_word(names, counter, form, place.word, number.word)
 }
 
 /// What a command asks for by itself.
@@ -444,7 +451,7 @@ fn entry_by(names: &[(Name, u16)], counter: Address, verb: Option<Verb>, operand
         Some(Verb::Lone(command)) => lone_typed(command, operands),
         Some(Verb::Address(command)) => address_typed(names, counter, command, operands),
         Some(Verb::Number(command)) => number_typed(command, operands),
-        Some(Verb::NumberAddress) => optimum_entry(names, counter, operands),
+        Some(Verb::NumberAddress(form)) => optimum_entry(names, counter, form, operands),
         Some(Verb::Range(command)) => range_typed(names, counter, command, operands),
         Some(Verb::ScaledRange) => numbers_entry(names, counter, operands),
         Some(Verb::Word) => put_typed(names, counter, operands),

@@ -483,7 +483,7 @@ fn push_verb_reason<A: Allocator>(
     };
     match verb {
         Verb::Word => push_put_reason(text, &said, counter, split.rest),
-        Verb::NumberAddress => push_second_reason(text, &said, counter, split.rest),
+        Verb::NumberAddress(_) => push_second_reason(text, &said, counter, split.rest),
         _ if takes_address(verb) => push_operand_reason(text, &said, counter, split.rest),
         _ => push_form(text, split.word, verb),
     }

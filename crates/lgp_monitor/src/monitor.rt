@@ -1,6 +1,6 @@
 //! The monitor: typed lines, each answered by the script lines that it stands for.
 
-ghost use Rattle.std.specs.Prelude.{◌≡◌, ◌++◌, ◌||◌, ◌∷◌, [], List, ℕ, IfOk, None, OnOk, codes, if◌then◌else◌};
+ghost use Rattle.std.specs.Prelude.{◌≡◌, ◌++◌, ◌||◌, ◌∷◌, [], List, ℕ, IfOk, None, OnOk, codes, if◌then◌else◌, is_some, true};
 ghost use Rattle.lgp_command.specs.Command.{is_comment};
 ghost use Rattle.lgp_debugger.specs.Debugging.{order_origins};
 ghost use Rattle.lgp_stream.specs.Language.{IsAnswered};
@@ -9,15 +9,16 @@ ghost use Rattle.lgp_stream.specs.KeptLine.{kept_of};
 ghost use Rattle.lgp_stream.specs.Transcript.{stand_in, untouched};
 ghost use Rattle.lgp_script.specs.HistoryCommands.{orders_run};
 ghost use Rattle.lgp_script.specs.LabState.{labels_of, opening_state};
+ghost use Rattle.lgp_monitor.specs.Closing.{is_source_end};
 ghost use Rattle.lgp_monitor.specs.FileTexts.{answer_to_dump, answer_to_tape};
 ghost use Rattle.lgp_monitor.specs.Entry.{entry_of};
 ghost use Rattle.lgp_monitor.specs.Forms.{form_line};
-ghost use Rattle.lgp_monitor.specs.Monitor.{answer_at, answer_in_source, answer_of, answered_with, entry_at, monitor_language, told_run};
+ghost use Rattle.lgp_monitor.specs.Monitor.{answer_at, answer_in_source, answer_of, entry_at, monitor_language, told_run};
 ghost use Rattle.lgp_monitor.specs.PerformingInside.{IsPerformed};
 ghost use Rattle.lgp_monitor.specs.Reasons.{refused_text};
 ghost use Rattle.lgp_monitor.specs.Telling.{reported_text};
 
-use crate::closing::closing_reply;
+use crate::closing::{is_source_end, push_closing};
 use crate::entry::{Entry, entry_of};
 use crate::file_texts::{mount_tape, restore};
 use crate::form::{push_form_line, push_help, push_misformed};
@@ -127,21 +128,23 @@ fn push_passed<A: Allocator>(text: &mut Vec<u8, A>, line: &LineBytes) -> Result<
     push_refused(text, &Refusal::TooLong)
 }
 
-/// Hands a line that closes a source with faults, or one that is too long, to the laboratory, whose reply is replaced by this one.
-fn tell_faults<A: Allocator + Copy>(
+/// Answers the line that closes the open source.
+fn close_source<A: Allocator + Copy>(
     alloc: A,
     recorder: &mut Recorder<Laboratory<A>, A>,
     line: &LineBytes,
-    marked: &[u8],
     reply: &mut Vec<u8, A>,
 ) -> Result<(), AllocError>
+    requires open { is_some recorder.old.state.opened ≡ true }
+    requires end { is_source_end line.now ≡ true }
     ensures { (text : List ℕ) → line.now ≡ kept_of text
         → OnOk result (IsAnswered reply.old.items reply.new.items recorder.new
-        (answered_with recorder.old marked.now (stand_in line.now ∷ []))) }
+        (answer_in_source recorder.old line.now)) }
 {
-    reply.extend_from_slice(marked)?;
+    let was_too_long = recorder.answers().has_too_long_source();
     let mut said = Vec::new(alloc);
-    recorder.answer_kept(line, &mut said)
+    recorder.answer_kept(line, &mut said)?;
+    push_closing(reply, recorder.answers(), was_too_long, &said)
 }
 
 /// Answers a line of an open source.
@@ -151,14 +154,15 @@ fn answer_in_source<A: Allocator + Copy>(
     line: &LineBytes,
     reply: &mut Vec<u8, A>,
 ) -> Result<(), AllocError>
+    requires { is_some recorder.old.state.opened ≡ true }
     ensures { (text : List ℕ) → line.now ≡ kept_of text
         → OnOk result (IsAnswered reply.old.items reply.new.items recorder.new
         (answer_in_source recorder.old line.now)) }
 {
-    match closing_reply(alloc, recorder.answers(), line)? {
-        Some(marked) => tell_faults(alloc, recorder, line, &marked, reply),
-        None => recorder.answer_kept(line, reply),
+    if is_source_end(line) {
+        return close_source(alloc, recorder, line, reply);
     }
+    recorder.answer_kept(line, reply)
 }
 
 /// Appends the form of the command that comes after another.

@@ -14,6 +14,7 @@ ghost use Rattle.lgp_monitor.specs.TellingInside.{sectors_told};
 
 use crate::labels::NamedAddresses;
 use lgp_assembler::Name;
+use lgp_data::{push_optimum_data, push_word_optimum_data};
 use lgp_debugger::{Debugger, Ran, RunFault, RunRefusal};
 use lgp_history::Records;
 use lgp_script::{Laboratory, Reply, Teller};
@@ -33,10 +34,10 @@ pub enum Telling {
     Profile(Form),
     /// By its orders along the drum.
     Drum,
-    /// By the words that would have cost less at other sectors.
-    Optimum,
-    /// By what one word would have cost at each sector.
-    OptimumOf(Address),
+    /// By the words that would have cost less at other sectors, in a form.
+    Optimum(Form),
+    /// By what one word would have cost at each sector, in a form.
+    OptimumOf(Form, Address),
 }
 
 impl Telling {
@@ -45,8 +46,11 @@ impl Telling {
         ensures { result ≡ form_of self.now }
     {
         match self {
-            Telling::Trace(form) | Telling::Profile(form) => *form,
-            Telling::Drum | Telling::Optimum | Telling::OptimumOf(_) => Form::Columns,
+            Telling::Trace(form)
+            | Telling::Profile(form)
+            | Telling::Optimum(form)
+            | Telling::OptimumOf(form, _) => *form,
+            Telling::Drum => Form::Columns,
         }
     }
 }
@@ -165,23 +169,31 @@ fn push_sectors<A: Allocator + Copy>(
     text: &mut Vec<u8, A>,
     orders: u64,
     optimum: &Optimum<A>,
-    word: Option<Address>,
+    sectors: &BySectors,
     names: &[(Name, u16)],
 ) -> Result<(), AllocError>
     ensures { (s : State) → (origins : ℕ → Option Origin) → IsOptimumOf optimum.now s orders
         → OnOk result (text.new.items ≡ text.old.items
-        ++ reported_text (sectors_told word) names.now s origins orders) }
+        ++ reported_text (sectors_told sectors.now.form sectors.now.word) names.now s origins orders) }
 {
     let labels = NamedAddresses { names };
-    match word {
-        Some(word) => push_word_optimum(text, orders, optimum, word, &labels),
-        None => push_optimum(alloc, text, orders, optimum, &labels),
+    match (sectors.form, sectors.word) {
+        (Form::Columns, Some(word)) => push_word_optimum(text, orders, optimum, word, &labels),
+        (Form::Columns, None) => push_optimum(alloc, text, orders, optimum, &labels),
+        (Form::Data, Some(word)) => {
+            push_word_optimum_data(text, LINES, names, orders, optimum, word)
+        }
+        (Form::Data, None) => push_optimum_data(alloc, text, LINES, names, orders, optimum),
     }
 }
 
-/// Tells a run by the words that would have cost less at other sectors, or by what one word would have cost at each.
+/// The form of what is reported for programs.
+const LINES: lgp_fields::Form = lgp_fields::Form::Lines;
+
+/// Tells a run by the words that would have cost less at other sectors, or by what one word would have cost at each, in a form.
 #[derive(Drop)]
 struct BySectors {
+    form: Form,
     word: Option<Address>,
 }
 
@@ -201,12 +213,12 @@ impl BySectors {
         ensures performed { UnlessMemory result
             (debugger.new ≡ performed debugger.old (orders_of result)) }
         ensures reported { UnlessMemory result (text.new.items ≡ text.old.items
-            ++ reported_text (sectors_told self.now.word) names.now debugger.old.state
+            ++ reported_text (sectors_told self.now.form self.now.word) names.now debugger.old.state
             (order_origins debugger.old) (orders_of result)) }
     {
         let outcome = optimum_run(debugger, limit, optimum);
         let orders = orders_in(&outcome);
-        if push_sectors(alloc, text, orders, optimum, self.word, names).is_err() {
+        if push_sectors(alloc, text, orders, optimum, self, names).is_err() {
             return Err(NO_MEMORY);
         }
         outcome
@@ -216,7 +228,7 @@ impl BySectors {
 impl Teller for BySectors {
     ghost use Rattle.lgp_monitor.specs.TellingInside.{sectors_told};
 
-    ghost reported = { λ teller. reported_text (sectors_told teller.word) };
+    ghost reported = { λ teller. reported_text (sectors_told teller.form teller.word) };
 
     fn run<A: Allocator + Copy>(
         &self,
@@ -250,9 +262,12 @@ pub fn run_told<A: Allocator + Copy>(
         Telling::Trace(form) => laboratory.run_told(&OrderByOrder { form }, limit, text),
         Telling::Profile(form) => laboratory.run_told(&AddedUp { form }, limit, text),
         Telling::Drum => laboratory.run_told(&AlongTheDrum, limit, text),
-        Telling::Optimum => laboratory.run_told(&BySectors { word: None }, limit, text),
-        Telling::OptimumOf(word) => {
-            laboratory.run_told(&BySectors { word: Some(word) }, limit, text)
+        Telling::Optimum(form) => {
+            laboratory.run_told(&BySectors { form, word: None }, limit, text)
+        }
+        Telling::OptimumOf(form, word) => {
+            let word = Some(word);
+            laboratory.run_told(&BySectors { form, word }, limit, text)
         }
     }
 }

@@ -77,8 +77,8 @@ pub enum Verb {
     Address(AddressCommand),
     /// A number.
     Number(NumberCommand),
-    /// A number, and perhaps an address.
-    NumberAddress,
+    /// A number, and perhaps an address; what is reported has a form.
+    NumberAddress(Form),
     /// An address, and how many words from it on.
     Range(RangeCommand),
     /// The same, and perhaps the place after which their point is.
@@ -100,7 +100,7 @@ pub enum Verb {
 }
 
 /// The commands by their first word.
-const VERBS: [Named<Verb>; 66] = [
+const VERBS: [Named<Verb>; 67] = [
     (b"put", Verb::Word),
     (b"go", Verb::Address(AddressCommand::Go)),
     (b"mount", Verb::Text),
@@ -116,7 +116,7 @@ const VERBS: [Named<Verb>; 66] = [
         Verb::Number(NumberCommand::Profile(Form::Columns)),
     ),
     (b"drum", Verb::Number(NumberCommand::Drum)),
-    (b"optimum", Verb::NumberAddress),
+    (b"optimum", Verb::NumberAddress(Form::Columns)),
     (b"why", Verb::Address(AddressCommand::Why)),
     (b"back", Verb::Number(NumberCommand::Script)),
     (b"last", Verb::Lone(LoneCommand::Script)),
@@ -172,6 +172,7 @@ const VERBS: [Named<Verb>; 66] = [
         b"profile-data",
         Verb::Number(NumberCommand::Profile(Form::Data)),
     ),
+    (b"optimum-data", Verb::NumberAddress(Form::Data)),
     (b"transcript", Verb::Lone(LoneCommand::Transcript)),
     (b"new", Verb::Lone(LoneCommand::New)),
     (b"help", Verb::Command),
@@ -201,7 +202,8 @@ pub fn operands_form(verb: Verb) -> &'static [u8]
         Verb::Lone(_) => b"",
         Verb::Address(_) => b" ttss",
         Verb::Number(_) => b" NUMBER",
-        Verb::NumberAddress => b" NUMBER or optimum NUMBER ttss",
+        Verb::NumberAddress(Form::Columns) => b" NUMBER or optimum NUMBER ttss",
+        Verb::NumberAddress(Form::Data) => b" NUMBER or optimum-data NUMBER ttss",
         Verb::Range(_) => b" ttss NUMBER, at most 64",
         Verb::ScaledRange => b" ttss NUMBER, at most 64, or numbers ttss NUMBER POINT",
         Verb::Word => {
@@ -228,7 +230,7 @@ pub fn operands_kind(verb: Verb) -> &'static [u8]
     match verb {
         Verb::Lone(_) | Verb::End => b" alone\n",
         Verb::Address(_) => b" address\n",
-        Verb::Number(_) | Verb::NumberAddress => b" number\n",
+        Verb::Number(_) | Verb::NumberAddress(_) => b" number\n",
         Verb::Range(_) | Verb::ScaledRange => b" range\n",
         Verb::Word => b" address word\n",
         Verb::Text => b" text\n",

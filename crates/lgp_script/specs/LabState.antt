@@ -28,6 +28,10 @@ labels_of source = option_map_or (λ text. (image_of text).symbols) source []
 unfoldable pub source_at_hand : LabState → List ℕ
 source_at_hand lab = unwrap_or (option_or lab.faulty lab.source) []
 
+-- the last source that assembled; no byte where none has
+unfoldable pub assembled_source : Option (List ℕ) → List ℕ
+assembled_source source = unwrap_or source []
+
 -- the bytes of the source whose lines are being taken
 unfoldable pub opened_text : Option SourceText → List ℕ
 opened_text opened = option_map_or (λ source. source.text) opened []
@@ -51,10 +55,6 @@ answer_showing reply lab = record { reply = reply; after = lab }
 
 abbrev pub refused : Refusal → LabState → Answer
 refused refusal lab = answer_showing (refusal_text refusal) lab
-
--- an answer whose reply comes after a text
-abbrev pub after_text : List ℕ → Answer → Answer
-after_text text answer = record { reply = text ++ answer.reply; after = answer.after }
 
 -- no reply, and nothing changes
 abbrev pub silent : LabState → Answer

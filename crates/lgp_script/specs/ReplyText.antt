@@ -3,13 +3,13 @@
 use Rattle.std.specs.Prelude.{ℕ, List, [], codes}
 use Rattle.lgp_listing.specs.Dump.{cell_line}
 use Rattle.lgp_script.specs.DrumCommands.{dump_text, lines_text, order_line}
-use Rattle.lgp_script.specs.HistoryCommands.{hit_text, ran_text, replied_to_run}
+use Rattle.lgp_script.specs.HistoryCommands.{hit_text, ran_text}
 use Rattle.lgp_script.specs.LabState.{Answer, LabState}
 use Rattle.lgp_script.specs.MachineCommands.{orders_text, panel_text, typed_text}
 use Rattle.lgp_script.specs.Refusal.{counted_text, refusal_text}
 use Rattle.lgp_script.specs.Reply.{Replied}
 use Rattle.lgp_script.specs.SourceCommands.{list_text}
-use Rattle.lgp_script.specs.TapeCommands.{printed_text, replied_to_tape_text}
+use Rattle.lgp_script.specs.TapeCommands.{printed_text}
 use Rattle.lgp_script.specs.declared.reply.Reply.{Reply}
 use Rattle.lgp_script.specs.declared.reply.Reply.TheVariants as replies
 
@@ -41,9 +41,3 @@ abbrev pub written : Replied → Answer
 written replied =
     record { reply = reply_text replied.after replied.reply; after = replied.after }
 
--- a run, and a tape of any length, answered
-abbrev pub answer_to_run : LabState → ℕ → Answer
-answer_to_run lab limit = written (replied_to_run lab limit)
-
-abbrev pub answer_to_tape_text : LabState → List ℕ → Answer
-answer_to_tape_text lab text = written (replied_to_tape_text lab text)

@@ -1,14 +1,14 @@
 //! The laboratory: a machine with its history and the source at hand, and what is answered to a line.
 
 ghost use Rattle.std.specs.Prelude.{◌≡◌, ◌≤◌, List, [], ℕ, IfOk, OnOk, false, is_some};
-ghost use Rattle.std.specs.Option.{option_map_or};
+ghost use Rattle.std.specs.Option.{option_copied, option_map_or};
 ghost use Rattle.lgp_word.specs.Drum.{blank_words};
 ghost use Rattle.lgp_table.specs.State.{opening};
 ghost use Rattle.lgp_stream.specs.Language.{IsAnswered};
 ghost use Rattle.lgp_stream.specs.KeptLine.{kept_of};
 ghost use Rattle.lgp_script.specs.Reply.{IsReplied};
 ghost use Rattle.lgp_script.specs.Script.{answer_to, answer_to_command, is_passed_over, replied_to, script_language};
-ghost use Rattle.lgp_script.specs.LabState.{labels_of, opened_text, opening_state, source_at_hand};
+ghost use Rattle.lgp_script.specs.LabState.{assembled_source, labels_of, opened_text, opening_state, source_at_hand};
 ghost use Rattle.lgp_script.specs.Limits.{kept_limit};
 
 use crate::limits::KEPT_LIMIT;
@@ -145,6 +145,24 @@ impl<A: Allocator + Copy> Laboratory<A> {
             (None, Some(program)) => program.source(),
             (None, None) => &[],
         }
+    }
+
+    /// The last source that assembled; empty where none has assembled yet.
+    #[tactic(auto, unfolding(crate::specs::LabState::assembled_source))]
+    pub fn assembled_source(&self) -> &[u8]
+        ensures { result.now ≡ assembled_source self.now.source }
+    {
+        match &self.program {
+            Some(program) => program.source(),
+            None => &[],
+        }
+    }
+
+    /// The source that was closed last, with its faults, if it has some and was not too long.
+    pub fn faulty(&self) -> Option<&Faulty<A>>
+        ensures { option_copied result ≡ self.now.faulty }
+    {
+        self.faulty.as_ref()
     }
 
     /// The machine with its kept steps and its rules.

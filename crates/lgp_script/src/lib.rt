@@ -8,6 +8,7 @@ pub use lgp_command::{
     push_command, text_after_word,
 };
 pub use limits::READS;
+pub use program::Faulty;
 pub use refusal::{Refusal, push_refusal_words};
 pub use reply::Reply;
 pub use script::{batch_part, run_script};

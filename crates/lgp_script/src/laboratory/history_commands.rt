@@ -1,12 +1,10 @@
 //! Rules and the way back.
 
 ghost use Rattle.std.specs.Prelude.{◌≡◌, ◌++◌, IfOk, OnOk};
-ghost use Rattle.lgp_stream.specs.Language.{IsAnswered};
 ghost use Rattle.lgp_debugger.specs.Debugging.{order_origins};
 ghost use Rattle.lgp_script.specs.HistoryCommands.{orders_run, replied_to_back, replied_to_drop, replied_to_last, replied_to_rule, replied_to_run};
-ghost use Rattle.lgp_script.specs.LabState.{after_text, labels_of};
+ghost use Rattle.lgp_script.specs.LabState.{labels_of};
 ghost use Rattle.lgp_script.specs.Reply.{IsReplied};
-ghost use Rattle.lgp_script.specs.ReplyText.{written};
 
 use super::{Laboratory, labels_in};
 use crate::refusal::Refusal;
@@ -76,24 +74,6 @@ impl<A: Allocator + Copy> Laboratory<A> {
             Ok(ran) => Ok(Reply::Ran(ran)),
             Err(broken) => broken_off(&broken),
         }
-    }
-
-    /// Does what the command `run` does by a teller, whose text comes before the reply. A refused growth leaves open what
-    /// was done.
-    #[tactic(auto, unfolding(crate::specs::ReplyText::reply_text))]
-    pub fn run_reported<T: Teller>(
-        &mut self,
-        teller: &T,
-        limit: u64,
-        reply: &mut Vec<u8, A>,
-    ) -> Result<(), AllocError>
-        ensures { OnOk result (IsAnswered reply.old.items reply.new.items self.new (after_text
-            (T.reported teller.now (labels_of self.old.source) self.old.debugger.state
-            (order_origins self.old.debugger) (orders_run limit self.old.debugger))
-            (written (replied_to_run self.old limit)))) }
-    {
-        let said = self.run_told(teller, limit, reply)?;
-        self.push_reply(reply, &said)
     }
 
     /// Goes a given number of orders back.

@@ -1,11 +1,9 @@
 //! The tape and the paper.
 
 ghost use Rattle.std.specs.Prelude.{◌≡◌, ◌++◌, ◌≤◌, IfErr, IfOk, OnOk, codes, decimal, length, vec_len};
-ghost use Rattle.lgp_stream.specs.Language.{IsAnswered};
 ghost use Rattle.lgp_flexo.specs.TapeText.{codes_of_text};
 ghost use Rattle.lgp_stream.specs.KeptLine.{line_limit};
 ghost use Rattle.lgp_script.specs.Reply.{IsReplied};
-ghost use Rattle.lgp_script.specs.ReplyText.{written};
 ghost use Rattle.lgp_script.specs.Script.{replied_to_text};
 ghost use Rattle.lgp_script.specs.TapeCommands.{printed_text, replied_to_tape, replied_to_tape_text};
 
@@ -44,16 +42,6 @@ impl<A: Allocator + Copy> Laboratory<A> {
             Err(TextFault::TooLong) => Ok(Reply::Refused(Refusal::TooLong)),
             Err(TextFault::Memory(refused)) => Err(refused),
         }
-    }
-
-    /// The same, with its reply appended.
-    #[tactic(auto, unfolding(crate::specs::ReplyText::reply_text))]
-    pub fn mount_text(&mut self, text: &[u8], reply: &mut Vec<u8, A>) -> Result<(), AllocError>
-        ensures { OnOk result (IsAnswered reply.old.items reply.new.items self.new
-            (written (replied_to_tape_text self.old text.now))) }
-    {
-        let said = self.mount_tape(text)?;
-        self.push_reply(reply, &said)
     }
 
     /// Mounts a tape.

@@ -28,4 +28,4 @@ returns-clause-reported g c =
     let well : is_err c.push_sectors.result ≡ false = search rules in
     in_any_case outcome
     (ended_well c.push_sectors.result well (c.push_sectors.ensures before.state (order_origins before) noted)
-    ∙ ap (λ (count : ℕ). c.args.text.now.items ++ reported_text (sectors_told c.args.self.now.word) c.args.names.now before.state (order_origins before) count) orders)
+    ∙ ap (λ (count : ℕ). c.args.text.now.items ++ reported_text (sectors_told c.args.self.now.form c.args.self.now.word) c.args.names.now before.state (order_origins before) count) orders)

@@ -1,0 +1,68 @@
+-- What is answered after a source was closed is the reply to its end.
+use Rattle.std.proofs.Common.{◌≡◌, ◌∙◌, ℕ, ◌==◌, ◌&&◌, ◌||◌, not, Bool, true, false, cond, is_some, unwrap_or, Option, Some, None, List, [], ◌∷◌, ◌++◌, codes, flat_map, length, refl, sym, ap}
+use Rattle.std.specs.Option.{option_map_or}
+use Rattle.std.specs.Str.{byte, bytes_eq}
+use Rattle.std.proofs.lemmas.Slice.Eq.{bytes_eq-Decides}
+use Rattle.lgp_source.specs.Source.{lines_of}
+use Rattle.lgp_assembler.specs.Image.{faults_of}
+use Rattle.lgp_assembler.specs.declared.refusal.Fault.{Fault}
+use Rattle.lgp_stream.specs.KeptLine.{Kept}
+use Rattle.lgp_stream.specs.Transcript.{stand_in}
+use Rattle.lgp_script.specs.LabState.{LabState, opened_text, refused}
+use Rattle.lgp_script.specs.Script.{answer_to_command, answer_to_line}
+use Rattle.lgp_script.specs.SourceCommands.{answer_in_source, answer_to_end, assembled}
+use Rattle.lgp_script.specs.SourceText.{SourceText}
+use Rattle.lgp_script.specs.declared.refusal.Refusal.TheVariants.{TooLong}
+use Rattle.lgp_monitor.specs.Closing.{closing_reply, is_source_end, marked_fault, shown_faults}
+use Rattle.lgp_monitor.specs.ClosingInside.{closed_text, faulty_text}
+use Rattle.lgp_monitor.specs.Reasons.{refused_text}
+
+-- a source by its faults
+by_faults : (lab : LabState) (source : List ℕ) (faults : List Fault) (said : List ℕ) → faults_of source ≡ faults
+    → faulty_text (assembled lab source faults).after.faulty said
+    ≡ unwrap_or (cond ((length source == 0) || (length faults == 0)) None (Some (codes "? 9 Faults\n" ++ flat_map (marked_fault (lines_of source)) faults))) said
+by_faults lab source [] said e = by_test (length source == 0) where
+  by_test : (empty : Bool) → said ≡ unwrap_or (cond (empty || true) None (Some (codes "? 9 Faults\n" ++ []))) said
+  by_test true = refl
+  by_test false = refl
+by_faults lab source (fault ∷ more) said e =
+    ap (λ (faults : List Fault). cond (length source == 0) said (codes "? 9 Faults\n" ++ flat_map (marked_fault (lines_of source)) faults)) e
+    ∙ by_test (length source == 0) where
+  by_test : (empty : Bool) → cond empty said (codes "? 9 Faults\n" ++ flat_map (marked_fault (lines_of source)) (fault ∷ more))
+      ≡ unwrap_or (cond (empty || false) None (Some (codes "? 9 Faults\n" ++ flat_map (marked_fault (lines_of source)) (fault ∷ more)))) said
+  by_test true = refl
+  by_test false = refl
+
+-- and one that is too long or not
+by_length : (lab : LabState) (text said : List ℕ) (long : Bool)
+    → closed_text (cond long (refused TooLong lab) (assembled lab text (faults_of text))).after.faulty long said
+    ≡ unwrap_or (cond long (Some (refused_text TooLong)) (shown_faults text)) said
+by_length lab text said true = refl
+by_length lab text said false = by_faults lab text (faults_of text) said refl
+
+-- the line that ends a source, as the laboratory gets it
+end_line : (kept : Kept) → is_source_end kept ≡ true → stand_in kept ≡ codes "."
+unfolding stand_in
+end_line kept e = by_longer kept.longer kept.blank e where
+  by_longer : (longer blank : Bool) → (not longer && bytes_eq kept.front (codes ".")) ≡ true → cond longer (kept.front ++ cond blank (byte " ") (byte ".") ∷ []) kept.front ≡ codes "."
+  by_longer true blank is = cc (is)
+  by_longer false blank is = (bytes_eq-Decides kept.front (codes ".")).0 is
+
+open_ended : (lab : LabState) (said : List ℕ) (opened : Option SourceText) → lab.opened ≡ opened → is_some opened ≡ true
+    → closed_text (answer_to_line lab (codes ".")).after.faulty (option_map_or (λ (s : SourceText). s.too_long) opened false) said
+    ≡ unwrap_or (cond (option_map_or (λ (s : SourceText). s.too_long) opened false) (Some (refused_text TooLong)) (shown_faults (opened_text opened))) said
+unfolding answer_to_line opened_text
+open_ended lab said None e is = cc (is)
+open_ended lab said (Some source) e is =
+    ap (λ (opened : Option SourceText). closed_text (option_map_or (λ (s : SourceText). answer_in_source lab s (codes ".")) opened (answer_to_command lab (codes "."))).after.faulty source.too_long said) e
+    ∙ by_length (record lab { opened = None }) source.text said source.too_long
+
+pub closed_reply : (lab : LabState) (kept : Kept) (said : List ℕ) → is_some lab.opened ≡ true → is_source_end kept ≡ true
+    → closed_text (answer_to_line lab (stand_in kept)).after.faulty (option_map_or (λ (s : SourceText). s.too_long) lab.opened false) said
+    ≡ unwrap_or (closing_reply lab.opened kept) said
+unfolding closing_reply
+closed_reply lab kept said open end =
+    let long : Bool = option_map_or (λ (s : SourceText). s.too_long) lab.opened false in
+    ap (λ (line : List ℕ). closed_text (answer_to_line lab line).after.faulty long said) (end_line kept end)
+    ∙ (open_ended lab said lab.opened refl open
+    ∙ ap (λ (ends : Bool). unwrap_or (cond ends (cond long (Some (refused_text TooLong)) (shown_faults (opened_text lab.opened))) None) said) (sym end))

@@ -1,6 +1,0 @@
-use Rattle.std.proofs.Common.{arith}
-use Rattle.std.proofs.lemmas.Grind.{common_steps}
-use Rattle.lgp_monitor.proofs.closing.faulty_reply.Goals as goal
-
-pub returns-in-Err-Faults : goal.returns-in-Err-Faults
-returns-in-Err-Faults g c = grind (arith, common_steps)
