@@ -1,20 +1,23 @@
 -- What is answered after a source was closed is the reply to its end.
-use Rattle.std.proofs.Common.{◌≡◌, ◌∙◌, ℕ, ◌==◌, ◌&&◌, ◌||◌, not, Bool, true, false, cond, is_some, unwrap_or, Option, Some, None, List, [], ◌∷◌, ◌++◌, codes, flat_map, length, refl, sym, ap}
+use Rattle.std.proofs.Common.{◌≡◌, ◌∙◌, ℕ, ◌==◌, ◌&&◌, ◌||◌, not, Bool, true, false, cond, is_some, unwrap_or, Option, Some, None, List, [], ◌∷◌, ◌++◌, codes, flat_map, length, refl, sym, ap, arith}
 use Rattle.std.specs.Option.{option_map_or}
 use Rattle.std.specs.Str.{byte, bytes_eq}
+use Rattle.std.proofs.lemmas.Bool.Decides.{nat_tests}
 use Rattle.std.proofs.lemmas.Slice.Eq.{bytes_eq-Decides}
 use Rattle.lgp_source.specs.Source.{lines_of}
 use Rattle.lgp_assembler.specs.Image.{faults_of}
 use Rattle.lgp_assembler.specs.declared.refusal.Fault.{Fault}
 use Rattle.lgp_stream.specs.KeptLine.{Kept}
-use Rattle.lgp_stream.specs.Transcript.{stand_in}
+use Rattle.lgp_stream.specs.Transcript.{Recorded, after_lines, lines_answered, replies_text, stand_in}
 use Rattle.lgp_script.specs.LabState.{LabState, opened_text, refused}
-use Rattle.lgp_script.specs.Script.{answer_to_command, answer_to_line}
-use Rattle.lgp_script.specs.SourceCommands.{answer_in_source, answer_to_end, assembled}
+use Rattle.lgp_script.specs.Script.{answer_to_command, answer_to_line, script_language}
+use Rattle.lgp_script.specs.SourceCommands.{answer_to_end, assembled}
+use Rattle.lgp_script.specs.SourceCommands as sources
 use Rattle.lgp_script.specs.SourceText.{SourceText}
 use Rattle.lgp_script.specs.declared.refusal.Refusal.TheVariants.{TooLong}
 use Rattle.lgp_monitor.specs.Closing.{closing_reply, is_source_end, marked_fault, shown_faults}
 use Rattle.lgp_monitor.specs.ClosingInside.{closed_text, faulty_text}
+use Rattle.lgp_monitor.specs.Monitor.{answer_in_source, answered_with}
 use Rattle.lgp_monitor.specs.Reasons.{refused_text}
 
 -- a source by its faults
@@ -27,11 +30,12 @@ by_faults lab source [] said e = by_test (length source == 0) where
   by_test false = refl
 by_faults lab source (fault ∷ more) said e =
     ap (λ (faults : List Fault). cond (length source == 0) said (codes "? 9 Faults\n" ++ flat_map (marked_fault (lines_of source)) faults)) e
-    ∙ by_test (length source == 0) where
-  by_test : (empty : Bool) → cond empty said (codes "? 9 Faults\n" ++ flat_map (marked_fault (lines_of source)) (fault ∷ more))
-      ≡ unwrap_or (cond (empty || false) None (Some (codes "? 9 Faults\n" ++ flat_map (marked_fault (lines_of source)) (fault ∷ more)))) said
-  by_test true = refl
-  by_test false = refl
+    ∙ by_test (length source == 0) (length (fault ∷ more) == 0) (grind (arith, nat_tests)) where
+  by_test : (empty none : Bool) → none ≡ false → cond empty said (codes "? 9 Faults\n" ++ flat_map (marked_fault (lines_of source)) (fault ∷ more))
+      ≡ unwrap_or (cond (empty || none) None (Some (codes "? 9 Faults\n" ++ flat_map (marked_fault (lines_of source)) (fault ∷ more)))) said
+  by_test true none some = refl
+  by_test false true some = cc (some)
+  by_test false false some = refl
 
 -- and one that is too long or not
 by_length : (lab : LabState) (text said : List ℕ) (long : Bool)
@@ -54,15 +58,38 @@ open_ended : (lab : LabState) (said : List ℕ) (opened : Option SourceText) →
 unfolding answer_to_line opened_text
 open_ended lab said None e is = cc (is)
 open_ended lab said (Some source) e is =
-    ap (λ (opened : Option SourceText). closed_text (option_map_or (λ (s : SourceText). answer_in_source lab s (codes ".")) opened (answer_to_command lab (codes "."))).after.faulty source.too_long said) e
+    ap (λ (opened : Option SourceText). closed_text (option_map_or (λ (s : SourceText). sources.answer_in_source lab s (codes ".")) opened (answer_to_command lab (codes "."))).after.faulty source.too_long said) e
     ∙ by_length (record lab { opened = None }) source.text said source.too_long
 
 pub closed_reply : (lab : LabState) (kept : Kept) (said : List ℕ) → is_some lab.opened ≡ true → is_source_end kept ≡ true
     → closed_text (answer_to_line lab (stand_in kept)).after.faulty (option_map_or (λ (s : SourceText). s.too_long) lab.opened false) said
     ≡ unwrap_or (closing_reply lab.opened kept) said
 unfolding closing_reply
-closed_reply lab kept said open end =
+closed_reply lab kept said is_open end =
     let long : Bool = option_map_or (λ (s : SourceText). s.too_long) lab.opened false in
     ap (λ (line : List ℕ). closed_text (answer_to_line lab line).after.faulty long said) (end_line kept end)
-    ∙ (open_ended lab said lab.opened refl open
+    ∙ (open_ended lab said lab.opened refl is_open
     ∙ ap (λ (ends : Bool). unwrap_or (cond ends (cond long (Some (refused_text TooLong)) (shown_faults (opened_text lab.opened))) None) said) (sym end))
+
+-- the same with what the laboratory holds after that line
+pub closing_answered : (lab : LabState) (kept : Kept) (faulty : Option (List ℕ)) (long : Bool) (said replies before after : List ℕ) → is_some lab.opened ≡ true → is_source_end kept ≡ true
+    → faulty ≡ (answer_to_line lab (stand_in kept)).after.faulty → long ≡ option_map_or (λ (s : SourceText). s.too_long) lab.opened false → said ≡ replies
+    → after ≡ before ++ closed_text faulty long said → after ≡ before ++ unwrap_or (closing_reply lab.opened kept) replies
+closing_answered lab kept faulty long said replies before after is_open end holds is_long is_said written =
+    written
+    ∙ (ap (λ (f : Option (List ℕ)). before ++ closed_text f long said) holds
+    ∙ (ap (λ (b : Bool). before ++ closed_text (answer_to_line lab (stand_in kept)).after.faulty b said) is_long
+    ∙ (ap (λ (t : List ℕ). before ++ closed_text (answer_to_line lab (stand_in kept)).after.faulty (option_map_or (λ (s : SourceText). s.too_long) lab.opened false) t) is_said
+    ∙ ap (λ (t : List ℕ). before ++ t) (closed_reply lab kept replies is_open end))))
+
+-- where the laboratory is after a line
+pub after_line : (recorded : Recorded LabState) (line : List ℕ) → (after_lines script_language recorded (line ∷ [])).state ≡ (answer_to_line recorded.state line).after
+unfolding after_lines
+after_line recorded line = refl
+
+-- a line that ends no source
+pub not_closing : (recorded : Recorded LabState) (kept : Kept) → is_source_end kept ≡ false → lines_answered script_language recorded (stand_in kept ∷ []) ≡ answer_in_source recorded kept
+unfolding closing_reply
+not_closing recorded kept other =
+    ap (λ (ends : Bool). answered_with recorded (unwrap_or (cond ends (cond (option_map_or (λ (s : SourceText). s.too_long) recorded.state.opened false) (Some (refused_text TooLong)) (shown_faults (opened_text recorded.state.opened))) None)
+    (replies_text script_language recorded (stand_in kept ∷ []))) (stand_in kept ∷ [])) (sym other)
