@@ -34,10 +34,7 @@ fn push_array<A: Allocator>(text: &mut Vec<u8, A>, numbers: &[u64]) -> Result<()
 }
 
 /// Appends numbers of up to 128 bits as an array.
-fn push_wide_array<A: Allocator>(
-    text: &mut Vec<u8, A>,
-    numbers: &[u128],
-) -> Result<(), AllocError>
+fn push_wide_array<A: Allocator>(text: &mut Vec<u8, A>, numbers: &[u128]) -> Result<(), AllocError>
     ensures { OnOk result (text.new.items ≡ text.old.items
         ++ (codes "[" ++ (numbers_text (codes ",") true numbers.now ++ codes "]"))) }
 {

@@ -31,11 +31,11 @@ by_faults lab source [] said e = by_test (length source == 0) where
 by_faults lab source (fault ∷ more) said e =
     ap (λ (faults : List Fault). cond (length source == 0) said (codes "? 9 Faults\n" ++ flat_map (marked_fault (lines_of source)) faults)) e
     ∙ by_test (length source == 0) (length (fault ∷ more) == 0) (grind (arith, nat_tests)) where
-  by_test : (empty none : Bool) → none ≡ false → cond empty said (codes "? 9 Faults\n" ++ flat_map (marked_fault (lines_of source)) (fault ∷ more))
-      ≡ unwrap_or (cond (empty || none) None (Some (codes "? 9 Faults\n" ++ flat_map (marked_fault (lines_of source)) (fault ∷ more)))) said
-  by_test true none some = refl
-  by_test false true some = cc (some)
-  by_test false false some = refl
+      by_test : (empty none : Bool) → none ≡ false → cond empty said (codes "? 9 Faults\n" ++ flat_map (marked_fault (lines_of source)) (fault ∷ more))
+          ≡ unwrap_or (cond (empty || none) None (Some (codes "? 9 Faults\n" ++ flat_map (marked_fault (lines_of source)) (fault ∷ more)))) said
+      by_test true none some = refl
+      by_test false true some = cc (some)
+      by_test false false some = refl
 
 -- and one that is too long or not
 by_length : (lab : LabState) (text said : List ℕ) (long : Bool)

@@ -80,7 +80,13 @@ pub(crate) fn push_data<A: Allocator + Copy>(
         DataQuestion::Show(range) => push_show_data(text, range, laboratory),
         DataQuestion::Why(address) => push_why_data(text, Form::Lines, names, debugger, *address),
         DataQuestion::Labels => {
-            push_labels_data(alloc, text, Form::Lines, laboratory.assembled_source(), names)
+            push_labels_data(
+                alloc,
+                text,
+                Form::Lines,
+                laboratory.assembled_source(),
+                names,
+            )
         }
         DataQuestion::Rules => push_rules_data(text, Form::Lines, names, debugger.rules()),
         DataQuestion::Paper(from) => {

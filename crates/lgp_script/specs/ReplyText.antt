@@ -40,4 +40,3 @@ reply_text lab (replies.Refused refusal) = refusal_text refusal
 abbrev pub written : Replied → Answer
 written replied =
     record { reply = reply_text replied.after replied.reply; after = replied.after }
-
