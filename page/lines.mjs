@@ -30,7 +30,7 @@ export function commentsIn(lines) {
     }));
 }
 
-const RUNS = /^ *(run|orders|operate|trace|profile|drum|optimum|trace-data|profile-data)( |$)/;
+const RUNS = /^ *(run|orders|operate|trace|profile|drum|optimum|trace-data|profile-data|optimum-data)( |$)/;
 const SOURCE = /^ *source *$/;
 const STARTS = /^ *press +start *$/;
 
