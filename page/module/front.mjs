@@ -3,7 +3,7 @@ import { FileTrouble, keepFile } from "./files.mjs";
 import { Help } from "./help.mjs";
 import { END, INTERRUPT } from "./keyboard.mjs";
 import { isLonger, linesIn, textFrom, withoutReturn, wordsOf } from "./lines.mjs";
-import { isRefusal } from "./replies.mjs";
+import { isRefusal, ordersOf, runOf } from "./replies.mjs";
 import { meantBy } from "./shortcuts.mjs";
 import { Views, liveKeys, narrowTrace } from "./views.mjs";
 
@@ -299,17 +299,18 @@ export class Front {
             const begun = performance.now();
             const asked = Math.min(portion, limit - done);
             reply = await this.#engine.type(`${command} ${asked}`);
-            const [, count, end] = /^(?:ran|orders) (\d+) (.*)/.exec(reply) ?? [];
-            if (count === undefined) break;
-            done += Number(count);
-            if (Number(count) < asked || (command === "run" ? end !== "limit" : /^(halted|waiting)/.test(end))) break;
+            if (isRefusal(reply)) break;
+            const { orders, end, status } = command === "run" ? runOf(reply) : ordersOf(reply);
+            done += orders;
+            if (orders < asked || (command === "run" ? end !== "limit" : ["halted", "waiting"].includes(wordsOf(status)[0]))) break;
             if (performance.now() - begun < PORTION_TIME) portion *= 2;
             progress.show(done);
             await letOthersGo();
         } while (done < limit && !this.#keyboard.isInterrupted);
         progress.clear();
-        this.#say(reply.replace(/^(ran|orders) \d+/, `$1 ${done}`));
-        if (/^ran 0 rest\n$/.test(reply)) this.#note(`${INDENT}${await this.#views.standstill()}`);
+        const [first, , ...others] = reply.split(" ");
+        this.#say(isRefusal(reply) ? reply : [first, done, ...others].join(" "));
+        if (reply === "ran 0 rest\n") this.#note(`${INDENT}${await this.#views.standstill()}`);
         if (this.#keyboard.isInterrupted) await this.#sayWhere();
         await this.#keep();
     }

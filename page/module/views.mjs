@@ -98,10 +98,12 @@ const accumulatorOf = (state) => `accumulator ${state.get("accumulator")} = ${st
 const numberOf = (address) => Number(address.slice(0, 2)) * 64 + Number(address.slice(2));
 const addressOf = (number) => [Math.floor(number / 64), number % 64].map((part) => String(part).padStart(2, "0")).join("");
 
+const [STATE, INDENT] = ["state ", "        "];
+
 /** The reply of `trace-data` as a table of 80 columns, with the lines that end it. */
 export function narrowTrace(reply) {
     const { told, end } = toldOf(reply);
-    const state = linesOf(reply).slice(told.length + 1).map((line) => line.replace(/^state /, "        "));
+    const state = linesOf(reply).slice(told.length + 1).map((line) => (line.startsWith(STATE) ? INDENT + line.slice(STATE.length) : line));
     const rows = accountsOf(told).flatMap(narrowRow);
     return [...(rows.length > 0 ? [HEADING] : []), ...rows, end, ...state];
 }
