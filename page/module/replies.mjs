@@ -17,7 +17,7 @@ export function linesOf(reply) {
 /** The words of a line after its first one, which is given. */
 function wordsAfter(first, line = "") {
     const [word, ...words] = line.split(" ");
-    if (word !== first) throw misread(`line of ${first}`, line);
+    if (word !== first) throw misread(`reply of ${first}`, line);
     return words;
 }
 
@@ -269,7 +269,7 @@ export function profileOf(lines) {
 }
 
 /** What orders would have taken with one word at each sector, of the lines of `optimum-data NUMBER ttss`: `numbers` by sector. `kind` is `free` where the word may be moved, and `none` where
- * no order was performed; else `reason` says why not, and nothing is saved. */
+ * no order was performed; where it may not, `reason` says why, and nothing is saved. */
 export function costsOf(lines) {
     const [record] = recordsOf(lines, "orders");
     if (record === undefined) throw misread("optimum of a word", "");
@@ -278,7 +278,7 @@ export function costsOf(lines) {
     return {
         orders, times: numberOf(record, "times"), address: kind === "none" ? null : valueOf(record, "word"), label: record.get("label") ?? null,
         own: numberOf(record, "sector"), best: numberOf(record, "best"), saved: kind === "free" ? numberOf(record, "saved") : 0,
-        kind, reason: ["free", "none"].includes(kind) ? null : valueOf(record, "freedom-sentence"), numbers: valueOf(record, "numbers").split(" ").map(numberIn),
+        kind, reason: kind === "free" ? null : valueOf(record, "freedom-sentence"), numbers: valueOf(record, "numbers").split(" ").map(numberIn),
     };
 }
 

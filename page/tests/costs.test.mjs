@@ -31,8 +31,9 @@ test("a reason is told as the monitor gives it, and so is why a run was refused"
     assert.match(sentence, /in sector 25 they would have taken 125,541, but the word is an order of the program/);
     assert.equal(said, `The monitor says: ${reason}`);
     const refusal = "? 4 ClockEnd: the clock would pass its end";
-    const none = ["orders 0", "times 0", "word 0128", "sector 28", "best 28", "saved 0", "freedom unnamed", "freedom-sentence no order named it: wherever it is, they take as long", `numbers ${Array(64).fill(0).join(" ")}`, refusal, ""].join("\n");
-    assert.deepEqual([told(none).slice(1), costsIn(none).sectors], [[`The monitor says: ${refusal}`], []]);
+    const unnamed = "no order named it: wherever it is, they take as long";
+    const none = ["orders 0", "times 0", "word 0128", "sector 28", "best 28", "saved 0", "freedom unnamed", `freedom-sentence ${unnamed}`, `numbers ${Array(64).fill(0).join(" ")}`, refusal, ""].join("\n");
+    assert.deepEqual([told(none).slice(1), costsIn(none).sectors], [[`The monitor says: ${unnamed}`, `The monitor says: ${refusal}`], []]);
 });
 
 test("each kind of sentence is there in each language", () => {

@@ -135,7 +135,7 @@ test("what one word would have cost at each sector", () => {
         assert.deepEqual([kind, reason, saved], [freedom, sentence, 0]);
     }
     const none = ["orders 0", "times 0", "word 0003", "sector 3", "best 3", "saved 0", "freedom unnamed", `freedom-sentence ${because.unnamed}`, `numbers ${Array(64).fill(0).join(" ")}`];
-    assert.deepEqual((({ kind, reason, address }) => [kind, reason, address])(replies.costsOf(none)), ["none", null, null]);
+    assert.deepEqual((({ kind, reason, address }) => [kind, reason, address])(replies.costsOf(none)), ["none", because.unnamed, null]);
     for (const lines of [[], ["ran 3 rest"], costsWith(), costsWith("freedom free").slice(0, -1)]) assert.throws(() => replies.costsOf(lines), replies.ReplyError, lines.join());
 });
 
