@@ -40,7 +40,7 @@ export class Looks {
     /** The digits of all words of the drum, in the order of their addresses. */
     async drum() {
         const tracks = Array.from({ length: SECTORS }, (unused, track) => `numbers ${addressOf(track * SECTORS)} ${SECTORS}`);
-        return replies.linesOf(await this.#link.askAll(tracks)).map((line) => line.slice(5, 13));
+        return replies.linesOf(await this.#link.askAll(tracks)).map((line) => line.split(" ", 2)[1]);
     }
 
     /** The replies to questions of a view. */

@@ -3,9 +3,9 @@ import { FileTrouble, keepFile } from "./files.mjs";
 import { Help } from "./help.mjs";
 import { END, INTERRUPT } from "./keyboard.mjs";
 import { isLonger, linesIn, textFrom, withoutReturn, wordsOf } from "./lines.mjs";
-import { isRefusal, ordersOf, runOf } from "./replies.mjs";
+import { isRefusal, liveOf, ordersOf, panelOf, runOf } from "./replies.mjs";
 import { meantBy } from "./shortcuts.mjs";
-import { Views, liveKeys, narrowTrace } from "./views.mjs";
+import { Views, narrowTrace } from "./views.mjs";
 
 const INDENT = "        ";
 /** How many orders a run does before a key is heard, at first; the next portion is twice as large, until one takes PORTION_TIME milliseconds. */
@@ -113,8 +113,8 @@ export class Front {
 
     async #prompt() {
         if (this.#source !== null || this.#engine.isSourceOpen) return "source> ";
-        const panel = new Map(linesIn(await this.#engine.ask("panel-data")).map((line) => [line.slice(0, line.indexOf(" ")), line.slice(line.indexOf(" ") + 1)]));
-        return `${panel.get("counter")} ${panel.get("status")}> `;
+        const { counter, status } = panelOf(await this.#engine.ask("panel-data"));
+        return `${counter} ${status}> `;
     }
 
     // ---- a source, whose lines reach the laboratory when it is closed
@@ -226,7 +226,7 @@ export class Front {
     async #press(line) {
         const reply = await this.#engine.type(line);
         this.#say(reply);
-        if (reply === "dead\n") this.#note(`${INDENT}these do something now: ${liveKeys(await this.#engine.ask("live")).join(" ")}`);
+        if (reply === "dead\n") this.#note(`${INDENT}these do something now: ${[...liveOf(await this.#engine.ask("state-data")).live].join(" ")}`);
         await this.#keep();
     }
 
@@ -316,7 +316,7 @@ export class Front {
     }
 
     async #sayWhere() {
-        const [counter] = linesIn(await this.#engine.ask("panel-data"));
-        this.#note(`${INDENT}stopped by Ctrl-C before its end, at ${wordsOf(counter)[1]}`);
+        const { counter } = panelOf(await this.#engine.ask("panel-data"));
+        this.#note(`${INDENT}stopped by Ctrl-C before its end, at ${counter}`);
     }
 }

@@ -1,6 +1,5 @@
 // What a terminal shows beside the replies: where the machine is, the panel in a few lines, and accounts in 80 columns. All of it is read from
 // replies that are asked for when it is shown.
-import { linesIn, wordsOf } from "./lines.mjs";
 import { accountsOf, fractionOf, linesOf, recordsOf, toldOf } from "./replies.mjs";
 
 /** Of more codes that were printed only the count is shown. */
@@ -119,6 +118,3 @@ function narrowRow({ clock, at, label, order, find, take, seek, act, sum, after,
     if (passed > 0) lines.push(`        codes passed: ${passed}`);
     return lines;
 }
-
-/** What a reply says that nothing is live for, with the keys that are. */
-export const liveKeys = (reply) => wordsOf(linesIn(reply)[0]).slice(1);
