@@ -1,8 +1,9 @@
 // The controller. All that the page does is lines to the monitor, and all that it knows are their replies.
-import { addressIn, isAmong, windowAt } from "./addresses.mjs";
+import { addressIn, addressesFrom, isAmong, trackOf, windowAt } from "./addresses.mjs";
 import { Deeds } from "./deeds.mjs";
-import { commentsIn, isIdle, linesIn, setUp } from "./lines.mjs";
-import { Looks, SHOWN, costsIn } from "./looks.mjs";
+import { Known } from "./known.mjs";
+import { commandIn, commentsIn, isIdle, linesIn, setUp } from "./lines.mjs";
+import { Looks, SHOWN, costsIn, rowsIn } from "./looks.mjs";
 import * as replies from "./module/replies.mjs";
 import { NoMemory } from "./module/session.mjs";
 import { Run, questionOf, startsText } from "./portions.mjs";
@@ -18,7 +19,7 @@ const PLACED_AT_MOST = 10_000;
 const NEW = /^ *new *$/;
 const IN_DIGITS = /^ *put +\d{4} +[0-9fgjkqw]{8} *$/;
 const STEPS = new Set(["put", "mount", "press", "type", "turn"]);
-const RUNS = new Set(["run", "operate", "trace", "profile", "drum", "optimum", "trace-data", "profile-data"]);
+const RUNS = new Set(["run", "operate", "trace", "profile", "drum", "optimum", "trace-data", "profile-data", "optimum-data"]);
 
 /** A deed that was not begun, and the notice that says why. */
 class Held extends Error {
@@ -99,12 +100,14 @@ export class Laboratory extends EventTarget {
     #costsOfLine = null;
     #isTouched = false;
     #image = null;
-    #drum = { key: "", digits: Promise.resolve(null) };
+    #known;
+    #isPrinted = false;
 
     constructor(link) {
         super();
         this.#link = link;
         this.#looks = new Looks(link);
+        this.#known = new Known(link);
         this.#transcript = new Transcript(link);
     }
 
@@ -257,11 +260,12 @@ export class Laboratory extends EventTarget {
         Object.assign(this, { openSource: null, accounts: [], rows: [], profile: null, costs: null, assembled: null, labels: new Map(), loaded: null, loading: null, rules: [], lastRun: null, performed: 0 });
         this.#isRuleOfScript = [];
         this.#said = [];
-        this.#drum = { key: "", digits: Promise.resolve(null) };
+        this.#known.forget();
         this.#transcript.begin();
     }
 
     #ask(line) {
+        if (commandIn(line) !== "trace-data") this.#known.forget();
         this.#room.sent(line);
         return this.#link.ask(line);
     }
@@ -360,11 +364,11 @@ export class Laboratory extends EventTarget {
         if (isRefused) this.#forgetDeeds();
         else this.#noteEnd(replies.runOf(end), isAgain);
         if (verb === "profile-data") this.profile = replies.profileOf(told);
-        if (verb === "trace-data") this.accounts = [...before, ...replies.accountsOf(told)].slice(-ACCOUNTS_KEPT);
+        if (verb === "trace-data") this.#noteTold(replies.accountsOf(told), before);
         if (verb === "drum") this.rows = replies.drumRowsOf(told);
-        if (verb === "optimum" && word !== undefined) this.#costsOfLine = costsIn(reply);
+        if (verb === "optimum-data" && word !== undefined) this.#costsOfLine = costsIn(reply);
         if (verb === "profile") this.profile = null;
-        if (!isRefused && ["trace", "profile"].includes(verb)) await this.#tellAgain(verb, replies.runOf(end).orders, before);
+        if (!isRefused && (["trace", "profile"].includes(verb) || (verb === "optimum" && word !== undefined))) await this.#tellAgain(line, replies.runOf(end).orders, before);
     }
 
     /** Start was pressed this number of times, each time after a run. The reply does not report how many orders these runs had, so they cannot be gone back over. */
@@ -375,13 +379,23 @@ export class Laboratory extends EventTarget {
         this.#room.ran(starts * limit);
     }
 
+    /** The last orders were told, after others. */
+    #noteTold(accounts, before) {
+        this.accounts = [...before, ...accounts].slice(-ACCOUNTS_KEPT);
+        this.#known.told(accounts);
+        this.#isPrinted ||= accounts.some(({ printed }) => printed !== null);
+    }
+
     /** What has been told for the reader, told for the page as well: the orders are gone back over, as far as they are kept. */
-    #tellAgain(verb, orders, before) {
+    #tellAgain(line, orders, before) {
+        const [verb, , ...words] = line.trim().split(/ +/);
         const count = verb === "trace" ? Math.min(orders, ACCOUNTS_KEPT) : orders;
         return this.#transcript.aside(async () => {
             if (replies.isRefusal(await this.#ask(`back ${count}`))) return true;
-            const { told, end } = replies.toldOf(await this.#ask(`${verb}-data ${count}`));
+            const reply = await this.#ask([`${verb}-data`, count, ...words].join(" "));
+            const { told, end } = replies.toldOf(reply);
             if (verb === "profile") this.profile = replies.profileOf(told);
+            else if (verb === "optimum") this.#costsOfLine = costsIn(reply);
             else this.accounts = [...before, ...replies.accountsOf(told)].slice(-ACCOUNTS_KEPT);
             return !replies.isRefusal(end);
         });
@@ -426,26 +440,54 @@ export class Laboratory extends EventTarget {
         Object.assign(this, { accounts: [], rows: [], loading: null });
     }
 
-    /** Looks at the machine: its panel, and then, asked at once, what is live, words around the counter, their track, what is printed, and the rules. In an open source there is no looking.
-     * Words that the reader has asked for remain shown until the counter changes. */
+    /** Looks at the machine: its state, and then, asked at once, words around the counter and those of its track, what is printed, and the rules. Where nothing was done but orders that were told,
+     * only what they may have changed is asked. In an open source there is no looking. Words that the reader has asked for remain shown until the counter changes. */
     async #look() {
         if (this.openSource !== null) return;
-        const before = this.panel?.counter;
-        Object.assign(this, { panel: await this.#looks.panel(), costs: this.#costsOfLine });
-        this.#costsOfLine = null;
-        this.accounts = this.accounts.filter(({ clock }) => clock < this.panel.clock);
-        const last = this.accounts.at(-1);
-        if (last !== undefined && last.register === undefined) Object.assign(last, { register: this.panel.register, next: this.panel.counter, status: this.panel.status });
-        if (this.panel.counter !== before && !isAmong(this.panel.counter, this.#first, SHOWN - 1)) this.#first = windowAt(this.panel.counter, SHOWN);
-        const [live, words, track, , rules, answers] = await Promise.all([this.#looks.live(), this.#looks.words(this.#first), this.#looks.track(this.panel.counter.slice(0, 2)), this.#lookAtPaper(), this.#looks.rules(), this.#looks.others(this.questionsToo)]);
-        this.#live = live;
-        Object.assign(this, { words, track, rules, answers });
+        const isWhole = this.#known.isEmpty;
+        await this.#lookAtState(isWhole);
+        const asked = [this.#lookAtWords(isWhole), this.#looks.others(this.questionsToo)];
+        if (isWhole) asked.push(this.#looks.rules().then((rules) => { this.rules = rules; }));
+        if (isWhole || this.#isPrinted) asked.push(this.#lookAtPaper());
+        else this.#room.printed(this.printed.count);
+        [, this.answers] = await Promise.all(asked);
         if (this.#hit !== null) this.notice = { kind: "rule", number: this.#hit, rule: this.rules[this.#hit], isOfScript: this.#isRuleOfScript[this.#hit] ?? false };
         this.#hit = null;
     }
 
+    async #lookAtState(isWhole) {
+        const before = this.panel?.counter;
+        const { panel, live } = await this.#looks.state();
+        Object.assign(this, { panel, costs: this.#costsOfLine });
+        [this.#live, this.#costsOfLine] = [live, null];
+        this.accounts = this.accounts.filter(({ clock }) => clock < panel.clock);
+        const last = this.accounts.at(-1);
+        if (last !== undefined && last.register === undefined) Object.assign(last, { register: panel.register, next: panel.counter, status: panel.status });
+        if (panel.counter !== before && !isAmong(panel.counter, this.#first, SHOWN - 1)) this.#place(panel.counter, isWhole);
+    }
+
+    /** Shows the words around the counter; after orders that were told only those of one track, where more than one would have to be asked. */
+    #place(counter, isWhole) {
+        const track = trackOf(counter);
+        this.#first = windowAt(counter, SHOWN);
+        if (!isWhole && this.#known.missing([...track, ...this.#shown]).length > 1) this.#first = windowAt(counter, SHOWN, [track[0], track.at(-1)]);
+    }
+
+    /** The addresses of the words that are shown. */
+    get #shown() {
+        return addressesFrom(this.#first, SHOWN);
+    }
+
+    async #lookAtWords(isWhole) {
+        const track = trackOf(this.panel.counter);
+        await this.#known.ask([...track, ...this.#shown]);
+        if (isWhole) await this.#known.askOrigins(this.#shown);
+        Object.assign(this, { words: this.#known.words(this.#shown), track: this.#known.words(track).map(({ address, digits }) => ({ address, text: digits })) });
+    }
+
     async #lookAtPaper() {
         this.printed = await this.#looks.paper();
+        this.#isPrinted = false;
         this.#room.printed(this.printed.count);
     }
 
@@ -453,7 +495,7 @@ export class Laboratory extends EventTarget {
     showAt(address) {
         return this.#question(async () => {
             this.#first = windowAt(address, SHOWN);
-            this.words = await this.#looks.words(this.#first);
+            await this.#lookAtWords(true);
         });
     }
 
@@ -499,22 +541,13 @@ export class Laboratory extends EventTarget {
         });
     }
 
-    /** Performs orders with their accounts. Where rows of the drum are wanted, goes back over the same orders and draws them. */
+    /** Performs orders with their accounts, and draws them where rows of the drum are wanted. */
     async #tell(limit, isAgain, withRows = true) {
         const reply = await this.#say(`trace-data ${limit}`, isAgain, true);
         if (replies.isRefusal(replies.toldOf(reply).end)) return 0;
         const { orders } = replies.runOf(reply);
-        if (withRows && this.wantsRows && orders > 0) await this.#draw(orders);
+        if (withRows && this.wantsRows && orders > 0) this.rows = rowsIn(this.accounts.slice(-orders));
         return orders;
-    }
-
-    #draw(orders) {
-        return this.#transcript.aside(async () => {
-            await this.#ask(`back ${orders}`);
-            const { told, end } = replies.toldOf(await this.#ask(`drum ${orders}`));
-            this.rows = replies.drumRowsOf(told);
-            return !replies.isRefusal(end);
-        });
     }
 
     /** Goes back by orders, as far as steps are kept. */
@@ -688,6 +721,7 @@ export class Laboratory extends EventTarget {
         this.#said.push(...lines);
         this.#isTouched = true;
         for (const line of lines) this.#room.sent(line);
+        this.#known.forget();
         const reply = await this.#link.askAll(lines);
         this.talk = [...this.talk, { line: "source ..", reply }].slice(-TALK_KEPT);
         await this.#noteSource(reply);
@@ -795,8 +829,8 @@ export class Laboratory extends EventTarget {
     /** Asks what the last orders would have taken with a word at each sector. */
     askCosts(address) {
         return this.#question(async () => {
-            if (!this.knows("optimum")) return;
-            const [told] = await this.#overLast([(orders) => `optimum ${orders} ${address}`]);
+            if (!this.knows("optimum-data")) return;
+            const [told] = await this.#overLast([(orders) => `optimum-data ${orders} ${address}`]);
             this.costs = costsIn(told);
         });
     }
@@ -805,7 +839,7 @@ export class Laboratory extends EventTarget {
     askPlacing(addresses) {
         return this.#question(async () => {
             const isTold = this.deeds.unbroken <= PLACED_AT_MOST;
-            const told = await this.#overLast([...(isTold ? [(orders) => `trace-data ${orders}`] : []), ...addresses.map((address) => (orders) => `optimum ${orders} ${address}`)]);
+            const told = await this.#overLast([...(isTold ? [(orders) => `trace-data ${orders}`] : []), ...addresses.map((address) => (orders) => `optimum-data ${orders} ${address}`)]);
             const accounts = isTold ? replies.accountsOf(replies.toldOf(told.shift()).told) : [];
             return { accounts, words: told.map(costsIn) };
         }).then((told) => told ?? null);
@@ -815,19 +849,22 @@ export class Laboratory extends EventTarget {
      * none of them stops the orders earlier. */
     async #overLast(lines) {
         if (this.#room.isUsedUp) throw new Held({ kind: "usedUp" });
-        const told = [];
+        const [told, known] = [[], this.#known];
+        this.#known = new Known(this.#link);
         await this.#transcript.aside(async () => {
             const rules = await this.#withoutRules();
             for (const line of lines) told.push(await this.#ask(line(await this.#backOver(this.deeds.unbroken))));
             await this.#askAll(rules);
-            return told.every((reply) => !replies.isRefusal(replies.toldOf(reply).end));
+            const isAsBefore = told.every((reply) => !replies.isRefusal(replies.toldOf(reply).end));
+            if (isAsBefore) this.#known = known;
+            return isAsBefore;
         });
         return told;
     }
 
     /** Takes the rules out. Gives the lines that put them in again. */
     async #withoutRules() {
-        const rules = replies.rulesOf(await this.#link.ask("rules")).map((rule) => rule.split(" ").slice(0, 2).join(" "));
+        const rules = (await this.#looks.rules()).map((rule) => rule.split(" ").slice(0, 2).join(" "));
         await this.#askAll(rules.map(() => "drop 0"));
         return rules;
     }
@@ -845,11 +882,10 @@ export class Laboratory extends EventTarget {
         return number;
     }
 
-    /** The digits of all words of the drum as it is now, in the order of their addresses; null where a source is open. They are asked once for each state. */
+    /** The digits of all words of the drum as it is now, in the order of their addresses; null where a source is open. They are asked once, and after something was done that was not told. */
     drum() {
-        const key = `${this.panel.clock} ${this.#said.length}`;
-        if (this.#drum.key !== key) this.#drum = { key, digits: this.#act(async () => (this.openSource === null ? this.#looks.drum() : null)) };
-        return this.#drum.digits.then((digits) => digits ?? null);
+        this.#known.drum ??= this.#act(async () => (this.openSource === null ? this.#looks.drum() : null)).then((digits) => digits ?? null);
+        return this.#known.drum;
     }
 
     /** The order that changed a shown word last, or null where no order that is kept has, or a hand did later. */

@@ -1,15 +1,10 @@
 // Looks at the machine. Each is made of questions that leave no trace in the transcript, so that what is saved are the reader's lines alone.
-import { SECTORS, addressOf, numberOf } from "./addresses.mjs";
+import { SECTORS, addressOf, sectorAt } from "./addresses.mjs";
 import * as replies from "./module/replies.mjs";
+import { wordOf } from "./views/says.mjs";
 
 /** How many words are shown around the counter. */
 export const SHOWN = 16;
-
-/** A line of `numbers` is an address, its digits, and their readings. */
-const digitsIn = (line) => {
-    const [address, text] = line.split(" ", 2);
-    return { address, text };
-};
 
 /** Looks over a link. */
 export class Looks {
@@ -24,44 +19,28 @@ export class Looks {
         return replies.commandsOf(await this.#link.ask("commands"));
     }
 
-    async panel() {
-        return replies.panelOf(await this.#link.ask("panel-data"));
-    }
-
-    /** What is live, and what lets the machine go on. */
-    async live() {
-        return replies.liveOf(await this.#link.ask("live"));
+    /** The panel, what is live, and what lets the machine go on. */
+    async state() {
+        const reply = await this.#link.ask("state-data");
+        return { panel: replies.panelOf(reply), live: replies.liveOf(reply) };
     }
 
     async rules() {
-        return replies.rulesOf(await this.#link.ask("rules"));
+        return replies.rulesOf(await this.#link.ask("rules-data"));
     }
 
     async labels() {
-        return replies.labelsOf(await this.#link.ask("labels"));
+        return replies.labelsOf(await this.#link.ask("labels-data"));
     }
 
     async paper() {
         return replies.paperOf(await this.#link.ask("paper"));
     }
 
-    /** The words of a track, by the digits that name it. */
-    async track(digits) {
-        return replies.linesOf(await this.#link.ask(`numbers ${digits}00 ${SECTORS}`)).map(digitsIn);
-    }
-
     /** The digits of all words of the drum, in the order of their addresses. */
     async drum() {
         const tracks = Array.from({ length: SECTORS }, (unused, track) => `numbers ${addressOf(track * SECTORS)} ${SECTORS}`);
-        return replies.linesOf(await this.#link.askAll(tracks)).map((line) => line.slice(5, 13));
-    }
-
-    /** The words from an address on, each with the order that it is, or `word` and its digits, and with the order or the hand that a kept step says has put it there, or null. */
-    async words(first) {
-        const addresses = Array.from({ length: SHOWN }, (unused, place) => addressOf(numberOf(first) + place));
-        const told = await this.#link.askAll(addresses.map((address) => `why ${address}`));
-        const origins = replies.originsOf(told);
-        return replies.heldOf(told).map(({ address, digits, order }) => ({ address, digits, order: order ?? `word ${digits}`, origin: origins.get(address) ?? null }));
+        return replies.linesOf(await this.#link.askAll(tracks)).map((line) => line.split(" ", 2)[1]);
     }
 
     /** The replies to questions of a view. */
@@ -70,8 +49,28 @@ export class Looks {
     }
 }
 
-/** What a reply of `optimum` tells of one word, and why its run was refused, where that was so. */
+/** What a reply of `optimum-data` tells of one word, with the sectors in the order in which they pass the head, none where no order named the word; and why its run was refused, where that was so. */
 export function costsIn(reply) {
     const { told, end } = replies.toldOf(reply);
-    return { ...replies.costsOf(told), refusal: replies.isRefusal(end) ? end : null };
+    const { own, best, numbers, ...costs } = replies.costsOf(told);
+    const passing = ["none", "unnamed"].includes(costs.kind) ? [] : Array.from({ length: SECTORS }, (unused, position) => sectorAt(position));
+    const sectors = passing.map((sector) => ({ sector, times: numbers[sector], isOwn: sector === own, isBest: sector === best }));
+    return { ...costs, sectors, refusal: replies.isRefusal(end) ? end : null };
+}
+
+const waited = (times, sign) => (times === 0 ? "" : ".".repeat(times - 1) + sign);
+
+/** The signs of an order along the drum, one for each word time, as `drum` draws them. */
+function signsOf({ order, find, take, seek, act, stored }) {
+    const sought = wordOf(order) === null ? "-".repeat(seek) : waited(seek, stored === null ? "R" : "W");
+    return [waited(find, "F"), "i".repeat(take), sought, "x".repeat(act)].join("");
+}
+
+/** The turns of the drum in which told orders were performed, one after another: the clock of each, and its signs. */
+export function rowsIn(accounts) {
+    if (accounts.length === 0) return [];
+    const before = Number(accounts[0].clock % BigInt(SECTORS));
+    const signs = " ".repeat(before) + accounts.map(signsOf).join("");
+    const first = accounts[0].clock - BigInt(before);
+    return Array.from({ length: Math.ceil(signs.length / SECTORS) }, (unused, turn) => ({ clock: first + BigInt(SECTORS * turn), signs: signs.slice(SECTORS * turn, SECTORS * (turn + 1)) }));
 }

@@ -1,7 +1,7 @@
 // A task of tasks/ and its check, for the page and for ./check_task: each try is a script of the laboratory, and what is missing is read from the
 // replies to its lines. tasks/README.md has the form of a task, and tasks/language the sentences.
 import { linesIn } from "./lines.mjs";
-import { isRefusal, panelOf, placesOf, printedOf, refusalOf, runOf, sourceOf } from "./module/replies.mjs";
+import { heldOf, isRefusal, panelOf, printedOf, refusalOf, runOf, sourceOf } from "./module/replies.mjs";
 
 /** What is shown of a line or a text, in bytes; of how many faults of a source; and the orders of a run where the task has no limit. */
 const [SHOWN, FAULTS, LIMIT] = [100, 10, 10_000];
@@ -67,11 +67,14 @@ const LOOKS = {
     "want like": ({ printed, say, like }, pattern) => (new RegExp(`^(${pattern})$`).test(printed) ? null : ["printed-like", shown(printed, say), like]),
     "want word": ({ asked }, rest) => {
         const [address, digits, name] = /^(\S+) (\S+) ?(.*)$/.exec(rest).slice(1);
-        return asked.get(`words ${address}`) === digits ? null : ["word", address, asked.get(`words ${address}`), name === "" ? digits : `${digits} (${name})`];
+        const is = asked.get(address).digits;
+        return is === digits ? null : ["word", address, is, name === "" ? digits : `${digits} (${name})`];
     },
     "want shows": ({ asked }, rest) => {
         const [address, order] = [rest.slice(0, 4), rest.slice(5)];
-        return asked.get(`show ${address}`) === order ? null : ["shows", address, asked.get(`show ${address}`), order];
+        const { digits, order: held } = asked.get(address);
+        const is = held ?? `word ${digits}`;
+        return is === order ? null : ["shows", address, is, order];
     },
     "want counter": ({ after }, counter) => (after.counter === counter ? null : ["counter", after.counter, counter]),
     "most words": ({ cells }, most) => atMost("words", cells, most),
@@ -88,9 +91,6 @@ function missingAtEnd({ ran, after: { status, counter }, limit, sentences }, wan
     return name in sentences ? [name, counter] : ["ended-in", status, wanted, counter];
 }
 
-/** The place that a question of a try asks for, by the line that wants it. */
-const QUESTIONS = { "want word": "words", "want shows": "show" };
-
 /** The reply to a line of a task, which nothing but a mistake in the task refuses. */
 async function replyTo(link, line, isRight) {
     const reply = await link.ask(line);
@@ -102,10 +102,9 @@ const isAnswered = (reply) => !isRefusal(reply);
 
 async function asksOf(link, lines) {
     const asked = new Map();
-    for (const { name, rest } of lines.filter((line) => line.name in QUESTIONS)) {
-        const question = `${QUESTIONS[name]} ${rest.slice(0, 4)}`;
-        const [{ text }] = placesOf(await replyTo(link, `${question} 1`, isAnswered));
-        asked.set(question, text);
+    for (const { rest } of lines.filter(({ name }) => name === "want word" || name === "want shows")) {
+        const [word] = heldOf(await replyTo(link, `show-data ${rest.slice(0, 4)} 1`, isAnswered));
+        asked.set(word.address, word);
     }
     return asked;
 }
@@ -113,7 +112,7 @@ async function asksOf(link, lines) {
 /** Runs a try of a source that is assembled: what is missing, and its word times. */
 async function tried(link, lines, about) {
     await link.ask("load");
-    for (const line of beginning(lines)) await replyTo(link, line, (reply) => /^(live|ok)/.test(reply));
+    for (const line of beginning(lines)) await replyTo(link, line, (reply) => reply.startsWith("live") || reply.startsWith("ok"));
     const before = panelOf(await link.ask("panel-data"));
     const reply = await replyTo(link, `run ${about.limit}`, (said) => isAnswered(said) || refusalOf(said).kind === "ClockEnd");
     const ran = isRefusal(reply) ? null : runOf(reply);
@@ -143,7 +142,7 @@ function ofFaults(faults, source, say) {
 
 /** What keeps a source from being tried, by a reply to it: sentences, none where it can be tried. */
 function notTried(reply, source, say) {
-    if (/^\? \d+ TooLong/.test(reply)) return [say("too-long")];
+    if (isRefusal(reply) && refusalOf(reply).kind === "TooLong") return [say("too-long")];
     const { faults, start } = sourceOf(reply);
     if (faults.length > 0) return ofFaults(faults, source, say);
     return start === null ? [say("no-start")] : [];

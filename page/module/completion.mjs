@@ -1,8 +1,8 @@
 // What the Tab key puts at the end of a line: commands, buttons and switches, labels, addresses at hand, names of files.
 import { readdirSync, statSync } from "node:fs";
 import { dirname, join } from "node:path";
-import { linesIn, wordsOf } from "./lines.mjs";
-import { commandsOf } from "./replies.mjs";
+import { wordsOf } from "./lines.mjs";
+import { SWITCHES, commandsOf, linesOf, liveOf, recordsOf } from "./replies.mjs";
 
 const POSITIONS = ["up", "down"];
 
@@ -53,16 +53,16 @@ export class Completion {
 
     /** The buttons that do something now, and the switches. */
     async #keys() {
-        const [live] = linesIn(await this.#ask("live")).map(wordsOf);
-        const switches = linesIn(await this.#ask("panel-data")).map(wordsOf).filter(([, value]) => POSITIONS.includes(value));
-        return [...live.slice(1), ...switches.map(([name]) => name)];
+        const { live } = liveOf(await this.#ask("state-data"));
+        return [...live, ...SWITCHES];
     }
 
     /** The labels of the last source with their addresses, the addresses of the rules, and the counter. */
     async #places() {
-        const labels = linesIn(await this.#ask("labels")).flatMap(wordsOf);
-        const rules = linesIn(await this.#ask("rules")).map((rule) => wordsOf(rule).at(-1));
-        const [, counter] = wordsOf(linesIn(await this.#ask("panel-data"))[0]);
-        return [...labels, ...rules, counter];
+        const records = async (line, first) => recordsOf(linesOf(await this.#ask(line)), first);
+        const labels = (await records("labels-data", "name")).flatMap((label) => [label.get("name"), ...(label.has("place") ? [label.get("place")] : [])]);
+        const rules = (await records("rules-data", "rule")).map((rule) => rule.get("label") ?? rule.get("address"));
+        const [panel] = await records("panel-data", "counter");
+        return [...labels, ...rules, panel.get("counter")];
     }
 }

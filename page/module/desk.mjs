@@ -1,7 +1,7 @@
 // The monitor at a desk: lines that are typed until `quit`, each perhaps above its reply.
 import { objectOf } from "./json.mjs";
 import { frontOf, isLonger, linesIn, wordsOf } from "./lines.mjs";
-import { isRefusal, printedOf } from "./replies.mjs";
+import { isRefusal, panelOf, printedOf } from "./replies.mjs";
 
 const INDENT = "        ";
 /** How many bytes of tape text a line has room for. */
@@ -53,7 +53,7 @@ export class Desk {
     /** The prompt after the last line. */
     get prompt() {
         if (this.#recorded.isSourceOpen) return "source> ";
-        const [, counter, status] = /^counter (\d{4}) .* status (.+) mode /.exec(this.#recorded.ask("panel"));
+        const { counter, status } = panelOf(this.#recorded.ask("panel-data"));
         return `${counter} ${status}> `;
     }
 
@@ -110,7 +110,8 @@ export class Desk {
 
     /** The drum's dump, which leaves no trace in the transcript. */
     dump() {
-        return this.#recorded.ask("dump").replace(/^.*\n/, "");
+        const dump = this.#recorded.ask("dump");
+        return dump.slice(dump.indexOf("\n") + 1);
     }
 
     /** The tape text of what was printed, which leaves no trace in the transcript. */

@@ -3,9 +3,9 @@ import { FileTrouble, keepFile } from "./files.mjs";
 import { Help } from "./help.mjs";
 import { END, INTERRUPT } from "./keyboard.mjs";
 import { isLonger, linesIn, textFrom, withoutReturn, wordsOf } from "./lines.mjs";
-import { isRefusal } from "./replies.mjs";
+import { isRefusal, liveOf, ordersOf, panelOf, runOf } from "./replies.mjs";
 import { meantBy } from "./shortcuts.mjs";
-import { Views, liveKeys, narrowTrace } from "./views.mjs";
+import { Views, narrowTrace } from "./views.mjs";
 
 const INDENT = "        ";
 /** How many orders a run does before a key is heard, at first; the next portion is twice as large, until one takes PORTION_TIME milliseconds. */
@@ -113,8 +113,8 @@ export class Front {
 
     async #prompt() {
         if (this.#source !== null || this.#engine.isSourceOpen) return "source> ";
-        const panel = new Map(linesIn(await this.#engine.ask("panel-data")).map((line) => [line.slice(0, line.indexOf(" ")), line.slice(line.indexOf(" ") + 1)]));
-        return `${panel.get("counter")} ${panel.get("status")}> `;
+        const { counter, status } = panelOf(await this.#engine.ask("panel-data"));
+        return `${counter} ${status}> `;
     }
 
     // ---- a source, whose lines reach the laboratory when it is closed
@@ -226,7 +226,7 @@ export class Front {
     async #press(line) {
         const reply = await this.#engine.type(line);
         this.#say(reply);
-        if (reply === "dead\n") this.#note(`${INDENT}these do something now: ${liveKeys(await this.#engine.ask("live")).join(" ")}`);
+        if (reply === "dead\n") this.#note(`${INDENT}these do something now: ${[...liveOf(await this.#engine.ask("state-data")).live].join(" ")}`);
         await this.#keep();
     }
 
@@ -299,23 +299,24 @@ export class Front {
             const begun = performance.now();
             const asked = Math.min(portion, limit - done);
             reply = await this.#engine.type(`${command} ${asked}`);
-            const [, count, end] = /^(?:ran|orders) (\d+) (.*)/.exec(reply) ?? [];
-            if (count === undefined) break;
-            done += Number(count);
-            if (Number(count) < asked || (command === "run" ? end !== "limit" : /^(halted|waiting)/.test(end))) break;
+            if (isRefusal(reply)) break;
+            const { orders, end, status } = command === "run" ? runOf(reply) : ordersOf(reply);
+            done += orders;
+            if (orders < asked || (command === "run" ? end !== "limit" : ["halted", "waiting"].includes(wordsOf(status)[0]))) break;
             if (performance.now() - begun < PORTION_TIME) portion *= 2;
             progress.show(done);
             await letOthersGo();
         } while (done < limit && !this.#keyboard.isInterrupted);
         progress.clear();
-        this.#say(reply.replace(/^(ran|orders) \d+/, `$1 ${done}`));
-        if (/^ran 0 rest\n$/.test(reply)) this.#note(`${INDENT}${await this.#views.standstill()}`);
+        const [first, , ...others] = reply.split(" ");
+        this.#say(isRefusal(reply) ? reply : [first, done, ...others].join(" "));
+        if (reply === "ran 0 rest\n") this.#note(`${INDENT}${await this.#views.standstill()}`);
         if (this.#keyboard.isInterrupted) await this.#sayWhere();
         await this.#keep();
     }
 
     async #sayWhere() {
-        const [counter] = linesIn(await this.#engine.ask("panel-data"));
-        this.#note(`${INDENT}stopped by Ctrl-C before its end, at ${wordsOf(counter)[1]}`);
+        const { counter } = panelOf(await this.#engine.ask("panel-data"));
+        this.#note(`${INDENT}stopped by Ctrl-C before its end, at ${counter}`);
     }
 }

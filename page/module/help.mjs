@@ -10,7 +10,7 @@ const MOST_SHOWN = 8;
 const PREPARED = ["source", "start p =a", " b value", " a value", " h value", " p =b", " z", "value int 5 30", " end start", ".", "load", "watch value", "run 4"];
 /** The machine rests, or is going, when an example is typed. */
 const STATES = [[...PREPARED, "press manual"], PREPARED];
-const DID_NOTHING = /^(ran|orders) 0 /m;
+const didNothing = (reply) => linesOf(reply).some((line) => line.startsWith("ran 0 ") || line.startsWith("orders 0 "));
 
 const LAST_LINES = [
     "help GROUP shows the commands of a group, help COMMAND one of them,",
@@ -100,7 +100,7 @@ export class Help {
         let reply = "";
         for (const lines of STATES) {
             reply = await this.#replyAfter(lines, example);
-            if (!isRefusal(reply) && !DID_NOTHING.test(reply)) break;
+            if (!isRefusal(reply) && !didNothing(reply)) break;
         }
         return reply;
     }

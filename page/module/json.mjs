@@ -2,11 +2,8 @@
 import { wordsOf } from "./lines.mjs";
 import { isRefusal, linesOf } from "./replies.mjs";
 
-/** The commands whose replies have a key and a value on each line. */
-const KEYED = [
-    "live", "commands", "panel-data", "trace-data", "profile-data", "state-data", "show-data", "why-data", "labels-data", "rules-data", "paper-data", "tape-data", "source-data", "cost", "optimum-data", "commands-data",
-    "operations-data", "faults-data",
-];
+/** Whether the replies of a command have a key and a value on each line. */
+const hasKeys = (command = "") => ["live", "commands", "cost"].includes(command) || command.endsWith("-data");
 
 /** A string: each byte but the printed characters of ASCII by its number. */
 function stringOf(text) {
@@ -24,7 +21,7 @@ function keyedOf(line) {
 /** What is written for a line and its reply, with where the line comes from; the line is null for a reply of the desk itself. */
 export function objectOf(line, reply, note) {
     const isRefused = isRefusal(reply);
-    const isKeyed = line !== null && !isRefused && KEYED.includes(wordsOf(line)[0]);
+    const isKeyed = line !== null && !isRefused && hasKeys(wordsOf(line)[0]);
     const lines = linesOf(reply).map((it) => it.replace(/\r$/, "")).map(isKeyed ? keyedOf : stringOf);
     const typed = line === null ? "" : `"line":${stringOf(line)},`;
     return `{${typed}"reply":[${lines}],"refused":${isRefused}${note === "" ? "" : `,"from":${stringOf(note)}`}}\n`;

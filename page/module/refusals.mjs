@@ -10,14 +10,14 @@ import { isRefusal } from "./replies.mjs";
 import { Session, answerScript, compiled } from "./session.mjs";
 
 const INDENT = "    ";
-const FAULT = /^line (\d+) (.*)/;
+const isFault = (line) => line.startsWith("line ");
 
 /** The faults of a source that begins after a line, each with its lines of the monitor's reply. */
 function faultsIn(reply, opened, lines) {
     const faults = [];
     for (const line of reply.slice(1)) {
-        const [, number, kind] = FAULT.exec(line) ?? [];
-        if (kind === undefined) faults.at(-1).reason.push(line);
+        const [, number, kind] = wordsOf(line);
+        if (!isFault(line)) faults.at(-1).reason.push(line);
         else faults.push({ number: opened + Number(number), line: lines[opened + Number(number) - 1] ?? "", reason: [`${reply[0]}: ${kind}`] });
     }
     return faults;
@@ -47,7 +47,7 @@ class Replies {
     /** Passes a refusal, with the faults that it lists. */
     passRefusal() {
         do this.#place += 1;
-        while (FAULT.test(this.first));
+        while (isFault(this.first));
     }
 }
 
@@ -92,7 +92,7 @@ class Passage {
         const refusal = this.#replies.first;
         this.#replies.passRefusal();
         const reason = linesIn(reply);
-        if (reason.some((told) => FAULT.test(told))) this.#found.push(...faultsIn(reason, this.#opened, this.#lines));
+        if (reason.some(isFault)) this.#found.push(...faultsIn(reason, this.#opened, this.#lines));
         else if (isRefusal(reply)) this.#found.push({ number, line, reason });
         else {
             this.#found.push({ number, line, reason: [`${refusal}: the monitor has this form, and scripts do not`] });

@@ -9,23 +9,37 @@ export class ReplyError extends Error {}
 const misread = (what, text) => new ReplyError(`no ${what}: ${JSON.stringify(text)}`);
 
 /** The lines of a reply, without their line feeds. */
-export const linesOf = (reply) => (reply === "" ? [] : reply.replace(/\n$/, "").split("\n"));
+export function linesOf(reply) {
+    const lines = reply.split("\n");
+    return lines.at(-1) === "" ? lines.slice(0, -1) : lines;
+}
 
-const matched = (pattern, line, what) => {
-    const match = pattern.exec(line);
-    if (match === null) throw misread(what, line);
-    return match;
-};
+/** The words of a line after its first one, which is given. */
+function wordsAfter(first, line = "") {
+    const [word, ...words] = line.split(" ");
+    if (word !== first) throw misread(`reply of ${first}`, line);
+    return words;
+}
+
+const isDecimal = (word) => word !== "" && [...word].every((sign) => "0123456789".includes(sign));
+
+/** A word that is a number in decimal. */
+function decimalIn(word = "") {
+    if (!isDecimal(word)) throw misread("number", word);
+    return word;
+}
+
+const numberIn = (word) => Number(decimalIn(word));
 
 /** Whether a reply tells that its line was refused. */
 export const isRefusal = (reply) => reply.startsWith("?");
 
-const REFUSAL = /^\? (\d+) ([A-Za-z]+)(?: (\d+))?(?:: (.*))?/;
-
-/** A refusal: its number and kind, the number behind them where there is one, and the reason. */
+/** A refusal: its number and kind, the number after them where there is one, and the reason. */
 export function refusalOf(reply) {
-    const [, code, kind, number, reason] = matched(REFUSAL, linesOf(reply)[0] ?? "", "refusal");
-    return { code: Number(code), kind, number: number === undefined ? null : Number(number), reason: reason ?? null };
+    const [said, ...reasons] = (linesOf(reply)[0] ?? "").split(": ");
+    const [code, kind = "", number] = wordsAfter("?", said);
+    if (kind === "") throw misread("refusal", reply);
+    return { code: numberIn(code), kind, number: number === undefined ? null : numberIn(number), reason: reasons.length === 0 ? null : reasons.join(": ") };
 }
 
 const DIGITS = "0123456789fgjkqw";
@@ -53,6 +67,9 @@ export const fractionOf = (digits) => signedOf(digits) / 2 ** 31;
 /** A word read as a whole number with the point behind place 30: half of its bits. */
 export const wholeOf = (digits) => Math.floor(signedOf(digits) / 2);
 
+/** A value as it was before it was written in a line: there a backslash stands before a quotation mark, another backslash, or `u` and four digits. */
+const valueIn = (written) => (written.includes("\\") ? JSON.parse(`"${written}"`) : written);
+
 /** Lines of a key, a blank and a value as records, each a value by its key. A record begins at each line whose key is among the first ones. */
 export function recordsOf(lines, ...firsts) {
     const records = [];
@@ -62,7 +79,7 @@ export function recordsOf(lines, ...firsts) {
         if (firsts.includes(key)) records.push(new Map());
         const record = records.at(-1);
         if (end < 0 || record === undefined || record.has(key)) throw misread("line of a key and a value", line);
-        record.set(key, line.slice(end + 1));
+        record.set(key, valueIn(line.slice(end + 1)));
     }
     return records;
 }
@@ -84,7 +101,7 @@ function placeOf(value) {
 /** The switches of a panel by their names in `press`. */
 export const SWITCHES = ["bp32", "bp16", "bp8", "bp4", "transfer", "sixbit"];
 
-/** What a panel shows, of a reply of `panel-data`. The clock is a BigInt, since it may have 62 bits. */
+/** What a panel shows, of a reply of `panel-data` or `state-data`. The clock is a BigInt, since it may have 62 bits. */
 export function panelOf(reply) {
     const [record] = recordsOf(linesOf(reply), "counter");
     if (record === undefined) throw misread("panel", reply);
@@ -98,91 +115,91 @@ export function panelOf(reply) {
     };
 }
 
-/** The names of what is live, and what lets the machine go on: its kind is `go` where orders are performed, `keys`, `start`, or `mode` where the button of a
- * mode comes first. */
+const LIVE = "live-";
+
+/** The names of what is live, and what lets the machine go on, of a reply of `state-data`: its kind is `go` where orders are performed, `keys`, `start`, or
+ * `mode` where the button of a mode comes first. */
 export function liveOf(reply) {
-    const [record] = recordsOf(linesOf(reply), "live");
-    if (record === undefined) throw misread("reply of live", reply);
-    const [first, second] = valueOf(record, "way").split(" ");
+    const [record] = recordsOf(linesOf(reply), "counter");
+    if (record === undefined) throw misread("state", reply);
+    const [first, second] = valueOf(record, "way").split("-");
     const way = second === undefined ? { kind: first === "orders" ? "go" : first } : { kind: "mode", mode: first };
-    return { live: new Set(valueOf(record, "live").split(" ")), way };
+    const live = [...record].filter(([key, value]) => key.startsWith(LIVE) && value === "yes").map(([key]) => key.slice(LIVE.length));
+    return { live: new Set(live), way };
 }
 
-/** Lines of an address and what stands behind it, as `words` and `show` write them. */
-export function placesOf(reply) {
-    return linesOf(reply).map((line) => {
-        const [, address, text] = matched(/^(\d{4}) (.+)$/, line, "line of a place");
-        return { address, text };
-    });
-}
+/** Lines of an address and a word in digits, as `words` writes them. */
+export const placesOf = (reply) => linesOf(reply).map((line) => {
+    const [address, text, more] = line.split(" ");
+    if (address.length !== 4 || text?.length !== 8 || more !== undefined) throw misread("line of a place", line);
+    return { address: decimalIn(address), text };
+});
 
-const RUN = /^ran (\d+) (rest|limit|rule (\d+))$/;
+const ENDS = ["rest", "limit", "rule"];
 
 /** What a run did: its orders, why it ended, and the rule that stopped it. */
 export function runOf(reply) {
-    const [, orders, end, rule] = matched(RUN, toldOf(reply).end, "run");
-    return { orders: Number(orders), end: end.startsWith("rule") ? "rule" : end, rule: rule === undefined ? null : Number(rule) };
+    const [orders, end, rule] = wordsAfter("ran", toldOf(reply).end);
+    if (!ENDS.includes(end)) throw misread("run", reply);
+    return { orders: numberIn(orders), end, rule: end === "rule" ? numberIn(rule) : null };
 }
 
-/** How often `operate` has pressed Start. */
-export const startsOf = (reply) => Number(/^ +started again at a z after a p: (\d+)$/m.exec(reply)?.[1] ?? 0);
+const STARTED = "started again at a z after a p: ";
 
-/** How many orders `orders` performed, and the status behind them. */
+/** How often `operate` has pressed Start. */
+export function startsOf(reply) {
+    const told = linesOf(reply).map((line) => line.trimStart()).find((line) => line.startsWith(STARTED));
+    return told === undefined ? 0 : numberIn(told.slice(STARTED.length));
+}
+
+/** How many orders `orders` performed, and the status after them. */
 export function ordersOf(reply) {
-    const [, orders, status] = matched(/^orders (\d+) (.+)$/, linesOf(reply)[0] ?? "", "reply of orders");
-    return { orders: Number(orders), status };
+    const [orders, ...status] = wordsAfter("orders", linesOf(reply)[0]);
+    return { orders: numberIn(orders), status: status.join(" ") };
 }
 
 /** The clock that `back` or `turn` tells. */
-export const clockOf = (reply) => BigInt(matched(/^clock (\d+)$/, linesOf(reply)[0] ?? "", "clock")[1]);
+export const clockOf = (reply) => BigInt(decimalIn(wordsAfter("clock", linesOf(reply)[0])[0]));
 
 /** How many orders `last` went back, and the rule that they hit. */
 export function lastOf(reply) {
-    const [, orders, rule] = matched(/^back (\d+) rule (\d+)$/, linesOf(reply)[0] ?? "", "reply of last");
-    return { orders: Number(orders), rule: Number(rule) };
+    const [orders, , rule] = wordsAfter("back", linesOf(reply)[0]);
+    return { orders: numberIn(orders), rule: numberIn(rule) };
 }
 
 /** How many orders the loader performed for `load`. */
-export const loadedOf = (reply) => Number(matched(/^loaded (\d+)$/, linesOf(reply)[0] ?? "", "reply of load")[1]);
-
-/** How many keys of `type` were live and how many dead. */
-export function keysOf(reply) {
-    const [, live, dead] = matched(/^live (\d+) dead (\d+)$/, linesOf(reply)[0] ?? "", "reply of type");
-    return { live: Number(live), dead: Number(dead) };
-}
+export const loadedOf = (reply) => numberIn(wordsAfter("loaded", linesOf(reply)[0])[0]);
 
 /** What has been printed: how many codes, and their tape text. */
 export function printedOf(reply) {
-    const [, count, text] = matched(/^printed (\d+)(?: ([^]*))?$/, reply.replace(/\n$/, ""), "reply of printed");
-    return { count: Number(count), text: text ?? "" };
+    const [count, ...text] = wordsAfter("printed", linesOf(reply)[0]);
+    return { count: numberIn(count), text: text.join(" ") };
 }
 
 /** The typewriter's paper: how many codes were printed, and the rows with them, each but the last with a line feed after it. */
 export function paperOf(reply) {
-    const [, count, text] = matched(/^paper (\d+)\n([^]*)\n$/, reply, "reply of paper");
-    return { count: Number(count), text };
+    const [head, ...rows] = linesOf(reply);
+    const [count, more] = wordsAfter("paper", head);
+    if (more !== undefined || rows.length === 0) throw misread("reply of paper", reply);
+    return { count: numberIn(count), text: rows.join("\n") };
 }
 
-const PUT = "put there by (?:hand|(?<order>.*?)(?: at (?<at>\\d{4})(?: \\S+)?| in the instruction register)), clock (?<clock>\\d+)(?:, \\d+ orders? ago)?; before it was (?<lost>.*)$";
-const WHY = new RegExp(`^(?<address>\\d{4})(?: \\S+)?: .*?, ${PUT}`);
-
-/** What put a word where it stands: an order, whose place is null where that was in the register, or a hand, whose order is null. */
+/** What put a word where it is: an order, whose place is null where that was in the register, or a hand, whose order is null. */
 function originOf({ order, at, clock, lost }) {
     return { order: order ?? null, at: at ?? null, clock: BigInt(clock), lost };
 }
 
-const AT_PLACE = /^(?<address>\d{4})(?: \S+)?: (?<digits>\S{8})(?: (?<order>-?[a-z] \d{4})(?: \S+)?)? = /;
+/** Words, of replies of `show-data` or `why-data`: the address, the digits, the order, which is null where the word is none, and, of the first, whether a step that is kept has changed it. */
+export const heldOf = (reply) => recordsOf(linesOf(reply), "address").map((record) => (
+    { address: valueOf(record, "address"), digits: valueOf(record, "digits"), order: record.get("order") ?? null, isChanged: record.get("changed") === "yes" }));
 
-/** What replies of `why` say of their words: the address, the digits, and the order, which is null where the word is none. */
-export function heldOf(reply) {
-    const told = linesOf(reply).map((line) => AT_PLACE.exec(line)?.groups).filter((groups) => groups !== undefined);
-    return told.map(({ address, digits, order }) => ({ address, digits, order: order ?? null }));
-}
+/** What a word was, as the record of another one that took its place says it: the order, or the digits and the number. */
+const lostIn = (record) => record.get("before-order") ?? `${valueOf(record, "before")} = ${valueOf(record, "before-number")}`;
 
-/** What replies of `why` say of the origins of their words, by the addresses; a word that no kept step has changed has none. */
+/** What replies of `why-data` say of the origins of their words, by the addresses; a word that no kept step has changed has none. */
 export function originsOf(reply) {
-    const told = linesOf(reply).map((line) => WHY.exec(line)?.groups).filter((groups) => groups !== undefined);
-    return new Map(told.map((groups) => [groups.address, originOf(groups)]));
+    const changed = recordsOf(linesOf(reply), "address").filter((record) => valueOf(record, "changed-by") !== "none");
+    return new Map(changed.map((record) => [valueOf(record, "address"), originOf({ order: record.get("by-order"), at: record.get("by-at"), clock: valueOf(record, "by-clock"), lost: lostIn(record) })]));
 }
 
 const IN_REGISTER = "register";
@@ -229,15 +246,12 @@ function accountOf(record) {
 /** The accounts in front of the line that ends a reply of `trace-data`. */
 export const accountsOf = (lines) => recordsOf(lines, "clock").map(accountOf);
 
-const DRUM_ROW = /^ *(\d+)  ([.FiRWx -]*)$/;
-
-/** Rows of `drum`: the clock of each turn, and its signs, one for each word time. */
-export function drumRowsOf(lines) {
-    return lines.map((line) => {
-        const [, clock, signs] = matched(DRUM_ROW, line, "row of the drum");
-        return { clock: BigInt(clock), signs };
-    });
-}
+/** Rows of `drum`: the clock of each turn, and after two blanks its signs, one for each word time. */
+export const drumRowsOf = (lines) => lines.map((line) => {
+    const row = line.trimStart();
+    const end = row.indexOf("  ");
+    return { clock: BigInt(decimalIn(row.slice(0, Math.max(end, 0)))), signs: row.slice(end + 2) };
+});
 
 const PARTS = ["find", "take", "seek", "act", "elsewhere"];
 
@@ -254,81 +268,60 @@ export function profileOf(lines) {
     };
 }
 
-const TOTALS = /^orders (\d+), word times (\d+), turns of the drum (\d+\.\d)$/;
-const COST = /^ {2}sector +(\d+) +(\d+) {2}(#+)( own)?( best)?$/;
-const SAVES = /^ {2}it may be moved, and saves (\d+) word times at sector (\d+)$/;
-
-/** Why a word has no best sector, or why that is of no use, by the monitor's sentences. */
-const REASONS = new Map([
-    ["no order was performed, so no word was named", "none"],
-    ["no order named it: wherever it stands, they take as long", "unnamed"],
-    ["it is not to be moved, since it was performed as an order", "performed"],
-    ["it is not to be moved, since a changed order named it, or one in the register alone", "changed"],
-]);
-
-function reasonOf(line) {
-    const reason = line.trim();
-    if (!REASONS.has(reason)) throw misread("reason of an optimum", line);
-    return { kind: REASONS.get(reason), reason };
-}
-
-/** What orders would have taken with one word at each sector, of the lines of `optimum NUMBER ttss`. The sectors are in the order in which they pass the
- * head, each with its word times and the length of the line that the monitor draws. `kind` is `free` where the word may be moved; else `reason` says why not. */
+/** What orders would have taken with one word at each sector, of the lines of `optimum-data NUMBER ttss`: `numbers` by sector. `kind` is `free` where the word may be moved, and `none` where
+ * no order was performed; where it may not, `reason` says why, and nothing is saved. */
 export function costsOf(lines) {
-    if (lines.length === 1) return { orders: 0, times: 0, turns: 0, address: null, label: null, sectors: [], saved: 0, ...reasonOf(lines[0]) };
-    const [, orders, times, turns] = matched(TOTALS, lines[0] ?? "", "total of an optimum").map(Number);
-    const sectors = lines.slice(2, -1).map((line) => {
-        const [, sector, taken, drawn, own, best] = matched(COST, line, "sector of an optimum");
-        return { sector: Number(sector), times: Number(taken), length: drawn.length, isOwn: own !== undefined, isBest: best !== undefined };
-    });
-    const last = lines.at(-1);
-    const free = SAVES.exec(last);
-    return { orders, times, turns, ...placeOf(lines[1] ?? ""), sectors, saved: Number(free?.[1] ?? 0), ...(free === null ? reasonOf(last) : { kind: "free", reason: null }) };
+    const [record] = recordsOf(lines, "orders");
+    if (record === undefined) throw misread("optimum of a word", "");
+    const orders = numberOf(record, "orders");
+    const kind = orders === 0 ? "none" : valueOf(record, "freedom");
+    return {
+        orders, times: numberOf(record, "times"), address: kind === "none" ? null : valueOf(record, "word"), label: record.get("label") ?? null,
+        own: numberOf(record, "sector"), best: numberOf(record, "best"), saved: kind === "free" ? numberOf(record, "saved") : 0,
+        kind, reason: kind === "free" ? null : valueOf(record, "freedom-sentence"), numbers: valueOf(record, "numbers").split(" ").map(numberIn),
+    };
 }
 
 /** What a run tells of its orders, and the line that ends it. What the monitor says after that line begins with a blank, or for programs with
  * the key `state`. */
 export function toldOf(reply) {
     const lines = linesOf(reply);
-    const last = lines.findLastIndex((line) => !/^( |state )/.test(line));
+    const last = lines.findLastIndex((line) => !line.startsWith(" ") && !line.startsWith("state "));
     return { told: lines.slice(0, Math.max(last, 0)), end: lines[last] ?? "" };
 }
 
 /** What a source was answered: its words and start, or its faults by their lines. The source's line below a fault, and the mark below
  * that, begin with blanks. */
 export function sourceOf(reply) {
-    const lines = linesOf(reply);
-    const cells = /^cells (\d+) start (\d{4}|none)$/.exec(lines[0] ?? "");
-    if (cells !== null) {
-        return { cells: Number(cells[1]), start: cells[2] === "none" ? null : cells[2], faults: [] };
+    const [first = "", ...lines] = linesOf(reply);
+    if (!isRefusal(first)) {
+        const [cells, , start] = wordsAfter("cells", first);
+        return { cells: numberIn(cells), start: start === "none" ? null : decimalIn(start), faults: [] };
     }
     if (refusalOf(reply).kind !== "Faults") throw misread("reply of a source", reply);
-    return {
-        cells: 0, start: null,
-        faults: lines.slice(1).filter((line) => !line.startsWith(" ")).map((line) => {
-            const [, number, kind] = matched(/^line (\d+) (\w+)$/, line, "fault");
-            return { line: Number(number), kind };
-        }),
-    };
+    const faults = lines.filter((line) => !line.startsWith(" ")).map((line) => wordsAfter("line", line));
+    return { cells: 0, start: null, faults: faults.map(([number, kind]) => ({ line: numberIn(number), kind })) };
 }
 
-/** The labels of the last source, by their addresses; a place may have several, and one may lie behind the drum. */
+/** The labels of the last source, by their addresses, of a reply of `labels-data`; a place may have several. A label whose value is past the drum is left out. */
 export function labelsOf(reply) {
     const labels = new Map();
-    for (const line of linesOf(reply)) {
-        const [, name, address] = matched(/^(\S+) (.+)$/, line, "label");
-        labels.set(address, [...(labels.get(address) ?? []), name]);
+    for (const record of recordsOf(linesOf(reply), "name").filter((it) => it.has("place"))) {
+        const place = record.get("place");
+        labels.set(place, [...(labels.get(place) ?? []), valueOf(record, "name")]);
     }
     return labels;
 }
 
-/** The rules in the order of their numbers, each by the command that made it. */
-export const rulesOf = (reply) => linesOf(reply).map((line) => matched(/^rule \d+ (.+)$/, line, "rule")[1]);
+/** The rules in the order of their numbers, each by the command that made it and the label of its address, of a reply of `rules-data`. */
+export const rulesOf = (reply) => recordsOf(linesOf(reply), "rule").map((record) => (
+    [valueOf(record, "kind"), valueOf(record, "address"), ...(record.has("label") ? [record.get("label")] : [])].join(" ")));
 
 /** The commands by their names, of a reply of `commands`: whether each only asks, and what it takes. */
 export const commandsOf = (reply) => new Map(linesOf(reply).map((line) => {
-    const [, name, asks, takes] = matched(/^(\S+) (asks|does) (.+)$/, line, "line of a command");
-    return [name, { asks: asks === "asks", takes }];
+    const [name, asks, ...takes] = line.split(" ");
+    if (!["asks", "does"].includes(asks) || takes.length === 0) throw misread("line of a command", line);
+    return [name, { asks: asks === "asks", takes: takes.join(" ") }];
 }));
 
 // The signs of codes, as docs/FORMATS.md lists them. A group such as [16] is a code that has no sign.
@@ -343,9 +336,9 @@ const SIGNS = new Map([
 export function codesOf(text) {
     const codes = [];
     for (let at = 0; at < text.length; at += 1) {
-        const group = /^\[(\d\d)\]/.exec(text.slice(at, at + 4));
-        if (group !== null) {
-            codes.push({ code: Number(group[1]), sign: null });
+        const number = text.slice(at + 1, at + 3);
+        if (text[at] === "[" && text[at + 3] === "]" && isDecimal(number)) {
+            codes.push({ code: Number(number), sign: null });
             at += 3;
         } else if (SIGNS.has(text[at])) {
             codes.push({ code: SIGNS.get(text[at]), sign: text[at] });

@@ -96,7 +96,7 @@ function sourceIn(name) {
 function workOn(source, after, taken) {
     const { replies } = repliesTo(bytesFrom(`source\n${endedText(source)}.\n${after.join("\n")}\n`));
     const [first, ...rest] = linesIn(textFrom(replies));
-    const lines = isRefusal(first) ? [first, ...rest].filter((line) => /^line |^\? 11 /.test(line)) : taken(rest);
+    const lines = isRefusal(first) ? [first, ...rest].filter((line) => line.startsWith("line ") || line.startsWith("? 11 ")) : taken(rest);
     write(bytesFrom(lines.map((line) => `${line}\n`).join("")));
     return isRefusal(first) || isRefusal(lines[0] ?? "") ? QUESTIONS : WELL;
 }

@@ -1,6 +1,5 @@
 // What a terminal shows beside the replies: where the machine is, the panel in a few lines, and accounts in 80 columns. All of it is read from
 // replies that are asked for when it is shown.
-import { linesIn, wordsOf } from "./lines.mjs";
 import { accountsOf, fractionOf, linesOf, recordsOf, toldOf } from "./replies.mjs";
 
 /** Of more codes that were printed only the count is shown. */
@@ -98,10 +97,12 @@ const accumulatorOf = (state) => `accumulator ${state.get("accumulator")} = ${st
 const numberOf = (address) => Number(address.slice(0, 2)) * 64 + Number(address.slice(2));
 const addressOf = (number) => [Math.floor(number / 64), number % 64].map((part) => String(part).padStart(2, "0")).join("");
 
+const [STATE, INDENT] = ["state ", "        "];
+
 /** The reply of `trace-data` as a table of 80 columns, with the lines that end it. */
 export function narrowTrace(reply) {
     const { told, end } = toldOf(reply);
-    const state = linesOf(reply).slice(told.length + 1).map((line) => line.replace(/^state /, "        "));
+    const state = linesOf(reply).slice(told.length + 1).map((line) => (line.startsWith(STATE) ? INDENT + line.slice(STATE.length) : line));
     const rows = accountsOf(told).flatMap(narrowRow);
     return [...(rows.length > 0 ? [HEADING] : []), ...rows, end, ...state];
 }
@@ -117,6 +118,3 @@ function narrowRow({ clock, at, label, order, find, take, seek, act, sum, after,
     if (passed > 0) lines.push(`        codes passed: ${passed}`);
     return lines;
 }
-
-/** What a reply says that nothing is live for, with the keys that are. */
-export const liveKeys = (reply) => wordsOf(linesIn(reply)[0]).slice(1);

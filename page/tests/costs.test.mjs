@@ -1,27 +1,39 @@
 // The sentences of the ring of costs, over replies as the monitor has them.
 import assert from "node:assert/strict";
 import { test } from "node:test";
-import { costsOf } from "../module/replies.mjs";
+import { costsIn } from "../looks.mjs";
 import { costsText } from "../views/costs.mjs";
 import { LANGUAGES, textsIn } from "../words.mjs";
 
-const HEAD = ["orders 2355, word times 150629, turns of the drum 2353.5", "0128 wage"];
-const DRAWN = ["  sector 25       125541  # best", "  sector 28       150629  ######################################## own"];
-const told = (lines, refusal = null) => costsText({ ...costsOf(lines), refusal }, textsIn("en"));
+/** The reply of `optimum-data` about a word in sector 28, for which sector 25 would have cost least. */
+const replyWith = ({ best = 25, least = 125541, freedom = "free", sentence = "it may be moved", end = "ran 2355 limit" } = {}) => [
+    "orders 2355", "times 150629", "word 0128", "label wage", "sector 28", `best ${best}`, `saved ${150629 - least}`, `freedom ${freedom}`, `freedom-sentence ${sentence}`,
+    `numbers ${Array.from({ length: 64 }, (unused, sector) => (sector === best ? least : 150629)).join(" ")}`, end, "",
+].join("\n");
+const told = (reply) => costsText(costsIn(reply), textsIn("en"));
 
 test("where a word lies, what the orders took, where it would have cost least and what it would save", () => {
-    assert.deepEqual(told([...HEAD, ...DRAWN, "  it may be moved, and saves 25088 word times at sector 25"]),
+    assert.deepEqual(told(replyWith()),
         ["0128 wage is in sector 28. With it there, the last orders, 2,355 in all, took 150,629 word times; in sector 25 they would have taken 125,541, which is 25,088 fewer, and the word may be moved."]);
-    assert.match(told([...HEAD, "  sector 25       125541  # own best", "  it may be moved, and saves 0 word times at sector 25"])[0], /is in sector 25\. .* no sector is better\. The word may be moved\.$/);
+    assert.match(told(replyWith({ best: 28, least: 150629 }))[0], /is in sector 28\. .* no sector is better\. The word may be moved\.$/);
+});
+
+test("the sectors come in the order in which they pass the head, each with its word times, none where no order named the word", () => {
+    const { sectors } = costsIn(replyWith());
+    assert.deepEqual(sectors.slice(0, 3).map(({ sector }) => sector), [0, 57, 50]);
+    assert.deepEqual(sectors.filter(({ isOwn, isBest }) => isOwn || isBest), [{ sector: 25, times: 125541, isOwn: false, isBest: true }, { sector: 28, times: 150629, isOwn: true, isBest: false }]);
+    assert.deepEqual(costsIn(replyWith({ freedom: "unnamed", sentence: "no order named it: wherever it is, they take as long" })).sectors, []);
 });
 
 test("a reason is told as the monitor gives it, and so is why a run was refused", () => {
     const reason = "it is not to be moved, since it was performed as an order";
-    const [sentence, said] = told([...HEAD, ...DRAWN, `  ${reason}`]);
+    const [sentence, said] = told(replyWith({ freedom: "performed", sentence: reason }));
     assert.match(sentence, /in sector 25 they would have taken 125,541, but the word is an order of the program/);
     assert.equal(said, `The monitor says: ${reason}`);
     const refusal = "? 4 ClockEnd: the clock would pass its end";
-    assert.deepEqual(told(["no order was performed, so no word was named"], refusal).slice(1), ["The monitor says: no order was performed, so no word was named", `The monitor says: ${refusal}`]);
+    const unnamed = "no order named it: wherever it is, they take as long";
+    const none = ["orders 0", "times 0", "word 0128", "sector 28", "best 28", "saved 0", "freedom unnamed", `freedom-sentence ${unnamed}`, `numbers ${Array(64).fill(0).join(" ")}`, refusal, ""].join("\n");
+    assert.deepEqual([told(none).slice(1), costsIn(none).sectors], [[`The monitor says: ${unnamed}`, `The monitor says: ${refusal}`], []]);
 });
 
 test("each kind of sentence is there in each language", () => {

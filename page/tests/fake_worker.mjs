@@ -2,11 +2,11 @@
 const words = (first, count, text) => Array.from({ length: count }, (unused, place) => `${first.slice(0, 2)}${String(Number(first.slice(2)) + place).padStart(2, "0")} ${text}\n`).join("");
 let clock = 0;
 const answers = {
-    "panel-data": () => `counter 0002\naccumulator 00000012\nregister 00040000\nstatus going\nmode normal\nbp32 up\nbp16 up\nbp8 up\nbp4 down\ntransfer up\nsixbit up\nreader off\ntape 0\nclock ${clock}\n`,
-    rules: () => "", labels: () => "",
-    live: () => "live normal oneop manual\nway orders\n",
+    "state-data": () => `counter 0002\naccumulator 00000012\nregister 00040000\nstatus going\nmode normal\nbp32 up\nbp16 up\nbp8 up\nbp4 down\ntransfer up\nsixbit up\nreader off\ntape 0\nclock ${clock}\nlive-normal yes\nlive-oneop yes\nlive-manual yes\nlive-start no\nway orders\n`,
+    "rules-data": () => "", "labels-data": () => "",
     numbers: (first, count) => words(first, Number(count), "000100j8   .0000306107  32868"),
     why: (place) => `${place}: 000100j8 b 0050 = 32868, changed by no kept step\n`,
+    "show-data": (first, count) => Array.from({ length: Number(count) }, (unused, place) => `address ${first.slice(0, 2)}${String(Number(first.slice(2)) + place).padStart(2, "0")}\ndigits 000100j8\norder b 0050\nchanged no\n`).join(""),
     words: (first, count) => words(first, Number(count), "000100j8"),
     show: (first, count) => words(first, Number(count), "b 0050"),
     paper: () => "paper 6\nab\nc d\n",

@@ -176,7 +176,7 @@ live("before memory ends nothing more is begun, and all can be saved", async (la
         await deed();
         assert.equal(laboratory.notice.kind, "usedUp");
     }
-    assert.ok(link.sent.slice(sent).every((line) => /^(panel-data|live|numbers|why|paper|rules)/.test(line)));
+    assert.ok(link.sent.slice(sent).every((line) => /^(state-data|show-data|why-data|paper|rules-data)/.test(line)));
     assert.match(await laboratory.transcript(), /^put 0000 00083100\n/);
     assert.equal(await laboratory.say("words 0000 1"), "0000 00083100\n");
     const { behind } = laboratory.deeds;
@@ -514,7 +514,7 @@ live("what a word would have cost is asked of the last orders, and the machine a
 live("of a long run the orders are asked for that are kept, and of none that is said", async (laboratory) => {
     await laboratory.say("put 0000 b 0000", "put 0001 a 0003", "put 0002 u 0000", "press start");
     await laboratory.askCosts("0003");
-    assert.deepEqual([laboratory.costs.kind, laboratory.costs.reason], ["none", "no order was performed, so no word was named"]);
+    assert.deepEqual([laboratory.costs.kind, laboratory.costs.address, laboratory.costs.reason], ["none", null, "no order named it: wherever it is, they take as long"]);
     await laboratory.run(6000);
     const { panel } = laboratory;
     for (const [address, kind] of [["0003", "free"], ["0005", "unnamed"], ["0002", "unnamed"], ["0000", "performed"]]) {

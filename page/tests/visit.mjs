@@ -773,7 +773,7 @@ async function costs(browser) {
         await press(browser, `tr[data-address="${place}"] button`);
         return ringOf(browser);
     };
-    assert.deepEqual(await ask("0128"), { told: "There is nothing to show: no order has been performed since the operator last did something.\nThe monitor says: no order was performed, so no word was named", bars: 0, marks: [null, null], rows: 0 });
+    assert.deepEqual(await ask("0128"), { told: "There is nothing to show: no order has been performed since the operator last did something.\nThe monitor says: no order named it: wherever it is, they take as long", bars: 0, marks: [null, null], rows: 0 });
     await press(browser, "#go-on");
     const [before, transcript] = [await panelOf(browser), await browser.value("laboratoryOfPage().transcript()")];
     const wage = await ask("0128");

@@ -48,9 +48,10 @@ const strokes = (sector, digits) => bitsOf(digits).map((bit, place) => [bit, sta
 /** Where the bars of a ring of costs begin and end, and where its marks lie. */
 const COSTS = { from: 168, to: 254, mark: 157 };
 
-/** The bar of a sector's cost, as long as the monitor draws it: forty signs at most. */
-function costBar({ sector, length, isOwn, isBest }) {
-    const [from, to, radius] = [startOf(sector) + 0.5, startOf(sector) + STEP - 0.5, COSTS.from + ((COSTS.to - COSTS.from) * length) / 40];
+/** The bar of a sector's cost, the longer the more it takes, of the least and the most that sectors take. */
+function costBar({ sector, times, isOwn, isBest }, least, most) {
+    const share = 0.025 + (0.975 * (times - least)) / Math.max(1, most - least);
+    const [from, to, radius] = [startOf(sector) + 0.5, startOf(sector) + STEP - 0.5, COSTS.from + (COSTS.to - COSTS.from) * share];
     const [x, y] = at((from + to) / 2, COSTS.mark);
     const bar = s("path", { class: `cost ${isBest ? "best" : isOwn ? "own" : ""}`, d: `M ${fixed(at(from, radius))} ${arc(to, radius)} L ${fixed(at(to, COSTS.from))} ${arc(from, COSTS.from, 0)} Z` });
     const own = isOwn ? s("circle", { class: "cost-mark own", cx: x, cy: y, r: 6 }) : null;
@@ -96,7 +97,8 @@ function makeRing() {
     const cost = (shown) => {
         if (shown === costsShown) return;
         costsShown = shown;
-        costs.replaceChildren(...(shown?.sectors ?? []).map(costBar));
+        const [sectors, times] = [shown?.sectors ?? [], (shown?.sectors ?? []).map((it) => it.times)];
+        costs.replaceChildren(...sectors.map((it) => costBar(it, Math.min(...times), Math.max(...times))));
     };
     const trace = (tried) => tries.replaceChildren(...tried.map(triedMark));
     return { node: h("div", { class: "well" }, svg, blur), mark, light, write, cost, trace, turn: (position) => { svg.style.transform = `rotate(${-position * STEP}deg)`; } };

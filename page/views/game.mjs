@@ -12,7 +12,7 @@ export const GAMES = new Map([["games/matches", {
 export const asksOf = ({ heap: { labels, point } }, byAddress) => labels.map((label) => `numbers ${[...byAddress].find(([, names]) => names.includes(label))[0]} 1 ${point}`);
 
 /** The number at the end of a reply of `numbers`. */
-export const numberIn = (reply) => Number(/(-?\d+)\n$/.exec(reply)?.[1] ?? 0);
+export const numberIn = (reply) => Number(reply.trimEnd().split(" ").at(-1)) || 0;
 
 /** What the last line of the paper that is whole says: that a side has won, or how many the machine took. */
 export function saidOn({ says }, paper) {

@@ -118,11 +118,11 @@ class Laboratory:
 
     def optimum(self, limit: int) -> optima.Optimum:
         """Performs orders as `run` does, and tells which words would have cost less at other sectors."""
-        return optima.optimum_of(self._told("optimum", limit))
+        return optima.optimum_of(self._told("optimum-data", limit))
 
     def optimum_of(self, limit: int, address: str) -> optima.WordOptimum:
         """Performs orders as `run` does, and tells what they would have taken with one word at each sector."""
-        return optima.word_optimum_of(self._told("optimum", limit, address))
+        return optima.word_optimum_of(self._told("optimum-data", limit, address))
 
     def drum(self, limit: int) -> "list[str]":
         """Performs orders as `run` does, and draws them: a row a turn of the drum, a sign a word time."""

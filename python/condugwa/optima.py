@@ -1,16 +1,12 @@
-"""Where the words of a run would have cost less, as the monitor's `optimum` tells it."""
+"""Where the words of a run would have cost less, as the monitor's `optimum-data` tells it."""
 
 import dataclasses
-import re
 
-_NO_ORDER = "no order was performed, so no word was named"
-_TOTALS = re.compile(r"orders (\d+), word times (\d+), turns of the drum \d+\.\d")
-_GAIN = re.compile(r"  (\d{4})(?: (\S+))? +sector +(\d+), best +(\d+) +(\d+) +\d+ %")
-_TOGETHER = re.compile(r"  all words that may be moved together +(\d+) +\d+ %")
-_SECTOR = re.compile(r"  sector +(\d+) +(\d+)  #+(?: own)?(?: best)?")
-_FREE = re.compile(r"  it may be moved, and saves (\d+) word times at sector (\d+)")
-_PERFORMED = "not to be moved, since they were performed as orders"
-_NAMED_BY_CHANGED = "not to be moved, since a changed order named them, or one in the register alone"
+from condugwa.records import number_of, records_of, value_of
+
+_FREE, _PERFORMED, _NAMED_BY_CHANGED = "free", "performed", "changed"
+_UNNAMED = "unnamed"
+_SECTORS = 64
 
 
 @dataclasses.dataclass(frozen=True)
@@ -70,59 +66,52 @@ class WordOptimum:
     """What it saves there, and 0 where it may not be moved."""
 
 
-def _numbers(pattern: "re.Pattern[str]", line: str) -> "re.Match[str]":
-    match = pattern.fullmatch(line)
-    if match is None:
-        raise ValueError(f"no line of an optimum: {line!r}")
-    return match
-
-
-def _gain(line: str) -> Gain:
-    address, label, sector, best, saved = _numbers(_GAIN, line).groups()
-    return Gain(address, label, int(sector), int(best), int(saved))
-
-
-def _totals(lines: "list[str]") -> "tuple[int, int]":
-    if not lines:
-        raise ValueError("no optimum: no line")
-    totals = _numbers(_TOTALS, lines[0])
-    return int(totals[1]), int(totals[2])
+def _gain(record: "dict[str, str]") -> Gain:
+    return Gain(
+        address=value_of(record, "word"),
+        label=record.get("label"),
+        sector=number_of(record, "sector"),
+        best=number_of(record, "best"),
+        saved=number_of(record, "saved"),
+    )
 
 
 def optimum_of(lines: "list[str]") -> Optimum:
     """What lines tell of the words of a run. Raises ValueError where they tell none of it."""
-    if lines == [_NO_ORDER]:
-        return Optimum(0, 0, (), 0, (), ())
-    orders, times = _totals(lines)
-    kinds: "dict[str, list[Gain]]" = {_PERFORMED: [], _NAMED_BY_CHANGED: []}
-    free: "list[Gain]" = []
-    kind, together = free, None
-    for line in lines[1:]:
-        if match := _TOGETHER.fullmatch(line):
-            together = int(match[1])
-        elif line in kinds:
-            kind = kinds[line]
-        elif line.startswith(" "):
-            kind.append(_gain(line))
-    if together is None:
-        raise ValueError("no optimum: no line of all words together")
-    return Optimum(orders, times, tuple(free), together, tuple(kinds[_PERFORMED]), tuple(kinds[_NAMED_BY_CHANGED]))
+    records = records_of(lines, "orders", "word")
+    if not records:
+        raise ValueError("no optimum: no line")
+    whole, *words = records
+    gains: "dict[str, list[Gain]]" = {_FREE: [], _PERFORMED: [], _NAMED_BY_CHANGED: []}
+    for word in words:
+        freedom = value_of(word, "freedom")
+        if freedom not in gains:
+            raise ValueError(f"no freedom of a word: {freedom!r}")
+        gains[freedom].append(_gain(word))
+    return Optimum(
+        orders=number_of(whole, "orders"),
+        times=number_of(whole, "times"),
+        free=tuple(gains[_FREE]),
+        together=number_of(whole, "together"),
+        performed=tuple(gains[_PERFORMED]),
+        named_by_changed=tuple(gains[_NAMED_BY_CHANGED]),
+    )
 
 
 def word_optimum_of(lines: "list[str]") -> WordOptimum:
     """What lines tell of one word. Raises ValueError where they tell none of it."""
-    if lines == [_NO_ORDER]:
-        return WordOptimum(0, 0, (), None, 0)
-    orders, times = _totals(lines)
-    drawn = [_numbers(_SECTOR, line) for line in lines[2:-1]]
-    if len(drawn) not in (0, 64):
-        raise ValueError(f"no optimum of a word: {len(drawn)} sectors")
-    numbers = {int(match[1]): int(match[2]) for match in drawn}
-    free = _FREE.fullmatch(lines[-1])
+    records = records_of(lines, "orders")
+    if len(records) != 1:
+        raise ValueError(f"no optimum of a word: {len(records)} records")
+    (record,) = records
+    freedom = value_of(record, "freedom")
+    numbers = tuple(int(number) for number in value_of(record, "numbers").split(" "))
+    if len(numbers) != _SECTORS:
+        raise ValueError(f"no optimum of a word: {len(numbers)} sectors")
     return WordOptimum(
-        orders,
-        times,
-        tuple(numbers[sector] for sector in range(len(drawn))),
-        int(free[2]) if free else None,
-        int(free[1]) if free else 0,
+        orders=number_of(record, "orders"),
+        times=number_of(record, "times"),
+        by_sector=() if freedom == _UNNAMED else numbers,
+        best=number_of(record, "best") if freedom == _FREE else None,
+        saved=number_of(record, "saved") if freedom == _FREE else 0,
     )

@@ -1,5 +1,15 @@
 """Replies for programs: lines of a key, a blank and a value."""
 
+import json
+
+
+def _value_in(written: str) -> str:
+    """A value as it was before it was written in a line.
+
+    There a backslash stands before a quotation mark, another backslash, or `u` and four digits.
+    """
+    return str(json.loads(f'"{written}"')) if "\\" in written else written
+
 
 def records_of(lines: "list[str]", *firsts: str) -> "list[dict[str, str]]":
     """The records that lines tell, each a value by its key; one begins at each line whose key is among `firsts`.
@@ -13,7 +23,7 @@ def records_of(lines: "list[str]", *firsts: str) -> "list[dict[str, str]]":
             records.append({})
         if not blank or not records or key in records[-1]:
             raise ValueError(f"no line of a key and a value here: {line!r}")
-        records[-1][key] = value
+        records[-1][key] = _value_in(value)
     return records
 
 

@@ -104,6 +104,12 @@ def test_records_are_read():
         records.records_of(["orders 2", "times 9", "times 9"], "orders")
 
 
+def test_a_value_of_a_record_is_as_it_was_before_it_was_written():
+    written = ["plain /", r'a \"quoted\" word', r"\\ and \\u0041", r"tab \u0009, \u00e4"]
+    read = [record["text"] for record in records.records_of([f"text {value}" for value in written], "text")]
+    assert read == ["plain /", 'a "quoted" word', "\\ and \\u0041", "tab \t, \u00e4"]
+
+
 def test_a_panel_is_read():
     reply = "\n".join(reply_from("counter 0003", "clock 0")) + "\n"
     assert panels.Panel.of_data(reply) == panels.Panel("0003", "00000008", "00000000", "halted stop", "normal", "uuuuuu", False, 0, 213)

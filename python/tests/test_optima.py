@@ -1,24 +1,42 @@
-"""What `optimum` tells is read from lines as the tests of crates/lgp_lab_tests have them."""
+"""What `optimum-data` tells is read from records as docs/FORMATS.md describes them."""
 
 import pytest
 
 from condugwa import optima
 
-WORDS = """orders 42, word times 2910, turns of the drum 45.4
-the ten words with most to gain
-  0021 start        sector 21, best  0       256    8 %
-  0020              sector 20, best 19        64    2 %
-  all words that may be moved together       320   10 %
-not to be moved, since they were performed as orders
-  0009              sector  9, best 26       256    8 %
-not to be moved, since a changed order named them, or one in the register alone
-  0100              sector  0, best 24        64    2 %""".split("\n")
+TOTALS = ["orders 42", "times 2910", "together 320"]
 
 
-def word(last):
-    """The lines of a word whose best sector is 15."""
-    drawn = [f"  sector {57 * at % 64:2} {100 + at:12}  #{' best' if 57 * at % 64 == 15 else ''}" for at in range(64)]
-    return [WORDS[0], "0000 start", *drawn, last]
+def gain(address, sector, best, saved, freedom, *label):
+    """The record of a word."""
+    fields = [f"sector {sector}", f"best {best}", f"saved {saved}", f"freedom {freedom}"]
+    return [f"word {address}", *(f"label {name}" for name in label), *fields]
+
+
+WORDS = [
+    *TOTALS,
+    *gain("0021", 21, 0, 256, "free", "start"),
+    *gain("0020", 20, 19, 64, "free"),
+    *gain("0009", 9, 26, 256, "performed"),
+    *gain("0100", 0, 24, 64, "changed"),
+]
+
+
+def word(freedom):
+    """The record of a word whose best sector is 15."""
+    sentence = "it may be moved" if freedom == "free" else "it is not to be moved"
+    numbers = " ".join(str(100 + sector) for sector in range(64))
+    return [
+        *TOTALS[:2],
+        "word 0000",
+        "label start",
+        "sector 0",
+        "best 15",
+        "saved 64",
+        f"freedom {freedom}",
+        f"freedom-sentence {sentence}",
+        f"numbers {numbers}",
+    ]
 
 
 def test_the_words_of_a_run_are_read():
@@ -29,26 +47,32 @@ def test_the_words_of_a_run_are_read():
     assert optimum.named_by_changed == (optima.Gain("0100", None, 0, 24, 64),)
 
 
+def test_a_run_without_an_order_has_no_words():
+    assert optima.optimum_of(["orders 0", "times 0", "together 0"]) == optima.Optimum(0, 0, (), 0, (), ())
+
+
 def test_a_word_is_read():
-    seen = optima.word_optimum_of(word("  it may be moved, and saves 64 word times at sector 15"))
+    seen = optima.word_optimum_of(word("free"))
     assert (seen.orders, seen.times, seen.best, seen.saved) == (42, 2910, 15, 64)
-    assert [seen.by_sector[57 * at % 64] for at in range(64)] == list(range(100, 164))
+    assert seen.by_sector == tuple(range(100, 164))
 
 
-@pytest.mark.parametrize("drawn", [True, False])
-def test_a_word_that_may_not_be_moved_has_no_best_sector(drawn):
-    lines = word("  it is not to be moved, since it was performed as an order")
-    seen = optima.word_optimum_of(lines if drawn else lines[:2] + lines[-1:])
-    assert (len(seen.by_sector), seen.best, seen.saved) == (64 if drawn else 0, None, 0)
+@pytest.mark.parametrize(("freedom", "sectors"), [("performed", 64), ("changed", 64), ("unnamed", 0)])
+def test_a_word_that_may_not_be_moved_has_no_best_sector(freedom, sectors):
+    seen = optima.word_optimum_of(word(freedom))
+    assert (len(seen.by_sector), seen.best, seen.saved) == (sectors, None, 0)
 
 
-@pytest.mark.parametrize("lines", [[], ["ran 3 rest"], WORDS[:1], [*WORDS, "  no such line"]])
+@pytest.mark.parametrize(
+    "lines",
+    [[], ["ran 3 rest"], WORDS[:2], WORDS[3:], WORDS[:-1], [*WORDS[:-1], "freedom none"], [*WORDS, "line"], [*WORDS, "saved 64"]],
+)
 def test_other_lines_are_no_optimum(lines):
     with pytest.raises(ValueError):
         optima.optimum_of(lines)
 
 
-@pytest.mark.parametrize("lines", [[], ["ran 3 rest"], word("")[:40]])
+@pytest.mark.parametrize("lines", [[], ["ran 3 rest"], word("free")[:-1], [*word("free")[:-1], "numbers 1 2 3"], WORDS])
 def test_other_lines_are_no_optimum_of_a_word(lines):
     with pytest.raises(ValueError):
         optima.word_optimum_of(lines)

@@ -9,6 +9,12 @@ test("records of lines with a key and a value", () => {
     for (const lines of [["times 3"], ["place"], [""], ["place 0000", "times 3", "times 3"]]) assert.throws(() => replies.recordsOf(lines, "place"), replies.ReplyError);
 });
 
+test("a value of a record is as it was before it was written", () => {
+    const written = ["plain /", 'a \\"quoted\\" word', "\\\\ and \\\\u0041", "tab \\u0009, \\u00e4"];
+    const values = replies.recordsOf(written.map((value) => `text ${value}`), "text").map((record) => record.get("text"));
+    assert.deepEqual(values, ["plain /", 'a "quoted" word', "\\ and \\u0041", "tab \t, \u00e4"]);
+});
+
 const PANEL = "counter 0002\naccumulator 00000012\nregister 00040000\nstatus halted stop\nmode normal\nbp32 up\nbp16 up\nbp8 up\nbp4 down\ntransfer up\nsixbit up\nreader off\ntape 0\nclock 1612\n";
 
 test("a panel", () => {
@@ -22,10 +28,10 @@ test("a text that is no panel", () => {
 });
 
 test("what is live, and what lets the machine go on", () => {
-    const said = (live, way) => replies.liveOf(`live ${live}\nway ${way}\n`);
-    assert.deepEqual(said("normal keys stop", "keys"), { live: new Set(["normal", "keys", "stop"]), way: { kind: "keys" } });
-    assert.deepEqual(["orders", "start", "normal start"].map((way) => said("normal", way).way), [{ kind: "go" }, { kind: "start" }, { kind: "mode", mode: "normal" }]);
-    assert.throws(() => replies.liveOf("live\n"), replies.ReplyError);
+    const said = (way) => replies.liveOf(`${PANEL}live-normal yes\nlive-start no\nlive-keys yes\nway ${way}\nkept 9\n`);
+    assert.deepEqual(said("keys"), { live: new Set(["normal", "keys"]), way: { kind: "keys" } });
+    assert.deepEqual(["orders", "start", "normal-start"].map((way) => said(way).way), [{ kind: "go" }, { kind: "start" }, { kind: "mode", mode: "normal" }]);
+    for (const reply of ["live normal\nway orders\n", PANEL, ""]) assert.throws(() => replies.liveOf(reply), replies.ReplyError, reply);
 });
 
 test("the commands, and which only ask", () => {
@@ -47,12 +53,23 @@ test("runs and their ends", () => {
         { orders: 0, end: "rest", rule: null });
     assert.deepEqual(replies.toldOf("orders 0\nran 0 rest\nstate a stop order halted the machine: press start continues\n"),
         { told: ["orders 0"], end: "ran 0 rest" });
-    assert.throws(() => replies.runOf("? 4 ClockEnd\n"), replies.ReplyError);
+    for (const reply of ["? 4 ClockEnd\n", "ran\n", "ran 3\n", "ran three rest\n", "ran 3 rule\n", "ran 3 often\n"]) assert.throws(() => replies.runOf(reply), replies.ReplyError, reply);
+});
+
+test("replies of one short line", () => {
+    assert.deepEqual([replies.ordersOf("orders 2 halted stop\n"), replies.clockOf("clock 4611686018427387904\n"), replies.lastOf("back 4 rule 0\n"), replies.loadedOf("loaded 63\n")],
+        [{ orders: 2, status: "halted stop" }, 4611686018427387904n, { orders: 4, rule: 0 }, 63]);
+    const misread = [() => replies.ordersOf("ran 2 rest\n"), () => replies.clockOf("clock\n"), () => replies.clockOf("clock -1\n"), () => replies.lastOf("back 4\n"), () => replies.loadedOf("? 10 NoImage\n"), () => replies.loadedOf("")];
+    for (const read of misread) assert.throws(read, replies.ReplyError, String(read));
+    assert.deepEqual(replies.placesOf("0000 00080000\n0001 000100j8\n"), [{ address: "0000", text: "00080000" }, { address: "0001", text: "000100j8" }]);
+    for (const reply of ["0000\n", "0000 p 4900\n", "00 00080000\n", "ok\n"]) assert.throws(() => replies.placesOf(reply), replies.ReplyError, reply);
 });
 
 test("refusals", () => {
     assert.deepEqual(replies.refusalOf("? 7 TooFar 12\n"), { code: 7, kind: "TooFar", number: 12, reason: null });
     assert.deepEqual(replies.refusalOf("? 1 Form: go ttss\n"), { code: 1, kind: "Form", number: null, reason: "go ttss" });
+    assert.deepEqual(replies.refusalOf("? 12 BadSign 2: the byte at place 2: A\n"), { code: 12, kind: "BadSign", number: 2, reason: "the byte at place 2: A" });
+    for (const reply of ["ok\n", "?\n", "? 1\n", "? x Form\n", ""]) assert.throws(() => replies.refusalOf(reply), replies.ReplyError, reply);
 });
 
 const TIMES = ["find 45", "take 1", "seek 26", "act 1"];
@@ -88,6 +105,8 @@ test("lines that are no account", () => {
 test("rows of the drum", () => {
     const rows = replies.drumRowsOf(["    64  i.........................Rx....", "   192  .................Fi-x"]);
     assert.deepEqual(rows.map((row) => [row.clock, row.signs.length]), [[64n, 32], [192n, 21]]);
+    assert.deepEqual(replies.drumRowsOf(["     128      Fi"]), [{ clock: 128n, signs: "    Fi" }]);
+    for (const line of ["", "ran 3 rest", "  ..Fi"]) assert.throws(() => replies.drumRowsOf([line]), replies.ReplyError, line);
 });
 
 test("a profile", () => {
@@ -100,19 +119,24 @@ test("a profile", () => {
     for (const lines of [[], ["orders 3"], ["place 0000", "times 3"]]) assert.throws(() => replies.profileOf(lines), replies.ReplyError, lines.join());
 });
 
-const COSTS = ["orders 3, word times 213, turns of the drum 3.3", "0003 four", "  sector  0          213  #################################", "  sector 57          149  # best", "  sector  3          213  ################################# own"];
+/** The lines of `optimum-data` about a word, which would have cost least at sector 57. */
+const costsWith = (...freedom) => [
+    "orders 3", "times 213", "word 0003", "label four", "sector 3", "best 57", "saved 64", ...freedom,
+    `numbers ${Array.from({ length: 64 }, (unused, sector) => (sector === 57 ? 149 : 213)).join(" ")}`,
+];
 
 test("what one word would have cost at each sector", () => {
-    const costs = replies.costsOf([...COSTS, "  it may be moved, and saves 64 word times at sector 57"]);
-    assert.deepEqual([costs.orders, costs.times, costs.turns, costs.address, costs.label, costs.saved, costs.kind, costs.reason], [3, 213, 3.3, "0003", "four", 64, "free", null]);
-    assert.deepEqual(costs.sectors.map(({ sector, times, length, isOwn, isBest }) => [sector, times, length, isOwn, isBest]), [[0, 213, 33, false, false], [57, 149, 1, false, true], [3, 213, 33, true, false]]);
-    const kindOf = (...lines) => (({ kind, reason, sectors }) => [kind, reason, sectors.length])(replies.costsOf(lines));
-    const because = { performed: "it is not to be moved, since it was performed as an order", changed: "it is not to be moved, since a changed order named it, or one in the register alone" };
-    for (const [kind, reason] of Object.entries(because)) assert.deepEqual(kindOf(...COSTS, `  ${reason}`), [kind, reason, 3]);
-    const unnamed = "no order named it: wherever it stands, they take as long";
-    assert.deepEqual(kindOf(COSTS[0], "0003", `  ${unnamed}`), ["unnamed", unnamed, 0]);
-    assert.deepEqual(kindOf("no order was performed, so no word was named"), ["none", "no order was performed, so no word was named", 0]);
-    for (const lines of [[], ["ran 3 rest"], COSTS, [COSTS[0], "0003", "  sector", "  it may be moved"]]) assert.throws(() => replies.costsOf(lines), replies.ReplyError, lines.join());
+    const { numbers, ...costs } = replies.costsOf(costsWith("freedom free", "freedom-sentence it may be moved"));
+    assert.deepEqual(costs, { orders: 3, times: 213, address: "0003", label: "four", own: 3, best: 57, saved: 64, kind: "free", reason: null });
+    assert.deepEqual([numbers.length, numbers[3], numbers[57]], [64, 213, 149]);
+    const because = { performed: "it is not to be moved, since it was performed as an order", changed: "it is not to be moved, since a changed order named it, or one in the register alone", unnamed: "no order named it: wherever it is, they take as long" };
+    for (const [freedom, sentence] of Object.entries(because)) {
+        const { kind, reason, saved } = replies.costsOf(costsWith(`freedom ${freedom}`, `freedom-sentence ${sentence}`));
+        assert.deepEqual([kind, reason, saved], [freedom, sentence, 0]);
+    }
+    const none = ["orders 0", "times 0", "word 0003", "sector 3", "best 3", "saved 0", "freedom unnamed", `freedom-sentence ${because.unnamed}`, `numbers ${Array(64).fill(0).join(" ")}`];
+    assert.deepEqual((({ kind, reason, address }) => [kind, reason, address])(replies.costsOf(none)), ["none", because.unnamed, null]);
+    for (const lines of [[], ["ran 3 rest"], costsWith(), costsWith("freedom free").slice(0, -1)]) assert.throws(() => replies.costsOf(lines), replies.ReplyError, lines.join());
 });
 
 test("faults of a source", () => {
@@ -140,19 +164,26 @@ test("codes of a tape text are those of FORMATS", () => {
     assert.throws(() => replies.codesOf("A"), replies.ReplyError);
 });
 
-test("where words came from, and the rules", () => {
-    const reply = "0001 lop: 000f0000 u 0000 loop = 327680, put there by y 0001 lop at 0000 loop, clock 0, 1 order ago; before it was u 0005\n"
-        + "0000: 00020004 y 0001 = 65538, put there by hand, clock 7; before it was z 0000\n0002: 00000000 z 0000 = 0, changed by no kept step\n"
-        + "0003: 80000000 = -1073741824, put there by h 0003 in the instruction register, clock 9, 12 orders ago; before it was 12345678 = 152709948\n";
+test("words, and where they came from", () => {
+    const shown = "address 0000\ndigits 00020004\norder y 0001\nnumber 65538\nchanged yes\naddress 0001\nlabel lop\ndigits 80000000\nnumber -1073741824\nchanged no\n";
+    assert.deepEqual(replies.heldOf(shown), [{ address: "0000", digits: "00020004", order: "y 0001", isChanged: true }, { address: "0001", digits: "80000000", order: null, isChanged: false }]);
+    assert.throws(() => replies.heldOf("address 0000\n"), replies.ReplyError);
+    const reply = "address 0001\nlabel lop\ndigits 000f0000\norder u 0000\nnumber 327680\nchanged-by order\nby-order y 0001\nby-at 0000\nby-label loop\nby-clock 0\nby-ago 1\nbefore 000f0014\nbefore-order u 0005\nbefore-number 327690\n"
+        + "address 0000\ndigits 00020004\norder y 0001\nnumber 65538\nchanged-by hand\nby-clock 7\nbefore 00000000\nbefore-order z 0000\nbefore-number 0\naddress 0002\ndigits 00000000\norder z 0000\nnumber 0\nchanged-by none\n"
+        + "address 0003\ndigits 80000000\nnumber -1073741824\nchanged-by order\nby-order h 0003\nby-clock 9\nby-ago 12\nbefore 12345678\nbefore-number 152709948\n";
     assert.deepEqual([...replies.originsOf(reply)], [
-        ["0001", { order: "y 0001 lop", at: "0000", clock: 0n, lost: "u 0005" }], ["0000", { order: null, at: null, clock: 7n, lost: "z 0000" }],
+        ["0001", { order: "y 0001", at: "0000", clock: 0n, lost: "u 0005" }], ["0000", { order: null, at: null, clock: 7n, lost: "z 0000" }],
         ["0003", { order: "h 0003", at: null, clock: 9n, lost: "12345678 = 152709948" }]]);
-    assert.deepEqual(replies.rulesOf("rule 0 break 0100\nrule 1 watch 0009 loop\n"), ["break 0100", "watch 0009 loop"]);
-    assert.throws(() => replies.rulesOf("rule\n"), replies.ReplyError);
 });
 
-test("labels, of which one lies behind the drum", () => {
-    assert.deepEqual([...replies.labelsOf("loop 0000\nsame 0000\nend past the drum\n")], [["0000", ["loop", "same"]], ["past the drum", ["end"]]]);
+test("the rules", () => {
+    assert.deepEqual(replies.rulesOf("rule 0\nkind break\naddress 0100\nrule 1\nkind watch\naddress 0009\nlabel loop\n"), ["break 0100", "watch 0009 loop"]);
+    assert.deepEqual(replies.rulesOf(""), []);
+    assert.throws(() => replies.rulesOf("rule 0\nkind break\n"), replies.ReplyError);
+});
+
+test("labels, of which one is past the drum", () => {
+    assert.deepEqual([...replies.labelsOf("name loop\nplace 0000\nline 1\nname same\nplace 0000\nline 2\nname end\nline 3\n")], [["0000", ["loop", "same"]]]);
 });
 
 test("what put an order where it stood", () => {
