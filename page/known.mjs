@@ -1,5 +1,5 @@
-// Words of the drum as the monitor has said them. What it has said of them stays right as long as it tells each order: an account says which word its order has stored.
-import { SECTORS, numberOf } from "./addresses.mjs";
+// Words of the drum as the monitor says them, asked each time. What has put a word there is asked once: as long as the monitor tells each order, an account says which word its order has stored.
+import { SECTORS } from "./addresses.mjs";
 import * as replies from "./module/replies.mjs";
 
 const trackOf = (address) => address.slice(0, 2);
@@ -9,62 +9,44 @@ const bare = (order) => (order === null ? null : order.split(" ").slice(0, 2).jo
 
 const originBy = ({ order, at, clock, stored: { before } }) => ({ order: bare(order), at, clock, lost: bare(before.order) ?? `${before.digits} = ${before.number}` });
 
-/** The digits of all words after changes. */
-function changedBy(changes, digits) {
-    const changed = [...digits];
-    for (const { stored: { address, after } } of changes) changed[numberOf(address)] = after.digits;
-    return changed;
-}
-
 /** What is known over a link. */
 export class Known {
     #link;
-    /** The words of tracks, and what put words there, null where no order has; each by its address. */
+    /** The words of the tracks that were asked last, and what put words there, null where no order has; each by its address. */
     #words = new Map();
     #origins = new Map();
-    /** The digits of the whole drum, once they were asked. */
+    /** Whether all that was done since the last looking was told. */
+    isTold = false;
+    /** The digits of the whole drum, once they were asked and as long as no word has changed. */
     drum = null;
 
     constructor(link) {
         this.#link = link;
     }
 
-    /** Whether nothing is known. */
-    get isEmpty() {
-        return this.#words.size === 0;
-    }
-
     /** Something was done that was not told. */
     forget() {
-        this.#words.clear();
         this.#origins.clear();
-        this.drum = null;
+        Object.assign(this, { isTold: false, drum: null });
     }
 
     /** Orders were told. */
     told(accounts) {
         const changes = accounts.filter(({ stored }) => stored !== null && stored.before.digits !== stored.after.digits);
-        for (const account of changes) {
-            const { address, after: { digits, order } } = account.stored;
-            if (this.#words.has(address)) this.#words.set(address, { address, digits, order: bare(order), isChanged: true });
-            this.#origins.set(address, originBy(account));
-        }
-        if (changes.length > 0 && this.drum !== null) this.drum = this.drum.then((digits) => digits && changedBy(changes, digits));
+        for (const account of changes) this.#origins.set(account.stored.address, originBy(account));
+        if (changes.length > 0) this.drum = null;
     }
 
     async #ask(lines) {
         return lines.length === 0 ? "" : this.#link.askAll(lines);
     }
 
-    /** The tracks of addresses that are not known. */
-    missing(addresses) {
-        return [...new Set(addresses.filter((address) => !this.#words.has(address)).map(trackOf))];
-    }
-
-    /** Asks the tracks of addresses that are not known. */
+    /** Asks the tracks of addresses. */
     async ask(addresses) {
-        const reply = await this.#ask(this.missing(addresses).map((track) => `show-data ${track}00 ${SECTORS}`));
-        for (const word of replies.heldOf(reply)) this.#words.set(word.address, word);
+        const tracks = [...new Set(addresses.map(trackOf))];
+        const reply = await this.#ask(tracks.map((track) => `show-data ${track}00 ${SECTORS}`));
+        this.#words = new Map(replies.heldOf(reply).map((word) => [word.address, word]));
+        this.isTold = true;
     }
 
     /** Asks what put words of addresses there that a step has changed, where that is not known. */

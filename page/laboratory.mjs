@@ -441,11 +441,11 @@ export class Laboratory extends EventTarget {
     }
 
     /** Looks at the machine: its state, and then, asked at once, words around the counter and those of its track, what is printed, and the rules. Where nothing was done but orders that were told,
-     * only what they may have changed is asked. In an open source there is no looking. Words that the reader has asked for remain shown until the counter changes. */
+     * the rules are as they were, and so is what is printed unless one of them has printed. In an open source there is no looking. Words that the reader has asked for remain shown until the counter changes. */
     async #look() {
         if (this.openSource !== null) return;
-        const isWhole = this.#known.isEmpty;
-        await this.#lookAtState(isWhole);
+        const isWhole = !this.#known.isTold;
+        await this.#lookAtState();
         const asked = [this.#lookAtWords(isWhole), this.#looks.others(this.questionsToo)];
         if (isWhole) asked.push(this.#looks.rules().then((rules) => { this.rules = rules; }));
         if (isWhole || this.#isPrinted) asked.push(this.#lookAtPaper());
@@ -455,7 +455,7 @@ export class Laboratory extends EventTarget {
         this.#hit = null;
     }
 
-    async #lookAtState(isWhole) {
+    async #lookAtState() {
         const before = this.panel?.counter;
         const { panel, live } = await this.#looks.state();
         Object.assign(this, { panel, costs: this.#costsOfLine });
@@ -463,14 +463,13 @@ export class Laboratory extends EventTarget {
         this.accounts = this.accounts.filter(({ clock }) => clock < panel.clock);
         const last = this.accounts.at(-1);
         if (last !== undefined && last.register === undefined) Object.assign(last, { register: panel.register, next: panel.counter, status: panel.status });
-        if (panel.counter !== before && !isAmong(panel.counter, this.#first, SHOWN - 1)) this.#place(panel.counter, isWhole);
+        if (panel.counter !== before && !isAmong(panel.counter, this.#first, SHOWN - 1)) this.#place(panel.counter);
     }
 
-    /** Shows the words around the counter; after orders that were told only those of one track, where more than one would have to be asked. */
-    #place(counter, isWhole) {
+    /** Shows the words around the counter, those of its track, which one line asks. */
+    #place(counter) {
         const track = trackOf(counter);
-        this.#first = windowAt(counter, SHOWN);
-        if (!isWhole && this.#known.missing([...track, ...this.#shown]).length > 1) this.#first = windowAt(counter, SHOWN, [track[0], track.at(-1)]);
+        this.#first = windowAt(counter, SHOWN, [track[0], track.at(-1)]);
     }
 
     /** The addresses of the words that are shown. */
