@@ -1,7 +1,7 @@
 -- What an `Optimum` tells of its words, and what the run that it has noted tells of them, are the same records.
 use Rattle.std.proofs.Common.{◌≡◌, ◌∙◌, ℕ, ◌<◌, List, ◌++◌, sum, true, ap}
 use Rattle.lgp_table.specs.State.{State}
-use Rattle.lgp_trace.specs.Gains.{Moves, best_of, gains_of, moves_in, moves_of, ranking, times_of}
+use Rattle.lgp_trace.specs.Gains.{Moves, best_of, gains_of, moves_in, moves_of, times_of}
 use Rattle.lgp_trace.specs.OptimumKept.{IsOptimumOf, Kept}
 use Rattle.lgp_trace.specs.declared.optimum.Best.{Best}
 use Rattle.lgp_trace.specs.declared.uses.Freedom.{Freedom}

@@ -1,8 +1,8 @@
 -- Part of the public promise: what is written for a reply where programs read: a JSON object on a
 -- line of its own, with the line, the lines of its reply, and whether it is a refusal.
-use Rattle.std.specs.Prelude.{ℕ, ◌==◌, not, ◌&&◌, Bool, true, false, if◌then◌else◌, List, []}
+use Rattle.std.specs.Prelude.{ℕ, ◌==◌, not, ◌&&◌, ◌||◌, nat_eq, Bool, true, false, if◌then◌else◌, List, []}
 use Rattle.std.specs.Prelude.{◌∷◌, ◌++◌, codes, length, map}
-use Rattle.std.specs.List.{list_any}
+use Rattle.std.specs.List.{ends_with, list_any}
 use Rattle.std.specs.Str.{bytes_eq}
 use Rattle.bstr.specs.Text.{lines_of, without_terminator}
 use Rattle.lgp_fields.specs.Escaped.{escaped}
@@ -16,18 +16,14 @@ json_string text = codes "\"" ++ (escaped text ++ codes "\"")
 
 -- ---- the lines of a reply
 
--- the commands whose replies have a key and a value on each line
-abbrev pub keyed_commands : List (List ℕ)
-keyed_commands =
-    codes "live" ∷ codes "commands" ∷ codes "panel-data" ∷ codes "trace-data"
-    ∷ codes "profile-data" ∷ codes "state-data" ∷ codes "show-data" ∷ codes "why-data"
-    ∷ codes "labels-data" ∷ codes "rules-data" ∷ codes "paper-data" ∷ codes "tape-data"
-    ∷ codes "source-data" ∷ codes "cost" ∷ codes "optimum-data"
-    ∷ codes "commands-data" ∷ codes "operations-data" ∷ codes "faults-data" ∷ []
+-- whether the replies to a command have a key and a value on each line
+abbrev pub is_keyed : List ℕ → Bool
+is_keyed name =
+    list_any (bytes_eq name) (codes "live" ∷ codes "commands" ∷ codes "cost" ∷ [])
+    || ends_with nat_eq name (codes "-data")
 
 unfoldable pub has_keys : List ℕ → List ℕ → Bool
-has_keys line reply =
-    not (is_question reply) && list_any (bytes_eq (first_word line)) keyed_commands
+has_keys line reply = not (is_question reply) && is_keyed (first_word line)
 
 -- what a line says by its key: its first word, or that it is a refusal
 abbrev pub json_key : List ℕ → List ℕ

@@ -3,7 +3,7 @@
 ghost use Rattle.std.specs.Prelude.{◌≡◌, ◌++◌, [], OnOk, codes, if◌then◌else◌, map, true};
 ghost use Rattle.bstr.specs.Text.{lines_of, without_terminator};
 ghost use Rattle.lgp_stream.specs.Language.{is_question};
-ghost use Rattle.lgp_desk.specs.Json.{has_keys, json_answer, json_key, json_line, json_lines, json_note, json_own, json_reply, json_string, json_typed};
+ghost use Rattle.lgp_desk.specs.Json.{has_keys, is_keyed, json_answer, json_key, json_line, json_lines, json_note, json_own, json_reply, json_string, json_typed};
 
 use bstr::ByteSlice;
 use lgp_fields::push_escaped;
@@ -20,31 +20,22 @@ fn push_string<A: Allocator>(text: &mut Vec<u8, A>, bytes: &[u8]) -> Result<(), 
     text.extend_from_slice(b"\"")
 }
 
+/// Whether the replies to a command have a key and a value on each line.
+fn is_keyed(name: &[u8]) -> bool
+    ensures { result ≡ is_keyed name.now }
+{
+    name == b"live".as_slice()
+        || name == b"commands".as_slice()
+        || name == b"cost".as_slice()
+        || name.ends_with(b"-data")
+}
+
 /// Whether the reply to a line has a key and a value on each line.
 #[tactic(auto, unfolding(crate::specs::Json::has_keys))]
 fn has_keys(line: &[u8], reply: &[u8]) -> bool
     ensures { result ≡ has_keys line.now reply.now }
 {
-    let word = split_word(line).word;
-    !is_question(reply)
-        && (word == b"live".as_slice()
-            || word == b"commands".as_slice()
-            || word == b"panel-data".as_slice()
-            || word == b"trace-data".as_slice()
-            || word == b"profile-data".as_slice()
-            || word == b"state-data".as_slice()
-            || word == b"show-data".as_slice()
-            || word == b"why-data".as_slice()
-            || word == b"labels-data".as_slice()
-            || word == b"rules-data".as_slice()
-            || word == b"paper-data".as_slice()
-            || word == b"tape-data".as_slice()
-            || word == b"source-data".as_slice()
-            || word == b"cost".as_slice()
-            || word == b"optimum-data".as_slice()
-            || word == b"commands-data".as_slice()
-            || word == b"operations-data".as_slice()
-            || word == b"faults-data".as_slice())
+    !is_question(reply) && is_keyed(split_word(line).word)
 }
 
 /// The key of a line that has this first word.

@@ -1,5 +1,5 @@
 -- Lines answered one part after another.
-use Rattle.std.proofs.Common.{◌≡◌, ℕ, List, ◌++◌, sym, ap, ◌∙◌, append_assoc}
+use Rattle.std.proofs.Common.{ℕ, List, ◌++◌, sym, ap, ◌∙◌, append_assoc}
 use Rattle.lgp_stream.specs.Language.{IsAnswered, Language}
 use Rattle.lgp_stream.specs.Transcript.{Recorded, after_lines, lines_answered, replies_text}
 use Rattle.lgp_stream.proofs.AfterLemmas.{after-append, replies-append}

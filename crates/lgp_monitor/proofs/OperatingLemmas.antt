@@ -1,5 +1,5 @@
 -- Runs that are asked for again where the machine waits for a typewriter.
-use Rattle.std.proofs.Common.{◌≡◌, ◌∙◌, ◌+◌, ℕ, zero, suc, Bool, true, false, cond, None, List, [], ◌∷◌, refl, sym, ap, subst, arith}
+use Rattle.std.proofs.Common.{◌≡◌, ◌∙◌, ◌+◌, ℕ, zero, suc, Bool, true, false, cond, None, [], ◌∷◌, refl, sym, ap, subst, arith}
 use Rattle.lgp_stream.specs.Transcript.{Recorded, after_lines}
 use Rattle.lgp_stream.proofs.AfterLemmas.{after-append, after-none}
 use Rattle.lgp_script.specs.HistoryCommands.{replied_to_run}

@@ -13,7 +13,7 @@ use Rattle.lgp_trace.specs.declared.form.Form.{Form}
 use Rattle.lgp_script.specs.HistoryCommands.{orders_run, replied_to_run}
 use Rattle.lgp_script.specs.LabState.{Answer, LabState, labels_of}
 use Rattle.lgp_script.specs.Reply.{IsReplied, Replied}
-use Rattle.lgp_script.specs.ReplyText.{reply_text, written}
+use Rattle.lgp_script.specs.ReplyText.{reply_text}
 use Rattle.lgp_script.specs.Script.{answer_to_line, opens_source, replied_to, script_language}
 use Rattle.lgp_script.specs.declared.reply.Reply.{Reply}
 use Rattle.lgp_script.proofs.CommandLaws.{lines_answered as answered_as_command}

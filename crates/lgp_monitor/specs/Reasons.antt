@@ -1,6 +1,6 @@
 -- Part of the public promise: what is said after replies: the reasons of refusals, and the
 -- machine's state after a run that is reported.
-use Rattle.std.specs.Prelude.{ℕ, ◌==◌, ◌||◌, ◌&&◌, Bool, true, false, if◌then◌else◌, List, []}
+use Rattle.std.specs.Prelude.{ℕ, ◌==◌, Bool, true, false, if◌then◌else◌, List, []}
 use Rattle.std.specs.Prelude.{◌++◌, codes}
 use Rattle.lgp_debugger.specs.declared.fault.Reason.{Reason}
 use Rattle.lgp_debugger.specs.declared.fault.Reason.TheVariants.{Rest, Rule as ByRule}

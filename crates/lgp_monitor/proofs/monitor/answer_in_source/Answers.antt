@@ -1,4 +1,4 @@
-use Rattle.std.proofs.Common.{◌≡◌, ◌∙◌, sym}
+use Rattle.std.proofs.Common.{◌∙◌, sym}
 use Rattle.lgp_stream.proofs.AnswerLemmas.{answered_as}
 use Rattle.lgp_monitor.proofs.ClosingLemmas.{not_closing}
 use Rattle.lgp_monitor.proofs.monitor.answer_in_source.Goals as goal
