@@ -207,6 +207,7 @@ export class Laboratory extends EventTarget {
             this.notice = failure.notice;
             return this.#look();
         }
+        this.#known.forget();
         const lines = this.#said.join("\n");
         const isMemory = failure instanceof NoMemory;
         this.notice = { kind: isMemory ? "noMemory" : "broken", detail: failure.message, lines };
