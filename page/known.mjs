@@ -2,7 +2,7 @@
 import { SECTORS } from "./addresses.mjs";
 import * as replies from "./module/replies.mjs";
 
-const trackOf = (address) => address.slice(0, 2);
+const nameOfTrack = (address) => address.slice(0, 2);
 
 /** An order without the label of its address. */
 const bare = (order) => (order === null ? null : order.split(" ").slice(0, 2).join(" "));
@@ -43,7 +43,7 @@ export class Known {
 
     /** Asks the tracks of addresses. */
     async ask(addresses) {
-        const tracks = [...new Set(addresses.map(trackOf))];
+        const tracks = [...new Set(addresses.map(nameOfTrack))];
         const reply = await this.#ask(tracks.map((track) => `show-data ${track}00 ${SECTORS}`));
         this.#words = new Map(replies.heldOf(reply).map((word) => [word.address, word]));
         this.isTold = true;

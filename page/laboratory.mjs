@@ -71,9 +71,7 @@ export class Laboratory extends EventTarget {
     notice = null;
     /** The lines of laboratories that were lost because memory had ended, until they are put away. */
     lost = [];
-    /** Whether rows of the drum are wanted with accounts, and whether the page shows something of its own, which no reader has done. */
-    wantsRows = true;
-    /** Whether the last orders of a run are told after it. */
+    /** Whether the last orders of a run are told after it, and whether the page shows something of its own, which no reader has done. */
     wantsLast = false;
     isOnShow = false;
     deeds = new Deeds();
@@ -207,6 +205,7 @@ export class Laboratory extends EventTarget {
             this.notice = failure.notice;
             return this.#look();
         }
+        this.#known.forget();
         const lines = this.#said.join("\n");
         const isMemory = failure instanceof NoMemory;
         this.notice = { kind: isMemory ? "noMemory" : "broken", detail: failure.message, lines };
@@ -545,7 +544,7 @@ export class Laboratory extends EventTarget {
         const reply = await this.#say(`trace-data ${limit}`, isAgain, true);
         if (replies.isRefusal(replies.toldOf(reply).end)) return 0;
         const { orders } = replies.runOf(reply);
-        if (withRows && this.wantsRows && orders > 0) this.rows = rowsIn(this.accounts.slice(-orders));
+        if (withRows && orders > 0) this.rows = rowsIn(this.accounts.slice(-orders));
         return orders;
     }
 

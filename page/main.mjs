@@ -339,7 +339,6 @@ async function pass(wanted, isNew) {
 /** Shows what is seen behind the door, and asks of the machine what is seen there. */
 function placeDoor() {
     laboratory.isOnShow = isKiosk || door === "hall" || door === "look";
-    laboratory.wantsRows = !isKiosk && door === "work" && hasTurns;
     laboratory.wantsLast = !isKiosk && door === "work";
     const isPlayed = !isKiosk && door === "look" && game !== null;
     // the game stands in place of what has the notices otherwise
@@ -499,7 +498,7 @@ function makeWork() {
     const madeTasks = makeTasks(texts, tasks, open);
     const source = makeSource(laboratory, texts, drafts, { runIt: runProgram, checker, told: () => show(), isFast: showing.isFast });
     const time = makeTime(laboratory, texts, showing);
-    const turns = makeTurns(laboratory, texts, hasTurns, (isOpen) => { hasTurns = isOpen; placeDoor(); });
+    const turns = makeTurns(laboratory, texts, hasTurns, (isOpen) => { hasTurns = isOpen; });
     const made = {
         hall: makeHall(texts, goTo, drive), tales: makeTales(laboratory, texts, drive, { open: openShown, viewer, told: toldOfTale, others: [gameButton(false)] }), faster: makeGame(), lesson: makeLesson(laboratory, texts, { open: openForStep, pupil, tasks: madeTasks, drafts, told: toldOfLesson, sheets: sheetsOf, isSeen: () => door === "learn" }), tasks: madeTasks,
         drum: makeDrum(laboratory, texts, showing), plate: makePlate(laboratory, texts), scope: makeScope(laboratory, texts, showing), panel: makePanel(laboratory, texts), console: makeConsole(laboratory, texts),

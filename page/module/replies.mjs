@@ -67,7 +67,7 @@ export const fractionOf = (digits) => signedOf(digits) / 2 ** 31;
 /** A word read as a whole number with the point behind place 30: half of its bits. */
 export const wholeOf = (digits) => Math.floor(signedOf(digits) / 2);
 
-/** A value as it was before it was written in a line: there a backslash stands before a quotation mark, another backslash, or `u` and four digits. */
+/** A value as it was before it was written in a line: there quotation marks and backslashes have a backslash before them, and other bytes are `\u` and four digits. */
 const valueIn = (written) => (written.includes("\\") ? JSON.parse(`"${written}"`) : written);
 
 /** Lines of a key, a blank and a value as records, each a value by its key. A record begins at each line whose key is among the first ones. */

@@ -14,10 +14,14 @@ function rowOf({ clock, signs }) {
     return h("div", { class: "drum-row" }, h("span", { class: "row-clock" }, `${String(clock).padStart(8)}  `), ...halves.map((half) => h("span", { class: "half" }, ...runsOf(half))));
 }
 
-/** The part of the page with the rows of the last turns. They are asked for only while they are open; `toggled` is told whether they are. */
+/** The part of the page with the rows of the last turns. They are drawn only while they are open; `toggled` is told whether they are open. */
 export function makeTurns(laboratory, { text }, isOpen, toggled) {
     const rows = h("div", { class: "rows", tabindex: "0", role: "group", "aria-label": text("rows") });
     const node = h("details", { class: "part turns", open: isOpen }, h("summary", {}, text("rows")), h("p", { class: "key" }, h("code", {}, text("rowsKey"))), rows);
-    node.addEventListener("toggle", () => toggled(node.open));
-    return { node, show: () => rows.replaceChildren(...laboratory.rows.slice(-ROWS_SHOWN).map(rowOf)) };
+    const show = () => rows.replaceChildren(...(node.open ? laboratory.rows : []).slice(-ROWS_SHOWN).map(rowOf));
+    node.addEventListener("toggle", () => {
+        toggled(node.open);
+        show();
+    });
+    return { node, show };
 }

@@ -6,7 +6,7 @@ import json
 def _value_in(written: str) -> str:
     """A value as it was before it was written in a line.
 
-    There a backslash stands before a quotation mark, another backslash, or `u` and four digits.
+    There quotation marks and backslashes have a backslash before them, and other bytes are a backslash, `u` and four digits.
     """
     return str(json.loads(f'"{written}"')) if "\\" in written else written
 
