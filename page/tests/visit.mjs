@@ -724,7 +724,7 @@ async function source(browser) {
     const told = (pattern) => browser.waitFor(`${pattern}.test(document.querySelector('.source .told').textContent)`);
     await write(faulty);
     await told(/^Line 2: tow – no line has that label; perhaps two\.$/);
-    assert.deepEqual(await browser.value("['.fault .CodeMirror-linenumber', '.wave', '.fault-told', '.place'].map((it) => [...document.querySelectorAll('.source ' + it)].map((node) => node.textContent))"), [["2"], ["tow"], ["no line has that label; perhaps two"], []]);
+    assert.deepEqual(await browser.value("['.fault .CodeMirror-linenumber', '.wave', '.fault-told', '.place'].map((it) => [...document.querySelectorAll('.source ' + it)].map((node) => node.textContent))"), [["2"], ["tow"], ["no line has that label; perhaps two"], ["0000 00010010", "0002 000j0018", "0003 00000000", "0004 00000002", "0005 00000004", "0006 00000000"]]);
     await browser.value("document.querySelector('.source').scrollIntoView({ block: 'center' })");
     await picture(browser, "fault");
     await write(faulty.replace("tow", "two"));
