@@ -570,11 +570,13 @@ async function doors(browser) {
     await press(browser, "#hall-stop");
     assert.deepEqual([await browser.value(isMoving), await textOf(browser, "#hall-stop"), (await panelOf(browser)).status], [false, "Let it turn", "going"]);
     const before = { counter: "0000", accumulator: "00000000", status: "halted operator", clock: "0" };
-    for (const [door, seen] of [["look", [".tales"]], ["learn", [".lesson", ".listing form"]], ["work", [".flexo-body", ".telling-order", ".source", "#save", ".listing form"]]]) {
+    const shown = { look: [".tales"], learn: [".lesson", ".listing form"], work: [".flexo-body", ".telling-order", ".source", "#run-program", "#save", ".listing form"] };
+    // from each door to each other one
+    for (const door of ["work", "look", "work", "learn", "look", "learn", "work"]) {
         await press(browser, `.doors [data-door-to="${door}"]`);
-        assert.deepEqual(await seenOf(browser, ".hall", ".tales", ".lesson", ".flexo-body", ".telling-order", ".source", "#save", ".listing form"), seen, door);
-        const parts = [".scope", ".words-table", ".drum-box", ...(door === "look" ? [] : [".paper", ".pace"])];
-        assert.deepEqual(await seenOf(browser, ".scope", ".words-table", ".drum-box", ".paper", ".pace"), parts, door);
+        assert.deepEqual(await seenOf(browser, ".hall", ".tales", ".lesson", ".flexo-body", ".telling-order", ".source", "#run-program", "#save", ".listing form"), shown[door], door);
+        const parts = [".scope", ".words-table", ".drum-box", ...(door === "look" ? [] : [".console", ".paper", ".pace"])];
+        assert.deepEqual(await seenOf(browser, ".scope", ".words-table", ".drum-box", ".console", ".paper", ".pace"), parts, door);
         assert.deepEqual(await doorNow(browser), [door, door[0].toUpperCase() + door.slice(1)]);
         assert.deepEqual(await panelOf(browser), before);
     }

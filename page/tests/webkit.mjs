@@ -23,6 +23,8 @@ export class WebKit extends Driver {
     #screen;
     #driver;
     #address;
+    #least;
+    #bar;
 
     /** Starts WebKit with an empty page of this size, and variables of its environment. */
     static async start(width = 1500, height = 1250, variables = {}) {
@@ -36,6 +38,7 @@ export class WebKit extends Driver {
         const { sessionId } = await browser.#ask("POST", "", { capabilities: { alwaysMatch: options } }, TRIES);
         browser.#address += `/${sessionId}`;
         await browser.#ask("POST", "/timeouts", { script: 300_000 });
+        await browser.#learnWindow();
         await browser.size(width, height);
         return browser;
     }
@@ -73,11 +76,20 @@ export class WebKit extends Driver {
         return value;
     }
 
-    /** Makes the page so large: the window has more, for its bars. */
+    /** Makes a window that is very narrow, and sees by it how narrow a page can be, and how much higher than that its window is. */
+    async #learnWindow() {
+        const sizeNow = () => this.value("[innerWidth, innerHeight]");
+        const height = 2 * (await sizeNow())[1];
+        await this.#ask("POST", "/window/rect", { width: 1, height });
+        await this.waitFor(`innerHeight > ${height / 2}`);
+        this.#least = (await sizeNow())[0];
+        this.#bar = height - (await sizeNow())[1];
+    }
+
+    /** Makes the page so large, as far as its window can be so narrow; that takes the window a while. */
     async size(width, height) {
-        await this.#ask("POST", "/window/rect", { width, height });
-        const [wide, high] = await this.value("[innerWidth, innerHeight]");
-        await this.#ask("POST", "/window/rect", { width: 2 * width - wide, height: 2 * height - high });
+        await this.#ask("POST", "/window/rect", { width, height: height + this.#bar });
+        await this.waitFor(`innerWidth === ${Math.max(width, this.#least)} && innerHeight === ${height}`);
     }
 
     async perform(actions) {
