@@ -23,8 +23,6 @@ export class WebKit extends Driver {
     #screen;
     #driver;
     #address;
-    #least;
-    #bar;
 
     /** Starts WebKit with an empty page of this size, and variables of its environment. */
     static async start(width = 1500, height = 1250, variables = {}) {
@@ -33,12 +31,12 @@ export class WebKit extends Driver {
         const port = await freePort();
         // in a group of its own, with the browser that it starts
         browser.#driver = spawn("WebKitWebDriver", [`--port=${port}`], { stdio: "ignore", detached: true, env: { ...process.env, DISPLAY: `:${display}`, GDK_BACKEND: "x11", LANGUAGE: "en", ...variables } });
-        const options = { "webkitgtk:browserOptions": { binary: BROWSER, args: ["--automation"] } };
+        // a full screen has no bars, by which a window would be wider than a telephone
+        const options = { "webkitgtk:browserOptions": { binary: BROWSER, args: ["--automation", "--full-screen"] } };
         browser.#address = `http://127.0.0.1:${port}/session`;
         const { sessionId } = await browser.#ask("POST", "", { capabilities: { alwaysMatch: options } }, TRIES);
         browser.#address += `/${sessionId}`;
         await browser.#ask("POST", "/timeouts", { script: 300_000 });
-        await browser.#learnWindow();
         await browser.size(width, height);
         return browser;
     }
@@ -76,20 +74,10 @@ export class WebKit extends Driver {
         return value;
     }
 
-    /** Makes a window that is very narrow, and sees by it how narrow a page can be, and how much higher than that its window is. */
-    async #learnWindow() {
-        const sizeNow = () => this.value("[innerWidth, innerHeight]");
-        const height = 2 * (await sizeNow())[1];
-        await this.#ask("POST", "/window/rect", { width: 1, height });
-        await this.waitFor(`innerHeight > ${height / 2}`);
-        this.#least = (await sizeNow())[0];
-        this.#bar = height - (await sizeNow())[1];
-    }
-
-    /** Makes the page so large, as far as its window can be so narrow; that takes the window a while. */
+    /** Makes the page so large; that takes the window a while. */
     async size(width, height) {
-        await this.#ask("POST", "/window/rect", { width, height: height + this.#bar });
-        await this.waitFor(`innerWidth === ${Math.max(width, this.#least)} && innerHeight === ${height}`);
+        await this.#ask("POST", "/window/rect", { width, height });
+        await this.waitFor(`innerWidth === ${width} && innerHeight === ${height}`);
     }
 
     async perform(actions) {
