@@ -1348,14 +1348,15 @@ let failed = 0;
 /** Visits the page, and says in a line how that went. */
 async function visited(name) {
     const began = Date.now();
+    const seconds = () => `${((Date.now() - began) / 1000).toFixed(1)} s`;
     try {
         const found = await visits[name](browser);
         if (name === "longRun") assert.ok(found >= LEAST_SPEED, `${Math.round(found)} orders a second`);
         const lines = ["withoutWebAssembly", "cannotOpen"].includes(name) ? null : await endsThere(browser);
         const saves = lines === null ? "" : `, ${lines[1]} lines saved of ${lines[0]}`;
-        return { isWell: true, line: `${name}: well${found === undefined ? "" : `, ${typeof found === "number" ? Math.round(found) : found}`}${saves}, ${((Date.now() - began) / 1000).toFixed(1)} s` };
+        return { isWell: true, line: `${name}: well${found === undefined ? "" : `, ${typeof found === "number" ? Math.round(found) : found}`}${saves}, ${seconds()}` };
     } catch (failure) {
-        return { isWell: false, line: `${name}: ${failure.message}` };
+        return { isWell: false, line: `${name}: ${failure.message}, ${seconds()}` };
     }
 }
 

@@ -225,6 +225,7 @@ async function tapeMoves(browser, address) {
 /** Beside the time line stands how many faults the source has that is written, and, from loading up to the first order, what was loaded; a refusal comes before both. */
 async function sourceToldFirst(browser, address) {
     await browser.open(`${address}?lang=en&door=work`);
+    assert.equal(await browser.value("document.querySelector('.source .go-to-fault').checkVisibility()"), false);
     const says = (wanted) => browser.waitFor(`${wanted}.test(document.querySelector(".way").textContent)`);
     await browser.write(" q\n z\n end 0000");
     await says(/^One fault: mend it, then run\.$/);

@@ -52,7 +52,7 @@ export function makeVerdict(texts, editor) {
         const fault = faults.find(({ line }) => line > editor().line()) ?? faults[0];
         if (fault !== undefined) goTo(fault);
     };
-    const there = button(text("goToFault"), next, { class: "go-to-fault" });
+    const there = button(text("goToFault"), next, { class: "go-to-fault", hidden: true });
     const node = h("div", { class: "verdict" }, told, there);
     const sentence = (said) => {
         if (said === null) return "";
