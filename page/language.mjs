@@ -102,10 +102,15 @@ export class Checked {
         return this.refusal === null && this.count === 0;
     }
 
-    /** The place and the digits of a line, or null. */
+    /** The place of a line's word or label, or null. */
+    placeOf(line) {
+        return this.#source.line(line)?.place ?? null;
+    }
+
+    /** The place and the digits of a line's word; null where it has none, as one with a label alone or with a fault. */
     wordOf(line) {
-        const { place = null, digits } = this.#source.line(line) ?? {};
-        return place === null ? null : { place, digits };
+        const { place, digits = null } = this.#source.line(line) ?? {};
+        return digits === null ? null : { place, digits };
     }
 
     /** The line whose word is at a place, or null. */

@@ -47,6 +47,7 @@ test("faults come with the columns that the monitor marks, and with what would b
     assert.deepEqual(sentences.slice(0, 2), ["no line has that label; perhaps two", "there is no such operation; use one of the sixteen letters, or -t org word frac int end"]);
     assert.match(sentences[3], /; eight digits, the last one even$/);
     assert.deepEqual([said.wordOf(1), said.lineAt("0000")], [{ place: "0000", digits: "00010008" }, 1]);
+    assert.deepEqual([said.placeOf(2), said.wordOf(2), said.lineAt("0001")], ["0001", null, null]);
 });
 
 test("a source without faults has its listing", async () => {
@@ -54,6 +55,11 @@ test("a source without faults has its listing", async () => {
     assert.deepEqual([said.isRight, said.cells, said.start], [true, 2, "0000"]);
     assert.deepEqual([said.wordOf(1), said.wordOf(2), said.wordOf(4)], [null, { place: "0000", digits: "00010100" }, { place: "0100", digits: "00000002" }]);
     assert.deepEqual([said.lineAt("0100"), said.lineAt("0001")], [4, null]);
+});
+
+test("a line with a label alone has a place and no word", async () => {
+    const said = await checkerOf([]).ask("start\n z\n end start");
+    assert.deepEqual([said.isRight, said.placeOf(1), said.wordOf(1), said.wordOf(2)], [true, "0000", null, { place: "0000", digits: "00000000" }]);
 });
 
 test("a point alone ends no source, and a missing end is a fault after the last line", async () => {

@@ -6,7 +6,7 @@ const LISTS = ".scroll, .with-arrows, .steps, .script-lines, .log, .transcript, 
 /** Waits until the page has been drawn, and with that arranged for the size of its window. */
 export const laidOut = (browser) => browser.value("new Promise((resolve) => requestAnimationFrame(() => requestAnimationFrame(resolve)))");
 
-/** Runs in the page: texts below ten pixels, as they are drawn; texts that something cuts off that is no list, that reach beyond the window or their control, or that lie upon one another. */
+/** Runs in the page: texts below ten pixels, as they are drawn; texts that something cuts off that is no list, that reach beyond the window or their control, or that lie upon one another; and traces beyond their rows. */
 function textsInPage(lists, least) {
     const [found, placed] = [[], []];
     const isSeen = (node) => node.checkVisibility({ visibilityProperty: true, opacityProperty: true }) && node.closest("option, noscript, script") === null && getComputedStyle(node).clipPath !== "inset(50%)" && getComputedStyle(node).visibility !== "hidden";
@@ -37,10 +37,13 @@ function textsInPage(lists, least) {
             if (cuts(at) && beyond(box, at.getBoundingClientRect())) { found.push(`${name} is cut off by ${at.getAttribute("class")}`); break; }
         }
     }
+    for (const canvas of document.querySelectorAll(".trace canvas")) {
+        if (canvas.checkVisibility() && beyond(canvas.getBoundingClientRect(), canvas.parentElement.getBoundingClientRect())) found.push("a trace reaches beyond its row");
+    }
     return found;
 }
 
-/** Texts that are too small, cut off, or beyond the window. */
+/** Texts that are too small, cut off, or beyond the window, and traces of the oscilloscope beyond their rows. */
 export const hiddenTexts = (browser, least = 10) => browser.value(`(${textsInPage})(${JSON.stringify(LISTS)}, ${least})`);
 
 /** Runs in the page: controls whose middle is not hit by themselves, but those in lists that are scrolled away. */

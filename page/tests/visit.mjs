@@ -570,11 +570,13 @@ async function doors(browser) {
     await press(browser, "#hall-stop");
     assert.deepEqual([await browser.value(isMoving), await textOf(browser, "#hall-stop"), (await panelOf(browser)).status], [false, "Let it turn", "going"]);
     const before = { counter: "0000", accumulator: "00000000", status: "halted operator", clock: "0" };
-    for (const [door, seen] of [["look", [".tales"]], ["learn", [".lesson", ".listing form"]], ["work", [".flexo-body", ".telling-order", ".source", "#save", ".listing form"]]]) {
+    const shown = { look: [".tales"], learn: [".lesson", ".listing form"], work: [".flexo-body", ".telling-order", ".source", "#run-program", "#save", ".listing form"] };
+    // from each door to each other one
+    for (const door of ["work", "look", "work", "learn", "look", "learn", "work"]) {
         await press(browser, `.doors [data-door-to="${door}"]`);
-        assert.deepEqual(await seenOf(browser, ".hall", ".tales", ".lesson", ".flexo-body", ".telling-order", ".source", "#save", ".listing form"), seen, door);
-        const parts = [".scope", ".words-table", ".drum-box", ...(door === "look" ? [] : [".paper", ".pace"])];
-        assert.deepEqual(await seenOf(browser, ".scope", ".words-table", ".drum-box", ".paper", ".pace"), parts, door);
+        assert.deepEqual(await seenOf(browser, ".hall", ".tales", ".lesson", ".flexo-body", ".telling-order", ".source", "#run-program", "#save", ".listing form"), shown[door], door);
+        const parts = [".scope", ".words-table", ".drum-box", ...(door === "look" ? [] : [".console", ".paper", ".pace"])];
+        assert.deepEqual(await seenOf(browser, ".scope", ".words-table", ".drum-box", ".console", ".paper", ".pace"), parts, door);
         assert.deepEqual(await doorNow(browser), [door, door[0].toUpperCase() + door.slice(1)]);
         assert.deepEqual(await panelOf(browser), before);
     }
@@ -724,7 +726,7 @@ async function source(browser) {
     const told = (pattern) => browser.waitFor(`${pattern}.test(document.querySelector('.source .told').textContent)`);
     await write(faulty);
     await told(/^Line 2: tow – no line has that label; perhaps two\.$/);
-    assert.deepEqual(await browser.value("['.fault .CodeMirror-linenumber', '.wave', '.fault-told', '.place'].map((it) => [...document.querySelectorAll('.source ' + it)].map((node) => node.textContent))"), [["2"], ["tow"], ["no line has that label; perhaps two"], []]);
+    assert.deepEqual(await browser.value("['.fault .CodeMirror-linenumber', '.wave', '.fault-told', '.place'].map((it) => [...document.querySelectorAll('.source ' + it)].map((node) => node.textContent))"), [["2"], ["tow"], ["no line has that label; perhaps two"], ["0000 00010010", "0002 000j0018", "0003 00000000", "0004 00000002", "0005 00000004", "0006 00000000"]]);
     await browser.value("document.querySelector('.source').scrollIntoView({ block: 'center' })");
     await picture(browser, "fault");
     await write(faulty.replace("tow", "two"));
@@ -1346,14 +1348,15 @@ let failed = 0;
 /** Visits the page, and says in a line how that went. */
 async function visited(name) {
     const began = Date.now();
+    const seconds = () => `${((Date.now() - began) / 1000).toFixed(1)} s`;
     try {
         const found = await visits[name](browser);
         if (name === "longRun") assert.ok(found >= LEAST_SPEED, `${Math.round(found)} orders a second`);
         const lines = ["withoutWebAssembly", "cannotOpen"].includes(name) ? null : await endsThere(browser);
         const saves = lines === null ? "" : `, ${lines[1]} lines saved of ${lines[0]}`;
-        return { isWell: true, line: `${name}: well${found === undefined ? "" : `, ${typeof found === "number" ? Math.round(found) : found}`}${saves}, ${((Date.now() - began) / 1000).toFixed(1)} s` };
+        return { isWell: true, line: `${name}: well${found === undefined ? "" : `, ${typeof found === "number" ? Math.round(found) : found}`}${saves}, ${seconds()}` };
     } catch (failure) {
-        return { isWell: false, line: `${name}: ${failure.message}` };
+        return { isWell: false, line: `${name}: ${failure.message}, ${seconds()}` };
     }
 }
 

@@ -487,7 +487,7 @@ async function turnedByDrag(browser, address) {
     await browser.lead(["up"]);
     await standsAt(browser, 0, 0);
     await browser.open(`${address}?lang=en&story=1`);
-    await browser.waitFor("document.querySelector('.drum-box').dataset.moving === 'true' && Number(document.querySelector('.drum .hub-count').textContent) > 0");
+    await browser.waitFor("document.querySelector('.drum-box').dataset.moving === 'true' && Number(document.querySelector('.drum .hub-count').textContent) > 0 && Number(/\\d+/.exec(document.querySelector('.drum .hub-clock').textContent)) > 0");
     await browser.lead([await onRing(browser, 200), "down", "up"]);
     await browser.value("laboratoryOfPage().settled()");
     const [one, other] = [await turnedNow(browser), await turnedNow(browser)];

@@ -91,16 +91,20 @@ async function isFound(browser, where) {
     }
 }
 
-/** The controls that are seen, by their names; of keys that do the same there is one. `Send` sends what is written, and `Open` and the sheet ask the browser for something. */
-const CONTROLS = `[...document.querySelectorAll("#page :is(button, summary, a[href]):not(#notices *)")].filter((it) => it.checkVisibility()).map((it) => [it.id || it.dataset.name || it.dataset.doorTo || it.dataset.lesson || it.dataset.task || it.dataset.tale || it.getAttribute("aria-label") || it.textContent, it])
+/** The controls that are seen, by their names; of keys that do the same there is one, and so of the addresses of the program. `Send` sends what is written, and `Open` and the sheet ask the browser for something. */
+const CONTROLS = `[...document.querySelectorAll("#page :is(button, summary, a[href]):not(#notices *)")].filter((it) => it.checkVisibility()).map((it) => [it.closest("tr[data-address]") !== null ? "an address" : it.id || it.dataset.name || it.dataset.doorTo || it.dataset.lesson || it.dataset.task || it.dataset.tale || it.getAttribute("aria-label") || it.textContent, it])
     .filter(([name], place, all) => all.findIndex((it) => it[0] === name) === place && !["open", "Send", "Sheet to print"].includes(name))`;
+
+/** How long is waited for going back where nothing tells of it: the page was left, or there is nothing to go back to. */
+const LONGEST_BACK = 1000;
 
 /** Goes back; where that leaves the page, forward again. */
 async function goneBack(browser) {
-    await browser.value("void history.back()").catch(() => {});
-    await new Promise((resolve) => { setTimeout(resolve, 300); });
+    const isBack = browser.value("new Promise((resolve) => { addEventListener('popstate', () => resolve(true), { once: true }); history.back(); })").catch(() => {});
+    await Promise.race([isBack, new Promise((resolve) => { setTimeout(resolve, LONGEST_BACK); })]);
     if (await browser.value("document.querySelector('#page') === null").catch(() => true)) await browser.value("void history.forward()").catch(() => {});
     await browser.waitFor(`${isReady}`);
+    await settled(browser);
 }
 
 /** The ways to leave the page as it is and to come back. */

@@ -31,7 +31,8 @@ export class WebKit extends Driver {
         const port = await freePort();
         // in a group of its own, with the browser that it starts
         browser.#driver = spawn("WebKitWebDriver", [`--port=${port}`], { stdio: "ignore", detached: true, env: { ...process.env, DISPLAY: `:${display}`, GDK_BACKEND: "x11", LANGUAGE: "en", ...variables } });
-        const options = { "webkitgtk:browserOptions": { binary: BROWSER, args: ["--automation"] } };
+        // a full screen has no bars, by which a window would be wider than a telephone
+        const options = { "webkitgtk:browserOptions": { binary: BROWSER, args: ["--automation", "--full-screen"] } };
         browser.#address = `http://127.0.0.1:${port}/session`;
         const { sessionId } = await browser.#ask("POST", "", { capabilities: { alwaysMatch: options } }, TRIES);
         browser.#address += `/${sessionId}`;
@@ -73,11 +74,10 @@ export class WebKit extends Driver {
         return value;
     }
 
-    /** Makes the page so large: the window has more, for its bars. */
+    /** Makes the page so large; that takes the window a while. */
     async size(width, height) {
         await this.#ask("POST", "/window/rect", { width, height });
-        const [wide, high] = await this.value("[innerWidth, innerHeight]");
-        await this.#ask("POST", "/window/rect", { width: 2 * width - wide, height: 2 * height - high });
+        await this.waitFor(`innerWidth === ${width} && innerHeight === ${height}`);
     }
 
     async perform(actions) {

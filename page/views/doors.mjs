@@ -12,12 +12,16 @@ export function behind(doors, node) {
     return node;
 }
 
-/** Shows what is seen behind a door. */
+/** Hides what other doors have, of all that is in the page now. */
+export function hideOthers() {
+    for (const node of document.querySelectorAll("[data-doors]")) node.hidden = !node.dataset.doors.split(" ").includes(document.body.dataset.door);
+}
+
+/** Marks which door is open. */
 export function showDoor(door) {
     document.body.dataset.door = door;
     if (door === "hall") delete document.body.dataset.window;
     else document.body.dataset.window = door === "work" ? "work" : "beside";
-    for (const node of document.querySelectorAll("[data-doors]")) node.hidden = !node.dataset.doors.split(" ").includes(door);
     for (const link of document.querySelectorAll("[data-door-to]")) {
         if (link.dataset.doorTo === door) link.setAttribute("aria-current", "page");
         else link.removeAttribute("aria-current");

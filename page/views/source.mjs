@@ -52,7 +52,7 @@ export function makeVerdict(texts, editor) {
         const fault = faults.find(({ line }) => line > editor().line()) ?? faults[0];
         if (fault !== undefined) goTo(fault);
     };
-    const there = button(text("goToFault"), next, { class: "go-to-fault" });
+    const there = button(text("goToFault"), next, { class: "go-to-fault", hidden: true });
     const node = h("div", { class: "verdict" }, told, there);
     const sentence = (said) => {
         if (said === null) return "";
@@ -92,7 +92,7 @@ function makeDeeds(laboratory, { text }, state, { runIt, checker, editor, verdic
 
 /** The editor of the source with its card, and the line below it. */
 function makeWriting(laboratory, texts, state, deeds, changed) {
-    const commentOf = (line, rest) => [state.isFresh ? state.said?.wordOf(line)?.place : "", rest].filter(Boolean).join(" ");
+    const commentOf = (line, rest) => [state.isFresh ? state.said?.placeOf(line) : "", rest].filter(Boolean).join(" ");
     const keys = { "Ctrl-Enter": deeds.run, "Cmd-Enter": deeds.run, F8: () => verdict.next(), F9: () => deeds.stopAt(editor.line()), Esc: () => card.close() };
     const editor = makeEditor("source", texts, { changed, deeds: keys, beside: besideOf(laboratory, state), pressed: deeds.stopAt, moved: () => { if (card.isOpen()) card.light(); }, commentOf });
     const card = makeCard(texts, editor.operation);

@@ -1,7 +1,7 @@
 // Where the parts stand, behind each door in one window. In Look: the drum, and beside it what is told of it. In Learn: the step of a lesson or a task, the drum, what is told of it, and the time line. In Work: the
 // source, the machine with its last orders, and program and typewriter, and the time line. The document's order is the seen order.
 import { h } from "./dom.mjs";
-import { behind } from "./doors.mjs";
+import { behind, hideOthers } from "./doors.mjs";
 import { fill, makeTabs } from "./tabs.mjs";
 
 const WIDEST = matchMedia("(min-width: 1700px)");
@@ -84,7 +84,10 @@ export function makeStage(made, texts) {
     return boxes.main;
 }
 
-/** Gives all parts their places for the width of the window and the door. */
-export const arrange = () => place();
+/** Gives all parts their places for the width of the window and the door. A part that comes into the page by that may have been hidden for another door. */
+export function arrange() {
+    place();
+    hideOthers();
+}
 
-for (const width of [WIDEST, WIDE, NARROW]) width.addEventListener("change", () => place());
+for (const width of [WIDEST, WIDE, NARROW]) width.addEventListener("change", arrange);
