@@ -17,11 +17,65 @@ const differenceOf = (saved, { text, code }) => (saved === 0 ? text("asManyTimes
 const placesIn = (text) => new Map((text ?? "").split(" ").filter((it) => it !== "").map((it) => it.split(":")).map(([address, sector]) => [address, Number(sector)]));
 const textOf = (places) => (places.size === 0 ? null : [...places].map((place) => place.join(":")).join(" "));
 
-/** The words that are carried, as far as the last orders can do with them elsewhere, and the one whose costs are shown; null where it is not told of one. */
-async function placingOf(laboratory, costs, places) {
-    const others = [...places.keys()].filter((address) => address !== costs?.address);
-    const told = costs === null ? null : others.length === 0 ? { words: [] } : await laboratory.askPlacing(others);
-    return told === null ? null : new Placing([], [...told.words.filter(({ kind, sectors }) => kind === "free" && sectors.length > 0), costs]);
+/** The words that are carried: the costs that are shown, where words are kept to be, and what the last orders would take with them there; null where that is not told. */
+class Words {
+    costs = null;
+    kept = null;
+    placing = null;
+    #laboratory;
+    #drafts;
+    #round = 0;
+
+    constructor(laboratory, drafts) {
+        [this.#laboratory, this.#drafts] = [laboratory, drafts];
+    }
+
+    /** The addresses of those that are kept elsewhere. */
+    get addresses() {
+        return [...placesIn(this.kept).keys()];
+    }
+
+    nameOf(address) {
+        return this.placing?.words.find((word) => word.address === address)?.label ?? this.#laboratory.labels.get(address)?.[0] ?? address;
+    }
+
+    isBest(address) {
+        return this.placing.saved(address) > 0 && this.placing.isBest(address);
+    }
+
+    #keep(places) {
+        this.kept = textOf(places);
+        this.#drafts.keep("carried", this.kept);
+    }
+
+    move(address, sector) {
+        const places = placesIn(this.kept);
+        this.placing.move(address, sector);
+        if (sector === sectorOf(address)) places.delete(address);
+        else places.set(address, sector);
+        this.#keep(places);
+    }
+
+    /** All words are at their own sectors again. */
+    reset() {
+        this.placing?.reset();
+        this.#keep(new Map());
+    }
+
+    /** Takes other costs, or other words that are kept: asks what the last orders would take with these, as far as they can be elsewhere. Whether there are others. */
+    async follow() {
+        const [costs, kept] = [this.#laboratory.costs?.sectors.length > 0 ? this.#laboratory.costs : null, this.#drafts.of("carried")];
+        if (costs === this.costs && kept === this.kept) return false;
+        Object.assign(this, { costs, kept });
+        this.#round += 1;
+        const [mine, places] = [this.#round, placesIn(kept)];
+        const others = this.addresses.filter((address) => address !== costs?.address);
+        const told = costs === null ? null : others.length === 0 ? { words: [] } : await this.#laboratory.askPlacing(others);
+        if (mine !== this.#round) return false;
+        this.placing = told === null ? null : new Placing([], [...told.words.filter(({ kind, sectors }) => kind === "free" && sectors.length > 0), costs]);
+        for (const { address, kind } of this.placing?.words ?? []) if (kind === "free" && places.has(address)) this.placing.move(address, places.get(address));
+        return true;
+    }
 }
 
 /** What is told of the words that are elsewhere: of one its sector, of more each one's. */
@@ -36,52 +90,33 @@ function toldOf(placing, nameOf, texts) {
 /** The pins of the words on a drum, and what is told of them. `turning` says how far the drum has turned; `drafts` keeps where the words are; `write` writes their new places into the source. */
 export function makeCarried(laboratory, texts, drum, turning, drafts, write) {
     const { text, code } = texts;
-    let [costs, kept, placing, round] = [null, null, null, 0];
-    const nameOf = (address) => placing?.words.find((word) => word.address === address)?.label ?? laboratory.labels.get(address)?.[0] ?? address;
-    const keep = (places) => {
-        kept = textOf(places);
-        drafts.keep("carried", kept);
-        showCarried();
-    };
+    const words = new Words(laboratory, drafts);
+    const nameOf = (address) => words.nameOf(address);
+    const read = () => tell(said, told.textContent);
     const hands = {
-        sectorOf: (address) => placing.sectorOf(address), pick: () => {}, drop: () => tell(said, told.textContent), refuse: (kind) => { tell(told, text(`pin_${kind}`)); tell(said, told.textContent); },
-        says: (address) => text("gripSays", { sector: inTwoDigits(placing.sectorOf(address)), times: counted(placing.times, code), saved: differenceOf(placing.saved(address), texts) }),
-        move: (address, sector) => {
-            const places = placesIn(kept);
-            placing.move(address, sector);
-            if (sector === sectorOf(address)) places.delete(address);
-            else places.set(address, sector);
-            keep(places);
-        },
-        back: (address) => hands.move(address, sectorOf(address)),
+        sectorOf: (address) => words.placing.sectorOf(address), pick: () => {}, drop: read, refuse: (kind) => { tell(told, text(`pin_${kind}`)); read(); },
+        says: (address) => text("gripSays", { sector: inTwoDigits(hands.sectorOf(address)), times: counted(words.placing.times, code), saved: differenceOf(words.placing.saved(address), texts) }),
+        move: (address, sector) => { words.move(address, sector); showCarried(); }, back: (address) => hands.move(address, sectorOf(address)),
     };
     const grips = makeGrips(drum.box, hands);
     const [told, said] = [h("p", { class: "carried-told" }), h("p", { class: "unseen", role: "status" })];
-    const writes = behind("work", button(text("writeMoved"), () => write(placing, costs.orders, nameOf), { id: "write-moved" }));
-    const back = button(text("asItWas"), () => { placing?.reset(); keep(new Map()); }, { id: "carried-back" });
+    const writes = behind("work", button(text("writeMoved"), () => write(words.placing, words.costs.orders, nameOf), { id: "write-moved" }));
+    const back = button(text("asItWas"), () => { words.reset(); showCarried(); }, { id: "carried-back" });
     const node = h("div", { class: "carried" }, told, said, h("div", { class: "line" }, back, writes));
-    const isBest = (address) => placing.saved(address) > 0 && placing.isBest(address);
-    const frame = () => { if (placing !== null && drum.box.offsetWidth > 0) grips.show(turning.clock % SECTORS, drum.box.offsetWidth / 800, isBest, ...BEYOND); };
+    const frame = () => { if (words.placing !== null && drum.box.offsetWidth > 0) grips.show(turning.clock % SECTORS, drum.box.offsetWidth / 800, (address) => words.isBest(address), ...BEYOND); };
     const showCarried = () => {
+        const { placing, costs, kept } = words;
         const moved = placing?.moved ?? [];
-        const others = text("carriedStill", { words: [...placesIn(kept).keys()].map(nameOf).join(", ") });
         drum.ring.light("laid", (placing?.words ?? []).filter(({ kind }) => kind === "free").map(({ address }) => placing.sectorOf(address)));
         drum.ring.light("origin", moved.map(sectorOf));
-        tell(told, moved.length > 0 ? toldOf(placing, nameOf, texts) : placing === null ? others : costs.kind === "free" ? text("carriedHint") : "");
+        if (placing === null) tell(told, text("carriedStill", { words: words.addresses.map(nameOf).join(", ") }));
+        else tell(told, moved.length > 0 ? toldOf(placing, nameOf, texts) : costs.kind === "free" ? text("carriedHint") : "");
         [back.disabled, writes.disabled, node.hidden] = [kept === null, moved.length === 0, placing === null && kept === null];
         frame();
     };
     const show = async () => {
-        const [wanted, places] = [laboratory.costs?.sectors.length > 0 ? laboratory.costs : null, drafts.of("carried")];
-        if (wanted === costs && places === kept) return;
-        [costs, kept, round] = [wanted, places, round + 1];
-        const mine = round;
-        const now = await placingOf(laboratory, costs, placesIn(places));
-        if (mine !== round) return;
-        placing = now;
-        const moved = placesIn(kept);
-        for (const { address, kind } of placing?.words ?? []) if (kind === "free" && moved.has(address)) placing.move(address, moved.get(address));
-        grips.put((placing?.words ?? []).map((word) => ({ ...word, name: nameOf(word.address) })));
+        if (!(await words.follow())) return;
+        grips.put((words.placing?.words ?? []).map((word) => ({ ...word, name: nameOf(word.address) })));
         showCarried();
     };
     node.hidden = true;
