@@ -223,6 +223,24 @@ async function kiosk(browser, address) {
     await browser.size(1500, 1250);
 }
 
+/** On a telephone and on an upright screen all of the kiosk's game is seen, in both languages, and nothing moves while it is played. */
+async function kioskUpright(browser, address) {
+    for (const size of [TELEPHONE, [1080, 1920]]) for (const code of ["en", "de"]) {
+        await browser.size(...size);
+        await browser.open(`${address}?kiosk=message&lang=${code}&idle=600`);
+        await browser.press("#kiosk-2");
+        await browser.waitFor(`document.body.dataset.state === 'faster' && ${isRead}`);
+        const what = `${size} in ${code}`;
+        const parts = await partsOf(browser, what);
+        for (const number of [2, 2, 3, 1, 1, 3, 2, 4]) {
+            await browser.press(`#kiosk-${number}`);
+            assert.deepEqual(await partsOf(browser, `${what}, after ${number}`), parts, `${what}, after ${number}`);
+        }
+        assert.equal(await browser.value("document.documentElement.scrollHeight <= innerHeight"), true, what);
+    }
+    await browser.size(1500, 1250);
+}
+
 /** A finger carries a word as the mouse does; a touch that the browser takes away puts it back. */
 async function finger(browser, address) {
     if (browser.constructor.name !== "Chromium") return "but not looked at, since this browser's finger cannot be led";
@@ -313,11 +331,11 @@ async function sizes(browser, address) {
 
 const TELEPHONE = [390, 844];
 
-/** What is wrong with a game on a telephone, where its parts are, and what the words at the top say. */
-async function onTelephone(browser, what) {
+/** Where the parts of a game are, which are all seen as they should be. */
+async function partsOf(browser, what) {
     await browser.value("new Promise((resolve) => requestAnimationFrame(() => requestAnimationFrame(resolve)))");
     assert.deepEqual(await wrongIn(browser), [], what);
-    return browser.value("[...document.querySelectorAll('.faster .drum-box, .lead, .big, .goal, .movable button, .rounds, .foot, .foot > *')].map((it) => { const { top, bottom } = it.getBoundingClientRect(); return `${top.toFixed(1)} ${bottom.toFixed(1)}`; })");
+    return browser.value("[...document.querySelectorAll('.faster .drum-box, .lead, .big, .goal, .movable button, .rounds, .foot, .foot > *')].filter((it) => it.checkVisibility()).map((it) => { const { top, bottom } = it.getBoundingClientRect(); return `${top.toFixed(1)} ${bottom.toFixed(1)}`; })");
 }
 
 /** On a telephone each program of the game is seen whole in each of its states, in both languages: nothing moves from one to the next, also when the time is over and the best is shown, and when it is reached. */
@@ -328,8 +346,8 @@ async function telephone(browser, address) {
         for (const program of PROGRAMS) {
             await browser.waitFor(`${isRead} && document.querySelector(${JSON.stringify(gripOf(program.words[0]))}) !== null`);
             const name = `${program.name} in ${code}`;
-            const tops = await onTelephone(browser, name);
-            const same = async (state) => assert.deepEqual(await onTelephone(browser, `${name}: ${state}`), tops, `${name}: ${state}`);
+            const tops = await partsOf(browser, name);
+            const same = async (state) => assert.deepEqual(await partsOf(browser, `${name}: ${state}`), tops, `${name}: ${state}`);
             await browser.press("#faster-why");
             await same("why");
             await browser.press("#faster-why");
@@ -642,7 +660,7 @@ async function turnedByDrag(browser, address) {
     return undefined;
 }
 
-const VISITS = { carried, carriedTogether, notCarried, turnedByKeys, turnedByDrag, fasterExact: exact, fasterPlayed: played, fasterOver: over, fasterFinger: finger, fasterWatched: watched, fasterSizes: sizes, fasterTelephone: telephone, fasterReached: reached, fasterKiosk: kiosk, race };
+const VISITS = { carried, carriedTogether, notCarried, turnedByKeys, turnedByDrag, fasterExact: exact, fasterPlayed: played, fasterOver: over, fasterFinger: finger, fasterWatched: watched, fasterSizes: sizes, fasterTelephone: telephone, fasterReached: reached, fasterKiosk: kiosk, kioskUpright, race };
 
 /** The visits of the drum in the hand, of the page at an address, by their names. */
 export const visitsOfHand = (address) => Object.fromEntries(Object.entries(VISITS).map(([name, visit]) => [name, (browser) => visit(browser, address)]));
