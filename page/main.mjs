@@ -12,7 +12,7 @@ import { headOf, linesIn, withoutQuestions } from "./lines.mjs";
 import { Link } from "./link.mjs";
 import { version } from "./module/package.json";
 import { addressOf, askedIn, inLanguage } from "./opening.mjs";
-import { movedSource } from "./placing.mjs";
+import { movedSource, timesOf } from "./placing.mjs";
 import { Player } from "./player.mjs";
 import { Sound, follow } from "./sound.mjs";
 import { LESSONS, setUpFor } from "./steps.mjs";
@@ -215,7 +215,7 @@ function beginAnother(deed, { keepsSource = false, isOffered = true } = {}) {
     opening = opening.then(async () => {
         drive.halt();
         keepWork();
-        const { source, ...others } = drafts.all;
+        const { source, carried, ...others } = drafts.all;
         const before = beginWork(keepsSource && source !== undefined ? { ...others, source } : others);
         await deed();
         const { notice } = laboratory;
@@ -284,6 +284,7 @@ function setUpShown(step) {
 async function openForStep(step) {
     drive.halt();
     const isUntouched = works.id === setUpHere && laboratory.doings === 0;
+    if (isUntouched) drafts.keep("carried", null);
     await (isWorth(laboratory) && !isUntouched ? beginAnother(() => setUpFor(laboratory, step, exampleNamed), { isOffered: false }) : setUpShown(step));
     setUpHere = works.id;
 }
@@ -509,28 +510,29 @@ function makeWork() {
     };
     const turning = turningOf();
     made.turner = makeTurner(made.drum.box, texts, turning);
-    made.carried = makeCarried(laboratory, texts, made.drum, turning, writeMoved);
+    made.carried = makeCarried(laboratory, texts, made.drum, turning, drafts, writeMoved);
     made.costs.node.append(made.carried.node);
     parts = made;
     return { node: makeStage(made, texts), made: Object.values(made).filter(({ show }) => show !== undefined) };
 }
 
-/** Writes into the source that a word is at another sector, runs that as long as it ran before, and tells whether it took what was foretold: from where its first order was read on, since the
+/** Writes into the source that words are at other sectors, runs that as long as it ran before, and tells whether it took what was foretold: from where its first order was read on, since the
  * loader ends where it ends. */
-async function writeMoved({ address, label, orders, sectors }, sector) {
-    const source = drafts.of("source") ?? laboratory.source;
+async function writeMoved(placing, orders, nameOf) {
+    const [source, foretold] = [drafts.of("source") ?? laboratory.source, placing.times];
+    const words = placing.moved.map((address) => ({ address, sector: placing.sectorOf(address), word: nameOf(address) }));
     if (source === "" || laboratory.loaded !== source) return laboratory.tell({ kind: "notMoved", wrong: "notLoadedNow" });
     const { accounts } = await laboratory.askPlacing([]);
-    const { wrong, line, text, place } = accounts.length === 0 ? { wrong: "tooLong" } : await movedSource(checker, source, accounts, address, sector);
-    if (wrong !== undefined) return laboratory.tell({ kind: "notMoved", wrong, line });
+    const { text, places, ...wrong } = accounts.length === 0 ? { wrong: "tooLong" } : await movedSource(checker, source, accounts, words);
+    if (text === undefined) return laboratory.tell({ kind: "notMoved", ...wrong });
+    drafts.keep("carried", null);
     parts.source.rewrite(text);
     await laboratory.load(text);
     if (laboratory.way.kind === "start") await laboratory.command("press start");
     await laboratory.run(orders);
-    const again = await laboratory.askPlacing([place]);
-    await showCosts(place);
-    const [foretold, took] = [sectors.find((it) => it.sector === sector).times - accounts[0].find, again.words[0].times - again.accounts[0].find];
-    return laboratory.tell({ kind: "moved", word: label ?? address, place, foretold, took });
+    const again = await laboratory.askPlacing([]);
+    await showCosts(places[0].place);
+    return laboratory.tell({ kind: "moved", words: places, foretold: foretold - accounts[0].find, took: timesOf(again.accounts) - again.accounts[0].find });
 }
 
 /** The hand at the drum of the machine that is seen. */

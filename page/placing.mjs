@@ -119,8 +119,8 @@ export function withWordAt(source, said, address, place) {
 }
 
 /** A source with a word at a free place of another sector, and that place; or what is wrong: it has faults, it has no line for the word or for an order that names it, no place is free, or the
- * order of a line does not name the word by its label. `checker` says what a laboratory says of a source, and `accounts` are those of the orders that were performed. */
-export async function movedSource(checker, source, accounts, address, sector) {
+ * order at an address does not name the word by its label. `checker` says what a laboratory says of a source, and `accounts` are those of the orders that were performed. */
+async function withOneMoved(checker, source, accounts, address, sector) {
     const said = await checker.ask(source);
     if (!said?.isRight) return { wrong: "faulty" };
     const users = accounts.filter(({ order }) => wordOf(order) === address).map(({ at }) => at);
@@ -132,5 +132,18 @@ export async function movedSource(checker, source, accounts, address, sector) {
     const moved = await checker.ask(text);
     const digitsOf = (it, at) => it.wordOf(it.lineAt(at))?.digits;
     const unmoved = users.find((at) => digitsOf(said, at) === digitsOf(moved, at));
-    return unmoved === undefined ? { text, place } : { wrong: "byNumber", line: said.lineAt(unmoved) };
+    return unmoved === undefined ? { text, place } : { wrong: "byNumber", unmoved };
+}
+
+/** A source with words at free places of other sectors, one after another, and these words with their places; or the word with which something is wrong, and what, with the line of an order that
+ * does not name it by its label. Each of the `words` has its `address` and the `sector`. */
+export async function movedSource(checker, source, accounts, words) {
+    let [text, places] = [source, []];
+    for (const it of words) {
+        const { wrong, unmoved, ...moved } = await withOneMoved(checker, text, accounts, it.address, it.sector);
+        if (wrong !== undefined) return { ...it, wrong, line: unmoved === undefined ? null : (await checker.ask(source)).lineAt(unmoved) };
+        text = moved.text;
+        places.push({ ...it, place: moved.place });
+    }
+    return { text, places };
 }

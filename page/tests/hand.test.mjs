@@ -38,6 +38,8 @@ test("wherever words lie, no pin lies upon another one or upon the head", () => 
     }
     assert.deepEqual(apart([{ name: "one", angle: 90, ...size }], distanceOf), new Map([["one", 90]]));
     assert.ok(apart([{ name: "one", angle: -2, ...size }], distanceOf).get("one") < -15);
+    // the drum has turned many times, forward or back
+    for (const turns of [-9, -1, 1, 9]) assert.ok(apart([{ name: "one", angle: 360 * turns - 2, ...size }], distanceOf).get("one") < -15, `${turns} turns`);
 });
 
 test("a round is what lies between the last two times that the loop began", () => {

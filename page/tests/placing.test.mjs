@@ -9,7 +9,7 @@ import { Laboratory } from "../laboratory.mjs";
 import { Checker } from "../language.mjs";
 import { accountsOf, panelOf, toldOf } from "../module/replies.mjs";
 import { ModuleLink } from "../module_link.mjs";
-import { Placing, freePlace, timesOf, withWordAt } from "../placing.mjs";
+import { Placing, freePlace, movedSource, timesOf, withWordAt } from "../placing.mjs";
 
 const top = join(dirname(fileURLToPath(import.meta.url)), "../..");
 const module = join(top, "page/module/lgp_c_region.wasm");
@@ -141,6 +141,25 @@ test("a word has an org before it, and what comes after it another one, where it
     assert.equal(await withWord("  org 0010 ; here\none int 1 30\n\n; no more\n  end", "0010", "0041"), "  org 0041 ; here\none int 1 30\n\n; no more\n  end");
     assert.equal(await withWord("  org 0010\none int 1 30\ntwo\n  end", "0010", "0141"), "  org 0141\none int 1 30\n    org 0011\ntwo\n  end");
     assert.equal(await withWord("here org 0010\none int 1 30\n org 0020\n z\n end", "0010", "0041"), "here org 0010\n    org 0041\none int 1 30\n org 0020\n z\n end");
+});
+
+test("several words are written elsewhere at once, and the run takes what was foretold; where an order names one by its address nothing is, and its line is that of the source", { skip }, async () => {
+    const link = new ModuleLink(module);
+    const laboratory = new Laboratory(link);
+    await laboratory.open();
+    await laboratory.load(SUM);
+    await laboratory.run();
+    const addresses = ["0021", "0022", "0024"];
+    const { accounts, words: told } = await laboratory.askPlacing(addresses);
+    const placing = new Placing(accounts, told);
+    const words = addresses.map((address) => ({ address, sector: placing.bestOf(address)[0] }));
+    for (const { address, sector } of words) placing.move(address, sector);
+    const { text, places } = await movedSource(checker, SUM, accounts, words);
+    assert.deepEqual(places.map(({ place }) => sectorOf(place)), words.map(({ sector }) => sector));
+    assert.equal(await took(link, text), placing.least - accounts[0].find);
+    const byNumber = SUM.replace("s last", "s 0021");
+    const wrong = await movedSource(checker, byNumber, accounts, [words[1], words[0]]);
+    assert.deepEqual([wrong.wrong, wrong.address, wrong.line, wrong.text], ["byNumber", "0021", byNumber.split("\n").findIndex((line) => line.includes("s 0021")) + 1, undefined]);
 });
 
 test("the first free place of a sector is not the loader's", () => {

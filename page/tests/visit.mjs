@@ -43,7 +43,7 @@ const hour = readFileSync(join(top, "docs/lessons/a-computer-on-a-drum.md"), "ut
 const ENGINES = {
     chromium: { Engine: Chromium, without: ["--js-flags=--jitless"] },
     firefox: { Engine: Firefox, without: { "javascript.options.wasm": false } },
-    webkit: { Engine: WebKit, without: { JSC_useWasm: "false" }, left: ["everyone", "usedUp", "eachControl", "fasterSizes"] },
+    webkit: { Engine: WebKit, without: { JSC_useWasm: "false" }, left: ["everyone", "usedUp", "eachControl"] },
 };
 const { Engine, without, left = [] } = ENGINES[process.env.ENGINE ?? "chromium"];
 // only Chromium's speed is asked for

@@ -50,7 +50,7 @@ async function game(browser, address) {
         await browser.press(".kiosk-told");
         await until(browser, texts.turn);
         assert.deepEqual([await heap(browser), await browser.value("[...document.querySelectorAll('.kiosk-bar button')].length")], [[21, 0], 4]);
-        for (const [width, height] of [[1920, 1080], [1024, 768], [768, 1024]]) {
+        for (const [width, height] of [[1920, 1080], [1024, 768], [768, 1024], [1080, 1920], [390, 844]]) {
             await browser.size(width, height);
             assert.deepEqual([await outside(browser), await browser.value("document.documentElement.scrollHeight <= innerHeight")], [[], true], `at ${width} by ${height}`);
         }

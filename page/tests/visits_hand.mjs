@@ -86,7 +86,7 @@ async function exact(browser, address) {
         await browser.strike("Home");
         await compare(word, sectorOf(word));
         const best = [...costs.at.get(word)].sort(([, one], [, other]) => one - other)[0][0];
-        await browser.lead([await middleOf(browser, gripOf(word)), "down", await placeOf(browser, best), "up"]);
+        await browser.lead([await middleOf(browser, `${gripOf(word)} .hold`), "down", await placeOf(browser, best), "up"]);
         await compare(word, best);
     }
     assert.equal(least, costs.least);
@@ -223,6 +223,24 @@ async function kiosk(browser, address) {
     await browser.size(1500, 1250);
 }
 
+/** On a telephone and on an upright screen all of the kiosk's game is seen, in both languages, and nothing moves while it is played. */
+async function kioskUpright(browser, address) {
+    for (const size of [TELEPHONE, [1080, 1920]]) for (const code of ["en", "de"]) {
+        await browser.size(...size);
+        await browser.open(`${address}?kiosk=message&lang=${code}&idle=600`);
+        await browser.press("#kiosk-2");
+        await browser.waitFor(`document.body.dataset.state === 'faster' && ${isRead}`);
+        const what = `${size} in ${code}`;
+        const parts = await partsOf(browser, what);
+        for (const number of [2, 2, 3, 1, 1, 3, 2, 4]) {
+            await browser.press(`#kiosk-${number}`);
+            assert.deepEqual(await partsOf(browser, `${what}, after ${number}`), parts, `${what}, after ${number}`);
+        }
+        assert.equal(await browser.value("document.documentElement.scrollHeight <= innerHeight"), true, what);
+    }
+    await browser.size(1500, 1250);
+}
+
 /** A finger carries a word as the mouse does; a touch that the browser takes away puts it back. */
 async function finger(browser, address) {
     if (browser.constructor.name !== "Chromium") return "but not looked at, since this browser's finger cannot be led";
@@ -262,20 +280,22 @@ async function watched(browser, address) {
 /** What of the game lies beyond the window or what cuts it off, what is smaller than 10 pixels, and which controls are hit by something else at their middle. */
 const wrongIn = (browser) => browser.value(`(() => {
     const wrong = [];
-    for (const it of document.querySelectorAll(".faster :is(button, .grip, .big, .lead, .head, .goal b, .goal span, td, th, text, svg, canvas)")) {
+    for (const it of document.querySelectorAll("header button, .faster :is(button, .grip, .big, .lead, .head, .goal b, .goal span, td, th, text, svg, canvas)")) {
         if (!it.checkVisibility() || it.closest(".well") !== null) continue;
         const { left, top, right, bottom, width, height } = it.getBoundingClientRect();
         const name = it.tagName + "." + (it.className.baseVal ?? it.className) + " " + it.textContent.slice(0, 20);
         const size = parseFloat(getComputedStyle(it).fontSize) * (it.closest("svg") === null || it.matches("svg") ? 1 : it.ownerSVGElement.getBoundingClientRect().width / it.ownerSVGElement.viewBox.baseVal.width);
         if (it.textContent.trim() !== "" && it.matches("text, td, th, button, .grip, b, span") && size < 10) wrong.push("small " + name);
         if (width > 0 && (left < -1 || top < -1 || right > innerWidth + 1 || bottom > innerHeight + 1) && it.closest(".line") === null) wrong.push("outside " + name);
-        if (it.matches("button:not(:disabled), .grip") && it.closest(".line") === null && !it.contains(document.elementFromPoint(left + width / 2, top + height / 2))) wrong.push("hidden " + name);
-        if (it.scrollWidth > it.clientWidth + 1 && it.matches("button, td, th")) wrong.push("cut " + name);
+        if (it.matches("button:not(:disabled), .grip") && left + width / 2 < innerWidth && !it.contains(document.elementFromPoint(left + width / 2, top + height / 2))) wrong.push("hidden " + name);
+        if (it.scrollWidth > it.clientWidth + 1 && it.matches("button, td, th") || it.scrollHeight > it.clientHeight + 1 && it.matches("button, .lead")) wrong.push("cut " + name);
+        // a pin is taken beside it too
+        if (innerWidth <= 760 && it.matches("button, .grip") && Math.min(width, height - 2 * (parseFloat(getComputedStyle(it, "::before").top) || 0)) < 40) wrong.push("too small to be touched " + name);
     }
     return wrong;
 })()`);
 
-const SIZES = [[1440, 900], [1366, 768], [1920, 1080], [1280, 720], [1024, 768]];
+const SIZES = [[1440, 900], [1366, 768], [1920, 1080], [1280, 720], [1024, 768], [390, 844]];
 
 /** Where the parts of the game are at each size, as far as all of it is seen there at once. */
 async function seenAtEach(browser, what) {
@@ -285,7 +305,7 @@ async function seenAtEach(browser, what) {
         await browser.value("new Promise((resolve) => requestAnimationFrame(() => requestAnimationFrame(resolve)))");
         assert.deepEqual(await wrongIn(browser), [], `${what} at ${width} by ${height}`);
         assert.equal(await browser.value("document.documentElement.scrollWidth <= innerWidth && document.documentElement.scrollHeight <= innerHeight"), true, `${width} by ${height}`);
-        tops.push(await browser.value(`[...document.querySelectorAll('.big, .goal, .movable button, ${width > 760 ? ".round tr, " : ""}.foot, .faster .drum-box')].map((it) => Math.round(it.getBoundingClientRect().top))`));
+        tops.push(await browser.value(`[...document.querySelectorAll('.big, .goal, .movable button, ${width > 760 ? ".round tr, " : ".rounds, "}.foot, .faster .drum-box')].map((it) => Math.round(it.getBoundingClientRect().top))`));
     }
     return tops;
 }
@@ -309,13 +329,52 @@ async function sizes(browser, address) {
     await browser.size(1500, 1250);
 }
 
+const TELEPHONE = [390, 844];
+
+/** Where the parts of a game are, which are all seen as they should be. */
+async function partsOf(browser, what) {
+    await browser.value("new Promise((resolve) => requestAnimationFrame(() => requestAnimationFrame(resolve)))");
+    assert.deepEqual(await wrongIn(browser), [], what);
+    return browser.value("[...document.querySelectorAll('.faster .drum-box, .lead, .big, .goal, .movable button, .rounds, .foot, .foot > *')].filter((it) => it.checkVisibility()).map((it) => { const { top, bottom } = it.getBoundingClientRect(); return `${top.toFixed(1)} ${bottom.toFixed(1)}`; })");
+}
+
+/** On a telephone each program of the game is seen whole in each of its states, in both languages: nothing moves from one to the next, also when the time is over and the best is shown, and when it is reached. */
+async function telephone(browser, address) {
+    await browser.size(...TELEPHONE);
+    for (const code of ["en", "de"]) {
+        await open(browser, `${address}?game=faster&seconds=1&lang=${code}`);
+        for (const program of PROGRAMS) {
+            await browser.waitFor(`${isRead} && document.querySelector(${JSON.stringify(gripOf(program.words[0]))}) !== null`);
+            const name = `${program.name} in ${code}`;
+            const tops = await partsOf(browser, name);
+            const same = async (state) => assert.deepEqual(await partsOf(browser, `${name}: ${state}`), tops, `${name}: ${state}`);
+            await browser.press("#faster-why");
+            await same("why");
+            await browser.press("#faster-why");
+            for (const word of program.words) {
+                await carry(browser, word, 9);
+                await same(`${word} elsewhere`);
+            }
+            await browser.waitFor("document.querySelector('#faster-best')?.isConnected");
+            await same("over");
+            await browser.press("#faster-best");
+            await same("shown");
+            await browser.press("#faster-watch");
+            await same("watched");
+            await browser.press("#faster-watch");
+            await browser.press("#faster-another");
+        }
+    }
+    await browser.size(1500, 1250);
+}
+
 /** A small household, whose wage is named by its label, and whose rent is named by its address. */
 const SOURCE = "week a wage\n s 0021\n t week\n z\n org 0020\nwage int 30 30\nrent int 12 30\ndebt int -95 30\n org 0040\nstart b debt\n u week\n end start";
 
 /** Asks for the costs of a word, and waits for its pin. */
 async function asksCosts(browser, word) {
     await browser.value(`laboratoryOfPage().askCosts("${word}")`);
-    await browser.waitFor(`document.querySelector(".drum .grip")?.dataset.word === "${word}"`);
+    await browser.waitFor(`[...document.querySelectorAll(".drum .grip")].some((it) => it.dataset.word === "${word}")`);
 }
 
 const carriedTold = (browser) => browser.value("document.querySelector('.carried-told').textContent");
@@ -353,6 +412,103 @@ async function carried(browser, address) {
     assert.equal(await browser.written(), SOURCE);
 }
 
+/** The same household, whose words are named by their labels. */
+const LABELLED = SOURCE.replace("s 0021", "s rent\n s debt");
+const WORDS = [["0020", "wage"], ["0021", "rent"], ["0022", "debt"]];
+
+/** What its orders take with each of its words at each sector, as a laboratory without a page says. */
+async function costsOfSource() {
+    const laboratory = new Laboratory(new ModuleLink(join(top, "page/module/lgp_c_region.wasm")));
+    await laboratory.open();
+    await laboratory.load(LABELLED);
+    await laboratory.command("press start");
+    await laboratory.run();
+    const { words } = await laboratory.askPlacing(WORDS.map(([address]) => address));
+    return { took: words[0].times, at: new Map(words.map(({ address, sectors }) => [address, new Map(sectors.map(({ sector, times }) => [sector, times]))])) };
+}
+
+const pinOf = (address) => `.drum .grip[data-word="${address}"]`;
+const cellOf = (browser, sector) => browser.value(`(() => { const { left, top, width, height } = document.querySelectorAll(".drum .cell .face")[${sector}].getBoundingClientRect(); return [left + width / 2, top + height / 2].map(Math.round); })()`);
+
+/** What is told of words in Work and Learn is compared with the sum of what each of them saves, wherever they are. `places` has the words that are elsewhere, with their sectors. */
+async function compared(browser, { took, at }, places) {
+    const wanted = places.reduce((sum, [address, sector]) => sum + at.get(address).get(sector), took * (1 - places.length));
+    const [difference, names] = [took - wanted, new Map(WORDS)];
+    const where = places.length === 1 ? `In sector ${String(places[0][1]).padStart(2, "0")}` : `With ${places.map(([address, sector]) => `${names.get(address)} in sector ${String(sector).padStart(2, "0")}`).join(", ")}`;
+    const than = difference === 0 ? "as many as they took" : `${Math.abs(difference)} ${difference > 0 ? "fewer" : "more"}`;
+    assert.equal(await carriedTold(browser), `${where} the same orders would have taken ${wanted} word times: ${than}.`);
+    for (const [address, sector] of places) assert.match(await browser.value(`document.querySelector(${JSON.stringify(pinOf(address))}).getAttribute("aria-valuetext")`), new RegExp(`^sector ${String(sector).padStart(2, "0")}: ${wanted} word times, `));
+    return wanted;
+}
+
+const bestOf = (costs, word) => [...costs.at.get(word)].sort(([, one], [, other]) => one - other)[0][0];
+
+/** In Work several words are carried at once, by keys, by a pin and by a cell: each stays where it is, and the number is that of all of them. They stay so in another language, after a step, and when
+ * the page is loaded again. All are written into the source at once, and the run takes what was foretold. */
+async function carriedTogether(browser, address) {
+    const costs = await costsOfSource();
+    await browser.size(1440, 900);
+    await browser.open(`${address}?lang=en&door=work`);
+    await browser.write(LABELLED);
+    await runs(browser);
+    const places = [];
+    for (const [word] of WORDS) {
+        await browser.value(`laboratoryOfPage().askCosts("${word}")`);
+        await browser.waitFor(`document.querySelectorAll(".drum .grip").length === ${places.length + 1} && document.querySelector(${JSON.stringify(pinOf(word))}) !== null`);
+        await browser.value(`document.querySelector(${JSON.stringify(pinOf(word))}).focus()`);
+        places.push([word, sectorOf(word)]);
+        for (const key of ["ArrowRight", "PageUp", "ArrowRight", "PageUp", "ArrowLeft", "ArrowLeft", "ArrowLeft", "PageUp"]) {
+            await browser.strike(key);
+            places.at(-1)[1] = sectorAt(positionOf(places.at(-1)[1]) + { ArrowRight: 1, ArrowLeft: -1, PageUp: 8 }[key]);
+            await compared(browser, costs, places);
+        }
+        for (const [by, sector] of [["", 33], [" .hold", 50], [" .hold", bestOf(costs, word)]]) {
+            await browser.lead([await middleOf(browser, `${pinOf(word)}${by}`), "down", await cellOf(browser, sector), "up"]);
+            places.at(-1)[1] = sector;
+            await compared(browser, costs, places);
+        }
+    }
+    assert.deepEqual(await browser.value("['laid', 'origin'].map((kind) => document.querySelectorAll(`.drum .cell.${kind}`).length)"), [3, 3]);
+    const foretold = await compared(browser, costs, places);
+    await keptCarried(browser, costs, places);
+    await browser.press("#write-moved");
+    await notice(browser, /^wage is at \d{4} now\. rent is at \d{4} now\. debt is at \d{4} now\. The source was loaded and run: from its first order on it took [\d,]+ word times, as was foretold\.$/);
+    const written = await browser.written();
+    for (const [word, sector] of places) assert.match(written, new RegExp(`org \\d\\d${String(sector).padStart(2, "0")}\n${new Map(WORDS).get(word)} int`));
+    await browser.value("document.querySelector('.source .CodeMirror').CodeMirror.undo()");
+    assert.equal(await browser.written(), LABELLED);
+    await browser.size(1500, 1250);
+    return `${foretold} word times in place of ${costs.took}`;
+}
+
+/** Words that are carried stay where they are in another language and when the page is loaded again; a word goes back alone, by its key, and all by the button. */
+async function keptCarried(browser, costs, places) {
+    const language = async (code) => {
+        await browser.value(`(() => { const it = document.getElementById("language"); it.value = "${code}"; it.dispatchEvent(new Event("change")); })()`);
+        await browser.waitFor(`document.documentElement.lang === "${code}" && document.querySelectorAll(".drum .grip").length === 3`);
+    };
+    await language("de");
+    assert.match(await carriedTold(browser), /^Mit wage in Sektor \d\d, rent in Sektor \d\d, debt in Sektor \d\d hätten dieselben Befehle \d+ Wortzeiten gebraucht: \d+ weniger\.$/);
+    await language("en");
+    await compared(browser, costs, places);
+    await browser.value("laboratoryOfPage().back(1)");
+    await browser.waitFor("document.querySelectorAll('.drum .grip').length === 0");
+    assert.match(await carriedTold(browser), /^Still elsewhere: wage, rent, debt\. Press an address/);
+    await browser.value("laboratoryOfPage().forward(1)");
+    await browser.value("(globalThis.isOld = true, location.reload())").catch(() => {});
+    await browser.waitFor("globalThis.isOld === undefined && document.documentElement.dataset.ready === 'true'");
+    await browser.value("laboratoryOfPage().settled()");
+    await asksCosts(browser, "0022");
+    await browser.waitFor("document.querySelectorAll('.drum .grip').length === 3");
+    await compared(browser, costs, places);
+    await browser.value(`document.querySelector(${JSON.stringify(pinOf("0021"))}).focus()`);
+    await browser.strike("Escape");
+    await compared(browser, costs, [places[0], places[2]]);
+    assert.equal(await browser.value("document.activeElement.dataset.word"), "0021");
+    await browser.lead([await middleOf(browser, pinOf("0021")), "down", await cellOf(browser, places[1][1]), "up"]);
+    await compared(browser, costs, places);
+}
+
 /** A word that an order names by its address is not written elsewhere; one that is an order, or that a changed order names, is not carried. Each says why. */
 async function notCarried(browser, address) {
     await browser.open(`${address}?lang=en&door=work`);
@@ -362,7 +518,7 @@ async function notCarried(browser, address) {
     await browser.value("document.querySelector('.drum .grip').focus()");
     await browser.strike("ArrowRight");
     await browser.press("#write-moved");
-    await notice(browser, /^Nothing was written: line 2 does not name the word by a label/);
+    await notice(browser, /^Nothing was written: line 2 does not name the word rent by a label/);
     assert.equal(await browser.written(), SOURCE);
     await browser.open(`${address}?lang=en#self-modifying`);
     await browser.value("laboratoryOfPage().run()");
@@ -504,7 +660,7 @@ async function turnedByDrag(browser, address) {
     return undefined;
 }
 
-const VISITS = { carried, notCarried, turnedByKeys, turnedByDrag, fasterExact: exact, fasterPlayed: played, fasterOver: over, fasterFinger: finger, fasterWatched: watched, fasterSizes: sizes, fasterReached: reached, fasterKiosk: kiosk, race };
+const VISITS = { carried, carriedTogether, notCarried, turnedByKeys, turnedByDrag, fasterExact: exact, fasterPlayed: played, fasterOver: over, fasterFinger: finger, fasterWatched: watched, fasterSizes: sizes, fasterTelephone: telephone, fasterReached: reached, fasterKiosk: kiosk, kioskUpright, race };
 
 /** The visits of the drum in the hand, of the page at an address, by their names. */
 export const visitsOfHand = (address) => Object.fromEntries(Object.entries(VISITS).map(([name, visit]) => [name, (browser) => visit(browser, address)]));

@@ -176,7 +176,7 @@ async function kioskSeen(browser, address) {
         }
         await browser.waitFor(holds);
         await settled(browser);
-        for (const [width, height] of [[1366, 768], [1920, 1080], [1024, 768], [1080, 1920], [768, 1024]]) {
+        for (const [width, height] of [[1366, 768], [1920, 1080], [1024, 768], [1080, 1920], [768, 1024], [390, 844]]) {
             await browser.size(width, height);
             await laidOut(browser);
             assert.deepEqual([...await hiddenTexts(browser), ...await unhit(browser)], [], `${code}, ${state} at ${width} by ${height}`);

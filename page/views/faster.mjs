@@ -90,13 +90,17 @@ function makeRound(game, { text }) {
         return h("tr", { class: word === game.picked ? "uses" : null, "data-at": account.at }, h("th", { scope: "row" }, account.at), h("td", {}, name),
             h("td", {}, h("div", { class: "account-bar", style: `--times: ${account.sum}; --most: ${most}`, "aria-hidden": "true" }, ...bar.nodes)), h("td", { class: "number" }, String(account.sum)), h("td", { class: "number" }, signed(account.sum - before)));
     };
+    /** How many rows a narrow window shows of a word: those of its orders, and of what comes after each. */
+    const rowsOf = (address) => game.round.filter((unused, place) => [place, place - 1].some((at) => wordOf(game.round[at]?.account.order ?? "") === address)).length;
     const show = () => {
-        const { round } = game;
+        const { round, program: { words } } = game;
         const most = Math.max(130, ...round.map(({ account, before }) => Math.max(account.sum, before)));
+        node.style.setProperty("--rows", Math.max(...words.map(rowsOf)));
         refill(body, ...round.map((order) => rowOf(order, most)));
     };
     const mark = (at) => { for (const row of body.children) row.classList.toggle("now", row.dataset.at === at); };
-    return { node: h("table", { class: "round", "aria-label": text("roundOrders") }, body), show, mark };
+    const node = h("div", { class: "rounds" }, h("table", { class: "round", "aria-label": text("roundOrders") }, body));
+    return { node, show, mark };
 }
 
 /** The drum of the game: it stands still where a round has ended, with the round as a line; a round that is watched turns it. */
@@ -116,7 +120,7 @@ function makeGameDrum(game, texts, hands) {
         ring.turn(position % SECTORS);
         trail.draw(passed(round, { clock: from, offset }, shape), false, shape);
         still.show({ next: null, operand: null, left: 0, phase: "round", count: round.length === 0 ? "–" : counted(length / SECTORS, texts.code), below: texts.text(length === SECTORS ? "turnUnit" : "turnsUnit"), clock: null, isReading: false }, position);
-        const angles = grips.show(position, box.offsetWidth / 800, (address) => game.placing.saved(address) > 0 && game.placing.isBest(address));
+        const angles = grips.show(position, box.offsetWidth / 800, (address) => game.placing.saved(address) > 0 && game.placing.isBest(address), (box.parentElement.clientWidth - box.offsetWidth) / 2);
         const isFree = (side) => !angles.some((angle) => side * angle > 8 && side * angle < 62);
         box.dataset.arrow = isFree(-1) ? "left" : isFree(1) ? "right" : "away";
         return round.findLast(({ clock }) => Number(clock - from) <= offset)?.at ?? null;

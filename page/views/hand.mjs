@@ -24,9 +24,9 @@ const sectorBelow = (event, box, position) => sectorAt(Math.round(seenFrom(event
 /** By how many places a key moves a word. */
 const MOVES = { ArrowRight: 1, ArrowUp: 1, ArrowLeft: -1, ArrowDown: -1, PageUp: 8, PageDown: -8 };
 
-/** The pin of a word. It is taken and carried, or moved by keys; a touch that is cancelled puts the word back. */
+/** The pin of a word. It is taken and carried, there or by the cell in which the word lies, or moved by keys; a touch that is cancelled puts the word back. */
 function makeGrip({ address, name }, hands, place) {
-    const node = h("div", { class: "grip", role: "slider", tabindex: "0", "data-word": address, "aria-label": name, "aria-valuemin": 0, "aria-valuemax": SECTORS - 1 }, h("span", { class: "ribs", "aria-hidden": "true" }), name);
+    const node = h("div", { class: "grip", role: "slider", tabindex: "0", "data-word": address, "aria-label": name, "aria-valuemin": 0, "aria-valuemax": SECTORS - 1 }, h("span", { class: "ribs", "aria-hidden": "true" }), name, h("i", { class: "hold" }));
     let before = null;
     const move = (sector) => { if (sector !== hands.sectorOf(address)) hands.move(address, sector); };
     const end = (isCancelled) => {
@@ -64,7 +64,7 @@ function makeGrip({ address, name }, hands, place) {
 /** The pin of a word that may not be moved: it has no grip, and says why when it is pressed. */
 const makeFixedPin = ({ address, name, kind }, hands) => h("button", { type: "button", class: `grip fixed ${kind}`, "data-word": address, onclick: () => hands.refuse(kind) }, name);
 
-/** The pins of words around a drum; `show` gives the angles at which they lie, and is told how many pixels beyond the picture's sides they may be. `hands` has `sectorOf` and `says` of a word by its address, `pick`, `move`, which moves it to a sector,
+/** The pins of words around a drum; `show` gives the angles at which they lie, and is told how many pixels beyond the picture's sides, and below it, they may be. `hands` has `sectorOf` and `says` of a word by its address, `pick`, `move`, which moves it to a sector,
  * `back`, which moves it to its own, `drop`, and `refuse`, which is told the kind of a word that may not be moved. */
 export function makeGrips(box, hands) {
     const lines = s("svg", { class: "stems", viewBox: "0 0 800 720", "aria-hidden": "true" });
@@ -75,17 +75,19 @@ export function makeGrips(box, hands) {
         grips = new Map(words.map((word) => [word.address, (word.kind ?? "free") === "free" ? makeGrip(word, hands, () => [box, position]) : makeFixedPin(word, hands)]));
         layer.replaceChildren(...grips.values());
     };
-    const show = (now, scale, isBest, beyond = Infinity) => {
+    const show = (now, scale, isBest, beyond, below = Infinity) => {
         position = now;
         const pins = [...grips].map(([name, node]) => ({ name, angle: angleOf(hands.sectorOf(name), now), width: Math.max(PIN.width, node.offsetWidth / scale), height: Math.max(PIN.height, node.offsetHeight / scale) }));
         const angles = apart(pins, distanceOf);
         lines.replaceChildren(...pins.map((pin) => s("path", { d: `M ${fixed(at(pin.angle, 319))} L ${fixed(at(angles.get(pin.name), distanceOf(angles.get(pin.name), pin)))}` })));
         for (const pin of pins) {
-            const [node, [x, y]] = [grips.get(pin.name), at(angles.get(pin.name), distanceOf(angles.get(pin.name), pin))];
+            const [node, [wide, low], cell] = [grips.get(pin.name), at(angles.get(pin.name), distanceOf(angles.get(pin.name), pin)), at(pin.angle, 290)];
             const most = 400 + beyond / scale - pin.width / 2;
-            Object.assign(node.style, { left: `${(400 + Math.max(-most, Math.min(most, x - 400))) / 8}%`, top: `${y / 7.2}%` });
+            const [x, y] = [400 + Math.max(-most, Math.min(most, wide - 400)), Math.min(720 + below / scale - pin.height / 2, low)];
+            Object.assign(node.style, { left: `${x / 8}%`, top: `${y / 7.2}%` });
             node.classList.toggle("best", isBest(pin.name));
             if (node.matches(".fixed")) continue;
+            node.lastChild.style.transform = `translate(${(cell[0] - x) * scale}px, ${(cell[1] - y) * scale}px) rotate(${pin.angle}deg)`;
             node.setAttribute("aria-valuenow", positionOf(hands.sectorOf(pin.name)));
             node.setAttribute("aria-valuetext", hands.says(pin.name));
         }

@@ -30,8 +30,8 @@ function noticeText(notice, laboratory, texts, isKiosk) {
     if (kind === "noExample") return text("wrongAddress", { name: detail });
     if (kind === "noLesson") return text("wrongLesson", { name: detail, lessons: LESSONS.map(({ name }) => name).join(", ") });
     if (kind === "noTask") return text("wrongTask", { name: detail, tasks: notice.tasks.join(", ") });
-    if (kind === "notMoved") return text("notMoved", { why: text(`notMoved_${notice.wrong}`, { line: line ?? "" }) });
-    if (kind === "moved") return text(notice.took === notice.foretold ? "movedAsForetold" : "movedOtherwise", { word: notice.word, place: notice.place, took: counted(notice.took, code), foretold: counted(notice.foretold, code) });
+    if (kind === "notMoved") return text("notMoved", { why: text(`notMoved_${notice.wrong}`, notice) });
+    if (kind === "moved") return text(notice.took === notice.foretold ? "movedAsForetold" : "movedOtherwise", { words: notice.words.map((it) => text("wordMoved", it)).join(" "), took: counted(notice.took, code), foretold: counted(notice.foretold, code) });
     if (kind === "noGame") return text("wrongGame", { name: detail });
     if (kind === "noStory") return text("wrongStory", { name: detail });
     if (kind === "noKioskExample") return text("wrongKiosk", { name: detail, shown: notice.shown });

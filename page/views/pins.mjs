@@ -6,7 +6,7 @@ const [HEAD, ROUNDS] = [60, 300];
 export const inRadians = (degrees) => (degrees * Math.PI) / 180;
 
 /** An angle from -180 to 180 degrees. */
-export const turned = (degrees) => ((degrees + 540) % 360) - 180;
+export const turned = (degrees) => (((degrees % 360) + 540) % 360) - 180;
 
 /** How many degrees two pins have to be apart that lie at about an angle. */
 function roomFor(angle, one, other, distanceOf) {
