@@ -40,23 +40,23 @@ totals_record orders took together =
 
 -- a word with its sector, its best one, and what it saves there
 abbrev pub gain_record : List (List ℕ × ℕ) → Freedom → Gain → List PlainField
-gain_record names free gain =
+gain_record names freedom gain =
     field (codes "word") (Text (address_digits gain.word))
     ∷ field (codes "label") (name_of names gain.word)
     ∷ field (codes "sector") (Number (sector_of gain.word))
     ∷ field (codes "best") (Number gain.best.sector)
     ∷ field (codes "saved") (Number gain.best.saved)
-    ∷ field (codes "freedom") (Text (freedom_word free))
+    ∷ field (codes "freedom") (Text (freedom_word freedom))
     ∷ []
 
 unfoldable pub gains_in : Form → List (List ℕ × ℕ) → Freedom → List Gain → List ℕ
-gains_in form names free [] = []
-gains_in form names free (gain ∷ more) =
-    record_in form false (gain_record names free gain) ++ gains_in form names free more
+gains_in form names freedom [] = []
+gains_in form names freedom (gain ∷ more) =
+    record_in form false (gain_record names freedom gain) ++ gains_in form names freedom more
 
 -- the ten words of a freedom with most to gain
 unfoldable pub section_in : Form → List (List ℕ × ℕ) → Moves → Freedom → List ℕ
-section_in form names moves free = gains_in form names free (ranking moves free 10)
+section_in form names moves freedom = gains_in form names freedom (ranking moves freedom 10)
 
 -- of a given number of orders: the words that may be moved, and then those that may not
 unfoldable pub optimum_in : Form → List (List ℕ × ℕ) → ℕ → Moves → List ℕ
@@ -72,7 +72,7 @@ optimum_in form names orders moves =
 -- whether it may be moved; and by sector what the orders would have taken with it there
 abbrev pub numbers_record : List (List ℕ × ℕ) → ℕ → ℕ → ℕ → Freedom → Best → List ℕ
     → List PlainField
-numbers_record names orders took word free best times =
+numbers_record names orders took word freedom best times =
     field (codes "orders") (Number orders)
     ∷ field (codes "times") (Number took)
     ∷ field (codes "word") (Text (address_digits word))
@@ -80,8 +80,8 @@ numbers_record names orders took word free best times =
     ∷ field (codes "sector") (Number (sector_of word))
     ∷ field (codes "best") (Number best.sector)
     ∷ field (codes "saved") (Number best.saved)
-    ∷ field (codes "freedom") (Text (freedom_word free))
-    ∷ field (codes "freedom-sentence") (Text (freedom_sentence free))
+    ∷ field (codes "freedom") (Text (freedom_word freedom))
+    ∷ field (codes "freedom-sentence") (Text (freedom_sentence freedom))
     ∷ field (codes "numbers") (Numbers times)
     ∷ []
 
