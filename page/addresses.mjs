@@ -15,13 +15,13 @@ export const addressOf = (number) => `${String(Math.floor(number / SECTORS)).pad
 /** The address in a text, such as an order's, or null. */
 export const addressIn = (text) => /\b(\d{4})\b/.exec(text)?.[1] ?? null;
 
-/** The addresses of so many places from one on. */
+/** The addresses of a number of places from one on. */
 export const addressesFrom = (first, count) => Array.from({ length: count }, (unused, place) => addressOf(numberOf(first) + place));
 
 /** The addresses of the track of an address. */
 export const trackOf = (address) => addressesFrom(`${address.slice(0, 2)}00`, SECTORS);
 
-/** The first of so many places that show an address, a few before it, of the drum or of the places of some addresses. */
+/** The first of a number of places that show an address, a few before it, of the drum or of the places of some addresses. */
 export function windowAt(address, count, [first, last] = ["0000", "6363"]) {
     return addressOf(Math.max(numberOf(first), Math.min(numberOf(last) + 1 - count, numberOf(address) - Math.floor(count / 3))));
 }

@@ -563,7 +563,7 @@ export class Laboratory extends EventTarget {
         if (number > 0) await this.#say(`back ${number}`);
     }
 
-    /** Performs again what was undone: so many orders of it, and what the operator did then before the next one. Gives how many. `whenDone` is given the account of a single one before the
+    /** Performs again what was undone: a number of its orders, and what the operator did then before the next one. Gives how many. `whenDone` is given the account of a single one before the
      * change is shown. */
     forward(orders, whenDone = () => {}) {
         return this.#work(async () => {

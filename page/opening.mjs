@@ -15,7 +15,7 @@ function doorOf(query, hasScript) {
     return hasScript ? "work" : "hall";
 }
 
-/** What an address says behind `?` and `#`: `?kiosk`, `?kiosk=games/matches`, `?idle=60`, `?offers=story,matches`, `?lang=de`, `?door=work`, `?lesson=rewriting&step=9`, `?task=sum`, `?story=2&caption=3`, `?game=faster`, `#first-run`,
+/** What an address says after `?` and `#`: `?kiosk`, `?kiosk=games/matches`, `?idle=60`, `?offers=story,matches`, `?lang=de`, `?door=work`, `?lesson=rewriting&step=9`, `?task=sum`, `?story=2&caption=3`, `?game=faster`, `#first-run`,
  * `#kiosk`, `#script=..`. */
 export function askedIn({ search, hash }) {
     const query = new URLSearchParams(search);

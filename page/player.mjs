@@ -34,7 +34,7 @@ export class Player {
         this.#isHeld = false;
     }
 
-    /** Holds an order where so many of its word times have passed: until another one is played nothing passes by itself. */
+    /** Holds an order where a number of its word times has passed: until another one is played nothing passes by itself. */
     hold(account, offset) {
         if (account !== this.#account) this.#before = account.registerBefore ?? null;
         [this.#account, this.#offset, this.#isHeld] = [account, offset, true];

@@ -45,7 +45,7 @@ export class Turning extends EventTarget {
         if (at !== null && at.account === this.#laboratory.accounts.at(-1) && !at.done) this.#player.hold(at.account, at.offset);
     }
 
-    /** Turns by so many word times, back where they are below none. Ends when that is done. */
+    /** Turns by a number of word times, back where they are below none. Ends when that is done. */
     turn(times) {
         this.#left = Math.max(-MOST, Math.min(MOST, this.#left + times));
         if (this.#isGoing) return this.#tail;

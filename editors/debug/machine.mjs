@@ -233,7 +233,7 @@ export class Machine {
         this.setAccumulator(before);
     }
 
-    /** The accounts of the last orders, at most so many: it goes back over them and performs them again, which leaves no trace. */
+    /** The accounts of the last orders, at most this number: it goes back over them and performs them again, which leaves no trace. */
     lastOrders(most) {
         const orders = Math.min(most, this.#orders, Number(this.state().get("kept")));
         if (orders === 0) return [];

@@ -5,7 +5,7 @@ import { Refused } from "./machine.mjs";
 
 const [BYTES, ASKED] = [4, 64];
 
-/** How many words there are from a place on, at most so many. */
+/** How many words there are from a place on, at most this number. */
 const within = (place, count) => Math.max(0, Math.min(count, PLACES - place));
 
 /** A reference and an offset in bytes as the monitor takes an address. */

@@ -32,7 +32,7 @@ export class Laboratory {
         return this.#session.answer(line);
     }
 
-    /** A session with room for so many bytes. */
+    /** A session with room for this number of bytes. */
     #opened(bytes) {
         this.#sent += bytes;
         if (this.#session === null || this.#sent > MOST_SENT) {

@@ -69,7 +69,7 @@ export class Source {
         return this.#reply.split(FAULT).length - 1;
     }
 
-    /** The lines that have a fault; where so many are asked for, the first ones. */
+    /** The lines that have a fault; where a number is asked for, that many of the first. */
     faulty(most = Infinity) {
         const found = [];
         for (const at of this.#placesOf(FAULT)) if (found.push(this.#around(at)) >= most) break;

@@ -99,7 +99,7 @@ const leadIn = (browser) => browser.value("document.querySelector('.faster .lead
 const timesIn = (browser) => browser.value("Number(document.querySelector('.faster .big').textContent.replace(/[^0-9]/g, ''))");
 const isRead = "document.querySelector('.faster')?.getAttribute('aria-busy') === 'false'";
 
-/** Moves a word by keys, by so many places. */
+/** Moves a word by keys, by a number of places. */
 async function carry(browser, word, places) {
     await browser.value(`document.querySelector(${JSON.stringify(gripOf(word))}).focus()`);
     for (let moved = 0; moved < Math.abs(places); moved += 1) await browser.strike(places < 0 ? "ArrowLeft" : "ArrowRight");
@@ -574,7 +574,7 @@ const turnedNow = (browser) => browser.value(`(() => {
     return { says: turner.getAttribute("aria-valuetext"), isMoving: document.querySelector(".drum-box").dataset.moving === "true", clock: Number(laboratoryOfPage().panel.clock), angle: document.querySelector(".drum .ring").style.transform, count: document.querySelector(".drum .hub-count").textContent, behind: laboratoryOfPage().deeds.behind };
 })()`);
 
-/** Waits until the drum stands at a clock, and so many orders have been done. */
+/** Waits until the drum stands at a clock, and a number of orders has been done. */
 const standsAt = (browser, clock, orders) => browser.waitFor(`/^clock ${clock}(, |$)/.test(document.querySelector(".drum .turner").getAttribute("aria-valuetext")) && laboratoryOfPage().deeds.behind === ${orders}`);
 
 /** By keys the drum turns on and back, place by place and order by order, on through orders that are performed and back through those that were; where it cannot go it says so. */

@@ -81,7 +81,7 @@ async function isFound(browser, where) {
         await backToWork(browser);
         if ((await areWritten(browser)).length > 0) {
             await backByList(browser);
-            // the work before may have been kept behind another door
+            // the work before may have been kept at another door
             await backToWork(browser);
         }
         assert.deepEqual(await areWritten(browser), []);

@@ -96,7 +96,7 @@ async function answers(browser, text) {
     await browser.value(`(() => { const form = document.querySelector("${NOW} .answer"); form.querySelector("input").value = ${JSON.stringify(text)}; form.requestSubmit(); })()`);
 }
 
-/** Waits until so many steps are ticked off; and until the step of this place is in work, or the lesson has ended. */
+/** Waits until a number of steps is ticked off; and until the step of this place is in work, or the lesson has ended. */
 const ticked = (browser, done) => browser.waitFor(`document.querySelectorAll('.lesson li.done').length === ${done}`);
 const reached = (browser, place) => browser.waitFor(`document.querySelector("${NOW} .mark")?.textContent === "${place + 1}" || document.querySelector('.lesson-end').textContent !== ""`);
 const next = (browser) => browser.press("#step-next");

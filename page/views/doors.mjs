@@ -36,7 +36,7 @@ export const makeDoors = ({ text }, goTo) => h("nav", { class: "doors", "aria-la
 /** The first link of the page, which goes to the story. */
 export const makeSkip = ({ text }) => h("a", { class: "skip unseen", href: "#story", onclick: (event) => { event.preventDefault(); document.getElementById("story")?.focus(); } }, text("skip"));
 
-/** What is behind each door, as a small drawing: a turning drum with its head; steps that are ticked off; lines that are written, with the bars of their orders. */
+/** What each door leads to, as a small drawing: a turning drum with its head; steps that are ticked off; lines that are written, with the bars of their orders. */
 const PICTURES = {
     look: () => [s("circle", { class: "rim", cx: 32, cy: 32, r: 20 }), s("circle", { class: "hub", cx: 32, cy: 32, r: 7 }), s("path", { class: "find", d: "M32 20a12 12 0 0 1 10.4 18" }), s("path", { class: "head", d: "M26 2h12v8l-6 6-6-6z" })],
     learn: () => [10, 29, 48].flatMap((y, place) => [s("circle", { class: place < 2 ? "done" : "open", cx: 12, cy: y, r: 7 }), s("path", { class: "line", d: `M26 ${y}H${58 - 8 * (place % 2)}` }), ...(place < 2 ? [s("path", { class: "tick", d: `M8.5 ${y}l2.5 3 4.5-6` })] : [])]),

@@ -13,7 +13,7 @@ import { makeBar } from "./story.mjs";
 /** How many word times of a round that is watched pass in a second; without motion, how long each order is seen; and how far the line of a round reaches inward. */
 const [SPEED, PICTURE_MILLISECONDS, LINE] = [64, 1200, 100];
 
-/** So many turns of the drum, as words. */
+/** A number of turns of the drum, as words. */
 const turnsOf = (times, { text, code }) => text(times === SECTORS ? "oneTurn" : "manyTurns", { n: counted(Math.round((10 * times) / SECTORS) / 10, code) });
 
 /** A number of word times saved, in words. */
@@ -283,7 +283,7 @@ export class Faster {
         return true;
     }
 
-    /** Moves the picked word by so many places. */
+    /** Moves the picked word by a number of places. */
     #carry(places) {
         const hands = this.#hands();
         const { picked } = this.#game;

@@ -99,7 +99,7 @@ export function makeGrips(box, hands) {
 /** Where on the drum it can be turned: between the hub and the end of the rim. */
 const HUB = 146;
 
-/** What a key of the turner does: so many word times, or orders. */
+/** What a key of the turner does: a number of word times, or of orders. */
 const TIMES = { ArrowRight: 1, ArrowUp: 1, ArrowLeft: -1, ArrowDown: -1 };
 const ORDERS = { PageUp: 1, PageDown: -1 };
 

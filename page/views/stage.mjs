@@ -1,4 +1,4 @@
-// Where the parts stand, behind each door in one window. In Look: the drum, and beside it what is told of it. In Learn: the step of a lesson or a task, the drum, what is told of it, and the time line. In Work: the
+// Where the parts are, at each door in one window. In Look: the drum, and beside it what is told of it. In Learn: the step of a lesson or a task, the drum, what is told of it, and the time line. In Work: the
 // source, the machine with its last orders, and program and typewriter, and the time line. The document's order is the seen order.
 import { h } from "./dom.mjs";
 import { behind, hideOthers } from "./doors.mjs";
@@ -13,7 +13,7 @@ const box = (name, ...views) => h("div", { class: name }, ...views.map((view) =>
 /** Gives the parts their places for the width of the window and the door, as the page was laid last. */
 let place = () => {};
 
-/** What is seen behind which door. */
+/** What is seen at which door. */
 function markDoors(made) {
     for (const { node } of [made.lesson, made.tasks, made.drum, made.console, made.time, made.story, made.paper]) node.querySelector("h2").classList.add("unseen");
     const stand = "learn work";
@@ -64,7 +64,7 @@ function workbench(made, boxes, texts) {
     ];
 }
 
-/** The page below its header: what is seen behind each door. */
+/** The page below its header: what is seen at each door. */
 export function makeStage(made, texts) {
     markDoors(made);
     const [all, stand, { text }] = ["look learn work", "learn work", texts];

@@ -73,7 +73,8 @@ abbrev pub marked_line : FaultKind → SourceLine → List ℕ
 marked_line kind line =
     let shown = take 200 line.text in
     shown_line line.text
-    ++ option_map_or (λ part. mark_line (take part.0 shown) (take (part.1 - part.0) (drop part.0 shown)))
+    ++ option_map_or
+    (λ part. mark_line (take part.0 shown) (take (part.1 - part.0) (drop part.0 shown)))
     (part_of kind line) []
 
 unfoldable pub marked_text : FaultKind → List ℕ → List ℕ

@@ -76,7 +76,8 @@ word_shown None meaning = word_meant meaning
 word_shown (Some kind) meaning = None
 
 -- a line with its place, with what its operands stand for there, and with its fault
-unfoldable pub survey_at : NameList → LineFields → ℕ → MeaningOrFault → Option FaultKind → LineSurvey
+unfoldable pub survey_at : NameList → LineFields → ℕ → MeaningOrFault → Option FaultKind
+    → LineSurvey
 survey_at declared line place meaning fault = record {
   place = place_shown line place;
   word = word_shown fault meaning;

@@ -48,7 +48,8 @@ unfoldable pub command_text : Command → List ℕ → List ℕ
 command_text (commands.Put address word) text =
     codes "put " ++ (address_digits address ++ (codes " " ++ digits_of word))
 command_text commands.Mount text = codes "mount " ++ text
-command_text (commands.Press action) text = codes "press " ++ (action_name action ++ action_position action)
+command_text (commands.Press action) text =
+    codes "press " ++ (action_name action ++ action_position action)
 command_text commands.Type text = codes "type " ++ text
 command_text (commands.Turn times) text = codes "turn " ++ decimal times
 command_text (commands.Orders limit) text = codes "orders " ++ decimal limit

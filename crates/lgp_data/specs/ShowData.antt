@@ -36,7 +36,8 @@ word_fields names address word =
 -- those fields, the word as a fraction, and whether a kept step changed it
 unfoldable pub shown_record : List PlainField → List ℕ → Bool → List PlainField
 shown_record word fraction changed =
-    word ++ (field (codes "fraction") (Text fraction) ∷ field (codes "changed") (YesNo changed) ∷ [])
+    word ++ (field (codes "fraction") (Text fraction)
+    ∷ field (codes "changed") (YesNo changed) ∷ [])
 
 -- the same of a debugger's drum
 unfoldable pub shown_of : List (List ℕ × ℕ) → Debugging → ℕ → List PlainField

@@ -103,7 +103,8 @@ fn past_word(order: &Option<PastOrder>) -> Value<'static>
 
 /// How many orders ago it was performed.
 fn orders_ago(order: &Option<PastOrder>) -> Value<'static>
-    ensures { value_seen result ≡ option_map_or (λ past. Number past.orders_back) order.now Nothing }
+    ensures { value_seen result
+        ≡ option_map_or (λ past. Number past.orders_back) order.now Nothing }
 {
     match order {
         Some(order) => Value::Number(order.orders_back),

@@ -31,7 +31,7 @@ column_value column = if length column == 0 then Nothing else Text column
 abbrev pub column_field : List ℕ → List ℕ → PlainField
 column_field keys row = field (first_column keys) (column_value (first_column row))
 
--- the columns of a row after so many
+-- the columns of a row after a number of them
 abbrev pub after_two : List ℕ → List ℕ
 after_two row = other_columns (other_columns row)
 

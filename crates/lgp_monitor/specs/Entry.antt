@@ -93,7 +93,8 @@ asked_at address_commands.Break address = entry.Script (commands.Break address)
 asked_at address_commands.Watch address = entry.Script (commands.Watch address)
 asked_at address_commands.Go address = entry.Go address
 asked_at address_commands.Why address = entry.Asked (questions.Why address)
-asked_at address_commands.WhyData address = entry.Asked (questions.Data (data_questions.Why address))
+asked_at address_commands.WhyData address =
+    entry.Asked (questions.Data (data_questions.Why address))
 asked_at address_commands.Cost address = entry.Asked (questions.Data (data_questions.Cost address))
 
 -- what a command asks for with a number; those of scripts are read as scripts have them

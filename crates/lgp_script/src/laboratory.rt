@@ -8,7 +8,7 @@ ghost use Rattle.lgp_stream.specs.Language.{IsAnswered};
 ghost use Rattle.lgp_stream.specs.KeptLine.{kept_of};
 ghost use Rattle.lgp_script.specs.Reply.{IsReplied};
 ghost use Rattle.lgp_script.specs.Script.{answer_to, answer_to_command, is_passed_over, replied_to, script_language};
-ghost use Rattle.lgp_script.specs.LabState.{assembled_source, labels_of, opened_text, opening_state, source_at_hand};
+ghost use Rattle.lgp_script.specs.LabState.{assembled_source, labels_of, opening_state, source_at_hand};
 ghost use Rattle.lgp_script.specs.Limits.{kept_limit};
 
 use crate::limits::KEPT_LIMIT;
@@ -112,17 +112,6 @@ impl<A: Allocator + Copy> Laboratory<A> {
         ensures { result ≡ is_some self.now.opened }
     {
         self.opened.is_some()
-    }
-
-    /// The bytes of the open source so far; none where no source is open, and where it is too long.
-    #[tactic(auto, unfolding(crate::specs::LabState::opened_text))]
-    pub fn source_so_far(&self) -> &[u8]
-        ensures { result.now ≡ opened_text self.now.opened }
-    {
-        match &self.opened {
-            Some(source) => source.text(),
-            None => &[],
-        }
     }
 
     /// Whether a source is open that is too long.

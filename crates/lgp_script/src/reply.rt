@@ -16,11 +16,11 @@ pub enum Reply {
     Live,
     /// The button or switch was dead.
     Dead,
-    /// So many keys were live, and so many dead.
+    /// How many keys were live, and how many dead.
     Struck(u64, u64),
     /// The clock after the command.
     Clock(u64),
-    /// So many orders were performed, and the status is this one.
+    /// How many orders were performed, and the status after them.
     Orders(u64, Status),
     /// The panel.
     Panel,
@@ -36,13 +36,13 @@ pub enum Reply {
     Opened,
     /// The listing of the last source.
     List,
-    /// The loader has performed so many orders.
+    /// How many orders the loader has performed.
     Loaded(u64),
     /// A rule has this number.
     Rule(u8),
     /// A run came to this.
     Ran(Ran),
-    /// The latest hit lay so many orders back, by the rule of this number.
+    /// How many orders back the latest hit lay, and the number of its rule.
     Hit(u64, u8),
     /// The command is refused.
     Refused(Refusal),

@@ -48,14 +48,7 @@ impl<A: Allocator> SourceText<A> {
         self.too_long
     }
 
-    /// The bytes.
-    pub fn text(&self) -> &[u8]
-        ensures { result.now ≡ self.now.text }
-    {
-        &self.text
-    }
-
-    /// The same, handed over.
+    /// The bytes, handed over.
     pub fn into_text(self) -> Vec<u8, A>
         ensures { result.items ≡ self.text }
     {
